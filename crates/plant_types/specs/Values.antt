@@ -1,0 +1,54 @@
+-- Values of variables, their kinds and their ranges.
+use Rattle.std.specs.Prelude.{Bool, true, false, not, ◌||◌, if◌then◌else◌, Option, Some, None, ℤ, pos, negsuc, int_lt}
+use Rattle.std.specs.Ordering.{int_eq}
+use Rattle.plant_types.specs.declared.values.Given.{Given}
+use Rattle.plant_types.specs.declared.values.Given.TheVariants as given
+use Rattle.plant_types.specs.declared.values.Kind.{Kind}
+use Rattle.plant_types.specs.declared.values.Kind.TheVariants as kind
+use Rattle.plant_types.specs.declared.values.Value.{Value}
+use Rattle.plant_types.specs.declared.values.Value.TheVariants as value
+
+-- the kind of a value
+abbrev pub kind_of : Value → Kind
+kind_of (value.Bool b) = kind.Bool
+kind_of (value.Dint n) = kind.Dint
+kind_of (value.Time n) = kind.Time
+
+-- a truth as a whole number: FALSE is 0, TRUE is 1
+abbrev pub truth : Bool → ℤ
+truth b = if b then pos 1 else pos 0
+
+-- whether a whole number stands for TRUE: it isn't 0
+abbrev pub is_true : ℤ → Bool
+is_true n = not (int_eq n (pos 0))
+
+-- a value as a whole number: a DINT itself, a TIME its milliseconds
+abbrev pub worth : Value → ℤ
+worth (value.Bool b) = truth b
+worth (value.Dint n) = n
+worth (value.Time n) = n
+
+-- the value of a kind that a whole number stands for
+abbrev pub value_of_kind : Kind → ℤ → Value
+value_of_kind kind.Bool n = value.Bool (is_true n)
+value_of_kind kind.Dint n = value.Dint n
+value_of_kind kind.Time n = value.Time n
+
+-- whether a number is below a range or above it
+abbrev pub is_outside : ℤ → ℤ → ℤ → Bool
+is_outside low high n = int_lt n low || int_lt high n
+
+-- the range of each kind: a truth, 32 bits, 64 bits
+abbrev pub is_in_range : Kind → ℤ → Bool
+is_in_range kind.Bool n = not (is_outside (pos 0) (pos 1) n)
+is_in_range kind.Dint n = not (is_outside (negsuc 2147483647) (pos 2147483647) n)
+is_in_range kind.Time n = not (is_outside (negsuc 9223372036854775807) (pos 9223372036854775807) n)
+
+-- the value that is given for a variable of a kind: a truth or 0 or 1 for a BOOL, a number of the range for the others
+abbrev pub fitted : Kind → Given → Option Value
+fitted kind.Bool (given.Truth b) = Some (value.Bool b)
+fitted kind.Bool (given.Whole n) = if int_eq n (pos 0) then Some (value.Bool false) else if int_eq n (pos 1) then Some (value.Bool true) else None
+fitted kind.Dint (given.Truth b) = None
+fitted kind.Dint (given.Whole n) = if is_outside (negsuc 2147483647) (pos 2147483647) n then None else Some (value.Dint n)
+fitted kind.Time (given.Truth b) = None
+fitted kind.Time (given.Whole n) = if is_outside (negsuc 9223372036854775807) (pos 9223372036854775807) n then None else Some (value.Time n)

@@ -1,0 +1,18 @@
+use crate::values::Given;
+use std::marker::Model;
+
+/// A name and what is given for it, as one part of a scan's image. Contracts see the name's bytes.
+#[derive(Drop)]
+pub struct Pair {
+    pub name: String,
+    pub given: Given,
+}
+
+impl Model for Pair {
+    ghost use Rattle.plant_types.specs.Named.{Named};
+    ghost use Rattle.std.specs.Prelude.{string_bytes};
+
+    ghost Value = { Named };
+
+    ghost view = { λ p. record { name = string_bytes p.name; given = p.given } };
+}

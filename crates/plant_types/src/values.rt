@@ -1,0 +1,100 @@
+ghost use Rattle.std.specs.Prelude.{◌≡◌, IsTrue};
+ghost use Rattle.plant_types.specs.Values.{kind_of, worth, value_of_kind, is_in_range, fitted};
+
+/// What a variable can hold (IEC 61131-3's BOOL, DINT and TIME).
+#[derive(Clone, Copy, Debug, PartialEq, Eq, Drop)]
+pub enum Kind {
+    /// TRUE or FALSE.
+    Bool,
+    /// A signed whole number of 32 bits.
+    Dint,
+    /// A duration in milliseconds, signed, of 64 bits (this profile).
+    Time,
+}
+
+/// A value of a variable, within its kind's range.
+#[derive(Clone, Copy, Debug, PartialEq, Eq, Drop)]
+pub enum Value {
+    Bool(bool),
+    Dint(i32),
+    /// Milliseconds.
+    Time(i64),
+}
+
+/// Why a program stops before its end (this profile).
+#[derive(Clone, Copy, Debug, PartialEq, Eq, Drop)]
+pub enum Trap {
+    /// A result out of its kind's range.
+    Overflow,
+    /// A division with divisor 0.
+    DivZero,
+}
+
+/// Where in a program something happens: the number of a path of names, and the number of a statement in its body, from 1.
+#[derive(Clone, Copy, Debug, PartialEq, Eq, Drop)]
+pub struct Place {
+    pub path: u32,
+    pub statement: u32,
+}
+
+/// What is given for an input: a truth, or a whole number that may be out of every kind's range.
+#[derive(Clone, Copy, Debug, PartialEq, Eq, Drop)]
+pub enum Given {
+    Truth(bool),
+    Whole(i128),
+}
+
+impl Value {
+    /// The kind of the value.
+    pub fn kind(self) -> Kind
+        ensures { result ≡ kind_of self }
+    {
+        match self {
+            Value::Bool(_) => Kind::Bool,
+            Value::Dint(_) => Kind::Dint,
+            Value::Time(_) => Kind::Time,
+        }
+    }
+
+    /// The value as a whole number: 0 or 1 for a truth, milliseconds for a time.
+    pub fn worth(self) -> i64
+        ensures { result ≡ worth self }
+    {
+        match self {
+            Value::Bool(truth) => { if truth { 1 } else { 0 } }
+            Value::Dint(n) => n as i64,
+            Value::Time(n) => n,
+        }
+    }
+
+    /// The value of a kind that a whole number stands for: for a BOOL all but 0 is TRUE. The number is in the kind's range.
+    pub fn of_kind(kind: Kind, n: i64) -> Value
+        requires { IsTrue (is_in_range kind n) }
+        ensures { result ≡ value_of_kind kind n }
+    {
+        match kind {
+            Kind::Bool => Value::Bool(n != 0),
+            Kind::Dint => Value::Dint(n as i32),
+            Kind::Time => Value::Time(n),
+        }
+    }
+}
+
+/// The value of what is given, where it fits the kind: a BOOL takes a truth or the number 0 or 1, the others a number of their range (this profile).
+pub fn fitted(kind: Kind, given: Given) -> Option<Value>
+    ensures { result ≡ fitted kind given }
+{
+    match (kind, given) {
+        (Kind::Bool, Given::Truth(truth)) => Some(Value::Bool(truth)),
+        (Kind::Bool, Given::Whole(0)) => Some(Value::Bool(false)),
+        (Kind::Bool, Given::Whole(1)) => Some(Value::Bool(true)),
+        (Kind::Dint, Given::Whole(n)) if (-2147483648..=2147483647).contains(&n) => {
+            Some(Value::Dint(n as i32))
+        }
+        (Kind::Time, Given::Whole(n))
+            if (-9223372036854775808..=9223372036854775807).contains(&n) => {
+            Some(Value::Time(n as i64))
+        }
+        _ => None,
+    }
+}
