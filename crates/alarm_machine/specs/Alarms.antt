@@ -1,0 +1,72 @@
+-- One alarm: what it keeps, and what scans and orders make of it by the table of transitions.
+use Rattle.std.specs.Prelude.{◌≡◌, ℕ, ◌≤◌, Bool, true, false, ◌&&◌, not, Option, Some, None, Result, Ok, Err}
+use Rattle.alarm_machine.specs.declared.states.AlarmState.{AlarmState}
+use Rattle.alarm_machine.specs.declared.states.AlarmState.TheVariants as state
+use Rattle.alarm_machine.specs.declared.states.Verb.{Verb}
+use Rattle.alarm_machine.specs.declared.states.Verb.TheVariants as verb
+use Rattle.alarm_machine.specs.declared.states.OrderFault.{OrderFault}
+use Rattle.alarm_machine.specs.Codes.{Move, code_of, change_between}
+use Rattle.alarm_machine.specs.Transitions.{on_scan, on_ack, on_reset, on_shelve, on_unshelve, on_remove, on_return, wrong_state}
+
+-- what is fixed for an alarm, its state, and the condition and the suppression of the last scan
+pub record Seen : Type 0 where
+  pub latching : Bool
+  pub max_shelve_ms : ℕ
+  pub state : AlarmState
+  pub condition : Bool
+  pub suppressed : Bool
+
+-- an alarm before the first scan: it is normal, and the last condition and suppression are FALSE
+abbrev pub opening : Bool → ℕ → Seen
+opening latching max_shelve_ms = record { latching = latching; max_shelve_ms = max_shelve_ms; state = state.Norm; condition = false; suppressed = false }
+
+-- an alarm after a scan with condition c, suppression s and moment t
+abbrev pub after_scan : Bool → Bool → ℕ → Seen → Seen
+after_scan c s t a = record a { state = on_scan a.latching a.state c s t; condition = c; suppressed = s }
+
+-- the state to which an order leads, last being the last scan's moment; a restart is for programs alone
+abbrev pub on_order : Verb → ℕ → Seen → Result AlarmState OrderFault
+on_order verb.Ack last a = on_ack a.state
+on_order verb.Reset last a = on_reset a.state
+on_order (verb.Shelve d) last a = on_shelve d a.max_shelve_ms last a.state
+on_order verb.Unshelve last a = on_unshelve a.condition a.suppressed a.state
+on_order verb.Remove last a = on_remove a.state
+on_order verb.Return last a = on_return a.condition a.suppressed a.state
+on_order verb.Restart last a = wrong_state
+
+-- an alarm after an order, or the refusal
+abbrev pub after_order : Verb → ℕ → Seen → Result Seen OrderFault
+after_order v last a = elim (on_order v last a) [ Ok new ↦ Ok (record a { state = new }) | Err e ↦ Err e ]
+
+-- an order that is taken leaves the new alarm and tells the change of its code; a refused one leaves the old alarm
+abbrev pub Answers : Result Seen OrderFault → Seen → Seen → Result (Option Move) OrderFault → Type 0
+Answers (Ok a) old new r = (new ≡ a) × (r ≡ Ok (change_between (code_of old.state) (code_of a.state)))
+Answers (Err e) old new r = (new ≡ old) × (r ≡ Err e)
+
+-- the moment at which a state's shelf ends
+abbrev pub end_of : AlarmState → Option ℕ
+end_of (state.Shelved e) = Some e
+end_of _ = None
+
+-- a shelf ends at most the longest shelving after the last moment of all
+abbrev pub EndsInRange : AlarmState → Type 0
+EndsInRange (state.Shelved e) = e ≤ 4002592000000
+EndsInRange _ = Unit {0}
+
+-- whether a state is one that a scan with this condition and suppression can leave
+abbrev pub settled : AlarmState → Bool → Bool → Bool
+settled state.Norm c s = not c && not s
+settled state.Unack c s = c && not s
+settled state.Acked c s = c && not s
+settled state.Rtnun c s = not c && not s
+settled state.Latun c s = not c && not s
+settled state.Latak c s = not c && not s
+settled (state.Shelved e) c s = true
+settled state.Suppr c s = s
+settled state.Oos c s = true
+
+-- what holds of every alarm
+pub record IsAlarm (a : Seen) : Type 0 where
+  pub most_in_range : a.max_shelve_ms ≤ 2592000000
+  pub end_in_range : EndsInRange a.state
+  pub is_settled : settled a.state a.condition a.suppressed ≡ true

@@ -1,0 +1,32 @@
+-- Laws of the table of transitions and of the codes.
+use Rattle.std.specs.Prelude.{◌≡◌, ℕ, Bool, true, false, nat_le}
+use Rattle.alarm_machine.specs.declared.states.Code.{Code}
+use Rattle.alarm_machine.specs.declared.states.AlarmState.{AlarmState}
+use Rattle.alarm_machine.specs.declared.states.AlarmState.TheVariants as state
+use Rattle.alarm_machine.specs.Codes.{code_text}
+use Rattle.alarm_machine.specs.Transitions.{on_scan}
+use Rattle.alarm_machine.specs.Alarms.{Seen, after_scan}
+
+-- what is printed tells the codes apart
+abbrev pub TextsTellApart : Type 0
+TextsTellApart = (a b : Code) → code_text a ≡ code_text b → a ≡ b
+
+-- whether a shelf ends by moment t
+abbrev pub shelf_ends : ℕ → AlarmState → Bool
+shelf_ends t (state.Shelved e) = nat_le e t
+shelf_ends t _ = false
+
+-- a second scan that sees the same changes nothing, unless a shelf ends
+abbrev pub ScansSettle : Type 0
+ScansSettle = (c s : Bool) (t u : ℕ) (a : Seen) → shelf_ends u (after_scan c s t a).state ≡ false → after_scan c s u (after_scan c s t a) ≡ after_scan c s t a
+
+-- whether an alarm waits for an acknowledgement
+abbrev pub waits_for_ack : AlarmState → Bool
+waits_for_ack state.Unack = true
+waits_for_ack state.Rtnun = true
+waits_for_ack state.Latun = true
+waits_for_ack _ = false
+
+-- an alarm that waits for an acknowledgement goes on waiting through every scan that doesn't suppress it
+abbrev pub NoScanAcknowledges : Type 0
+NoScanAcknowledges = (l c : Bool) (t : ℕ) (x : AlarmState) → waits_for_ack x ≡ true → waits_for_ack (on_scan l x c false t) ≡ true

@@ -1,0 +1,24 @@
+-- How orders and their refusals are printed.
+use Rattle.std.specs.Prelude.{ℕ, List, codes}
+use Rattle.alarm_machine.specs.declared.states.Verb.{Verb}
+use Rattle.alarm_machine.specs.declared.states.Verb.TheVariants as verb
+use Rattle.alarm_machine.specs.declared.states.OrderFault.{OrderFault}
+use Rattle.alarm_machine.specs.declared.states.OrderFault.TheVariants as fault
+
+-- the word of an order
+abbrev pub verb_text : Verb → List ℕ
+verb_text verb.Ack = codes "ack"
+verb_text verb.Reset = codes "reset"
+verb_text (verb.Shelve d) = codes "shelve"
+verb_text verb.Unshelve = codes "unshelve"
+verb_text verb.Remove = codes "remove"
+verb_text verb.Return = codes "return"
+verb_text verb.Restart = codes "restart"
+
+-- the number of a refusal, as it is printed
+abbrev pub fault_text : OrderFault → List ℕ
+fault_text fault.UnknownTarget = codes "O1"
+fault_text fault.NotAllowed = codes "O2"
+fault_text fault.WrongState = codes "O3"
+fault_text fault.ShelveTime = codes "O4"
+fault_text fault.NotFaulted = codes "O5"

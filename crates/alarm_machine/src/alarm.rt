@@ -1,0 +1,200 @@
+ghost use Rattle.std.specs.Prelude.{◌≡◌, ◌≤◌, ◌↔◌, IsTrue, IfOk, true};
+ghost use Rattle.alarm_machine.specs.Codes.{code_of, change_between};
+ghost use Rattle.alarm_machine.specs.Transitions.{resume, on_scan};
+ghost use Rattle.alarm_machine.specs.Alarms.{opening, after_scan, after_order, on_order, end_of, settled, Answers, EndsInRange};
+
+use crate::change::Change;
+use crate::states::{AlarmState, OrderFault, Verb};
+use std::marker::Model;
+
+/// One alarm: whether it latches, its longest shelving, its state, and the condition and the suppression of the last scan.
+#[derive(Clone, Copy, Debug, PartialEq, Eq, Drop)]
+pub struct Alarm {
+    latching: bool,
+    max_shelve_ms: u64,
+    state: AlarmState,
+    condition: bool,
+    suppressed: bool,
+}
+
+impl Model for Alarm {
+    ghost use Rattle.alarm_machine.specs.Alarms.{Seen, IsAlarm};
+
+    ghost Value = { Seen };
+
+    ghost view = { λ a. record { latching = a.latching; max_shelve_ms = a.max_shelve_ms; state = a.state; condition = a.condition; suppressed = a.suppressed } };
+
+    ghost invariant = { λ a. IsAlarm (record { latching = a.latching; max_shelve_ms = a.max_shelve_ms; state = a.state; condition = a.condition; suppressed = a.suppressed }) };
+
+    ghost inverse = { λ a. record { latching = a.latching; max_shelve_ms = a.max_shelve_ms; state = a.state; condition = a.condition; suppressed = a.suppressed } };
+}
+
+/// Where an alarm goes on that was shelved, suppressed or out of service.
+fn resume(condition: bool, suppressed: bool) -> AlarmState
+    ensures { result ≡ resume condition suppressed }
+{
+    if suppressed {
+        AlarmState::Suppr
+    } else if condition {
+        AlarmState::Unack
+    } else {
+        AlarmState::Norm
+    }
+}
+
+/// The state in which a scan leaves an alarm.
+fn on_scan(
+    latching: bool,
+    state: AlarmState,
+    condition: bool,
+    suppressed: bool,
+    moment: u64,
+) -> AlarmState
+    ensures { result ≡ on_scan latching state condition suppressed moment }
+{
+    match state {
+        AlarmState::Oos => AlarmState::Oos,
+        AlarmState::Shelved(end) if moment < end => AlarmState::Shelved(end),
+        AlarmState::Shelved(_) | AlarmState::Suppr => resume(condition, suppressed),
+        _ if suppressed => AlarmState::Suppr,
+        AlarmState::Acked if condition => AlarmState::Acked,
+        _ if condition => AlarmState::Unack,
+        AlarmState::Unack if latching => AlarmState::Latun,
+        AlarmState::Unack => AlarmState::Rtnun,
+        AlarmState::Acked if latching => AlarmState::Latak,
+        AlarmState::Acked | AlarmState::Norm => AlarmState::Norm,
+        AlarmState::Rtnun | AlarmState::Latun | AlarmState::Latak => state,
+    }
+}
+
+impl Alarm {
+    /// An alarm before the first scan: it is normal, its last condition and suppression are FALSE.
+    /// `max_shelve_ms` is its longest shelving in milliseconds, at most 30 days.
+    pub fn new(latching: bool, max_shelve_ms: u64) -> Alarm
+        requires { max_shelve_ms ≤ 2592000000 }
+        ensures { result ≡ opening latching max_shelve_ms }
+    {
+        Alarm {
+            latching,
+            max_shelve_ms,
+            state: AlarmState::Norm,
+            condition: false,
+            suppressed: false,
+        }
+    }
+
+    /// The state now.
+    pub fn state(&self) -> AlarmState
+        ensures { result ≡ self.now.state }
+    {
+        self.state
+    }
+
+    /// Whether the alarm stays latched when its condition goes, until it is reset.
+    pub fn latching(&self) -> bool
+        ensures { result ≡ self.now.latching }
+    {
+        self.latching
+    }
+
+    /// The longest time in milliseconds for which the alarm may be shelved.
+    pub fn max_shelve_ms(&self) -> u64
+        ensures time { result ≡ self.now.max_shelve_ms }
+        ensures in_range { result ≤ 2592000000 }
+    {
+        self.max_shelve_ms
+    }
+
+    /// The condition of the last scan, FALSE before the first.
+    pub fn condition(&self) -> bool
+        ensures { result ≡ self.now.condition }
+    {
+        self.condition
+    }
+
+    /// The suppression of the last scan, FALSE before the first.
+    pub fn suppressed(&self) -> bool
+        ensures { result ≡ self.now.suppressed }
+    {
+        self.suppressed
+    }
+
+    /// The moment at which the shelf ends, for a shelved alarm alone.
+    pub fn end(&self) -> Option<u64>
+        ensures end { result ≡ end_of self.now.state }
+        ensures in_range { EndsInRange self.now.state }
+    {
+        self.state.end()
+    }
+
+    /// Whether a scan would leave the alarm just as it is. It is found without the table: the scan sees the same as the last one, and no shelf ends.
+    pub fn rests(&self, condition: bool, suppressed: bool, moment: u64) -> bool
+        ensures { IsTrue result ↔ (after_scan condition suppressed moment self.now ≡ self.now) }
+    {
+        let shelf_ends = match self.state {
+            AlarmState::Shelved(end) => end <= moment,
+            _ => false,
+        };
+        self.condition == condition && self.suppressed == suppressed && !shelf_ends
+    }
+
+    /// A scan at a moment, in milliseconds, with the alarm's condition and suppression after the scan's programs. It tells the change of the alarm's code, if there is one.
+    pub fn scan(&mut self, condition: bool, suppressed: bool, moment: u64) -> Option<Change>
+        ensures alarm { self.new ≡ after_scan condition suppressed moment self.old }
+        ensures change { result ≡ change_between (code_of self.old.state) (code_of self.new.state) }
+    {
+        let before = self.state.code();
+        self.state = on_scan(self.latching, self.state, condition, suppressed, moment);
+        self.condition = condition;
+        self.suppressed = suppressed;
+        Change::between(before, self.state.code())
+    }
+
+    /// The state to which an order leads, or the refusal.
+    fn on_order(&self, verb: Verb, last: u64) -> Result<AlarmState, OrderFault>
+        requires { last ≤ 4000000000000 }
+        ensures state { result ≡ on_order verb last self.now }
+        ensures stays { IfOk result (λ s. EndsInRange s × (settled s self.now.condition self.now.suppressed ≡ true)) }
+    {
+        match (verb, self.state) {
+            (Verb::Ack, AlarmState::Unack) => Ok(AlarmState::Acked),
+            (Verb::Ack, AlarmState::Rtnun) => Ok(AlarmState::Norm),
+            (Verb::Ack, AlarmState::Latun) => Ok(AlarmState::Latak),
+            (Verb::Reset, AlarmState::Latak) => Ok(AlarmState::Norm),
+            (Verb::Shelve(_), AlarmState::Suppr | AlarmState::Oos) => Err(OrderFault::WrongState),
+            (Verb::Shelve(time), _) => {
+                if 1 <= time && time <= self.max_shelve_ms {
+                    Ok(AlarmState::Shelved(last + time))
+                } else {
+                    Err(OrderFault::ShelveTime)
+                }
+            }
+            (Verb::Unshelve, AlarmState::Shelved(_)) | (Verb::Return, AlarmState::Oos) => {
+                Ok(resume(self.condition, self.suppressed))
+            }
+            (Verb::Remove, AlarmState::Oos) => Err(OrderFault::WrongState),
+            (Verb::Remove, _) => Ok(AlarmState::Oos),
+            _ => Err(OrderFault::WrongState),
+        }
+    }
+
+    /// An order of an operator, `last` being the moment of the last scan in milliseconds, at most 4,000,000,000,000, or 0 before the first.
+    /// It tells the change of the alarm's code, if there is one; a second shelving moves the shelf's end and changes no code.
+    /// A refusal changes nothing: `WrongState` (O3) where the state doesn't take the order, and then `ShelveTime` (O4) where the time is out of range.
+    pub fn order(&mut self, verb: Verb, last: u64) -> Result<Option<Change>, OrderFault>
+        requires { last ≤ 4000000000000 }
+        ensures { Answers (after_order verb last self.old) self.old self.new result }
+    {
+        match self.on_order(verb, last) {
+            Ok(state) => {
+                let before = self.state.code();
+                self.state = state;
+                Ok(Change::between(before, self.state.code()))
+            }
+            Err(fault) => Err(fault),
+        }
+    }
+}
+
+#[cfg(test)]
+mod tests;

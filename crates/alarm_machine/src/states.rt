@@ -1,0 +1,236 @@
+ghost use Rattle.std.specs.Prelude.{◌≡◌, [], ◌∷◌, map};
+ghost use Rattle.alarm_machine.specs.Alarms.{end_of};
+ghost use Rattle.alarm_machine.specs.Codes.{code_of, code_text, rank};
+ghost use Rattle.alarm_machine.specs.Orders.{fault_text, verb_text};
+
+/// The name of a state, as it is printed and counted (this profile's codes). Their order is the one in which they stand here.
+#[derive(Clone, Copy, Debug, PartialEq, Eq, Drop)]
+pub enum Code {
+    /// Normal.
+    Norm,
+    /// Unacknowledged alarm.
+    Unack,
+    /// Acknowledged alarm.
+    Acked,
+    /// Returned to normal, unacknowledged.
+    Rtnun,
+    /// Latched, unacknowledged: the condition has gone, and the alarm waits for acknowledgement and reset.
+    Latun,
+    /// Latched, acknowledged: the condition has gone, and the alarm waits for its reset.
+    Latak,
+    /// Shelved by an operator for a time.
+    Shelved,
+    /// Suppressed by design: the logic says that the alarm has no meaning now.
+    Suppr,
+    /// Out of service, by hand.
+    Oos,
+}
+
+impl Code {
+    /// All codes in their order.
+    pub fn all() -> [Code; 9]
+        ensures { map rank result ≡ 0 ∷ 1 ∷ 2 ∷ 3 ∷ 4 ∷ 5 ∷ 6 ∷ 7 ∷ 8 ∷ [] }
+    {
+        [
+            Code::Norm,
+            Code::Unack,
+            Code::Acked,
+            Code::Rtnun,
+            Code::Latun,
+            Code::Latak,
+            Code::Shelved,
+            Code::Suppr,
+            Code::Oos,
+        ]
+    }
+
+    /// Its place in the order of codes, from 0 for NORM to 8 for OOS.
+    pub fn rank(self) -> u8
+        ensures { result ≡ rank self }
+    {
+        self as u8
+    }
+
+    /// How it is printed, as `NORM` or `UNACK`.
+    pub fn text(self) -> &'static str
+        ensures { result.now ≡ code_text self }
+    {
+        match self {
+            Code::Norm => "NORM",
+            Code::Unack => "UNACK",
+            Code::Acked => "ACKED",
+            Code::Rtnun => "RTNUN",
+            Code::Latun => "LATUN",
+            Code::Latak => "LATAK",
+            Code::Shelved => "SHELVED",
+            Code::Suppr => "SUPPR",
+            Code::Oos => "OOS",
+        }
+    }
+}
+
+/// What an operator asks of an alarm, or of a program (`Restart`).
+#[derive(Clone, Copy, Debug, PartialEq, Eq, Drop)]
+pub enum Verb {
+    /// Acknowledge the alarm.
+    Ack,
+    /// Reset a latched alarm.
+    Reset,
+    /// Shelve the alarm for so many milliseconds after the last scan.
+    Shelve(u64),
+    /// End a shelf by hand.
+    Unshelve,
+    /// Take the alarm out of service.
+    Remove,
+    /// Return the alarm to service.
+    Return,
+    /// Restart a program that a trap has stopped. No alarm takes it.
+    Restart,
+}
+
+impl Verb {
+    /// The word of the order, as `ack` or `shelve`.
+    pub fn text(self) -> &'static str
+        ensures { result.now ≡ verb_text self }
+    {
+        match self {
+            Verb::Ack => "ack",
+            Verb::Reset => "reset",
+            Verb::Shelve(_) => "shelve",
+            Verb::Unshelve => "unshelve",
+            Verb::Remove => "remove",
+            Verb::Return => "return",
+            Verb::Restart => "restart",
+        }
+    }
+}
+
+/// Why an order is refused, in the order in which it is tested (this profile). An alarm by itself answers `WrongState` and `ShelveTime` alone.
+#[derive(Clone, Copy, Debug, PartialEq, Eq, Drop)]
+pub enum OrderFault {
+    /// O1: there is no such alarm or program.
+    UnknownTarget,
+    /// O2: there is no such console, or the alarm's area isn't one of the console's.
+    NotAllowed,
+    /// O3: the alarm's state doesn't take this order.
+    WrongState,
+    /// O4: the time is 0, or longer than the alarm's longest shelving.
+    ShelveTime,
+    /// O5: the program isn't faulted.
+    NotFaulted,
+}
+
+impl OrderFault {
+    /// How it is printed, as `O3`.
+    pub fn text(self) -> &'static str
+        ensures { result.now ≡ fault_text self }
+    {
+        match self {
+            OrderFault::UnknownTarget => "O1",
+            OrderFault::NotAllowed => "O2",
+            OrderFault::WrongState => "O3",
+            OrderFault::ShelveTime => "O4",
+            OrderFault::NotFaulted => "O5",
+        }
+    }
+}
+
+/// The state of an alarm (ANSI/ISA-18.2, IEC 62682). `Code` says what each means.
+#[derive(Clone, Copy, Debug, PartialEq, Eq, Drop)]
+pub enum AlarmState {
+    Norm,
+    Unack,
+    Acked,
+    Rtnun,
+    Latun,
+    Latak,
+    /// With the moment at which the shelf ends, in milliseconds: the first scan at that moment or later ends it.
+    Shelved(u64),
+    Suppr,
+    Oos,
+}
+
+impl AlarmState {
+    /// The code of the state.
+    pub fn code(self) -> Code
+        ensures { result ≡ code_of self }
+    {
+        match self {
+            AlarmState::Norm => Code::Norm,
+            AlarmState::Unack => Code::Unack,
+            AlarmState::Acked => Code::Acked,
+            AlarmState::Rtnun => Code::Rtnun,
+            AlarmState::Latun => Code::Latun,
+            AlarmState::Latak => Code::Latak,
+            AlarmState::Shelved(_) => Code::Shelved,
+            AlarmState::Suppr => Code::Suppr,
+            AlarmState::Oos => Code::Oos,
+        }
+    }
+
+    /// The moment at which the shelf ends, for a shelved alarm alone.
+    pub fn end(self) -> Option<u64>
+        ensures { result ≡ end_of self }
+    {
+        match self {
+            AlarmState::Shelved(end) => Some(end),
+            _ => None,
+        }
+    }
+}
+
+#[cfg(test)]
+mod tests {
+    use super::*;
+
+    #[test]
+    fn codes_stand_in_their_order(rt: HostRuntime) {
+        let codes = [
+            (Code::Norm, 0, "NORM"),
+            (Code::Unack, 1, "UNACK"),
+            (Code::Acked, 2, "ACKED"),
+            (Code::Rtnun, 3, "RTNUN"),
+            (Code::Latun, 4, "LATUN"),
+            (Code::Latak, 5, "LATAK"),
+            (Code::Shelved, 6, "SHELVED"),
+            (Code::Suppr, 7, "SUPPR"),
+            (Code::Oos, 8, "OOS"),
+        ];
+        for (code, rank, text) in codes {
+            assert_eq!(rt; code.rank(), rank);
+            assert!(rt; code.text() == text, "{text}");
+        }
+        let mut next = 0;
+        for code in Code::all() {
+            assert_eq!(rt; code.rank(), next);
+            next = code.rank() + 1;
+        }
+        assert_eq!(rt; next, 9);
+    }
+
+    #[test]
+    fn orders_have_their_words(rt: HostRuntime) {
+        let verbs = [
+            (Verb::Ack, "ack"),
+            (Verb::Reset, "reset"),
+            (Verb::Shelve(5000), "shelve"),
+            (Verb::Unshelve, "unshelve"),
+            (Verb::Remove, "remove"),
+            (Verb::Return, "return"),
+            (Verb::Restart, "restart"),
+        ];
+        for (verb, text) in verbs {
+            assert!(rt; verb.text() == text, "{text}");
+        }
+        let faults = [
+            (OrderFault::UnknownTarget, "O1"),
+            (OrderFault::NotAllowed, "O2"),
+            (OrderFault::WrongState, "O3"),
+            (OrderFault::ShelveTime, "O4"),
+            (OrderFault::NotFaulted, "O5"),
+        ];
+        for (fault, text) in faults {
+            assert!(rt; fault.text() == text, "{text}");
+        }
+    }
+}
