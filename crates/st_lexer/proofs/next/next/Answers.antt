@@ -1,0 +1,8 @@
+use Rattle.st_lexer.proofs.Longest.{found_of, none_of}
+use Rattle.st_lexer.proofs.next.next.Goals as goal
+
+pub returns-clause-found : goal.returns-clause-found
+returns-clause-found c = found_of c.args.text.now c.piece_at.result c.piece_at.ensures
+
+pub returns-clause-none : goal.returns-clause-none
+returns-clause-none c = none_of c.args.text.now c.piece_at.result c.piece_at.ensures

@@ -1,0 +1,56 @@
+-- The tokens of a text, and the place where it has none.
+use Rattle.std.specs.Prelude.{◌≡◌, ℕ, ◌+◌, ◌<◌, ◌≤◌, nat_eq, if◌then◌else◌, List, [], ◌∷◌, length, drop, Result, Ok, Err}
+use Rattle.std.specs.Prelude.{Vec}
+use Rattle.std.specs.List.{starts_with, slice_range}
+use Rattle.std.specs.declared.alloc.Global.{Global}
+use Rattle.st_lexer.specs.declared.token.Token.{Token}
+use Rattle.st_lexer.specs.declared.piece.Piece.{Piece}
+use Rattle.st_lexer.specs.declared.piece.Piece.TheVariants as p
+use Rattle.st_lexer.specs.declared.lexer.LexFault.{LexFault}
+use Rattle.st_lexer.specs.declared.lexer.LexFault.TheVariants as f
+use Rattle.st_lexer.specs.Spellings.{Spells}
+use Rattle.st_lexer.specs.Pieces.{Cut, IsOver, total}
+use Rattle.st_lexer.specs.Places.{line_at, column_at}
+
+-- the bytes of a byte order mark that a text begins with, which is skipped
+abbrev pub mark_len : List ℕ → ℕ
+mark_len text = if starts_with nat_eq text (239 ∷ 187 ∷ 191 ∷ []) then 3 else 0
+
+-- the text behind it
+abbrev pub unmarked : List ℕ → List ℕ
+unmarked text = drop (mark_len text) text
+
+-- the pieces that are no separators, with their places
+abbrev pub tokens_of : ℕ → List (Piece × ℕ) → List Token
+tokens_of at [] = []
+tokens_of at ((p.Blank, n) ∷ ps) = tokens_of (at + n) ps
+tokens_of at ((p.Comment, n) ∷ ps) = tokens_of (at + n) ps
+tokens_of at ((p.Token kind, n) ∷ ps) = record { kind = kind; from = at; until = at + n } ∷ tokens_of (at + n) ps
+
+-- the whole text is a list of pieces, and these are its tokens
+pub record Lexes (text : List ℕ) (tokens : List Token) : Type 0 where
+  pub pieces : List (Piece × ℕ)
+  pub cut : Cut (unmarked text) pieces []
+  pub told : tokens ≡ tokens_of (mark_len text) pieces
+
+-- taken from the start, the pieces can't go on at this line and column
+pub record Stops (text : List ℕ) (line column : ℕ) : Type 0 where
+  pub pieces : List (Piece × ℕ)
+  pub rest : List ℕ
+  pub cut : Cut (unmarked text) pieces rest
+  pub some : 0 < length rest
+  pub over : IsOver rest
+  pub line_is : line ≡ line_at (unmarked text) (total pieces)
+  pub column_is : column ≡ column_at (unmarked text) (total pieces)
+
+-- a token of the text: its bytes are the slice from one place until the other, and they spell its kind
+pub record IsTokenOf (text : List ℕ) (token : Token) : Type 0 where
+  pub some : token.from < token.until
+  pub within : token.until ≤ length text
+  pub spelled : Spells token.kind (slice_range text token.from token.until)
+
+-- a place is answered, and it is so
+abbrev pub IfBad : Result (Vec Token Global) LexFault → (ℕ → ℕ → Type 0) → Type 0
+IfBad (Ok tokens) P = Unit {0}
+IfBad (Err f.Memory) P = Unit {0}
+IfBad (Err (f.Bad line column)) P = P line column

@@ -1,0 +1,10 @@
+pub mod Bytes
+pub mod Tables
+pub mod Numbers
+pub mod Addresses
+pub mod Comments
+pub mod Spellings
+pub mod Pieces
+pub mod Places
+pub mod Lexes
+pub mod Reading

@@ -1,0 +1,53 @@
+-- A text cut into pieces.
+use Rattle.std.specs.Prelude.{◌≡◌, ℕ, ◌+◌, ◌<◌, ◌≤◌, Bool, true, false, IsTrue, List, [], ◌∷◌, length, take, drop}
+use Rattle.st_lexer.specs.declared.token.TokenKind.{TokenKind}
+use Rattle.st_lexer.specs.declared.token.TokenKind.TheVariants as t
+use Rattle.st_lexer.specs.declared.piece.Piece.{Piece}
+use Rattle.st_lexer.specs.declared.piece.Piece.TheVariants as p
+use Rattle.st_lexer.specs.Bytes.{is_blank, stands_apart}
+use Rattle.st_lexer.specs.Comments.{is_comment, begins_comment}
+use Rattle.st_lexer.specs.Spellings.{Spells}
+
+-- one space, tab, line feed, form feed or carriage return
+abbrev pub one_blank : List ℕ → Bool
+one_blank [] = false
+one_blank (b ∷ []) = is_blank b
+one_blank (b ∷ c ∷ bs) = false
+
+-- the bytes are a piece of this kind: a separator or a token
+abbrev pub Fits : Piece → List ℕ → Type 0
+Fits p.Blank bs = IsTrue (one_blank bs)
+Fits p.Comment bs = IsTrue (is_comment bs)
+Fits (p.Token kind) bs = Spells kind bs
+
+-- no word, literal or address is directly followed by a letter, digit, underscore or `#`
+abbrev pub token_may_precede : TokenKind → List ℕ → Bool
+token_may_precede (t.Symbol symbol) rest = true
+token_may_precede _ rest = stands_apart rest
+
+abbrev pub may_precede : Piece → List ℕ → Bool
+may_precede p.Blank rest = true
+may_precede p.Comment rest = true
+may_precede (p.Token kind) rest = token_may_precede kind rest
+
+-- the next piece of a text, and its length: the longest beginning that is one, where a comment begins a comment
+pub record IsNext (text : List ℕ) (piece : Piece) (n : ℕ) : Type 0 where
+  pub within : n ≤ length text
+  pub is : Fits piece (take n text)
+  pub longest : (other : Piece) (m : ℕ) → n < m → m ≤ length text → Fits other (take m text) → ⊥
+  pub follows : IsTrue (may_precede piece (drop n text))
+  pub marked : IsTrue (begins_comment text) → piece ≡ p.Comment
+
+-- no piece is next
+abbrev pub IsOver : List ℕ → Type 0
+IsOver text = (piece : Piece) (n : ℕ) → IsNext text piece n → ⊥
+
+-- each is the next piece of what is left, and this rest is left behind them
+abbrev pub Cut : List ℕ → List (Piece × ℕ) → List ℕ → Type 0
+Cut text [] rest = text ≡ rest
+Cut text (p ∷ ps) rest = IsNext text p.0 p.1 × Cut (drop p.1 text) ps rest
+
+-- the bytes of pieces
+abbrev pub total : List (Piece × ℕ) → ℕ
+total [] = 0
+total (p ∷ ps) = p.1 + total ps

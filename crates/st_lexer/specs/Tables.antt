@@ -1,0 +1,66 @@
+-- How keywords and symbols are spelled.
+use Rattle.std.specs.Prelude.{ℕ, List, codes}
+use Rattle.st_lexer.specs.declared.token.Keyword.{Keyword}
+use Rattle.st_lexer.specs.declared.token.Keyword.TheVariants as k
+use Rattle.st_lexer.specs.declared.token.Symbol.{Symbol}
+use Rattle.st_lexer.specs.declared.token.Symbol.TheVariants as s
+
+-- the spelling of a keyword
+abbrev pub spelling : Keyword → List ℕ
+spelling k.And = codes "AND"
+spelling k.At = codes "AT"
+spelling k.Bool = codes "BOOL"
+spelling k.By = codes "BY"
+spelling k.Case = codes "CASE"
+spelling k.Dint = codes "DINT"
+spelling k.Do = codes "DO"
+spelling k.Else = codes "ELSE"
+spelling k.Elsif = codes "ELSIF"
+spelling k.EndCase = codes "END_CASE"
+spelling k.EndFor = codes "END_FOR"
+spelling k.EndFunctionBlock = codes "END_FUNCTION_BLOCK"
+spelling k.EndIf = codes "END_IF"
+spelling k.EndProgram = codes "END_PROGRAM"
+spelling k.EndVar = codes "END_VAR"
+spelling k.False = codes "FALSE"
+spelling k.For = codes "FOR"
+spelling k.FunctionBlock = codes "FUNCTION_BLOCK"
+spelling k.If = codes "IF"
+spelling k.Mod = codes "MOD"
+spelling k.Not = codes "NOT"
+spelling k.Of = codes "OF"
+spelling k.Or = codes "OR"
+spelling k.Program = codes "PROGRAM"
+spelling k.Then = codes "THEN"
+spelling k.Time = codes "TIME"
+spelling k.To = codes "TO"
+spelling k.True = codes "TRUE"
+spelling k.Var = codes "VAR"
+spelling k.VarExternal = codes "VAR_EXTERNAL"
+spelling k.VarGlobal = codes "VAR_GLOBAL"
+spelling k.VarInput = codes "VAR_INPUT"
+spelling k.VarOutput = codes "VAR_OUTPUT"
+spelling k.Xor = codes "XOR"
+
+-- the bytes of a symbol
+abbrev pub bytes_of : Symbol → List ℕ
+bytes_of s.Becomes = codes ":="
+bytes_of s.Gives = codes "=>"
+bytes_of s.AtMost = codes "<="
+bytes_of s.AtLeast = codes ">="
+bytes_of s.Unequal = codes "<>"
+bytes_of s.Range = codes ".."
+bytes_of s.Colon = codes ":"
+bytes_of s.Semicolon = codes ";"
+bytes_of s.Comma = codes ","
+bytes_of s.Open = codes "("
+bytes_of s.Close = codes ")"
+bytes_of s.Point = codes "."
+bytes_of s.Plus = codes "+"
+bytes_of s.Minus = codes "-"
+bytes_of s.Times = codes "*"
+bytes_of s.Divide = codes "/"
+bytes_of s.Ampersand = codes "&"
+bytes_of s.Equal = codes "="
+bytes_of s.Less = codes "<"
+bytes_of s.Greater = codes ">"

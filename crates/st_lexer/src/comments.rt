@@ -1,0 +1,43 @@
+//! Where a comment ends.
+
+ghost use Rattle.std.specs.Prelude.{◌≡◌, ◌==◌, ◌≤◌, length, IfSome};
+ghost use Rattle.st_lexer.specs.Bytes.{begins_by};
+ghost use Rattle.st_lexer.specs.Reading.{closing, line_len};
+
+fn is_next(mark: u8, rest: &[u8]) -> bool
+    ensures { result ≡ begins_by (λ c. c == mark) rest.now }
+{
+    match rest.first() {
+        Some(byte) => *byte == mark,
+        None => false,
+    }
+}
+
+/// How many bytes a comment has behind its opening mark, where `*` and this byte close it.
+pub fn closing(mark: u8, inner: &[u8]) -> Option<usize>
+    ensures found { result ≡ closing 0 mark inner.now }
+    ensures within { IfSome result (λ n. n ≤ length inner.now) }
+{
+    for (i, byte) in inner.iter().enumerate() {
+        if *byte == b'*' && is_next(mark, &inner[i + 1..]) {
+            return Some(i + 2);
+        }
+    }
+    None
+}
+
+/// How many bytes a comment of one line has behind `//`.
+#[tactic(auto, unfolding(crate::specs::Reading::line_len))]
+pub fn line_len(inner: &[u8]) -> usize
+    ensures found { result ≡ line_len inner.now }
+    ensures within { result ≤ length inner.now }
+{
+    let mut n = 0;
+    for byte in inner {
+        if *byte == b'\n' {
+            return n;
+        }
+        n += 1;
+    }
+    n
+}
