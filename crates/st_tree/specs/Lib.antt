@@ -1,0 +1,4 @@
+pub mod Plain
+pub mod View
+pub mod Meaning
+pub mod Code
