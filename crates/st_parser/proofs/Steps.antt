@@ -1,0 +1,81 @@
+-- Reading one lexeme, and what an answer of two steps says of each.
+use Rattle.std.proofs.Common.{◌≡◌, ℕ, List, [], ◌∷◌, Option, Some, None, drop, refl, sym, ap, ◌∙◌, subst, Bool, true, false, cond, ◌⊎◌, inl, inr, ◌≤◌, ◌<◌, nat_le}
+use Rattle.std.proofs.lemmas.Bool.Decides.{leb_tells}
+use denote.Enum.Bare.{sameb, same_true, true_same}
+use Rattle.st_lexer.specs.contracts.token.Keyword.{the_type as keyword_type}
+use Rattle.st_lexer.specs.contracts.token.Symbol.{the_type as symbol_type}
+use Rattle.st_lexer.specs.declared.token.Keyword.{Keyword}
+use Rattle.st_lexer.specs.declared.token.Symbol.{Symbol}
+use Rattle.st_lexer.specs.declared.token.TokenKind.{TokenKind}
+use Rattle.st_lexer.specs.declared.token.TokenKind.TheVariants as kind
+use Rattle.st_parser.specs.Lexemes.{Lexeme, word, keyword, symbol, lexeme_of, first_name}
+use Rattle.st_parser.specs.Reading.{Answer, tree_of, ◌>>=◌, word_at, symbol_at, keyword_at}
+use Rattle.st_parser.specs.Outcome.{Fails}
+use Rattle.st_parser.specs.declared.fault.Stop.{Stop}
+use Rattle.st_parser.specs.declared.fault.Stop.TheVariants as stop
+
+pub both_ways : (l k : ℕ) → ((nat_le l k ≡ true) × (l ≤ k)) ⊎ ((nat_le l k ≡ false) × (k < l))
+both_ways l k = leb_tells l k
+
+pub some_or_none : {A : Type 0} (o : Option A) → (o ≡ None) ⊎ ((x : A) × (o ≡ Some x))
+some_or_none None = inl refl
+some_or_none (Some x) = inr (x, refl)
+
+pub bind_some : {A B : Type 0} (o : Option A) (f : A → Option B) (y : B) → (o >>= f) ≡ Some y → (x : A) × (o ≡ Some x) × (f x ≡ Some y)
+bind_some (Some x) f y h = (x, refl, h)
+bind_some None f y h = absurd (cc)
+
+pub same_some : {A : Type 0} (x y : A) → (let s : Option A = Some x in s) ≡ Some y → x ≡ y
+same_some x y h = cc
+
+pub symbol_read : (wanted : Symbol) (ts : List Lexeme) → symbol_at wanted (symbol wanted ∷ ts) ≡ Some ts
+symbol_read wanted ts = ap (λ b. cond b (Some ts) None) (true_same symbol_type wanted wanted refl)
+
+pub keyword_read : (wanted : Keyword) (ts : List Lexeme) → keyword_at wanted (keyword wanted ∷ ts) ≡ Some ts
+keyword_read wanted ts = ap (λ b. cond b (Some ts) None) (true_same keyword_type wanted wanted refl)
+
+-- a test that was passed
+passed : {A : Type 0} (b : Bool) (x y : A) → cond b (let s : Option A = Some x in s) None ≡ Some y → (b ≡ true) × (x ≡ y)
+passed true x y h = (refl, same_some x y h)
+passed false x y h = absurd (cc)
+
+pub symbol_found : (wanted : Symbol) (ts rest : List Lexeme) → symbol_at wanted ts ≡ Some rest → ts ≡ symbol wanted ∷ rest
+symbol_found wanted (symbol found ∷ ts) rest h =
+    let p = passed (sameb symbol_type found wanted) ts rest h in
+    let same = same_true symbol_type tt found wanted p.0 in
+    ap (λ s. symbol s ∷ ts) same ∙ ap (λ r. symbol wanted ∷ r) p.1
+symbol_found wanted [] rest h = absurd (cc)
+symbol_found wanted (_ ∷ ts) rest h = absurd (cc)
+
+pub keyword_found : (wanted : Keyword) (ts rest : List Lexeme) → keyword_at wanted ts ≡ Some rest → ts ≡ keyword wanted ∷ rest
+keyword_found wanted (keyword found ∷ ts) rest h =
+    let p = passed (sameb keyword_type found wanted) ts rest h in
+    let same = same_true keyword_type tt found wanted p.0 in
+    ap (λ s. keyword s ∷ ts) same ∙ ap (λ r. keyword wanted ∷ r) p.1
+keyword_found wanted [] rest h = absurd (cc)
+keyword_found wanted (_ ∷ ts) rest h = absurd (cc)
+
+pub word_found : (ts : List Lexeme) (r : List ℕ × List Lexeme) → word_at ts ≡ Some r → ts ≡ word r.0 ∷ r.1
+word_found (word name ∷ ts) r h = ap (λ (p : List ℕ × List Lexeme). word p.0 ∷ p.1) (same_some _ _ h)
+word_found [] r h = absurd (cc)
+word_found (_ ∷ ts) r h = absurd (cc)
+
+same_first : (k : TokenKind) (name : List ℕ) (rest : List Lexeme) → lexeme_of k name ≡ lexeme_of k (first_name (lexeme_of k name ∷ rest))
+same_first kind.Word name rest = refl
+same_first (kind.Keyword w) name rest = refl
+same_first (kind.Integer n) name rest = refl
+same_first (kind.Dint n) name rest = refl
+same_first (kind.Truth b) name rest = refl
+same_first (kind.Duration n) name rest = refl
+same_first (kind.Address r) name rest = refl
+same_first (kind.Symbol x) name rest = refl
+
+-- the first lexeme is told by its kind and its spelling
+pub first_is : (k : TokenKind) (name : List ℕ) (ts rest : List Lexeme) → ts ≡ lexeme_of k name ∷ rest → ts ≡ lexeme_of k (first_name ts) ∷ drop 1 ts
+first_is k name ts rest is =
+    subst (λ (l : List Lexeme). l ≡ lexeme_of k (first_name l) ∷ drop 1 l) (sym is) (ap (λ l. l ∷ rest) (same_first k name rest))
+
+-- what stops an expression stops it without its depth
+pub fails_tree : (s : Stop) (a : Answer) → Fails s a → Fails s (tree_of a)
+fails_tree stop.Memory a h = tt
+fails_tree (stop.Left n) a h = ap tree_of h

@@ -1,0 +1,5 @@
+pub mod Source
+pub mod Lexemes
+pub mod Grammar
+pub mod Reading
+pub mod Outcome

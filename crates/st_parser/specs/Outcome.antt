@@ -1,0 +1,28 @@
+-- What a function that reads returns.
+use Rattle.std.specs.Prelude.{◌≡◌, ℕ, ◌≤◌, List, Option, Some, None, Result, Ok, Err}
+use Rattle.st_parser.specs.declared.fault.ParseFault.{ParseFault}
+use Rattle.st_parser.specs.declared.fault.ParseFault.TheVariants as fault
+use Rattle.st_parser.specs.declared.fault.Stop.{Stop}
+use Rattle.st_parser.specs.declared.fault.Stop.TheVariants as stop
+use Rattle.st_parser.specs.Grammar.{Spells}
+use Rattle.st_parser.specs.Lexemes.{Lexeme}
+use Rattle.st_parser.specs.Source.{Source}
+
+abbrev pub Fails : {Y : Type 0} → Stop → Option Y → Type 0
+Fails stop.Memory answer = Unit {0}
+Fails (stop.Left n) answer = answer ≡ None
+
+-- what is returned, seen by view, is what reading gives, unless memory ran out
+abbrev pub Gives : {X Y : Type 0} → (X → Y) → Result X Stop → Option Y → Type 0
+Gives view (Ok x) answer = answer ≡ Some (view x)
+Gives view (Err e) answer = Fails e answer
+
+-- the lexemes spell no unit, or memory ran out
+abbrev pub SpellNone : List Lexeme → ParseFault → Type 0
+SpellNone ts fault.Memory = Unit {0}
+SpellNone ts (fault.At token) = (source : Source) → Spells ts source → ⊥
+
+-- a fault names one of so many tokens, or their end
+abbrev pub NamesOneOf : ℕ → ParseFault → Type 0
+NamesOneOf count fault.Memory = Unit {0}
+NamesOneOf count (fault.At token) = token ≤ count

@@ -1,0 +1,122 @@
+//! A place in a text's tokens.
+
+ghost use Rattle.std.specs.Prelude.{◌≡◌, ℕ, ◌∷◌, [], List, length, drop, MatchOption, Option, Some, None};
+ghost use Rattle.st_parser.specs.Lexemes.{Lexeme, lexemes, lexeme_of, first_name, span_of};
+ghost use Rattle.st_parser.specs.Reading.{word_at, symbol_at, keyword_at};
+ghost use Rattle.st_parser.specs.Outcome.{Gives};
+
+use crate::fault::Stop;
+use plant_types::Text;
+use st_lexer::{Keyword, Symbol, Token, TokenKind};
+use std::alloc::Global;
+use std::marker::Model;
+
+/// The tokens of a text that aren't read yet. Contracts see their lexemes.
+#[derive(Drop)]
+pub struct Reader<'a> {
+    text: &'a [u8],
+    tokens: &'a [Token],
+}
+
+impl<'a> Model for Reader<'a> {
+    ghost use Rattle.std.specs.Prelude.{List};
+    ghost use Rattle.st_parser.specs.Lexemes.{Lexeme, lexemes};
+
+    ghost Value = { List Lexeme };
+
+    ghost view = { λ r. lexemes r.text.now r.tokens.now };
+}
+
+impl<'a> Reader<'a> {
+    /// All tokens of the text.
+    pub fn new(text: &'a [u8], tokens: &'a [Token]) -> Reader<'a>
+        ensures { result ≡ lexemes text.now tokens.now }
+    {
+        Reader { text, tokens }
+    }
+
+    /// How many tokens are left.
+    pub fn left(&self) -> usize
+        ensures { result ≡ length self.now }
+    {
+        self.tokens.len()
+    }
+
+    /// The refusal of the next token.
+    pub fn stop(&self) -> Stop
+        ensures { result ≡ Stop.Left (length self.now) }
+    {
+        Stop::Left(self.tokens.len())
+    }
+
+    /// The kind of the next token.
+    pub fn peek(&self) -> Option<TokenKind>
+        ensures { MatchOption result (self.now ≡ []) (λ kind. self.now ≡ lexeme_of kind (first_name self.now) ∷ drop 1 self.now) }
+    {
+        let (first, _rest) = self.tokens.split_first()?;
+        let kind = first.kind;
+        Some(kind)
+    }
+
+    /// Leaves the next token behind, if there is one.
+    pub fn advance(&mut self)
+        ensures { self.new ≡ drop 1 self.old }
+    {
+        if let Some((_, rest)) = self.tokens.split_first() {
+            self.tokens = rest;
+        }
+    }
+
+    /// Reads this symbol.
+    pub fn symbol(&mut self, wanted: Symbol) -> Result<(), Stop>
+        ensures { Gives (λ _. self.new) result (symbol_at wanted self.old) }
+    {
+        match self.peek() {
+            Some(TokenKind::Symbol(found)) if found == wanted => {
+                self.advance();
+                Ok(())
+            }
+            _ => Err(self.stop()),
+        }
+    }
+
+    /// Reads this keyword.
+    pub fn keyword(&mut self, wanted: Keyword) -> Result<(), Stop>
+        ensures { Gives (λ _. self.new) result (keyword_at wanted self.old) }
+    {
+        match self.peek() {
+            Some(TokenKind::Keyword(found)) if found == wanted => {
+                self.advance();
+                Ok(())
+            }
+            _ => Err(self.stop()),
+        }
+    }
+
+    /// Reads a word, as it is spelled.
+    pub fn word(&mut self, alloc: Global) -> Result<Text, Stop>
+        ensures { Gives (λ name. (name, self.new)) result (word_at self.old) }
+    {
+        let Some((first, rest)) = self.tokens.split_first() else {
+            return Err(self.stop());
+        };
+        match first.kind {
+            TokenKind::Word => {
+                let name = String::from_utf8_lossy(alloc, span(self.text, *first))?;
+                self.tokens = rest;
+                Ok(Text::new(name))
+            }
+            _ => Err(self.stop()),
+        }
+    }
+}
+
+/// The bytes of a token.
+fn span(text: &[u8], token: Token) -> &[u8]
+    ensures { result.now ≡ span_of text.now token.from token.until }
+{
+    match text.get(token.from..token.until) {
+        Some(bytes) => bytes,
+        None => &[],
+    }
+}
