@@ -1,0 +1,83 @@
+//! The values of variables.
+
+ghost use Rattle.std.specs.Prelude.{◌≡◌, ◌<◌, ◌==◌, pos, length, slice_index_or, slice_set, IfOk};
+
+use std::alloc::{AllocError, Global};
+use std::marker::Model;
+
+/// The plain list of values, one for each variable: 0 or 1 for a BOOL, milliseconds for a TIME. Contracts see the list.
+#[derive(Drop)]
+pub struct Cells {
+    values: Vec<i64>,
+}
+
+impl Model for Cells {
+    ghost use Rattle.std.specs.Prelude.{List, ℤ};
+
+    ghost Value = { List ℤ };
+
+    ghost view = { λ cells. cells.values.items };
+}
+
+impl Cells {
+    /// The cells of a list of values.
+    pub fn new(values: Vec<i64>) -> Cells
+        ensures { result ≡ values.items }
+    {
+        Cells { values }
+    }
+
+    /// How many there are.
+    pub fn len(&self) -> usize
+        ensures { result ≡ length self.now }
+    {
+        self.values.len()
+    }
+
+    /// Whether there are none.
+    pub fn is_empty(&self) -> bool
+        ensures { result ≡ (length self.now == 0) }
+    {
+        self.values.is_empty()
+    }
+
+    /// The value of a cell.
+    pub fn get(&self, slot: usize) -> i64
+        requires { slot < length self.now }
+        ensures { result ≡ slice_index_or self.now slot (pos 0) }
+    {
+        self.values[slot]
+    }
+
+    /// Gives a cell a value.
+    pub fn set(&mut self, slot: usize, value: i64)
+        requires { slot < length self.old }
+        ensures { self.new ≡ slice_set self.old slot value }
+    {
+        self.values[slot] = value;
+    }
+
+    /// The values as a slice.
+    pub fn as_slice(&self) -> &[i64]
+        ensures { result.now ≡ self.now }
+    {
+        self.values.as_slice()
+    }
+
+    /// The same values in cells of their own. The error is a refused growth.
+    pub fn copy(&self, alloc: Global) -> Result<Cells, AllocError>
+        ensures { IfOk result (λ copy. copy ≡ self.now) }
+    {
+        Ok(Cells {
+            values: Vec::from_slice(alloc, self.values.as_slice())?,
+        })
+    }
+
+    /// Takes over the values of other cells, as many as these. No memory is asked for.
+    pub fn copy_from(&mut self, other: &Cells)
+        requires { length self.old ≡ length other.now }
+        ensures { self.new ≡ other.now }
+    {
+        self.values.copy_from_slice(other.values.as_slice());
+    }
+}
