@@ -1,0 +1,57 @@
+-- The plant that is built in keeps what holds of each plant.
+use Rattle.std.proofs.Common.{◌≡◌, ℕ, ◌+◌, ◌<◌, ◌≤◌, Bool, true, false, ◌&&◌, List, [], ◌∷◌, length, get_or, Option, Some, None, suc, zero, IfSome, position, lit<, lit≤, refl, sym, ap, ◌∙◌, subst, arith, rules}
+use Rattle.std.specs.List.{slice_get, All}
+use Rattle.std.proofs.lemmas.Option.{get_or_from_slice_get}
+use Rattle.std.proofs.lemmas.List.Quantifiers.{position-Some}
+use Rattle.plant_types.specs.declared.values.Kind.{Kind}
+use Rattle.plant_types.specs.declared.values.Kind.TheVariants as kind
+use Rattle.st_parser.specs.declared.unit.Variable.{Variable}
+use Rattle.st_parser.specs.Source.{Source}
+use Rattle.plant_config.specs.declared.rows.AlarmRow.{AlarmRow}
+use Rattle.plant_config.specs.Meaning.{Meaning, IsBoolGlobal, IsAlarm, IsPlant}
+use Rattle.plant_config.specs.Example.{is_bool, is_condition, condition_of, example, example_alarm}
+
+both_true : (a b : Bool) → (a && b) ≡ true → b ≡ true
+both_true true b h = h
+both_true false b h = absurd (cc)
+
+is_bool-true : (k : Kind) → is_bool k ≡ true → k ≡ kind.Bool
+is_bool-true kind.Bool h = refl
+is_bool-true kind.Dint h = absurd (cc)
+is_bool-true kind.Time h = absurd (cc)
+
+any_global : Variable
+any_global = record { name = []; region = None; kind = kind.Bool }
+
+-- the condition is a BOOL global
+condition_is_bool : (source : Source) (n : ℕ) → condition_of source ≡ Some n → IsBoolGlobal source.globals n
+condition_is_bool source n found =
+    record {
+      within = (position-Some is_condition source.globals n any_global found).0;
+      is_bool =
+          (elim (slice_get source.globals n) as (λ (o : Option Variable). slice_get source.globals n ≡ o → IfSome o (λ g. g.kind ≡ kind.Bool)) [
+            | None ↦ λ _. tt
+            | Some g ↦ λ at. is_bool-true g.kind (both_true _ _ (ap is_condition (sym (get_or_from_slice_get source.globals n g g at)) ∙ (position-Some is_condition source.globals n g found).1))
+          ]) refl;
+    }
+
+one_of_one : {X : Type 0} (P : X → Type 0) (x : X) → P x → All P (x ∷ [])
+one_of_one P x holds zero d within = holds
+one_of_one P x holds (suc k) d within = absurd (omega arith)
+
+-- the plant around a source is a plant
+pub example_is_plant : (source : Source) (n : ℕ) → condition_of source ≡ Some n → IsPlant (example source n)
+example_is_plant source n found =
+    record {
+      few = lit≤ tt;
+      areas = lit≤ tt;
+      alarms =
+          one_of_one (IsAlarm (example source n)) (example_alarm n) (record {
+            area = lit< tt;
+            lowest = lit≤ tt;
+            highest = lit≤ tt;
+            condition = condition_is_bool source n found;
+            suppress = tt;
+            shelve = lit≤ tt;
+          });
+    }

@@ -1,0 +1,18 @@
+-- The line that tells why a plant isn't accepted.
+use Rattle.std.specs.Prelude.{ℕ, List, [], ◌++◌, codes}
+use Rattle.std.specs.Fmt.{decimal}
+use Rattle.plant_config.specs.declared.fault.ConfigFault.{ConfigFault}
+use Rattle.plant_config.specs.declared.fault.ConfigFault.TheVariants as fault
+
+-- a line and a column, with a blank between them
+abbrev pub place : ℕ → ℕ → List ℕ
+place line column = decimal line ++ codes " " ++ decimal column
+
+-- the number of the fault, the file, and where it is; Memory has no line
+abbrev pub fault_line : ConfigFault → List ℕ
+fault_line fault.Memory = []
+fault_line (fault.Spelling line column) = codes "CONFIG C4 p.st " ++ place line column
+fault_line (fault.Grammar line column) = codes "CONFIG C5 p.st " ++ place line column
+fault_line (fault.Name unit) = codes "CONFIG C6 p.st " ++ unit
+fault_line (fault.Kind unit) = codes "CONFIG C7 p.st " ++ unit
+fault_line fault.Condition = codes "CONFIG C14 1 condition"

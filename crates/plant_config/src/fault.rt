@@ -1,0 +1,75 @@
+ghost use Rattle.std.specs.Prelude.{◌≡◌, ◌≢◌, ◌++◌, IfOk, string_bytes, codes};
+ghost use Rattle.std.specs.Fmt.{decimal};
+ghost use Rattle.plant_config.specs.FaultLine.{fault_line};
+ghost use Rattle.plant_config.specs.declared.fault.ConfigFault.TheVariants as fault;
+
+use plant_types::Text;
+use std::alloc::{AllocError, Global};
+
+/// Why a plant isn't accepted. Lines of a source and bytes of a line count from 1.
+#[derive(Drop)]
+pub enum ConfigFault {
+    /// A growth was refused.
+    Memory,
+    /// C4: a byte that begins no token, a literal that isn't allowed, or an open comment.
+    Spelling { line: usize, column: usize },
+    /// C5: a token with which no unit goes on, or the text's end.
+    Grammar { line: usize, column: usize },
+    /// C6: a name that isn't there or is there twice, in a unit: the program's name, or `VAR_GLOBAL`.
+    Name { unit: Text },
+    /// C7: a value or an assignment of the wrong kind, in a unit.
+    Kind { unit: Text },
+    /// C14: the alarm's condition is no BOOL global.
+    Condition,
+}
+
+impl From<AllocError> for ConfigFault {
+    ghost from_gives = { λ _ e. e ≡ fault.Memory };
+
+    fn from(_refused: AllocError) -> ConfigFault {
+        ConfigFault::Memory
+    }
+}
+
+impl ConfigFault {
+    /// The line that tells the fault, without its end. The error is a refused growth.
+    pub fn line(&self, alloc: Global) -> Result<String, AllocError>
+        requires { self.now ≢ fault.Memory }
+        ensures { IfOk result (λ text. string_bytes text ≡ fault_line self.now) }
+    {
+        match self {
+            ConfigFault::Memory => Ok(String::new(alloc)),
+            ConfigFault::Spelling { line, column } => {
+                placed(alloc, "CONFIG C4 p.st ", *line, *column)
+            }
+            ConfigFault::Grammar { line, column } => {
+                placed(alloc, "CONFIG C5 p.st ", *line, *column)
+            }
+            ConfigFault::Name { unit } => named(alloc, "CONFIG C6 p.st ", unit),
+            ConfigFault::Kind { unit } => named(alloc, "CONFIG C7 p.st ", unit),
+            ConfigFault::Condition => String::from_str(alloc, "CONFIG C14 1 condition"),
+        }
+    }
+}
+
+/// The words, and then a place.
+fn placed(alloc: Global, words: &str, line: usize, column: usize) -> Result<String, AllocError>
+    ensures { IfOk result (λ text. string_bytes text ≡ words.now ++ decimal line ++ codes " " ++ decimal column) }
+{
+    let mut text = String::from_str(alloc, words)?;
+    let line = line.to_string(alloc)?;
+    text.push_str(line.as_str())?;
+    text.push_str(" ")?;
+    let column = column.to_string(alloc)?;
+    text.push_str(column.as_str())?;
+    Ok(text)
+}
+
+/// The words, and then a unit's name.
+fn named(alloc: Global, words: &str, unit: &Text) -> Result<String, AllocError>
+    ensures { IfOk result (λ text. string_bytes text ≡ words.now ++ unit.now) }
+{
+    let mut text = String::from_str(alloc, words)?;
+    text.push_str(unit.as_str())?;
+    Ok(text)
+}

@@ -1,0 +1,140 @@
+//! From a text to the logic that it spells.
+
+ghost use Rattle.std.specs.Prelude.{◌≡◌, ◌≤◌, None, IfOk, IfErr, length};
+ghost use Rattle.st_lexer.specs.Lexes.{Lexes, mark_len, unmarked};
+ghost use Rattle.st_lexer.specs.Places.{line_at, column_at};
+ghost use Rattle.st_parser.specs.Grammar.{Spells};
+ghost use Rattle.st_parser.specs.Lexemes.{lexemes};
+ghost use Rattle.st_parser.specs.Source.{source_of};
+ghost use Rattle.st_walk.specs.Faults.{first_fault};
+ghost use Rattle.plant_config.specs.Accepted.{Spelled, IsRefused, IsUnfit, start_of, unit_of};
+
+use crate::fault::ConfigFault;
+use plant_types::Text;
+use st_lexer::{LexFault, Token, lex};
+use st_parser::{ParseFault, Unit, parse};
+use st_walk::{FirstFault, Flat};
+use std::alloc::{AllocError, Global};
+
+/// The logic that a text spells, or why there is none.
+pub fn logic(alloc: Global, text: &[u8]) -> Result<Flat, ConfigFault>
+    ensures spelled { IfOk result (Spelled text.now) }
+    ensures sound { IfOk result (λ flat. first_fault flat ≡ None) }
+    ensures refused { IfErr result (IsRefused text.now) }
+{
+    let tokens = tokens(alloc, text)?;
+    let unit = unit(alloc, text, tokens.as_slice())?;
+    match flat(alloc, &unit) {
+        Ok(flat) => Ok(flat),
+        Err(fault) => Err(fault),
+    }
+}
+
+/// The tokens of a text, or C4.
+fn tokens(alloc: Global, text: &[u8]) -> Result<Vec<Token>, ConfigFault>
+    ensures tokens { IfOk result (λ tokens. Lexes text.now tokens.items) }
+    ensures refused { IfErr result (IsRefused text.now) }
+{
+    match lex(alloc, text) {
+        Ok(tokens) => Ok(tokens),
+        Err(LexFault::Memory) => Err(ConfigFault::Memory),
+        Err(LexFault::Bad { line, column }) => Err(ConfigFault::Spelling { line, column }),
+    }
+}
+
+/// The unit that a text's tokens spell, or C5.
+fn unit(alloc: Global, text: &[u8], tokens: &[Token]) -> Result<Unit, ConfigFault>
+    requires { Lexes text.now tokens.now }
+    ensures unit { IfOk result (λ unit. Spells (lexemes text.now tokens.now) (source_of unit)) }
+    ensures refused { IfErr result (IsRefused text.now) }
+{
+    match parse(alloc, text, tokens) {
+        Ok(unit) => Ok(unit),
+        Err(ParseFault::Memory) => Err(ConfigFault::Memory),
+        Err(ParseFault::At { token }) => {
+            let (line, column) = place(unmarked(text), start(text, tokens, token));
+            Err(ConfigFault::Grammar { line, column })
+        }
+    }
+}
+
+/// How many bytes of a byte order mark a text begins with.
+fn mark_len(text: &[u8]) -> usize
+    ensures { result ≡ mark_len text.now }
+{
+    if text.starts_with(b"\xef\xbb\xbf") {
+        3
+    } else {
+        0
+    }
+}
+
+/// The text behind its mark.
+fn unmarked(text: &[u8]) -> &[u8]
+    ensures { result.now ≡ unmarked text.now }
+{
+    &text[mark_len(text)..]
+}
+
+/// Where a token begins, or where the text ends, both behind the text's mark.
+fn start(text: &[u8], tokens: &[Token], token: usize) -> usize
+    ensures { result ≡ start_of text.now tokens.now token }
+{
+    let at = match tokens.get(token) {
+        Some(found) => found.from,
+        None => text.len(),
+    };
+    at.saturating_sub(mark_len(text))
+}
+
+/// The logic of a unit, or C6 or C7.
+fn flat(alloc: Global, unit: &Unit) -> Result<Flat, ConfigFault>
+    ensures flat { IfOk result (λ flat. (flat ≡ source_of unit.now) × (first_fault flat ≡ None)) }
+    ensures refused { IfErr result (IsUnfit (source_of unit.now)) }
+{
+    match Flat::of(alloc, unit) {
+        Ok(flat) => Ok(flat),
+        Err(FirstFault::Memory) => Err(ConfigFault::Memory),
+        Err(FirstFault::Name { globals }) => match unit_name(alloc, globals, unit) {
+            Ok(unit) => Err(ConfigFault::Name { unit }),
+            Err(AllocError) => Err(ConfigFault::Memory),
+        },
+        Err(FirstFault::Kind) => match unit_name(alloc, false, unit) {
+            Ok(unit) => Err(ConfigFault::Kind { unit }),
+            Err(AllocError) => Err(ConfigFault::Memory),
+        },
+    }
+}
+
+/// The name of the unit in which a fault is.
+fn unit_name(alloc: Global, globals: bool, unit: &Unit) -> Result<Text, AllocError>
+    ensures { IfOk result (λ name. name ≡ unit_of globals (source_of unit.now)) }
+{
+    if globals {
+        Text::from_str(alloc, "VAR_GLOBAL")
+    } else {
+        unit.program.name.copy(alloc)
+    }
+}
+
+/// The line and the column of a place in a text, each from 1. What lies behind the text's end is at its end.
+fn place(text: &[u8], at: usize) -> (usize, usize)
+    ensures line { result.0 ≡ line_at text.now at }
+    ensures column { result.1 ≡ column_at text.now at }
+{
+    let before = match text.get(..at) {
+        Some(front) => front,
+        None => text,
+    };
+    let mut line = 1;
+    let mut column = 1;
+    for byte in before {
+        if *byte == b'\n' {
+            line += 1;
+            column = 1;
+        } else {
+            column += 1;
+        }
+    }
+    (line, column)
+}

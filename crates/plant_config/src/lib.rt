@@ -1,0 +1,16 @@
+//! A plant as it is configured: its logic, areas, consoles and alarms.
+#![tactic(auto)]
+
+mod example;
+mod fault;
+mod front;
+mod laws;
+mod plant;
+mod rows;
+#[cfg(test)]
+mod tests;
+
+pub use fault::ConfigFault;
+pub use laws::one_plant;
+pub use plant::Plant;
+pub use rows::{AlarmRow, Console};

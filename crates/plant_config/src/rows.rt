@@ -1,0 +1,29 @@
+use plant_types::{Items, Text};
+
+/// An operator's console, with the areas whose alarms it may order, each by its number.
+#[derive(Drop)]
+pub struct Console {
+    pub number: u32,
+    pub areas: Items<u32>,
+}
+
+/// A row of the alarm database. Areas and globals are named by their numbers, from 0 in the order of their declaration.
+#[derive(Drop)]
+pub struct AlarmRow {
+    /// The alarm's name, in which letter case counts.
+    pub tag: Text,
+    /// The number of its area.
+    pub area: u32,
+    /// 1 to 4, 1 the highest.
+    pub priority: u32,
+    /// The number of the BOOL global that is TRUE while the alarm's condition holds.
+    pub condition: u32,
+    /// The number of the BOOL global that suppresses the alarm while it is TRUE (ISA-18.2, suppression by design), if any.
+    pub suppress: Option<u32>,
+    /// Whether the alarm has to be reset once its condition has gone.
+    pub latching: bool,
+    /// For how many milliseconds it can be shelved at most; 0 where it can't be shelved.
+    pub max_shelve_ms: u64,
+    /// What it says to an operator.
+    pub text: Text,
+}
