@@ -1,5 +1,5 @@
 -- The plant that is built in keeps what holds of each plant.
-use Rattle.std.proofs.Common.{◌≡◌, ℕ, ◌+◌, ◌<◌, ◌≤◌, Bool, true, false, ◌&&◌, List, [], ◌∷◌, length, get_or, Option, Some, None, suc, zero, IfSome, position, lit<, lit≤, refl, sym, ap, ◌∙◌, subst, arith, rules}
+use Rattle.std.proofs.Common.{◌≡◌, ℕ, Bool, true, false, ◌&&◌, [], ◌∷◌, Option, Some, None, suc, zero, IfSome, lit<, lit≤, refl, sym, ap, ◌∙◌, arith}
 use Rattle.std.specs.List.{slice_get, All}
 use Rattle.std.proofs.lemmas.Option.{get_or_from_slice_get}
 use Rattle.std.proofs.lemmas.List.Quantifiers.{position-Some}
@@ -7,8 +7,7 @@ use Rattle.plant_types.specs.declared.values.Kind.{Kind}
 use Rattle.plant_types.specs.declared.values.Kind.TheVariants as kind
 use Rattle.st_parser.specs.declared.unit.Variable.{Variable}
 use Rattle.st_parser.specs.Source.{Source}
-use Rattle.plant_config.specs.declared.rows.AlarmRow.{AlarmRow}
-use Rattle.plant_config.specs.Meaning.{Meaning, IsBoolGlobal, IsAlarm, IsPlant}
+use Rattle.plant_config.specs.Meaning.{IsBoolGlobal, IsAlarm, IsPlant}
 use Rattle.plant_config.specs.Example.{is_bool, is_condition, condition_of, example, example_alarm}
 
 both_true : (a b : Bool) → (a && b) ≡ true → b ≡ true

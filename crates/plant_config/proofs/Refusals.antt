@@ -1,10 +1,10 @@
 -- A text has one answer: what is accepted isn't refused.
-use Rattle.std.proofs.Common.{◌≡◌, ℕ, ◌≤◌, ◌<◌, List, [], Bool, Option, Some, None, Result, Ok, Err, IfOk, IfErr, refl, sym, ap, ◌∙◌, subst, arith}
+use Rattle.std.proofs.Common.{◌≡◌, ℕ, List, Bool, Some, None, Result, Ok, Err, IfOk, IfErr, refl, sym, ap, ◌∙◌, subst}
 use Rattle.st_lexer.specs.declared.token.Token.{Token}
-use Rattle.st_lexer.specs.Lexes.{Lexes, Stops}
+use Rattle.st_lexer.specs.Lexes.{Lexes}
 use Rattle.st_lexer.proofs.Cutting.{one_list, one_place, never_both}
 use Rattle.st_parser.specs.Source.{Source}
-use Rattle.st_parser.specs.Lexemes.{Lexeme, lexemes}
+use Rattle.st_parser.specs.Lexemes.{lexemes}
 use Rattle.st_parser.specs.Grammar.{Spells}
 use Rattle.st_parser.proofs.Sources.{one_unit}
 use Rattle.st_walk.specs.declared.faults.FirstFault.TheVariants as first

@@ -36,15 +36,16 @@ abbrev pub example : Source → ℕ → Meaning
 example source condition =
     record { source = source; areas = example_areas; consoles = example_consoles; alarms = example_alarm condition ∷ [] }
 
+-- a kind is BOOL
 abbrev pub is_bool : Kind → Bool
 is_bool kind.Bool = true
 is_bool _ = false
 
--- a BOOL global that is named c, in either case
+-- a global is BOOL and named c, in either letter case
 abbrev pub is_condition : Variable → Bool
 is_condition global = same_word global.name (codes "c") && is_bool global.kind
 
--- its number, where there is one
+-- the number of the one that is, where there is one
 abbrev pub condition_of : Source → Option ℕ
 condition_of source = position is_condition source.globals
 

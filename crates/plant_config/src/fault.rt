@@ -1,3 +1,5 @@
+//! Why a plant is refused.
+
 ghost use Rattle.std.specs.Prelude.{◌≡◌, ◌≢◌, ◌++◌, IfOk, string_bytes, codes};
 ghost use Rattle.std.specs.Fmt.{decimal};
 ghost use Rattle.plant_config.specs.FaultLine.{fault_line};
@@ -15,9 +17,9 @@ pub enum ConfigFault {
     Spelling { line: usize, column: usize },
     /// C5: a token with which no unit goes on, or the text's end.
     Grammar { line: usize, column: usize },
-    /// C6: a name that isn't there or is there twice, in a unit: the program's name, or `VAR_GLOBAL`.
+    /// C6: a name that isn't there, is there twice or is a standard block's, in a unit: `VAR_GLOBAL`, or the program by its name.
     Name { unit: Text },
-    /// C7: a value or an assignment of the wrong kind, in a unit.
+    /// C7: an operand or a right side of another kind, or an assigned input, in a unit.
     Kind { unit: Text },
     /// C14: the alarm's condition is no BOOL global.
     Condition,
@@ -32,7 +34,7 @@ impl From<AllocError> for ConfigFault {
 }
 
 impl ConfigFault {
-    /// The line that tells the fault, without its end. The error is a refused growth.
+    /// The line that tells the fault, without its line feed. The error is a refused growth.
     pub fn line(&self, alloc: Global) -> Result<String, AllocError>
         requires { self.now ≢ fault.Memory }
         ensures { IfOk result (λ text. string_bytes text ≡ fault_line self.now) }

@@ -1,3 +1,5 @@
+//! The plant, and what its parts are called.
+
 ghost use Rattle.std.specs.Prelude.{◌≡◌, ◌<◌, length, position, IfSome, IfOk, IfErr, None};
 ghost use Rattle.std.specs.Str.{bytes_eq};
 ghost use Rattle.plant_config.specs.Meaning.{Meaning, IsPlant};
@@ -15,7 +17,7 @@ use st_walk::Flat;
 use std::alloc::Global;
 use std::marker::Model;
 
-/// An accepted plant.
+/// An accepted plant. Its areas, alarms, globals and programs are numbered from 0 in order of declaration.
 #[derive(Drop)]
 pub struct Plant {
     flat: Flat,
@@ -41,8 +43,10 @@ impl Model for Plant {
 
 impl Plant {
     /// The plant that is built in, around the logic of a source: areas north and south, console 1 for north and 2 for south, and
-    /// the alarm T1 in north on the BOOL global `c`. Every fault but `Memory` is the first that the source has, in the order of
-    /// `ConfigFault`; `Memory` comes where a growth is refused, and where there are too many globals to number them.
+    /// the alarm T1 in north on the BOOL global `c`. The source is Structured Text (IEC 61131-3, this profile's first language).
+    ///
+    /// Every fault but `Memory` is the first that the source has, in the order of `ConfigFault`. `Memory` comes where a growth is
+    /// refused, and where the number of the global `c` is 2^32 or more.
     pub fn first(alloc: Global, source: &[u8]) -> Result<Plant, ConfigFault>
         ensures plant { IfOk result (Accepted source.now) }
         ensures refused { IfErr result (IsRefused source.now) }
@@ -116,7 +120,7 @@ impl Plant {
         self.areas.len() as u32
     }
 
-    /// How many programs there are.
+    /// How many programs there are: one.
     pub fn programs(&self) -> u32
         ensures { result ≡ 1 }
     {

@@ -1,3 +1,5 @@
+//! Consoles and alarms, as they are configured.
+
 use plant_types::{Items, Text};
 
 /// An operator's console, with the areas whose alarms it may order, each by its number.
@@ -14,15 +16,15 @@ pub struct AlarmRow {
     pub tag: Text,
     /// The number of its area.
     pub area: u32,
-    /// 1 to 4, 1 the highest.
+    /// 1 to 4, 1 the highest (ISA-18.2 leaves their number to the site).
     pub priority: u32,
     /// The number of the BOOL global that is TRUE while the alarm's condition holds.
     pub condition: u32,
     /// The number of the BOOL global that suppresses the alarm while it is TRUE (ISA-18.2, suppression by design), if any.
     pub suppress: Option<u32>,
-    /// Whether the alarm has to be reset once its condition has gone.
+    /// Whether the alarm has to be reset once its condition has gone (ISA-18.2, latching).
     pub latching: bool,
-    /// For how many milliseconds it can be shelved at most; 0 where it can't be shelved.
+    /// For how many milliseconds it can be shelved at most, up to 2,592,000,000 (30 days); 0 where it can't be (ISA-18.2, shelving).
     pub max_shelve_ms: u64,
     /// What it says to an operator.
     pub text: Text,

@@ -1,4 +1,4 @@
-use Rattle.std.proofs.Common.{◌≡◌, Option, Some, position, ap, sym, ◌∙◌}
+use Rattle.std.proofs.Common.{◌≡◌, Some, position, ap, sym, ◌∙◌}
 use Rattle.plant_config.specs.Example.{is_condition, condition_of}
 use Rattle.plant_config.proofs.Examples.{example_is_plant}
 use Rattle.plant_config.proofs.plant.Plant.around.Goals as goal
