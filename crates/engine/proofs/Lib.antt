@@ -1,0 +1,5 @@
+pub mod CellWorlds
+pub mod OrderLaws
+pub mod ProgramRuns
+pub mod Systems
+pub mod Twins

@@ -1,0 +1,12 @@
+use Rattle.std.proofs.Common.{◌≡◌, length}
+use Rattle.st_walk.specs.Worlds.{World, Stands}
+use Rattle.engine.specs.Programs.{programs_from}
+use Rattle.engine.proofs.ProgramRuns.{Reached}
+use Rattle.engine.proofs.steps.run_programs.Given as goal
+
+abbrev pub invariant-loop-program : goal.invariant-loop-program
+invariant-loop-program l = record {
+  one : length l.faulted.items ≡ 1;
+  same : l.program-end ≡ length l.faulted.items;
+  reached : (w : World) → Stands l.flat.globals l.fn.cells w → Reached l.flat l.moment (programs_from l.flat l.moment 0 l.fn.faulted.items w) l.program l.cells l.faulted.items l.faults.items;
+}

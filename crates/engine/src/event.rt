@@ -1,0 +1,84 @@
+use alarm_machine::{Change, OrderFault, Verb};
+use plant_types::{Items, Place, Trap, Value};
+use std::alloc::AllocError;
+use std::marker::Model;
+
+/// The last moment that a scan may have, in milliseconds (this profile).
+pub const LAST_MOMENT: u64 = 4_000_000_000_000;
+
+/// How many events a history has at most (this profile).
+pub const MOST_EVENTS: usize = 1_000_000;
+
+/// What an operator asks. A target is the number of an alarm, or for a restart that of a program; None stands for one that isn't there.
+#[derive(Clone, Copy, Debug, PartialEq, Eq, Drop)]
+pub struct Order {
+    pub verb: Verb,
+    pub target: Option<u32>,
+}
+
+/// One event of the history.
+#[derive(Drop)]
+pub enum Event {
+    /// A scan: its image, inputs by number, and its moment in milliseconds.
+    Scan(Items<(u32, Value)>, u64),
+    /// An order, from the console of a number.
+    Order(u32, Order),
+}
+
+/// The answer to an order.
+#[derive(Clone, Copy, Debug, PartialEq, Eq, Drop)]
+pub enum Reply {
+    /// It was done; with the change of the alarm's code, if there is one.
+    Done(Option<Change>),
+    /// It was refused, and changed no alarm and no program.
+    Refused(OrderFault),
+}
+
+/// What a scan did. Alarms and globals stand by their numbers.
+#[derive(Drop)]
+pub struct Report {
+    /// The scan's moment in milliseconds.
+    pub moment: u64,
+    /// The programs that trapped, in program order: where, and why.
+    pub faults: Vec<(Place, Trap)>,
+    /// The alarms whose code changed, in the order of the database.
+    pub changes: Vec<(u32, Change)>,
+    /// The outputs whose value isn't that before the scan, in order of declaration.
+    pub outs: Vec<(u32, Value)>,
+}
+
+impl Model for Report {
+    ghost use Rattle.engine.specs.Told.{Told};
+
+    ghost Value = { Told };
+
+    ghost view = { λ r. record { moment = r.moment; faults = r.faults.items; changes = r.changes.items; outs = r.outs.items } };
+}
+
+/// Why an event is refused. A refused event changes nothing and isn't in the history.
+#[derive(Clone, Copy, Debug, PartialEq, Eq, Drop)]
+pub enum EngineFault {
+    /// A growth was refused. It has no place in the order of the others.
+    Memory,
+    /// E1: the moment is before that of the last scan.
+    MomentBack,
+    /// E2: the moment is above 4,000,000,000,000.
+    MomentRange,
+    /// E3: a name that is no input, or twice.
+    ImageName,
+    /// E4: a value that doesn't fit its input's kind.
+    ImageKind,
+    /// E6: the history has 1,000,000 events.
+    HistoryFull,
+}
+
+impl From<AllocError> for EngineFault {
+    ghost use Rattle.std.specs.Prelude.{◌≡◌};
+    ghost use Rattle.engine.specs.declared.event.EngineFault.TheVariants.{Memory};
+
+    ghost from_gives = { λ _ e. e ≡ Memory };
+
+    fn from(_refused: AllocError) -> EngineFault {
+        EngineFault::Memory
+    }
+}

@@ -1,0 +1,171 @@
+//! Orders of consoles: what they do, and their replies.
+
+ghost use Rattle.std.specs.Prelude.{◌≡◌, ◌==◌, ◌≤◌, length, Some};
+ghost use Rattle.std.specs.List.{list_any};
+ghost use Rattle.alarm_machine.specs.Alarms.{after_order};
+ghost use Rattle.engine.specs.Orders.{is_console, has_area, alarm_order, program_order, is_restart, outcome, reply_by, change_from};
+
+use crate::event::{Order, Reply};
+use alarm_machine::{Alarm, Change, OrderFault, Verb};
+use plant_config::{Console, Plant};
+use std::marker::Model;
+
+/// What an order does that isn't refused.
+#[derive(Clone, Copy)]
+pub enum Effect {
+    /// An alarm of a number is changed to this.
+    Changed(u32, Alarm),
+    /// The program of a number is restarted.
+    Restarted(u32),
+}
+
+/// An order that was made ready to be committed.
+#[derive(Drop)]
+pub struct PreparedOrder {
+    pub(crate) console: u32,
+    pub(crate) order: Order,
+    pub(crate) done: Result<Effect, OrderFault>,
+    pub(crate) reply: Reply,
+}
+
+impl Model for PreparedOrder {
+    ghost use Rattle.engine.specs.Held.{ReadyOrder};
+
+    ghost Value = { ReadyOrder };
+
+    ghost view = { λ p. record { console = p.console; order = p.order; done = p.done; reply = p.reply } };
+}
+
+/// Whether an area is among these.
+fn is_among(areas: &[u32], area: u32) -> bool
+    ensures { result ≡ list_any (λ a. a == area) areas.now }
+{
+    areas.iter().any(|a| *a == area)
+}
+
+/// Whether a console has this number and this area.
+fn has_area(console: &Console, number: u32, area: u32) -> bool
+    ensures { result ≡ has_area number area console.now }
+{
+    console.number == number && is_among(console.areas.as_slice(), area)
+}
+
+/// Whether a console may order the alarms of an area.
+fn may_order(consoles: &[Console], number: u32, area: u32) -> bool
+    ensures { result ≡ list_any (has_area number area) consoles.now }
+{
+    consoles
+        .iter()
+        .any(|console| has_area(console, number, area))
+}
+
+/// Whether a console is listed.
+fn is_listed(consoles: &[Console], number: u32) -> bool
+    ensures { result ≡ list_any (is_console number) consoles.now }
+{
+    consoles.iter().any(|console| console.number == number)
+}
+
+/// An alarm after an order, or why the order is refused.
+#[tactic(auto, using(crate::proofs::OrderLaws::after_order_ok, crate::proofs::OrderLaws::after_order_err))]
+fn ordered(alarm: Alarm, verb: Verb, last: u64) -> Result<Alarm, OrderFault>
+    requires { last ≤ 4000000000000 }
+    ensures { result ≡ after_order verb last alarm }
+{
+    let mut changed = alarm;
+    match changed.order(verb, last) {
+        Ok(_) => Ok(changed),
+        Err(fault) => Err(fault),
+    }
+}
+
+/// What an order does to the alarm of a number.
+fn alarm_order(
+    plant: &Plant,
+    alarms: &[Alarm],
+    last: u64,
+    console: u32,
+    verb: Verb,
+    number: u32,
+) -> Result<Effect, OrderFault>
+    requires each { length alarms.now ≡ length plant.now.alarms }
+    requires range { last ≤ 4000000000000 }
+    ensures { result ≡ alarm_order plant.now alarms.now last console verb number }
+{
+    let rows = plant.alarm_rows();
+    let at = number as usize;
+    if at >= rows.len() {
+        return Err(OrderFault::UnknownTarget);
+    }
+    if !may_order(plant.consoles(), console, rows[at].area) {
+        return Err(OrderFault::NotAllowed);
+    }
+    match ordered(alarms[at], verb, last) {
+        Ok(alarm) => Ok(Effect::Changed(number, alarm)),
+        Err(fault) => Err(fault),
+    }
+}
+
+/// What a restart of the program of a number does.
+fn program_order(
+    plant: &Plant,
+    faulted: &[bool],
+    console: u32,
+    number: u32,
+) -> Result<Effect, OrderFault>
+    ensures { result ≡ program_order plant.now faulted.now console number }
+{
+    let at = number as usize;
+    if at >= faulted.len() {
+        return Err(OrderFault::UnknownTarget);
+    }
+    if !is_listed(plant.consoles(), console) {
+        return Err(OrderFault::NotAllowed);
+    }
+    if faulted[at] {
+        Ok(Effect::Restarted(number))
+    } else {
+        Err(OrderFault::NotFaulted)
+    }
+}
+
+/// What an order does, or why it is refused.
+pub fn outcome(
+    plant: &Plant,
+    alarms: &[Alarm],
+    faulted: &[bool],
+    last: u64,
+    console: u32,
+    order: Order,
+) -> Result<Effect, OrderFault>
+    requires each { length alarms.now ≡ length plant.now.alarms }
+    requires range { last ≤ 4000000000000 }
+    ensures { result ≡ outcome plant.now alarms.now faulted.now last console order }
+{
+    match (order.target, order.verb) {
+        (None, _) => Err(OrderFault::UnknownTarget),
+        (Some(number), Verb::Restart) => program_order(plant, faulted, console, number),
+        (Some(number), verb) => alarm_order(plant, alarms, last, console, verb, number),
+    }
+}
+
+/// The change of the code from one alarm to another.
+fn change_from(old: &Alarm, new: &Alarm) -> Option<Change>
+    ensures { result ≡ change_from (Some old.now) new.now }
+{
+    Change::between(old.state().code(), new.state().code())
+}
+
+/// The reply to an order.
+pub fn reply_by(done: &Result<Effect, OrderFault>, alarms: &[Alarm]) -> Reply
+    ensures { result ≡ reply_by done.now alarms.now }
+{
+    match done {
+        Err(fault) => Reply::Refused(*fault),
+        Ok(Effect::Restarted(_)) => Reply::Done(None),
+        Ok(Effect::Changed(number, alarm)) => match alarms.get(*number as usize) {
+            Some(old) => Reply::Done(change_from(old, alarm)),
+            None => Reply::Done(None),
+        },
+    }
+}
