@@ -1,0 +1,59 @@
+-- What a line asks for. Each command is one case more of `command_in`, and has a definition of the words behind its name.
+use Rattle.std.specs.Prelude.{ℕ, ◌==◌, ◌∷◌, [], List, Bool, false, if◌then◌else◌, length, nat_lt, Some, None, codes}
+use Rattle.std.specs.Str.{bytes_eq}
+use Rattle.plant_types.specs.Named.{Named}
+use Rattle.alarm_machine.specs.declared.states.Verb.{Verb}
+use Rattle.alarm_machine.specs.declared.states.Verb.TheVariants as verb
+use Rattle.command_text.specs.declared.command.Command.{Command}
+use Rattle.command_text.specs.declared.command.Command.TheVariants as command
+use Rattle.command_text.specs.Words.{words_of}
+use Rattle.command_text.specs.Numbers.{number_of}
+use Rattle.command_text.specs.Given.{pairs_of}
+
+-- what can be asked for: nothing, something that is no command, a scan at a moment with what is given, an order from a console for a target
+pub data Asked : Type 0 where
+  Nothing : Asked
+  Unknown : Asked
+  Scan : ℕ → List Named → Asked
+  Order : Verb → ℕ → List ℕ → Asked
+
+-- what a command of the code asks for
+abbrev pub asked : Command → Asked
+asked command.Nothing = Nothing
+asked command.Unknown = Unknown
+asked (command.Scan moment pairs) = Scan moment pairs
+asked (command.Order v console target) = Order v console target.now
+
+-- scan MOMENT NAME=VALUE ..
+unfoldable pub scan_of : List (List ℕ) → Asked
+scan_of [] = Unknown
+scan_of (m ∷ ws) = elim (number_of 19 m) [
+  | None ↦ Unknown
+  | Some moment ↦ elim (pairs_of ws) [ None ↦ Unknown | Some pairs ↦ Scan moment pairs ]
+]
+
+-- ack CONSOLE TAG, and each other order of this form
+unfoldable pub order_of : Verb → List (List ℕ) → Asked
+order_of v [] = Unknown
+order_of v (c ∷ []) = Unknown
+order_of v (c ∷ target ∷ []) = elim (number_of 9 c) [ None ↦ Unknown | Some console ↦ Order v console target ]
+order_of v (c ∷ target ∷ w ∷ ws) = Unknown
+
+-- what the words of a line ask for: the first word is the command, in small letters
+unfoldable pub command_in : List (List ℕ) → Asked
+command_in [] = Nothing
+command_in (w ∷ ws) =
+    if bytes_eq w (codes "scan") then scan_of ws
+    else if bytes_eq w (codes "ack") then order_of verb.Ack ws
+    else Unknown
+
+-- whether the first word begins with #
+abbrev pub is_remark : List (List ℕ) → Bool
+is_remark [] = false
+is_remark ([] ∷ ws) = false
+is_remark ((b ∷ bs) ∷ ws) = b == 35
+
+-- what a line asks for: a line of more than 1,048,576 bytes is no command, and a remark asks for nothing
+unfoldable pub command_of : List ℕ → Asked
+command_of line = if nat_lt 1048576 (length line) then Unknown
+    else if is_remark (words_of line) then Nothing else command_in (words_of line)

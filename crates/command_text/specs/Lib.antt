@@ -1,0 +1,5 @@
+pub mod Words
+pub mod Numbers
+pub mod Given
+pub mod Commands
+pub mod Lines

@@ -1,0 +1,60 @@
+-- The lines of answers.
+use Rattle.std.specs.Prelude.{ℕ, List, [], ◌∷◌, ◌++◌, if◌then◌else◌, Option, None, Some, codes}
+use Rattle.std.specs.Fmt.{decimal, signed_decimal}
+use Rattle.std.specs.List.{flat_map}
+use Rattle.plant_types.specs.declared.values.Value.{Value}
+use Rattle.plant_types.specs.declared.values.Value.TheVariants as value
+use Rattle.plant_types.specs.declared.values.Trap.{Trap}
+use Rattle.plant_types.specs.declared.values.Trap.TheVariants as trap
+use Rattle.alarm_machine.specs.Codes.{Move, code_text}
+use Rattle.alarm_machine.specs.Orders.{fault_text}
+use Rattle.alarm_machine.specs.declared.states.OrderFault.{OrderFault}
+
+-- a line: its name, each field behind one space, LF
+abbrev pub line_of : List ℕ → List (List ℕ) → List ℕ
+line_of name fields = name ++ flat_map (λ field. 32 ∷ field) fields ++ 10 ∷ []
+
+-- a value: TRUE, FALSE, a number, for a time its milliseconds
+abbrev pub value_text : Value → List ℕ
+value_text (value.Bool b) = if b then codes "TRUE" else codes "FALSE"
+value_text (value.Dint n) = signed_decimal n
+value_text (value.Time n) = signed_decimal n
+
+-- the names of a path, that of the program first, with points between them; a path has its innermost name first
+abbrev pub path_text : List (List ℕ) → List ℕ
+path_text [] = []
+path_text (name ∷ []) = name
+path_text (name ∷ outer ∷ path) = path_text (outer ∷ path) ++ 46 ∷ name
+
+-- why a program stopped
+abbrev pub trap_text : Trap → List ℕ
+trap_text trap.Overflow = codes "OVERFLOW"
+trap_text trap.DivZero = codes "DIVZERO"
+
+-- a program that stopped, at a statement of the body with this path
+unfoldable pub fault_line : ℕ → List ℕ → ℕ → Trap → List ℕ
+fault_line moment path statement trap = line_of (codes "FAULT") (decimal moment ∷ path ∷ decimal statement ∷ trap_text trap ∷ [])
+
+-- an alarm whose code changed
+unfoldable pub alarm_line : ℕ → List ℕ → Move → List ℕ
+alarm_line moment tag change = line_of (codes "ALARM") (decimal moment ∷ tag ∷ code_text change.from ∷ code_text change.to ∷ [])
+
+-- an output whose value changed
+unfoldable pub out_line : ℕ → List ℕ → Value → List ℕ
+out_line moment name value = line_of (codes "OUT") (decimal moment ∷ name ∷ value_text value ∷ [])
+
+-- the end of a scan's answer, with the number of lines before it
+unfoldable pub done_line : ℕ → ℕ → List ℕ
+done_line moment lines = line_of (codes "DONE") (decimal moment ∷ decimal lines ∷ [])
+
+-- the reply to an order: OK, or the number of its refusal
+abbrev pub reply_text : Option OrderFault → List ℕ
+reply_text None = codes "OK"
+reply_text (Some fault) = fault_text fault
+
+unfoldable pub reply_line : Option OrderFault → List ℕ
+reply_line refused = line_of (codes "REPLY") (reply_text refused ∷ [])
+
+-- the refusal of a line or of an event, by its number
+unfoldable pub refused_line : List ℕ → List ℕ
+refused_line number = line_of (codes "REFUSED") (number ∷ [])

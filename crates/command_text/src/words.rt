@@ -1,0 +1,52 @@
+ghost use Rattle.std.specs.Prelude.{◌≡◌, ◌<◌, ◌≤◌, [], ◌∷◌, length, MatchOption, take, drop, false};
+ghost use Rattle.command_text.specs.Words.{is_blank, at_blank, words_of};
+
+/// Whether a byte parts words: a space or a tab.
+fn is_blank(byte: u8) -> bool
+    ensures { result ≡ is_blank byte }
+{
+    byte == b' ' || byte == b'\t'
+}
+
+/// A line from its first word on.
+fn trimmed(line: &[u8]) -> &[u8]
+    ensures words { words_of result.now ≡ words_of line.now }
+    ensures solid { 0 < length result.now → at_blank result.now ≡ false }
+    ensures shorter { length result.now ≤ length line.now }
+{
+    let mut rest = line;
+    while let Some((first, others)) = rest.split_first() {
+        if !is_blank(*first) {
+            return rest;
+        }
+        rest = others;
+    }
+    rest
+}
+
+/// How many bytes the word has with which a line begins.
+fn word_len(line: &[u8]) -> usize
+    requires some { 0 < length line.now }
+    requires solid { at_blank line.now ≡ false }
+    ensures within { (0 < result) × (result ≤ length line.now) }
+    ensures words { words_of line.now ≡ take result line.now ∷ words_of (drop result line.now) }
+{
+    for (i, byte) in line.iter().enumerate() {
+        if is_blank(*byte) {
+            return i;
+        }
+    }
+    line.len()
+}
+
+/// The first word of a line, and what follows it.
+pub(crate) fn next_word(line: &[u8]) -> Option<(&[u8], &[u8])>
+    ensures { MatchOption result (words_of line.now ≡ []) (λ r. (words_of line.now ≡ r.0.now ∷ words_of r.1.now) × (length r.1.now < length line.now)) }
+{
+    let line = trimmed(line);
+    if line.is_empty() {
+        return None;
+    }
+    let n = word_len(line);
+    Some(line.split_at(n))
+}
