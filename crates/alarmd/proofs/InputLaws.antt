@@ -1,0 +1,136 @@
+-- The lines of an input that goes on.
+use Rattle.std.proofs.Common.{◌≡◌, ℕ, Bool, true, false, cond, List, [], ◌∷◌, ◌++◌, ap, refl, sym, ◌∙◌, ◌||◌, map, arith, length, take, get_or, eqb, ◌<◌, ◌-◌}
+use Rattle.std.proofs.lemmas.List.{map-append, take_more}
+use Rattle.std.proofs.lemmas.Grind.{common_steps}
+use Rattle.std.proofs.lemmas.Bool.Decides.{nat_tests}
+use Rattle.std.proofs.lemmas.List.Folds.{list_any-append}
+use Rattle.alarmd.specs.Laws.{LinesEndInFeeds}
+use Rattle.alarmd.specs.Input.{is_feed, has_feed, onto, ended, behind, stripped, ended_lines, last_line}
+
+or_left : (a b : Bool) → (a || b) ≡ false → a ≡ false
+or_left true b e = e
+or_left false b e = refl
+
+or_right : (a b : Bool) → (a || b) ≡ false → b ≡ false
+or_right true b e = cc
+or_right false b e = e
+
+or_true : (a : Bool) → (a || true) ≡ true
+or_true true = refl
+or_true false = refl
+
+-- bytes without LF end no line
+pub ended-none : (xs : List ℕ) → has_feed xs ≡ false → ended xs ≡ []
+ended-none [] h = refl
+ended-none (b ∷ bs) h = rw (or_left (is_feed b) (has_feed bs) h, ended-none bs (or_right (is_feed b) (has_feed bs) h)) refl
+
+pub behind-none : (xs : List ℕ) → has_feed xs ≡ false → behind xs ≡ xs
+behind-none [] h = refl
+behind-none (b ∷ bs) h = rw h refl
+
+-- LF ends a line
+pub ended-feed : (xs ys : List ℕ) → has_feed xs ≡ false → ended (xs ++ 10 ∷ ys) ≡ xs ∷ ended ys
+ended-feed [] ys h = refl
+ended-feed (b ∷ bs) ys h = rw (or_left (is_feed b) (has_feed bs) h, ended-feed bs ys (or_right (is_feed b) (has_feed bs) h)) refl
+
+has_feed-feed : (xs ys : List ℕ) → has_feed (xs ++ 10 ∷ ys) ≡ true
+has_feed-feed [] ys = refl
+has_feed-feed (b ∷ bs) ys = rw (has_feed-feed bs ys) (or_true _)
+
+pub behind-feed : (xs ys : List ℕ) → behind (xs ++ 10 ∷ ys) ≡ behind ys
+behind-feed [] ys = refl
+behind-feed (b ∷ bs) ys = rw (has_feed-feed bs ys, or_true (is_feed b)) (behind-feed bs ys)
+
+no_feed_cases : (b : ℕ) (bs : List ℕ) (v : Bool) → has_feed (b ∷ bs) ≡ v → has_feed (behind bs) ≡ false → has_feed (cond v (behind bs) (b ∷ bs)) ≡ false
+no_feed_cases b bs true e h = h
+no_feed_cases b bs false e h = e
+
+pub behind_no_feed : (xs : List ℕ) → has_feed (behind xs) ≡ false
+behind_no_feed [] = refl
+behind_no_feed (b ∷ bs) = no_feed_cases b bs (has_feed (b ∷ bs)) refl (behind_no_feed bs)
+
+onto-append : (b : ℕ) (ls zs : List (List ℕ)) → (ls ≡ [] → ⊥) → onto b (ls ++ zs) ≡ onto b ls ++ zs
+onto-append b [] zs n = absurd (n refl)
+onto-append b (l ∷ ls) zs n = refl
+
+onto_none : (b : ℕ) (ls : List (List ℕ)) → onto b ls ≡ [] → ls ≡ []
+onto_none b [] e = refl
+onto_none b (l ∷ ls) e = cc
+
+some_cases : (b : ℕ) (bs : List ℕ) (v : Bool) → (v || has_feed bs) ≡ true → cond v ([] ∷ ended bs) (onto b (ended bs)) ≡ [] → (has_feed bs ≡ true → ended bs ≡ [] → ⊥) → ⊥
+some_cases b bs true h e n = cc
+some_cases b bs false h e n = n h (onto_none b (ended bs) e)
+
+some_ended : (bs : List ℕ) → has_feed bs ≡ true → ended bs ≡ [] → ⊥
+some_ended [] h e = cc
+some_ended (b ∷ bs) h e = some_cases b bs (is_feed b) h e (some_ended bs)
+
+more_cases : (b : ℕ) (bs ys : List ℕ) (v w : Bool) → is_feed b ≡ v → has_feed bs ≡ w → ended (bs ++ ys) ≡ ended bs ++ ended (behind bs ++ ys)
+    → cond v ([] ∷ ended (bs ++ ys)) (onto b (ended (bs ++ ys))) ≡ cond v ([] ∷ ended bs) (onto b (ended bs)) ++ ended (cond (v || w) (behind bs) (b ∷ bs) ++ ys)
+more_cases b bs ys true w p q h = ap (λ (ls : List (List ℕ)). [] ∷ ls) h
+more_cases b bs ys false true p q h = ap (onto b) h ∙ onto-append b (ended bs) (ended (behind bs ++ ys)) (some_ended bs q)
+more_cases b bs ys false false p q h = rw (ended-none bs q, p) refl
+
+-- an input goes on: the lines that end then are those that ended before, and those of what came behind the last LF
+pub ended-more : (xs ys : List ℕ) → ended (xs ++ ys) ≡ ended xs ++ ended (behind xs ++ ys)
+ended-more [] ys = refl
+ended-more (b ∷ bs) ys = more_cases b bs ys (is_feed b) (has_feed bs) refl refl (ended-more bs ys)
+
+behind_cases : (b : ℕ) (bs ys : List ℕ) (v : Bool) → has_feed (b ∷ bs) ≡ v → behind (bs ++ ys) ≡ behind (behind bs ++ ys) → behind (b ∷ (bs ++ ys)) ≡ behind (cond v (behind bs) (b ∷ bs) ++ ys)
+behind_cases b bs ys true e h = rw (list_any-append is_feed (b ∷ bs) ys, e) h
+behind_cases b bs ys false e h = refl
+
+pub behind-more : (xs ys : List ℕ) → behind (xs ++ ys) ≡ behind (behind xs ++ ys)
+behind-more [] ys = refl
+behind-more (b ∷ bs) ys = behind_cases b bs ys (has_feed (b ∷ bs)) refl (behind-more bs ys)
+
+pub ended_lines-more : (xs ys : List ℕ) → ended_lines (xs ++ ys) ≡ ended_lines xs ++ ended_lines (behind xs ++ ys)
+ended_lines-more xs ys = ap (map stripped) (ended-more xs ys) ∙ map-append stripped (ended xs) (ended (behind xs ++ ys))
+
+pub ended_lines-none : (xs : List ℕ) → has_feed xs ≡ false → ended_lines xs ≡ []
+ended_lines-none xs h = rw (ended-none xs h) refl
+
+pub ended_lines-feed : (xs : List ℕ) → has_feed xs ≡ false → ended_lines (xs ++ 10 ∷ []) ≡ stripped xs ∷ []
+ended_lines-feed xs h = rw (ended-feed xs [] h) refl
+
+pub no_feed-append : (xs ys : List ℕ) → has_feed xs ≡ false → has_feed ys ≡ false → has_feed (xs ++ ys) ≡ false
+no_feed-append xs ys h k = list_any-append is_feed xs ys ∙ rw (h, k) refl
+
+-- ---- the CR at the end of a line
+
+cons_cond : (v : Bool) (c : ℕ) (xs ys : List ℕ) → c ∷ cond v xs ys ≡ cond v (c ∷ xs) (c ∷ ys)
+cons_cond true c xs ys = refl
+cons_cond false c xs ys = refl
+
+stripped-append : (xs : List ℕ) (b : ℕ) → stripped (xs ++ b ∷ []) ≡ cond (eqb b 13) xs (xs ++ b ∷ [])
+stripped-append [] b = refl
+stripped-append (c ∷ []) b = cons_cond (eqb b 13) c [] (b ∷ [])
+stripped-append (c ∷ d ∷ xs) b = ap (λ ys. c ∷ ys) (stripped-append (d ∷ xs) b) ∙ cons_cond (eqb b 13) c (d ∷ xs) ((d ∷ xs) ++ b ∷ [])
+
+last_split : (xs : List ℕ) → 0 < length xs → take (length xs - 1) xs ++ get_or xs (length xs - 1) 0 ∷ [] ≡ xs
+last_split xs h = let e = take_more xs (length xs - 1) 0 (omega arith) in grind (arith, common_steps, e)
+
+-- a line that ends in CR, and one that doesn't
+pub stripped-return : (xs : List ℕ) → 0 < length xs → get_or xs (length xs - 1) 0 ≡ 13 → take (length xs - 1) xs ≡ stripped xs
+stripped-return xs h e =
+    sym (ap stripped (sym (last_split xs h)) ∙ stripped-append (take (length xs - 1) xs) (get_or xs (length xs - 1) 0) ∙ rw e refl)
+
+pub stripped-other : (xs : List ℕ) → (0 < length xs → get_or xs (length xs - 1) 0 ≡ 13 → ⊥) → xs ≡ stripped xs
+stripped-other [] n = refl
+stripped-other (x ∷ xs) n =
+    let ys : List ℕ = x ∷ xs in
+    let there : 0 < length ys = omega arith in
+    let test : eqb (get_or ys (length ys - 1) 0) 13 ≡ false = not_return (get_or ys (length ys - 1) 0) (n there) in
+    sym (ap stripped (sym (last_split ys there)) ∙ stripped-append (take (length ys - 1) ys) (get_or ys (length ys - 1) 0) ∙ rw test (last_split ys there))
+  where
+    not_return : (b : ℕ) → (b ≡ 13 → ⊥) → eqb b 13 ≡ false
+    not_return b h = grind (arith, nat_tests)
+
+-- ---- lines, one by one
+
+pub lines_end : LinesEndInFeeds
+lines_end line rest h = (
+  ap (λ (ls : List (List ℕ)). map stripped ls ++ last_line (behind (line ++ 10 ∷ rest))) (ended-feed line rest h)
+      ∙ ap (λ (bs : List ℕ). stripped line ∷ (ended_lines rest ++ last_line bs)) (behind-feed line rest),
+  ap (λ (ls : List (List ℕ)). ls ++ last_line (behind line)) (ended_lines-none line h) ∙ ap last_line (behind-none line h),
+)

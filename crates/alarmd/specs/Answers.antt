@@ -1,0 +1,125 @@
+-- What the server answers to a line, and what the line adds to the history.
+use Rattle.std.specs.Prelude.{ℕ, ◌+◌, if◌then◌else◌, List, [], ◌∷◌, ◌++◌, length, map, fold, Option, Some, None, Result, Ok, Err, codes}
+use Rattle.std.specs.List.{flat_map}
+use Rattle.std.specs.Str.{is_utf8}
+use Rattle.plant_types.specs.declared.values.Value.{Value}
+use Rattle.plant_types.specs.declared.values.Place.{Place}
+use Rattle.plant_types.specs.declared.values.Trap.{Trap}
+use Rattle.st_tree.specs.Meaning.{Spot}
+use Rattle.st_parser.specs.Source.{Source}
+use Rattle.st_walk.specs.Slots.{spot_of}
+use Rattle.alarm_machine.specs.Codes.{Move}
+use Rattle.alarm_machine.specs.declared.states.Verb.{Verb}
+use Rattle.plant_config.specs.Meaning.{Meaning}
+use Rattle.plant_config.specs.Names.{alarm_number, tag_of, global_of}
+use Rattle.engine.specs.declared.event.Event.{Event}
+use Rattle.engine.specs.declared.event.EngineFault.{EngineFault}
+use Rattle.engine.specs.declared.event.EngineFault.TheVariants as refusal
+use Rattle.engine.specs.declared.event.Order.{Order as OrderMade}
+use Rattle.engine.specs.declared.event.Reply.{Reply}
+use Rattle.engine.specs.declared.event.Reply.TheVariants as reply
+use Rattle.engine.specs.System.{System, system, step, scan_event, order_event, reply_to, faults_of, changes_of, outs_of}
+use Rattle.command_text.specs.Commands.{Asked, Nothing, Unknown, Scan, Order, command_of}
+use Rattle.command_text.specs.Lines.{path_text, fault_line, alarm_line, out_line, done_line, reply_line, refused_line}
+
+-- the alarm that a word names, if there is one; bytes that aren't a text name none
+abbrev pub target_of : Meaning → List ℕ → Option ℕ
+target_of plant word = if is_utf8 word then alarm_number plant word else None
+
+-- the tag of a target
+abbrev pub target_tag : Meaning → Option ℕ → List ℕ
+target_tag plant None = []
+target_tag plant (Some alarm) = tag_of plant alarm
+
+-- an order for what a word names
+abbrev pub order_for : Meaning → Verb → List ℕ → OrderMade
+order_for plant verb word = record { verb = verb; target = target_of plant word }
+
+-- ---- the lines of a scan's answer, and of an order's
+
+-- the spots of places
+abbrev pub spots_of : Source → List (Place × Trap) → List (Spot × Trap)
+spots_of source faults = map (λ f. (spot_of source f.0, f.1)) faults
+
+-- a line for each program that stopped, in program order
+abbrev pub fault_lines : ℕ → List (Spot × Trap) → List ℕ
+fault_lines moment faults = flat_map (λ f. fault_line moment (path_text f.0.path) f.0.statement f.1) faults
+
+-- a line for each alarm whose code changed, in the order of the database
+abbrev pub alarm_lines : Meaning → ℕ → List (ℕ × Move) → List ℕ
+alarm_lines plant moment changes = flat_map (λ c. alarm_line moment (tag_of plant c.0) c.1) changes
+
+-- a line for each output that changed, in order of declaration
+abbrev pub out_lines : Meaning → ℕ → List (ℕ × Value) → List ℕ
+out_lines plant moment outs = flat_map (λ o. out_line moment (global_of plant o.0) o.1) outs
+
+-- a scan's lines, and how many they are
+unfoldable pub report_text : Meaning → ℕ → List (Spot × Trap) → List (ℕ × Move) → List (ℕ × Value) → List ℕ
+report_text plant moment faults changes outs =
+    fault_lines moment faults ++ alarm_lines plant moment changes ++ out_lines plant moment outs
+    ++ done_line moment (length faults + length changes + length outs)
+
+-- what a scan's event does in a state
+abbrev pub scan_text : Meaning → System → Event → List ℕ
+scan_text plant sys e = report_text plant (step plant sys e).moment (faults_of plant sys e) (changes_of plant sys e) (outs_of plant sys e)
+
+-- the line of the alarm of this tag, where its code changed
+abbrev pub change_line : ℕ → List ℕ → Option Move → List ℕ
+change_line moment tag None = []
+change_line moment tag (Some change) = alarm_line moment tag change
+
+-- a reply, and after OK the change
+unfoldable pub order_text : ℕ → List ℕ → Reply → List ℕ
+order_text moment tag (reply.Done change) = reply_line None ++ change_line moment tag change
+order_text moment tag (reply.Refused fault) = reply_line (Some fault)
+
+-- the number of a refusal; want of memory has none
+abbrev pub fault_number : EngineFault → List ℕ
+fault_number refusal.Memory = []
+fault_number refusal.MomentBack = codes "E1"
+fault_number refusal.MomentRange = codes "E2"
+fault_number refusal.ImageName = codes "E3"
+fault_number refusal.ImageKind = codes "E4"
+fault_number refusal.HistoryFull = codes "E6"
+
+-- the text of an event, or its refusal
+abbrev pub event_text : Result Event EngineFault → (Event → List ℕ) → List ℕ
+event_text (Ok e) text = text e
+event_text (Err fault) text = refused_line (fault_number fault)
+
+-- what is asked of a plant in a state: the events that it adds, one or none, and the answer
+abbrev pub added : Result Event EngineFault → List Event
+added (Ok e) = e ∷ []
+added (Err fault) = []
+
+abbrev pub asked_events : Meaning → System → Asked → List Event
+asked_events plant sys Nothing = []
+asked_events plant sys Unknown = []
+asked_events plant sys (Scan moment pairs) = added (scan_event plant sys pairs moment)
+asked_events plant sys (Order verb console word) = added (order_event sys console (order_for plant verb word))
+
+abbrev pub asked_text : Meaning → System → Asked → List ℕ
+asked_text plant sys Nothing = []
+asked_text plant sys Unknown = refused_line (codes "L1")
+asked_text plant sys (Scan moment pairs) = event_text (scan_event plant sys pairs moment) (scan_text plant sys)
+asked_text plant sys (Order verb console word) =
+    event_text (order_event sys console (order_for plant verb word)) (λ _. order_text sys.moment (target_tag plant (target_of plant word)) (reply_to plant sys console (order_for plant verb word)))
+
+-- ---- lines in turn
+
+-- the history after a line
+unfoldable pub after_line : Meaning → List Event → List ℕ → List Event
+after_line plant history line = history ++ asked_events plant (system plant history) (command_of line)
+
+-- the answer to a line
+unfoldable pub line_answer : Meaning → List Event → List ℕ → List ℕ
+line_answer plant history line = asked_text plant (system plant history) (command_of line)
+
+-- the history after lines
+abbrev pub after_lines : Meaning → List Event → List (List ℕ) → List Event
+after_lines plant history lines = fold (after_line plant) history lines
+
+-- the answers to lines in turn, one behind another
+abbrev pub answers : Meaning → List Event → List (List ℕ) → List ℕ
+answers plant history [] = []
+answers plant history (line ∷ lines) = line_answer plant history line ++ answers plant (after_line plant history line) lines

@@ -1,0 +1,5 @@
+pub mod Input
+pub mod Answers
+pub mod Session
+pub mod Faults
+pub mod Laws

@@ -1,0 +1,216 @@
+ghost use Rattle.std.specs.Prelude.{◌≡◌, ◌++◌, ◌⊎◌, ◌<◌, ◌^◌, ◌+◌, OnOk, OnErr, IfSome, All, length};
+ghost use Rattle.command_text.specs.Lines.{path_text};
+ghost use Rattle.engine.specs.Held.{state_of};
+ghost use Rattle.plant_config.specs.Names.{tag_of, global_of};
+ghost use Rattle.st_walk.specs.Slots.{spot_of};
+ghost use Rattle.engine.specs.System.{system, scan_event, order_event, reply_to};
+ghost use Rattle.alarmd.specs.Answers.{spots_of, target_of, target_tag, order_for, fault_lines, alarm_lines, out_lines, report_text, order_text, fault_number, event_text, scan_text, added, after_line, line_answer};
+
+use alarm_machine::{Change, Verb};
+use command_text::{
+    Command, push_alarm, push_done, push_fault, push_out, push_refused, push_reply, read_command,
+};
+use engine::{Engine, EngineFault, Order, Reply, Report};
+use plant_config::Plant;
+use plant_types::{Pair, Place, Trap, Value};
+use std::alloc::{AllocError, Global};
+use std::str;
+
+/// The tag of the alarm that an order is for.
+fn target_tag(plant: &Plant, target: Option<u32>) -> &str
+    requires { IfSome target (λ alarm. alarm < length plant.now.alarms) }
+    ensures { result.now ≡ target_tag plant.now target }
+{
+    match target {
+        Some(alarm) => plant.tag(alarm),
+        None => "",
+    }
+}
+
+/// Adds a line for each alarm whose code changed.
+fn push_changes(
+    text: &mut Vec<u8>,
+    plant: &Plant,
+    moment: u64,
+    changes: &[(u32, Change)],
+) -> Result<(), AllocError>
+    requires { All (λ c. c.0 < length plant.now.alarms) changes.now }
+    ensures { OnOk result (text.new.items ≡ text.old.items ++ alarm_lines plant.now moment changes.now) }
+{
+    for (alarm, change) in changes {
+        push_alarm(text, moment, plant.tag(*alarm), *change)?;
+    }
+    Ok(())
+}
+
+/// The path of a place: the names that lead to it, with points between them.
+fn path<'a>(plant: &'a Plant, place: &Place) -> &'a str
+    ensures { result.now ≡ path_text (spot_of plant.now.source place.now).path }
+{
+    if place.path == 0 {
+        plant.program(0)
+    } else {
+        ""
+    }
+}
+
+/// Adds a line for each program that stopped.
+fn push_faults(
+    text: &mut Vec<u8>,
+    plant: &Plant,
+    moment: u64,
+    faults: &[(Place, Trap)],
+) -> Result<(), AllocError>
+    ensures { OnOk result (text.new.items ≡ text.old.items ++ fault_lines moment (spots_of plant.now.source faults.now)) }
+{
+    for (place, trap) in faults {
+        push_fault(text, moment, path(plant, place), place.statement, *trap)?;
+    }
+    Ok(())
+}
+
+/// Adds a line for each output that changed.
+fn push_outs(
+    text: &mut Vec<u8>,
+    plant: &Plant,
+    moment: u64,
+    outs: &[(u32, Value)],
+) -> Result<(), AllocError>
+    requires { All (λ o. o.0 < length plant.now.source.globals) outs.now }
+    ensures { OnOk result (text.new.items ≡ text.old.items ++ out_lines plant.now moment outs.now) }
+{
+    for (output, value) in outs {
+        push_out(text, moment, plant.global(*output), *value)?;
+    }
+    Ok(())
+}
+
+/// Adds the lines that tell what a scan did.
+#[tactic(auto, using(crate::proofs::AnswerLaws::spots_length), unfolding(crate::specs::Answers::report_text))]
+fn push_report(text: &mut Vec<u8>, plant: &Plant, report: &Report) -> Result<(), AllocError>
+    requires changes { All (λ c. c.0 < length plant.now.alarms) report.now.changes }
+    requires outs { All (λ o. o.0 < length plant.now.source.globals) report.now.outs }
+    ensures { OnOk result (text.new.items ≡ text.old.items ++ report_text plant.now report.now.moment (spots_of plant.now.source report.now.faults) report.now.changes report.now.outs) }
+{
+    let faults = report.faults.as_slice();
+    let changes = report.changes.as_slice();
+    let outs = report.outs.as_slice();
+    push_faults(text, plant, report.moment, faults)?;
+    push_changes(text, plant, report.moment, changes)?;
+    push_outs(text, plant, report.moment, outs)?;
+    let lines = faults.len() as u64 + changes.len() as u64 + outs.len() as u64;
+    push_done(text, report.moment, lines)
+}
+
+/// The number of a refusal.
+fn fault_number(fault: EngineFault) -> &'static str
+    ensures { result.now ≡ fault_number fault }
+{
+    match fault {
+        EngineFault::Memory => "",
+        EngineFault::MomentBack => "E1",
+        EngineFault::MomentRange => "E2",
+        EngineFault::ImageName => "E3",
+        EngineFault::ImageKind => "E4",
+        EngineFault::HistoryFull => "E6",
+    }
+}
+
+/// Adds the answer to a scan, which takes effect.
+fn scan(
+    alloc: Global,
+    engine: &mut Engine,
+    text: &mut Vec<u8>,
+    moment: u64,
+    pairs: &[Pair],
+) -> Result<(), AllocError>
+    ensures plant { engine.new.plant ≡ engine.old.plant }
+    ensures history { OnOk result (engine.new.history ≡ engine.old.history ++ added (scan_event engine.old.plant (state_of engine.old) pairs.now moment)) }
+    ensures text { OnOk result (text.new.items ≡ text.old.items ++ event_text (scan_event engine.old.plant (state_of engine.old) pairs.now moment) (scan_text engine.old.plant (state_of engine.old))) }
+    ensures err { OnErr result ((engine.new.history ≡ engine.old.history) ⊎ (engine.new.history ≡ engine.old.history ++ added (scan_event engine.old.plant (state_of engine.old) pairs.now moment))) }
+{
+    match engine.scan(alloc, pairs, moment) {
+        Ok(report) => push_report(text, engine.plant(), &report),
+        Err(EngineFault::Memory) => Err(AllocError),
+        Err(fault) => push_refused(text, fault_number(fault)),
+    }
+}
+
+/// The alarm that a word names.
+fn target(plant: &Plant, word: &[u8]) -> Option<u32>
+    ensures number { result ≡ target_of plant.now word.now }
+    ensures within { IfSome result (λ alarm. alarm < length plant.now.alarms) }
+{
+    match str::from_utf8(word) {
+        Ok(tag) => plant.alarm_number(tag),
+        Err(_) => None,
+    }
+}
+
+/// Adds the reply to an order, and the change of the code of its alarm.
+#[tactic(auto, unfolding(crate::specs::Answers::order_text))]
+fn push_order(text: &mut Vec<u8>, moment: u64, tag: &str, reply: Reply) -> Result<(), AllocError>
+    ensures { OnOk result (text.new.items ≡ text.old.items ++ order_text moment tag.now reply) }
+{
+    match reply {
+        Reply::Done(None) => push_reply(text, None),
+        Reply::Done(Some(change)) => {
+            push_reply(text, None)?;
+            push_alarm(text, moment, tag, change)
+        }
+        Reply::Refused(fault) => push_reply(text, Some(fault)),
+    }
+}
+
+/// Adds the answer to an order for what a word names, which takes effect.
+fn order(
+    alloc: Global,
+    engine: &mut Engine,
+    text: &mut Vec<u8>,
+    verb: Verb,
+    console: u32,
+    word: &[u8],
+) -> Result<(), AllocError>
+    ensures plant { engine.new.plant ≡ engine.old.plant }
+    ensures history { OnOk result (engine.new.history ≡ engine.old.history ++ added (order_event (state_of engine.old) console (order_for engine.old.plant verb word.now))) }
+    ensures text { OnOk result (text.new.items ≡ text.old.items ++ event_text (order_event (state_of engine.old) console (order_for engine.old.plant verb word.now))
+        (λ _. order_text (state_of engine.old).moment (target_tag engine.old.plant (target_of engine.old.plant word.now)) (reply_to engine.old.plant (state_of engine.old) console (order_for engine.old.plant verb word.now)))) }
+    ensures err { OnErr result ((engine.new.history ≡ engine.old.history)
+        ⊎ (engine.new.history ≡ engine.old.history ++ added (order_event (state_of engine.old) console (order_for engine.old.plant verb word.now)))) }
+{
+    let last = engine.moment();
+    let order = Order {
+        verb,
+        target: target(engine.plant(), word),
+    };
+    match engine.order(alloc, console, order) {
+        Ok(reply) => push_order(text, last, target_tag(engine.plant(), order.target), reply),
+        Err(EngineFault::Memory) => Err(AllocError),
+        Err(fault) => push_refused(text, fault_number(fault)),
+    }
+}
+
+/// Adds the answer to a line, which takes effect.
+#[tactic(auto, unfolding(crate::specs::Answers::after_line, crate::specs::Answers::line_answer))]
+pub fn answer_line(
+    alloc: Global,
+    engine: &mut Engine,
+    text: &mut Vec<u8>,
+    line: &[u8],
+) -> Result<(), AllocError>
+    ensures plant { engine.new.plant ≡ engine.old.plant }
+    ensures history { OnOk result (engine.new.history ≡ after_line engine.old.plant engine.old.history line.now) }
+    ensures text { OnOk result (text.new.items ≡ text.old.items ++ line_answer engine.old.plant engine.old.history line.now) }
+    ensures err { OnErr result ((engine.new.history ≡ engine.old.history) ⊎ (engine.new.history ≡ after_line engine.old.plant engine.old.history line.now)) }
+{
+    let command = match read_command(alloc, line) {
+        Ok(command) => command,
+        Err(error) => return Err(error),
+    };
+    match command {
+        Command::Nothing => Ok(()),
+        Command::Unknown => push_refused(text, "L1"),
+        Command::Scan(moment, pairs) => scan(alloc, engine, text, moment, pairs.as_slice()),
+        Command::Order(verb, console, word) => { order(alloc, engine, text, verb, console, word) }
+    }
+}

@@ -1,0 +1,397 @@
+//! What no clause says: worked sessions, lines of every kind, and feeds and sinks that fail or take little.
+
+ghost use Rattle.std.specs.Prelude.{◌≡◌, false};
+
+use crate::SOURCE;
+use crate::fault::ServeFault;
+use crate::feed::{Failed, Feed, Reading, Sink, Writing};
+use crate::laws::lines_end_in_feeds;
+use crate::session::serve;
+use engine::Engine;
+use plant_config::Plant;
+use std::alloc::{AllocError, Global};
+use std::sync::Wait;
+use std::test::Fail;
+
+/// A call that never comes.
+const NEVER: usize = 1_000_000_000;
+
+/// A feed that gives at most so many bytes a read, and fails at a read of some number.
+#[derive(Drop)]
+struct Pieces<'a> {
+    bytes: &'a [u8],
+    most: usize,
+    reads_left: usize,
+    broken: bool,
+}
+
+impl Feed for Pieces<'_> {
+    ghost use Rattle.std.specs.Prelude.{None};
+
+    ghost remaining = { λ _. None };
+
+    ghost broken = { λ s. s.broken };
+
+    fn read(&mut self, buf: &mut [u8]) -> Result<usize, Failed> {
+        if self.reads_left == 0 {
+            self.broken = true;
+            return Err(Failed);
+        }
+        self.reads_left -= 1;
+        let n = self.bytes.len().min(self.most).min(buf.len());
+        let (now, rest) = self.bytes.split_at(n);
+        for (place, byte) in buf.iter_mut().zip(now) {
+            *place = *byte;
+        }
+        self.bytes = rest;
+        Ok(n)
+    }
+
+    fn failed(&self) -> bool {
+        self.broken
+    }
+}
+
+/// A sink that takes at most so many bytes a write, and fails at a write of some number.
+#[derive(Drop)]
+struct Taken {
+    bytes: Vec<u8>,
+    most: usize,
+    writes_left: usize,
+    broken: bool,
+}
+
+impl Sink for Taken {
+    ghost use Rattle.std.specs.Prelude.{None};
+
+    ghost written = { λ _. None };
+
+    ghost broken = { λ s. s.broken };
+
+    fn write(&mut self, buf: &[u8]) -> Result<usize, Failed> {
+        let n = buf.len().min(self.most.max(1));
+        let (now, _) = buf.split_at(n);
+        if self.writes_left == 0 || self.bytes.extend_from_slice(now).is_err() {
+            self.broken = true;
+            return Err(Failed);
+        }
+        self.writes_left -= 1;
+        Ok(n)
+    }
+
+    fn failed(&self) -> bool {
+        self.broken
+    }
+}
+
+/// How many bytes a read and a write take at most, and how many reads and writes there are before one fails.
+#[derive(Clone, Copy)]
+struct Ends {
+    read: usize,
+    reads: usize,
+    write: usize,
+    writes: usize,
+}
+
+/// Ends that take what there is, and don't fail.
+const WHOLE: Ends = Ends {
+    read: NEVER,
+    reads: NEVER,
+    write: NEVER,
+    writes: NEVER,
+};
+
+/// Serves an input with the plant of a source, from its beginning on.
+fn served<H: Wait>(
+    rt: &H,
+    alloc: Global,
+    source: &[u8],
+    feed: &mut Pieces,
+    sink: &mut Taken,
+) -> Result<(), ServeFault>
+    requires feed { feed.old.broken ≡ false }
+    requires sink { sink.old.broken ≡ false }
+{
+    let Ok(plant) = Plant::first(alloc, source) else {
+        return Err(ServeFault::Memory);
+    };
+    let Ok(mut engine) = Engine::new(alloc, plant) else {
+        return Err(ServeFault::Memory);
+    };
+    serve(rt, alloc, &mut engine, feed, sink)
+}
+
+/// How a session ends, and what it wrote.
+fn once<H: Wait>(
+    rt: &H,
+    alloc: Global,
+    source: &[u8],
+    input: &[u8],
+    ends: Ends,
+) -> (Result<(), ServeFault>, Vec<u8>) {
+    let mut feed = Pieces {
+        bytes: input,
+        most: ends.read,
+        reads_left: ends.reads,
+        broken: false,
+    };
+    let mut sink = Taken {
+        bytes: Vec::new(alloc),
+        most: ends.write,
+        writes_left: ends.writes,
+        broken: false,
+    };
+    let outcome = served(rt, alloc, source, &mut feed, &mut sink);
+    (outcome, sink.bytes)
+}
+
+/// The same, where one growth may be refused: it is tried again then.
+fn session<H: Wait>(
+    rt: &H,
+    alloc: Global,
+    source: &[u8],
+    input: &[u8],
+    ends: Ends,
+) -> (Result<(), ServeFault>, Vec<u8>) {
+    let first = once(rt, alloc, source, input, ends);
+    match first.0 {
+        Ok(()) => first,
+        Err(_) => once(rt, alloc, source, input, ends),
+    }
+}
+
+/// Whether a session ends well and writes just this.
+fn writes<H: Wait>(rt: &H, alloc: Global, source: &[u8], input: &[u8], want: &[u8]) -> bool {
+    let (outcome, text) = session(rt, alloc, source, input, WHOLE);
+    outcome == Ok(()) && text.as_slice() == want
+}
+
+/// The stored run.
+const INPUT: &[u8] =
+    b"scan 0 b=1\nack 2 T1\nack 1 T9\nack 1 T1\nscan 10 b=0\nscan 5 b=1\nscan 11 b=2\n";
+
+const OUTPUT: &[u8] =
+    b"ALARM 0 T1 NORM UNACK\nDONE 0 1\nREPLY O2\nREPLY O1\nREPLY OK\nALARM 0 T1 UNACK ACKED\nALARM 10 T1 ACKED NORM\nDONE 10 1\nREFUSED E1\nREFUSED E4\n";
+
+#[test]
+fn lines_are_answered(rt: HostRuntime) {
+    for (input, want) in [
+        (b"".as_slice(), b"".as_slice()),
+        (INPUT, OUTPUT),
+        (b"\n\r\n \t\n", b""),
+        (b"# scan\n  #\n#", b""),
+        (b"scan 0\r\nscan 1\r", b"DONE 0 0\nREFUSED L1\n"),
+        (b"scan 0 \r\nscan 1\r\r\n", b"DONE 0 0\nREFUSED L1\n"),
+        (b"scan 0\rscan 1\n", b"REFUSED L1\n"),
+        (b"scan 0 b=1", b"ALARM 0 T1 NORM UNACK\nDONE 0 1\n"),
+        (b"\r", b"REFUSED L1\n"),
+        (
+            b"hello\nSCAN 0\nscan\nlist\nrestart 1 p\n",
+            b"REFUSED L1\nREFUSED L1\nREFUSED L1\nREFUSED L1\nREFUSED L1\n",
+        ),
+        (
+            b"scan 4000000000000\nscan 4000000000001 q=1\n",
+            b"DONE 4000000000000 0\nREFUSED E2\n",
+        ),
+        (
+            b"scan 7\nscan 6 q=1\nscan 7\nscan 007\n",
+            b"DONE 7 0\nREFUSED E1\nDONE 7 0\nDONE 7 0\n",
+        ),
+        (
+            b"scan 1 b=1 B=0\nscan 1 b=7 q=1\nscan 1 c=1\nscan 1 b=-0\n",
+            b"REFUSED E3\nREFUSED E3\nREFUSED E3\nDONE 1 0\n",
+        ),
+        (
+            b"scan 1 b=-1\nscan 1 b=TrUe\nscan 1 B=FALSE\n",
+            b"REFUSED E4\nALARM 1 T1 NORM UNACK\nDONE 1 1\nALARM 1 T1 UNACK RTNUN\nDONE 1 1\n",
+        ),
+        (
+            b"ack 1 t1\nack 3 T1\nack 1 T1\nack 000000001 \xff\n",
+            b"REPLY O1\nREPLY O2\nREPLY O3\nREPLY O1\n",
+        ),
+        (
+            b"scan 3 b=1\nscan 4 b=0\nack 1 T1\nack 1 T1\n",
+            b"ALARM 3 T1 NORM UNACK\nDONE 3 1\nALARM 4 T1 UNACK RTNUN\nDONE 4 1\nREPLY OK\nALARM 4 T1 RTNUN NORM\nREPLY O3\n",
+        ),
+    ] {
+        assert!(rt;
+            writes(&rt, rt.alloc(), SOURCE, input, want),
+            "at {input:?}"
+        );
+    }
+}
+
+#[test]
+fn outputs_are_told_where_they_change(rt: HostRuntime) {
+    let source =
+        b"VAR_GLOBAL In AT %IX0.0 : BOOL; Out AT %QX0.0 : BOOL; c : BOOL; END_VAR PROGRAM p OUT := NOT in; END_PROGRAM";
+    let input = b"scan 0\nscan 1\nscan 2 IN=1\nscan 3 in=1\nscan 4 iN=0\n";
+    let want =
+        b"OUT 0 Out TRUE\nDONE 0 1\nDONE 1 0\nOUT 2 Out FALSE\nDONE 2 1\nDONE 3 0\nOUT 4 Out TRUE\nDONE 4 1\n";
+    assert!(rt; writes(&rt, rt.alloc(), source, input, want));
+}
+
+/// A line of this many bytes, and what follows it.
+fn long_line(alloc: Global, first: &[u8], len: usize, end: &[u8]) -> Result<Vec<u8>, AllocError> {
+    let mut input = Vec::from_slice(alloc, first)?;
+    input.resize(len, b'x')?;
+    input.extend_from_slice(end)?;
+    Ok(input)
+}
+
+/// Whether an input is answered like this, whatever is read at once.
+fn answers_in_pieces<H: Wait>(rt: &H, alloc: Global, input: &[u8], want: &[u8]) -> bool {
+    for read in [NEVER, 1000] {
+        let ends = Ends { read, ..WHOLE };
+        let (outcome, text) = session(rt, alloc, SOURCE, input, ends);
+        if outcome != Ok(()) || text.as_slice() != want {
+            return false;
+        }
+    }
+    true
+}
+
+#[test]
+fn lines_have_a_longest(rt: HostRuntime) -> Result<(), Fail> {
+    let long = 1_048_576;
+    for (first, len, end, want) in [
+        (
+            b"ack 1 ".as_slice(),
+            long,
+            b"\nscan 0\n".as_slice(),
+            b"REPLY O1\nDONE 0 0\n".as_slice(),
+        ),
+        (b"ack 1 ", long, b"\r\nscan 0", b"REPLY O1\nDONE 0 0\n"),
+        (b"ack 1 ", long, b"", b"REPLY O1\n"),
+        (b"ack 1 ", long, b"\r", b"REFUSED L1\n"),
+        (b"ack 1 ", long, b"\r\r\nscan 0", b"REFUSED L1\nDONE 0 0\n"),
+        (
+            b"ack 1 ",
+            long + 1,
+            b"\nscan 0\n",
+            b"REFUSED L1\nDONE 0 0\n",
+        ),
+        (
+            b"ack 1 ",
+            long + 1,
+            b"\r\nscan 0\n",
+            b"REFUSED L1\nDONE 0 0\n",
+        ),
+        (b"ack 1 ", long + 1, b"", b"REFUSED L1\n"),
+        (b"#", long, b"\nscan 0\n", b"DONE 0 0\n"),
+        (b"#", long + 1, b"\nscan 0\n", b"REFUSED L1\nDONE 0 0\n"),
+        (
+            b"ack 1 ",
+            3 * long,
+            b"\nscan 0\n",
+            b"REFUSED L1\nDONE 0 0\n",
+        ),
+    ] {
+        let input = match long_line(rt.alloc(), first, len, end) {
+            Ok(input) => input,
+            Err(_) => long_line(rt.alloc(), first, len, end)?,
+        };
+        assert!(rt;
+            answers_in_pieces(&rt, rt.alloc(), input.as_slice(), want),
+            "{len}"
+        );
+    }
+    Ok(())
+}
+
+/// Whether a session with these ends stops for a reason, and writes a beginning of the stored run's text.
+fn stops<H: Wait>(rt: &H, alloc: Global, ends: Ends, fault: ServeFault) -> bool {
+    let (outcome, text) = once(rt, alloc, SOURCE, INPUT, ends);
+    let begins = text.len() <= OUTPUT.len() && text.as_slice() == &OUTPUT[..text.len()];
+    begins && (outcome == Err(fault) || outcome == Err(ServeFault::Memory))
+}
+
+#[test]
+fn a_feed_may_fail_at_each_read(rt: HostRuntime) {
+    for read in [1, 5, 64] {
+        for reads in 0..INPUT.len().div_ceil(read) {
+            let ends = Ends {
+                read,
+                reads,
+                ..WHOLE
+            };
+            assert!(rt;
+                stops(&rt, rt.alloc(), ends, ServeFault::Read),
+                "{read} {reads}"
+            );
+        }
+    }
+}
+
+#[test]
+fn a_sink_may_fail_at_each_write(rt: HostRuntime) {
+    for write in [1, 4] {
+        for writes in 0..OUTPUT.len() / write {
+            let ends = Ends {
+                write,
+                writes,
+                ..WHOLE
+            };
+            assert!(rt;
+                stops(&rt, rt.alloc(), ends, ServeFault::Write),
+                "{write} {writes}"
+            );
+        }
+    }
+    for writes in 0..7 {
+        let ends = Ends { writes, ..WHOLE };
+        assert!(rt; stops(&rt, rt.alloc(), ends, ServeFault::Write), "{writes}");
+    }
+}
+
+#[test]
+fn a_sink_may_take_little(rt: HostRuntime) {
+    for write in [1, 2, 7] {
+        for read in [1, 3, NEVER] {
+            let ends = Ends {
+                read,
+                write,
+                ..WHOLE
+            };
+            let (outcome, text) = session(&rt, rt.alloc(), SOURCE, INPUT, ends);
+            assert!(rt;
+                outcome == Ok(()) && text.as_slice() == OUTPUT,
+                "{read} {write}"
+            );
+        }
+    }
+}
+
+/// The text that bytes in memory are answered with.
+fn in_memory<H: Wait>(rt: &H, alloc: Global, input: &[u8]) -> Result<Vec<u8>, ServeFault> {
+    let Ok(plant) = Plant::first(alloc, SOURCE) else {
+        return Err(ServeFault::Memory);
+    };
+    let Ok(mut engine) = Engine::new(alloc, plant) else {
+        return Err(ServeFault::Memory);
+    };
+    let mut feed = Reading::new(input);
+    let mut sink = Writing::new(Vec::new(alloc));
+    serve(rt, alloc, &mut engine, &mut feed, &mut sink)?;
+    if feed.failed() || sink.failed() {
+        return Err(ServeFault::Read);
+    }
+    Ok(sink.to)
+}
+
+#[test]
+fn std_gives_feeds_and_sinks(rt: HostRuntime) {
+    let text = match in_memory(&rt, rt.alloc(), INPUT) {
+        Ok(text) => Ok(text),
+        Err(_) => in_memory(&rt, rt.alloc(), INPUT),
+    };
+    assert!(rt; text.is_ok_and(|text| text.as_slice() == OUTPUT));
+}
+
+#[test]
+fn faults_have_words(rt: HostRuntime) {
+    lines_end_in_feeds();
+    assert!(rt; ServeFault::Memory.text() == "MEMORY");
+    assert!(rt; ServeFault::Read.text() == "READ");
+    assert!(rt; ServeFault::Write.text() == "WRITE");
+}
