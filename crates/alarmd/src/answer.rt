@@ -192,7 +192,7 @@ fn order(
 
 /// Adds the answer to a line, which takes effect.
 #[tactic(auto, unfolding(crate::specs::Answers::after_line, crate::specs::Answers::line_answer))]
-pub fn answer_line(
+pub(crate) fn answer_line(
     alloc: Global,
     engine: &mut Engine,
     text: &mut Vec<u8>,

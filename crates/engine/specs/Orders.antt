@@ -23,7 +23,7 @@ is_console number console = console.number == number
 abbrev pub has_area : ℕ → ℕ → Console → Bool
 has_area number area console = (console.number == number) && list_any (λ a. a == area) console.areas
 
--- an alarm after an order by the table
+-- the effect of an order that the table takes, on the alarm of a number
 abbrev pub changed : ℕ → Result Seen OrderFault → Result Effect OrderFault
 changed n (Ok alarm) = Ok (effect.Changed n alarm)
 changed n (Err e) = Err e

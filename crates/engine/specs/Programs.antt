@@ -34,9 +34,11 @@ with_inputs source image w = fold (with_input source) w image
 abbrev pub run_of : Source → ℕ → ℕ → World → Ran World
 run_of source n t w = run_program source w
 
+-- a program's flag stands before those of the programs behind it
 abbrev pub with_flag : Bool → Scanned → Scanned
 with_flag flag rest = record rest { faulted = flag ∷ rest.faulted }
 
+-- a fault stands before those of the programs behind it
 abbrev pub with_fault : Spot → Trap → Scanned → Scanned
 with_fault spot trap rest = record rest { faults = (spot, trap) ∷ rest.faults }
 

@@ -135,7 +135,7 @@ abbrev pub is_output : Option Region → Bool
 is_output (Some region.Output) = true
 is_output _ = false
 
--- a number as the value of a kind that it fits; a world has only numbers that fit
+-- the value of a kind that a number stands for; a number that fits no value of the kind would be shown as FALSE or 0
 abbrev pub shown : Kind → ℤ → Value
 shown kind n = unwrap_or (fitted kind (given.Whole n)) (value_of_kind kind (pos 0))
 

@@ -2,6 +2,7 @@ use alarm_machine::{Change, OrderFault, Verb};
 use plant_types::{Items, Place, Trap, Value};
 use std::alloc::AllocError;
 use std::marker::Model;
+use thiserror::Error;
 
 /// The last moment that a scan may have, in milliseconds (this profile).
 pub const LAST_MOMENT: u64 = 4_000_000_000_000;
@@ -56,19 +57,25 @@ impl Model for Report {
 }
 
 /// Why an event is refused. A refused event changes nothing and isn't in the history.
-#[derive(Clone, Copy, Debug, PartialEq, Eq, Drop)]
+#[derive(Clone, Copy, Debug, PartialEq, Eq, Drop, Error)]
 pub enum EngineFault {
     /// A growth was refused. It has no place in the order of the others.
+    #[error("memory was refused")]
     Memory,
     /// E1: the moment is before that of the last scan.
+    #[error("E1: the moment is before that of the last scan")]
     MomentBack,
     /// E2: the moment is above 4,000,000,000,000.
+    #[error("E2: the moment is above {limit}", limit = LAST_MOMENT)]
     MomentRange,
     /// E3: a name that is no input, or twice.
+    #[error("E3: a name is no input, or comes twice")]
     ImageName,
     /// E4: a value that doesn't fit its input's kind.
+    #[error("E4: a value doesn't fit its input")]
     ImageKind,
     /// E6: the history has 1,000,000 events.
+    #[error("E6: the history has {limit} events", limit = MOST_EVENTS)]
     HistoryFull,
 }
 

@@ -11,23 +11,24 @@ use Rattle.st_lexer.specs.declared.token.Region.{Region}
 use Rattle.st_lexer.specs.declared.token.Region.TheVariants as r
 use Rattle.st_lexer.specs.Bytes.{begins_by, linked, grouped}
 use Rattle.st_lexer.specs.Addresses.{same_letter, letter_of, is_size, is_place, is_address}
-use Rattle.st_lexer.specs.Reading.{linked_len, place_len, region_by, placed, address_by, ◌>>=◌}
+use Rattle.st_lexer.specs.ReadingLiterals.{linked_len, ◌>>=◌}
+use Rattle.st_lexer.specs.Reading.{place_len, region_by, placed, address_by}
 use Rattle.st_lexer.proofs.WordLaws.{one_and}
 
 abbrev digit : ℕ → Bool
 digit = is_ascii_digit
 
 -- ---- what is linked
-begins_more : (test : ℕ → Bool) (bs rest : List ℕ) → begins_by test bs ≡ true → begins_by test (bs ++ rest) ≡ true
+pub begins_more : (test : ℕ → Bool) (bs rest : List ℕ) → begins_by test bs ≡ true → begins_by test (bs ++ rest) ≡ true
 begins_more test [] rest h = absurd (let e : false ≡ true = h in cc)
 begins_more test (b ∷ bs) rest h = h
 
-begins_less : (test : ℕ → Bool) (n : ℕ) (bs : List ℕ) → 0 < n → begins_by test bs ≡ true → begins_by test (take n bs) ≡ true
+pub begins_less : (test : ℕ → Bool) (n : ℕ) (bs : List ℕ) → 0 < n → begins_by test bs ≡ true → begins_by test (take n bs) ≡ true
 begins_less test zero bs some h = absurd (omega arith)
 begins_less test (suc n) [] some h = h
 begins_less test (suc n) (b ∷ bs) some h = h
 
-linked_reach : (test : ℕ → Bool) (mark : ℕ) (bs rest : List ℕ) → linked test mark bs ≡ true → length bs ≤ linked_len test mark (bs ++ rest)
+pub linked_reach : (test : ℕ → Bool) (mark : ℕ) (bs rest : List ℕ) → linked test mark bs ≡ true → length bs ≤ linked_len test mark (bs ++ rest)
 linked_reach test mark [] rest h = omega arith
 linked_reach test mark (b ∷ bs) rest h =
     let parts = and_parts (test b || (b == mark && begins_by test bs)) (linked test mark bs) h in
@@ -41,7 +42,7 @@ linked_reach test mark (b ∷ bs) rest h =
       | inr marks ↦ (let m = and_parts (b == mark) (begins_by test bs) marks in or_right (test b) _ (and_from _ _ m.0 (begins_more test bs rest m.1)))
     ]
 
-linked_within : (test : ℕ → Bool) (mark : ℕ) (bs : List ℕ) → linked_len test mark bs ≤ length bs
+pub linked_within : (test : ℕ → Bool) (mark : ℕ) (bs : List ℕ) → linked_len test mark bs ≤ length bs
 linked_within test mark [] = omega arith
 linked_within test mark (b ∷ bs) = elim (cases_Bool (test b || (b == mark && begins_by test bs))) as (λ _. linked_len test mark (b ∷ bs) ≤ length (b ∷ bs)) [
   | inl yes' ↦ (let more = linked_within test mark bs in rw yes' (omega arith))
@@ -49,11 +50,11 @@ linked_within test mark (b ∷ bs) = elim (cases_Bool (test b || (b == mark && b
 ]
 
 -- where a byte that passes is next, it is linked
-linked_begins : (test : ℕ → Bool) (mark : ℕ) (bs : List ℕ) → begins_by test bs ≡ true → 0 < linked_len test mark bs
+pub linked_begins : (test : ℕ → Bool) (mark : ℕ) (bs : List ℕ) → begins_by test bs ≡ true → 0 < linked_len test mark bs
 linked_begins test mark [] h = absurd (let e : false ≡ true = h in cc)
 linked_begins test mark (b ∷ bs) h = rw h (omega arith)
 
-linked_is : (test : ℕ → Bool) (mark : ℕ) (bs : List ℕ) → linked test mark (take (linked_len test mark bs) bs) ≡ true
+pub linked_is : (test : ℕ → Bool) (mark : ℕ) (bs : List ℕ) → linked test mark (take (linked_len test mark bs) bs) ≡ true
 linked_is test mark [] = refl
 linked_is test mark (b ∷ bs) = elim (cases_Bool (test b || (b == mark && begins_by test bs))) as (λ _. linked test mark (take (linked_len test mark (b ∷ bs)) (b ∷ bs)) ≡ true) [
   | inl yes' ↦ rw yes' (rw (one_and (linked_len test mark bs)) (and_from _ _ (kept yes') (linked_is test mark bs)))

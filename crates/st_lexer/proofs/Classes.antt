@@ -1,5 +1,5 @@
 -- What the first byte of a piece tells of its kind.
-use Rattle.std.proofs.Common.{◌≡◌, ℕ, ◌==◌, Bool, true, false, ◌&&◌, ◌||◌, cond, List, [], ◌∷◌, length, take, drop, refl, sym, ap, ◌∙◌, subst, arith, ◌⊎◌, inl, inr, codes, nat_eq}
+use Rattle.std.proofs.Common.{ℤ, ◌≡◌, ℕ, ◌==◌, Bool, true, false, ◌&&◌, ◌||◌, cond, List, [], ◌∷◌, length, take, drop, refl, sym, ap, ◌∙◌, subst, arith, ◌⊎◌, inl, inr, codes, nat_eq, bytes_eq}
 use Rattle.std.specs.Char.{is_ascii_digit, is_digit, to_ascii_lowercase}
 use Rattle.std.specs.List.{list_all, starts_with}
 use Rattle.std.specs.Cmp.Lexicographic.{pointwise}
@@ -23,6 +23,8 @@ use Rattle.st_lexer.specs.Tables.{spelling, bytes_of}
 use Rattle.st_lexer.specs.Numbers.{base_of, digits_of, is_number, IsInteger}
 use Rattle.st_lexer.specs.Addresses.{is_address, is_place, is_size, same_letter, letter_of}
 use Rattle.st_lexer.specs.Comments.{is_comment, closed, one_line}
+use Rattle.st_lexer.specs.Literals.{begins_word, is_truth}
+use Rattle.st_lexer.specs.Durations.{IsDuration, short, long}
 use Rattle.st_lexer.specs.Spellings.{Spells}
 use Rattle.st_lexer.specs.Pieces.{Fits, one_blank}
 
@@ -69,7 +71,7 @@ at_first b c class h is = ap first_of (eqb-true b c h) ∙ is
 letter_folded : (b : ℕ) → is_letter (to_ascii_lowercase b) ≡ is_letter b
 letter_folded b = grind (arith, nat_tests)
 
-name_byte_folded : (b : ℕ) → is_name_byte (to_ascii_lowercase b) ≡ is_name_byte b
+pub name_byte_folded : (b : ℕ) → is_name_byte (to_ascii_lowercase b) ≡ is_name_byte b
 name_byte_folded b = grind (arith, nat_tests)
 
 name_bytes_folded : (bs : List ℕ) → list_all is_name_byte (folded bs) ≡ list_all is_name_byte bs
@@ -223,13 +225,37 @@ blank_is_first : (b : ℕ) (bs : List ℕ) → one_blank (b ∷ bs) ≡ true →
 blank_is_first b [] h = blank_first b h
 blank_is_first b (c ∷ bs) h = absurd (let e : false ≡ true = h in cc)
 
+-- the first byte of a word that begins the bytes
+pub first_lower : (w : ℕ) (ws : List ℕ) (b : ℕ) (bs : List ℕ) → begins_word (w ∷ ws) (b ∷ bs) ≡ true → to_ascii_lowercase b ≡ to_ascii_lowercase w
+first_lower w ws b bs h = eqb-true (to_ascii_lowercase b) (to_ascii_lowercase w) (and_parts (to_ascii_lowercase b == to_ascii_lowercase w) (bytes_eq (folded (take (length ws) bs)) (folded ws)) h).0
+
+pub whole_lower : (w : ℕ) (ws : List ℕ) (b : ℕ) (bs : List ℕ) → same_word (b ∷ bs) (w ∷ ws) ≡ true → to_ascii_lowercase b ≡ to_ascii_lowercase w
+whole_lower w ws b bs h = eqb-true (to_ascii_lowercase b) (to_ascii_lowercase w) (and_parts (to_ascii_lowercase b == to_ascii_lowercase w) (bytes_eq (folded bs) (folded ws)) h).0
+
+pub lower_first : (b c : ℕ) → is_letter c ≡ true → to_ascii_lowercase b ≡ c → first_of b ≡ f.Letter
+lower_first b c letter e = letter_first b (sym (letter_folded b) ∙ ap is_letter e ∙ letter)
+
+pub truth_first : (value : Bool) (b : ℕ) (bs : List ℕ) → is_truth value (b ∷ bs) ≡ true → to_ascii_lowercase b ≡ 98
+truth_first true b bs h = elim (or_cases (same_word (b ∷ bs) (codes "BOOL#1")) (same_word (b ∷ bs) (codes "BOOL#TRUE")) h) [
+  | inl one ↦ whole_lower 66 (codes "OOL#1") b bs one
+  | inr word ↦ whole_lower 66 (codes "OOL#TRUE") b bs word
+]
+truth_first false b bs h = elim (or_cases (same_word (b ∷ bs) (codes "BOOL#0")) (same_word (b ∷ bs) (codes "BOOL#FALSE")) h) [
+  | inl one ↦ whole_lower 66 (codes "OOL#0") b bs one
+  | inr word ↦ whole_lower 66 (codes "OOL#FALSE") b bs word
+]
+
+pub duration_first : (b : ℕ) (bs : List ℕ) (value : ℤ) → IsDuration (b ∷ bs) value → to_ascii_lowercase b ≡ 116
+duration_first b bs value (short begins timed fits) = first_lower 84 (codes "#") b bs begins
+duration_first b bs value (long begins timed fits) = first_lower 84 (codes "IME#") b bs begins
+
 token_first : (kind : TokenKind) (b : ℕ) (bs : List ℕ) → Spells kind (b ∷ bs) → first_of b ≡ class_of_token kind
 token_first t.Word b bs h = name_first b bs h.form
 token_first (t.Keyword k) b bs h = name_first b bs (keyword_is_name (b ∷ bs) k h)
 token_first (t.Integer n) b bs h = integer_first b bs n h
-token_first (t.Dint value) b bs h = absurd h
-token_first (t.Truth value) b bs h = absurd h
-token_first (t.Duration value) b bs h = absurd h
+token_first (t.Dint value) b bs h = lower_first b 100 refl (first_lower 68 (codes "INT#") b bs h.prefix)
+token_first (t.Truth value) b bs h = lower_first b 98 refl (truth_first value b bs h)
+token_first (t.Duration value) b bs h = lower_first b 116 refl (duration_first b bs value h)
 token_first (t.Address region) b bs h = address_first b bs region h
 token_first (t.Symbol symbol) b bs h = symbol_first b bs symbol h
 

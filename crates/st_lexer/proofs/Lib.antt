@@ -1,7 +1,12 @@
 pub mod Classes
 pub mod WordLaws
 pub mod NumberLaws
-pub mod MarkLaws
 pub mod AddressLaws
+pub mod MarkLaws
+pub mod LiteralLaws
+pub mod DecimalLaws
+pub mod DurationLaws
+pub mod DurationValues
+pub mod LetterLaws
 pub mod Longest
 pub mod Cutting

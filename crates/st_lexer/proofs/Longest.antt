@@ -1,5 +1,5 @@
 -- What the reader finds is the next piece, and where it finds none there is none.
-use Rattle.std.proofs.Common.{◌≡◌, ℕ, zero, suc, ◌+◌, ◌<◌, ◌≤◌, ◌==◌, Bool, true, false, not, ◌&&◌, ◌||◌, cond, IsTrue, List, [], ◌∷◌, ◌++◌, length, take, drop, Option, Some, None, refl, sym, ap, ◌∙◌, subst, arith, ◌⊎◌, inl, inr, length-take-le, IfSome, IfNone}
+use Rattle.std.proofs.Common.{ℤ, ◌≡◌, ℕ, zero, suc, ◌+◌, ◌<◌, ◌≤◌, ◌==◌, Bool, true, false, not, ◌&&◌, ◌||◌, cond, IsTrue, List, [], ◌∷◌, ◌++◌, length, take, drop, Option, Some, None, refl, sym, ap, ◌∙◌, subst, arith, ◌⊎◌, inl, inr, length-take-le, IfSome, IfNone}
 use Rattle.std.specs.Char.{is_ascii_digit}
 use Rattle.std.specs.Option.{option_map}
 use Rattle.std.specs.List.{list_all}
@@ -18,15 +18,18 @@ use Rattle.st_lexer.specs.declared.piece.Piece.{Piece}
 use Rattle.st_lexer.specs.declared.piece.Piece.TheVariants as p
 use Rattle.st_lexer.specs.Bytes.{is_blank, is_tied, stands_apart, first_of}
 use Rattle.st_lexer.specs.Tables.{bytes_of}
-use Rattle.st_lexer.specs.Numbers.{IsInteger}
 use Rattle.st_lexer.specs.Addresses.{is_address}
 use Rattle.st_lexer.specs.Comments.{closed, one_line, is_comment, begins_comment}
+use Rattle.st_lexer.specs.Durations.{IsDuration, short, long}
 use Rattle.st_lexer.specs.Spellings.{Spells}
 use Rattle.st_lexer.specs.Pieces.{one_blank, Fits, token_may_precede, may_precede, IsNext, IsOver}
-use Rattle.st_lexer.specs.Reading.{lettered, integer_by, numbered, address_by, addressed, closing, line_len, single_by, double_by, symbol_by, as_symbol, as_comment, or_else, marked, spread, tied_len, begun, next_of, ◌>>=◌}
-use Rattle.st_lexer.proofs.Classes.{class_of, class_of_token, opens, comment_cases, keyword_is_name, binary, octal, hexadecimal, decimal, based}
-use Rattle.st_lexer.proofs.WordLaws.{tied_over, apart_none, tied_apart, name_tied, lettered_sound, lettered_word, lettered_keyword}
-use Rattle.st_lexer.proofs.NumberLaws.{integer_tied, integer_sound, integer_complete}
+use Rattle.st_lexer.specs.ReadingLiterals.{integer_by, tied_len, lettered_len, ◌>>=◌}
+use Rattle.st_lexer.specs.Reading.{lettered, numbered, address_by, addressed, closing, line_len, single_by, double_by, symbol_by, as_symbol, as_comment, or_else, marked, spread, begun, next_of}
+use Rattle.st_lexer.proofs.Classes.{class_of, class_of_token, opens, comment_cases, keyword_is_name}
+use Rattle.st_lexer.proofs.WordLaws.{tied_over, apart_none, tied_apart}
+use Rattle.st_lexer.proofs.NumberLaws.{integer_tied, integer_some, integer_sound, integer_complete}
+use Rattle.st_lexer.proofs.LiteralLaws.{lettered_end, truth_some}
+use Rattle.st_lexer.proofs.LetterLaws.{letter_sound, letter_complete, letter_reach, letter_exact}
 use Rattle.st_lexer.proofs.AddressLaws.{Reaches, address_reach, address_is}
 use Rattle.st_lexer.proofs.MarkLaws.{closing_found, closing_is, line_reach, line_is, comment_begins, single_found, double_found, symbol_length, single_is, double_is}
 
@@ -42,21 +45,17 @@ map_some g None y h = absurd (none-some y h)
 map_some g (Some x) y h = (x, refl, same_Some (g x) y h)
 
 -- ---- a piece has bytes
-integer_some : (n : ℕ) → IsInteger [] n → ⊥
-integer_some n h = elim (based []) [
-  | binary starts base digits ↦ no_truth starts
-  | octal starts base digits ↦ no_truth starts
-  | hexadecimal starts base digits ↦ no_truth starts
-  | decimal base digits ↦ no_truth h.digits
-]
+duration_some : (value : ℤ) → IsDuration [] value → ⊥
+duration_some value (short begins timed fits) = no_truth begins
+duration_some value (long begins timed fits) = no_truth begins
 
 spells_none : (kind : TokenKind) → Spells kind [] → ⊥
 spells_none t.Word h = no_truth h.form
 spells_none (t.Keyword k) h = no_truth (keyword_is_name [] k h)
 spells_none (t.Integer n) h = integer_some n h
-spells_none (t.Dint value) h = absurd h
-spells_none (t.Truth value) h = absurd h
-spells_none (t.Duration value) h = absurd h
+spells_none (t.Dint value) h = no_truth h.prefix
+spells_none (t.Truth value) h = truth_some value h
+spells_none (t.Duration value) h = duration_some value h
 spells_none (t.Address region) h = no_truth h
 spells_none (t.Symbol symbol) h = let l = ap length h in let some = (symbol_length symbol).0 in omega arith
 
@@ -226,31 +225,11 @@ module _ (kind : TokenKind) (bs rest : List ℕ) (whole : list_all is_tied bs �
   tied_exact : stands_apart rest ≡ true → tied_len (bs ++ rest) ≡ length bs
   tied_exact h = let e = tied_over bs rest whole in let z = apart_none rest h in omega arith
 
-letter_tied : (kind : TokenKind) (bs : List ℕ) → class_of_token kind ≡ f.Letter → Spells kind bs → list_all is_tied bs ≡ true
-letter_tied t.Word bs e h = name_tied bs h.form
-letter_tied (t.Keyword k) bs e h = name_tied bs (keyword_is_name bs k h)
-letter_tied (t.Integer n) bs e h = absurd (cc)
-letter_tied (t.Dint value) bs e h = absurd h
-letter_tied (t.Truth value) bs e h = absurd h
-letter_tied (t.Duration value) bs e h = absurd h
-letter_tied (t.Address region) bs e h = absurd (cc)
-letter_tied (t.Symbol symbol) bs e h = absurd (cc)
-
 digit_tied : (kind : TokenKind) (bs : List ℕ) → class_of_token kind ≡ f.Digit → Spells kind bs → list_all is_tied bs ≡ true
 digit_tied (t.Integer n) bs e h = integer_tied bs n h
 digit_tied (t.Address region) bs e h = absurd (cc)
 digit_tied (t.Symbol symbol) bs e h = absurd (cc)
 digit_tied _ bs e h = absurd (cc)
-
-letter_complete : (bs : List ℕ) (kind : TokenKind) → class_of_token kind ≡ f.Letter → Spells kind bs → lettered bs ≡ Some kind
-letter_complete bs t.Word e h = lettered_word bs h
-letter_complete bs (t.Keyword k) e h = lettered_keyword bs k h
-letter_complete bs (t.Integer n) e h = absurd (cc)
-letter_complete bs (t.Dint value) e h = absurd h
-letter_complete bs (t.Truth value) e h = absurd h
-letter_complete bs (t.Duration value) e h = absurd h
-letter_complete bs (t.Address region) e h = absurd (cc)
-letter_complete bs (t.Symbol symbol) e h = absurd (cc)
 
 digit_sound : (bs : List ℕ) (kind : TokenKind) → numbered bs ≡ Some kind → Spells kind bs
 digit_sound bs kind h =
@@ -263,15 +242,15 @@ digit_complete bs (t.Address region) e h = absurd (cc)
 digit_complete bs (t.Symbol symbol) e h = absurd (cc)
 digit_complete bs _ e h = absurd (cc)
 
-letters : IsReader f.Letter tied_len lettered
+letters : IsReader f.Letter lettered_len lettered
 letters = record {
   solid = letter_solid;
-  sound = lettered_sound;
+  sound = letter_sound;
   complete = letter_complete;
-  reach = λ kind bs rest e h. tied_reach kind bs rest (letter_tied kind bs e h);
-  exact = λ kind bs rest e h apart. tied_exact kind bs rest (letter_tied kind bs e h) apart;
-  ends = tied_apart;
-  within = λ text. prefix_len-le-length is_tied text;
+  reach = letter_reach;
+  exact = letter_exact;
+  ends = λ text. (lettered_end text).ends;
+  within = λ text. (lettered_end text).within;
 }
 
 digits : IsReader f.Digit tied_len numbered
@@ -688,14 +667,14 @@ mark_complete a (b ∷ inner) piece n is x = elim (mark_cases a b inner) [
 -- ---- the next piece
 sound_by : (b : ℕ) (bs : List ℕ) (class : First) (piece : Piece) (n : ℕ) → first_of b ≡ class → begun class b bs ≡ Some (piece, n) → IsNext (b ∷ bs) piece n
 sound_by b bs f.Blank piece n is h = subst (λ (q : Found). IsNext (b ∷ bs) q.0 q.1) (same_Some (p.Blank, 1) (piece, n) h) (blank_next b bs is)
-sound_by b bs f.Letter piece n is h = spread_sound f.Letter tied_len lettered letters b bs piece n is h
+sound_by b bs f.Letter piece n is h = spread_sound f.Letter lettered_len lettered letters b bs piece n is h
 sound_by b bs f.Digit piece n is h = spread_sound f.Digit tied_len numbered digits b bs piece n is h
 sound_by b bs f.Percent piece n is h = address_sound b bs piece n is h
 sound_by b bs f.Mark piece n is h = mark_sound b bs piece n is h
 
 complete_by : (b : ℕ) (bs : List ℕ) (class : First) (piece : Piece) (n : ℕ) → first_of b ≡ class → IsNext (b ∷ bs) piece n → begun class b bs ≡ Some (piece, n)
 complete_by b bs f.Blank piece n is x = blank_only b bs piece n is x
-complete_by b bs f.Letter piece n is x = spread_complete f.Letter tied_len lettered letters b bs piece n is x
+complete_by b bs f.Letter piece n is x = spread_complete f.Letter lettered_len lettered letters b bs piece n is x
 complete_by b bs f.Digit piece n is x = spread_complete f.Digit tied_len numbered digits b bs piece n is x
 complete_by b bs f.Percent piece n is x = address_complete b bs piece n is x
 complete_by b bs f.Mark piece n is x = mark_complete b bs piece n is x
@@ -719,3 +698,7 @@ found_of text (Some q) h = next_sound text q.0 q.1 (sym h)
 pub none_of : (text : List ℕ) (r : Option Found) → r ≡ next_of text → IfNone r (IsOver text)
 none_of text None h = λ piece n x. none-some (piece, n) (h ∙ next_complete text piece n x)
 none_of text (Some q) h = tt
+
+pub some_of : (text : List ℕ) (r : Option Found) → r ≡ next_of text → IfSome r (λ q. 0 < q.1)
+some_of text None h = tt
+some_of text (Some q) h = fits_some q.0 q.1 text (next_sound text q.0 q.1 (sym h)).is

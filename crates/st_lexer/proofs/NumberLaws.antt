@@ -12,14 +12,14 @@ use Rattle.std.proofs.lemmas.Slice.Eq.{starts_is}
 use Rattle.plant_types.specs.Words.{is_name_byte}
 use Rattle.st_lexer.specs.Bytes.{is_tied, begins_by, linked}
 use Rattle.st_lexer.specs.Numbers.{is_number, number, base_of, digits_of, IsInteger}
-use Rattle.st_lexer.specs.Reading.{number_step, number_after, number_by, integer_by, ◌>>=◌}
+use Rattle.st_lexer.specs.ReadingLiterals.{number_step, number_after, number_by, integer_by, ◌>>=◌}
 use Rattle.st_lexer.proofs.Classes.{binary, octal, hexadecimal, decimal, based}
 
 abbrev plain : List ℕ → List ℕ
 plain bs = filter (λ b. not (b == 95)) bs
 
 -- ---- what is tied together
-digit_tied : (b base : ℕ) → base ≤ 36 → is_digit b base ≡ true → is_tied b ≡ true
+pub digit_tied : (b base : ℕ) → base ≤ 36 → is_digit b base ≡ true → is_tied b ≡ true
 unfolding is_tied
 digit_tied b base small h = grind (arith, nat_tests)
 
@@ -27,7 +27,7 @@ underscore_tied : (c : ℕ) → (c == 95) ≡ true → is_tied c ≡ true
 unfolding is_tied
 underscore_tied c e = ap (λ b. is_name_byte b || b == 35) (eqb-true c 95 e)
 
-linked_tied : (base : ℕ) (bs : List ℕ) → base ≤ 36 → linked (λ b. is_digit b base) 95 bs ≡ true → list_all is_tied bs ≡ true
+pub linked_tied : (base : ℕ) (bs : List ℕ) → base ≤ 36 → linked (λ b. is_digit b base) 95 bs ≡ true → list_all is_tied bs ≡ true
 linked_tied base [] small h = refl
 linked_tied base (b ∷ bs) small h =
     let parts = and_parts (is_digit b base || (b == 95 && begins_by (λ c. is_digit c base) bs)) (linked (λ c. is_digit c base) 95 bs) h in
@@ -156,3 +156,12 @@ integer_complete bs n h =
     let worth = h.worth in
     let e = number_complete (base_of bs) (digits_of bs) (base_between bs).0 (base_between bs).1 h.digits (omega arith) in
     ap (λ o. o >>= λ x. cond (nat_le x 2147483648) (Some x) None) (e ∙ ap Some (sym worth)) ∙ (let bound : nat_le n 2147483648 ≡ true = le-leb n 2147483648 most in rw bound refl)
+
+-- an integer has bytes
+pub integer_some : (n : ℕ) → IsInteger [] n → ⊥
+integer_some n h = elim (based []) [
+  | binary starts base digits ↦ absurd (let e : false ≡ true = starts in cc)
+  | octal starts base digits ↦ absurd (let e : false ≡ true = starts in cc)
+  | hexadecimal starts base digits ↦ absurd (let e : false ≡ true = starts in cc)
+  | decimal base digits ↦ absurd (let e : false ≡ true = h.digits in cc)
+]

@@ -3,7 +3,7 @@ use Rattle.std.proofs.Common.{◌≡◌, ℕ, suc, ◌+◌, ◌==◌, Bool, true
 use Rattle.std.specs.List.{list_all, prefix_len}
 use Rattle.std.specs.Str.{bytes_eq}
 use Rattle.std.proofs.lemmas.Bool.{and_parts, and_from, or_left, cases_Bool, not-true, false_from_ne_true}
-use Rattle.std.proofs.lemmas.Option.{cond_some, same_Some, none-some}
+use Rattle.std.proofs.lemmas.Option.{same_Some, none-some}
 use Rattle.plant_types.specs.Words.{is_letter, is_name_byte, is_name, folded, same_word}
 use Rattle.st_lexer.specs.declared.token.Keyword.{Keyword}
 use Rattle.st_lexer.specs.declared.token.Keyword.TheVariants as k
@@ -113,11 +113,8 @@ sound_by : (bs : List ℕ) (kind : TokenKind) (o : Option Keyword) → is_name b
 sound_by bs kind None form is same = subst (λ z. Spells z bs) same record { form = form; free = none_free bs is }
 sound_by bs kind (Some k) form is same = subst (λ z. Spells z bs) same (keyword_is bs k is)
 
-pub lettered_sound : (bs : List ℕ) (kind : TokenKind) → lettered bs ≡ Some kind → Spells kind bs
-unfolding lettered
-lettered_sound bs kind h =
-    let parts = cond_some (is_name bs) (word_or (keyword_by bs)) kind h in
-    sound_by bs kind (keyword_by bs) parts.0 refl parts.1
+pub word_sound : (bs : List ℕ) (kind : TokenKind) → is_name bs ≡ true → word_or (keyword_by bs) ≡ kind → Spells kind bs
+word_sound bs kind form same = sound_by bs kind (keyword_by bs) form refl same
 
 free_none : (bs : List ℕ) (o : Option Keyword) → keyword_by bs ≡ o → ((k : Keyword) → same_word bs (spelling k) ≡ false) → word_or o ≡ t.Word
 free_none bs None is free = refl

@@ -1,10 +1,13 @@
 pub mod Bytes
 pub mod Tables
 pub mod Numbers
+pub mod Literals
+pub mod Durations
 pub mod Addresses
 pub mod Comments
 pub mod Spellings
 pub mod Pieces
 pub mod Places
 pub mod Lexes
+pub mod ReadingLiterals
 pub mod Reading

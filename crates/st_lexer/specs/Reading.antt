@@ -1,7 +1,7 @@
 -- How the code reads: functions that find what the definitions describe.
-use Rattle.std.specs.Prelude.{ℕ, ◌+◌, ◌*◌, ◌^◌, ◌==◌, nat_le, nat_lt, Bool, not, ◌&&◌, ◌||◌, if◌then◌else◌, List, [], ◌∷◌, take, drop, find, Option, Some, None, option_map, option_and_then}
+use Rattle.std.specs.Prelude.{ℕ, ◌+◌, ◌==◌, not, ◌&&◌, if◌then◌else◌, List, [], ◌∷◌, take, drop, find, Option, Some, None, option_map}
 use Rattle.std.specs.List.{prefix_len}
-use Rattle.std.specs.Char.{is_ascii_digit, is_digit, digit_value}
+use Rattle.std.specs.Char.{is_ascii_digit}
 use Rattle.plant_types.specs.Words.{is_name, same_word}
 use Rattle.st_lexer.specs.declared.bytes.First.{First}
 use Rattle.st_lexer.specs.declared.bytes.First.TheVariants as f
@@ -15,14 +15,10 @@ use Rattle.st_lexer.specs.declared.token.TokenKind.TheVariants as t
 use Rattle.st_lexer.specs.declared.piece.Piece.{Piece}
 use Rattle.st_lexer.specs.declared.piece.Piece.TheVariants as p
 use Rattle.st_lexer.specs.declared.tables.TheConstants.{KEYWORDS}
-use Rattle.st_lexer.specs.Bytes.{begins_by, is_tied, stands_apart, first_of}
+use Rattle.st_lexer.specs.Bytes.{begins_by, stands_apart, first_of}
 use Rattle.st_lexer.specs.Tables.{spelling}
-use Rattle.st_lexer.specs.Numbers.{base_of, digits_of}
+use Rattle.st_lexer.specs.ReadingLiterals.{linked_len, integer_by, tied_len, lettered_len, literal_by, ◌>>=◌}
 use Rattle.st_lexer.specs.Addresses.{same_letter, is_size}
-
-infixl 10 ◌>>=◌
-abbrev pub ◌>>=◌ : {A B : Type 0} → Option A → (A → Option B) → Option B
-o >>= f = option_and_then f o
 
 -- ---- words
 abbrev pub keyword_by : List ℕ → Option Keyword
@@ -34,33 +30,9 @@ word_or None = t.Word
 word_or (Some k) = t.Keyword k
 
 unfoldable pub lettered : List ℕ → Option TokenKind
-lettered bs = if is_name bs then Some (word_or (keyword_by bs)) else None
-
--- ---- numbers
--- a number of one digit more, if it stays below 2 ^ 64, or with an underscore behind it that a digit follows
-unfoldable pub number_step : ℕ → ℕ → ℕ → List ℕ → Option ℕ
-number_step base n b bs =
-    if is_digit b base then (if nat_lt (n * base + digit_value b) (2 ^ 64) then Some (n * base + digit_value b) else None)
-    else if b == 95 && begins_by (λ c. is_digit c base) bs then Some n
-    else None
-
--- the number that goes on behind n
-abbrev pub number_after : ℕ → ℕ → List ℕ → Option ℕ
-number_after base n [] = Some n
-number_after base n (b ∷ bs) = number_step base n b bs >>= λ m. number_after base m bs
-
-unfoldable pub number_by : ℕ → List ℕ → Option ℕ
-number_by base bs = if begins_by (λ b. is_digit b base) bs then number_after base 0 bs else None
-
-unfoldable pub integer_by : List ℕ → Option ℕ
-integer_by bs = number_by (base_of bs) (digits_of bs) >>= λ n. if nat_le n 2147483648 then Some n else None
+lettered bs = if is_name bs then Some (word_or (keyword_by bs)) else literal_by bs
 
 -- ---- addresses
--- how many bytes at the front are linked
-abbrev pub linked_len : (ℕ → Bool) → ℕ → List ℕ → ℕ
-linked_len test mark [] = 0
-linked_len test mark (b ∷ bs) = if test b || (b == mark && begins_by test bs) then 1 + linked_len test mark bs else 0
-
 -- how many bytes at the front are a place
 unfoldable pub place_len : List ℕ → ℕ
 place_len bs = if begins_by (λ b. b == 42) bs then 1 else if begins_by is_ascii_digit bs then linked_len is_ascii_digit 46 bs else 0
@@ -137,16 +109,12 @@ marked a (b ∷ inner) =
 unfoldable pub spread : (List ℕ → ℕ) → (List ℕ → Option TokenKind) → List ℕ → Option (Piece × ℕ)
 spread extent classify text = option_map (λ kind. (p.Token kind, extent text)) (classify (take (extent text) text))
 
--- how many letters, digits, underscores and `#` are at the front
-abbrev pub tied_len : List ℕ → ℕ
-tied_len text = prefix_len is_tied text
-
 abbrev pub numbered : List ℕ → Option TokenKind
 numbered bs = option_map (λ n. t.Integer n) (integer_by bs)
 
 abbrev pub begun : First → ℕ → List ℕ → Option (Piece × ℕ)
 begun f.Blank b bs = Some (p.Blank, 1)
-begun f.Letter b bs = spread tied_len lettered (b ∷ bs)
+begun f.Letter b bs = spread lettered_len lettered (b ∷ bs)
 begun f.Digit b bs = spread tied_len numbered (b ∷ bs)
 begun f.Percent b bs = addressed bs
 begun f.Mark b bs = marked b bs

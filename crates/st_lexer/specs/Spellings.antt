@@ -6,6 +6,8 @@ use Rattle.st_lexer.specs.declared.token.TokenKind.{TokenKind}
 use Rattle.st_lexer.specs.declared.token.TokenKind.TheVariants as t
 use Rattle.st_lexer.specs.Tables.{spelling, bytes_of}
 use Rattle.st_lexer.specs.Numbers.{IsInteger}
+use Rattle.st_lexer.specs.Literals.{IsDint, is_truth}
+use Rattle.st_lexer.specs.Durations.{IsDuration}
 use Rattle.st_lexer.specs.Addresses.{is_address}
 
 -- a word that is no keyword
@@ -18,8 +20,8 @@ abbrev pub Spells : TokenKind → List ℕ → Type 0
 Spells t.Word bs = IsWord bs
 Spells (t.Keyword keyword) bs = IsTrue (same_word bs (spelling keyword))
 Spells (t.Integer n) bs = IsInteger bs n
-Spells (t.Dint value) bs = ⊥
-Spells (t.Truth value) bs = ⊥
-Spells (t.Duration milliseconds) bs = ⊥
+Spells (t.Dint value) bs = IsDint bs value
+Spells (t.Truth value) bs = IsTrue (is_truth value bs)
+Spells (t.Duration milliseconds) bs = IsDuration bs milliseconds
 Spells (t.Address region) bs = IsTrue (is_address region bs)
 Spells (t.Symbol symbol) bs = bs ≡ bytes_of symbol

@@ -4,7 +4,8 @@ ghost use Rattle.std.specs.Prelude.{◌≡◌, ◌≤◌, ◌+◌, length, IfSom
 ghost use Rattle.std.specs.Char.{is_ascii_digit};
 ghost use Rattle.st_lexer.specs.Addresses.{is_size};
 ghost use Rattle.st_lexer.specs.Bytes.{begins_by};
-ghost use Rattle.st_lexer.specs.Reading.{region_by, place_len, linked_len, placed, address_by};
+ghost use Rattle.st_lexer.specs.Reading.{region_by, place_len, placed, address_by};
+ghost use Rattle.st_lexer.specs.ReadingLiterals.{linked_len};
 
 use crate::token::Region;
 

@@ -1,8 +1,8 @@
 //! What a byte of a source may be.
 
-ghost use Rattle.std.specs.Prelude.{◌≡◌, ◌≤◌, length};
+ghost use Rattle.std.specs.Prelude.{◌≡◌, ◌==◌, ◌≤◌, length};
 ghost use Rattle.std.specs.List.{prefix_len};
-ghost use Rattle.st_lexer.specs.Bytes.{is_blank, is_tied, stands_apart, first_of};
+ghost use Rattle.st_lexer.specs.Bytes.{begins_by, is_blank, is_tied, stands_apart, first_of};
 
 /// What the first byte of a piece tells of it.
 #[derive(Clone, Copy, Debug, PartialEq, Eq, Drop)]
@@ -44,6 +44,16 @@ pub fn first_of(byte: u8) -> First
         First::Percent
     } else {
         First::Mark
+    }
+}
+
+/// Whether a text begins with this byte.
+pub fn begins_with(mark: u8, text: &[u8]) -> bool
+    ensures { result ≡ begins_by (λ c. c == mark) text.now }
+{
+    match text.first() {
+        Some(byte) => *byte == mark,
+        None => false,
     }
 }
 

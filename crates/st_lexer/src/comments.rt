@@ -1,17 +1,9 @@
 //! Where a comment ends.
 
-ghost use Rattle.std.specs.Prelude.{◌≡◌, ◌==◌, ◌≤◌, length, IfSome};
-ghost use Rattle.st_lexer.specs.Bytes.{begins_by};
+ghost use Rattle.std.specs.Prelude.{◌≡◌, ◌≤◌, length, IfSome};
 ghost use Rattle.st_lexer.specs.Reading.{closing, line_len};
 
-fn is_next(mark: u8, rest: &[u8]) -> bool
-    ensures { result ≡ begins_by (λ c. c == mark) rest.now }
-{
-    match rest.first() {
-        Some(byte) => *byte == mark,
-        None => false,
-    }
-}
+use crate::bytes::begins_with;
 
 /// How many bytes a comment has behind its opening mark, where `*` and this byte close it.
 pub fn closing(mark: u8, inner: &[u8]) -> Option<usize>
@@ -19,7 +11,7 @@ pub fn closing(mark: u8, inner: &[u8]) -> Option<usize>
     ensures within { IfSome result (λ n. n ≤ length inner.now) }
 {
     for (i, byte) in inner.iter().enumerate() {
-        if *byte == b'*' && is_next(mark, &inner[i + 1..]) {
+        if *byte == b'*' && begins_with(mark, &inner[i + 1..]) {
             return Some(i + 2);
         }
     }

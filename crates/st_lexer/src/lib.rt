@@ -4,13 +4,17 @@
 mod addresses;
 mod bytes;
 mod comments;
+mod durations;
 mod laws;
 mod lexer;
+mod literals;
 mod next;
 mod numbers;
 mod piece;
 mod places;
 mod tables;
+#[cfg(test)]
+mod tests;
 mod token;
 
 pub use laws::{one_answer, one_cut};

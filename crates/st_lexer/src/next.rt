@@ -2,24 +2,26 @@
 
 ghost use Rattle.std.specs.Prelude.{◌≡◌, ◌<◌, ◌≤◌, ◌^◌, ◌+◌, length, IfSome, IfNone, option_map};
 ghost use Rattle.st_lexer.specs.Pieces.{IsNext, IsOver};
-ghost use Rattle.st_lexer.specs.Reading.{lettered, spread, tied_len, numbered, addressed, marked, symbol_by, as_symbol, as_comment, single_by, next_of};
+ghost use Rattle.st_lexer.specs.ReadingLiterals.{tied_len, lettered_len};
+ghost use Rattle.st_lexer.specs.Reading.{lettered, spread, numbered, addressed, marked, symbol_by, as_symbol, as_comment, single_by, next_of};
 
 use crate::addresses::address;
 use crate::bytes::{First, first_of, stands_apart, tied_len};
 use crate::comments::{closing, line_len};
+use crate::literals::{lettered_len, literal};
 use crate::numbers::integer;
 use crate::piece::Piece;
 use crate::tables::{double, keyword_of, single};
 use crate::token::{Symbol, TokenKind};
 use plant_types::is_name;
 
-// A word or a keyword.
+// A word, a keyword or a literal that begins with a letter.
 #[tactic(auto, unfolding(crate::specs::Reading::lettered))]
 fn word(piece: &[u8]) -> Option<TokenKind>
     ensures { result ≡ lettered piece.now }
 {
     if !is_name(piece) {
-        return None;
+        return literal(piece);
     }
     match keyword_of(piece) {
         Some(keyword) => Some(TokenKind::Keyword(keyword)),
@@ -29,9 +31,9 @@ fn word(piece: &[u8]) -> Option<TokenKind>
 
 #[tactic(auto, unfolding(crate::specs::Reading::spread))]
 fn next_word(text: &[u8]) -> Option<(Piece, usize)>
-    ensures { result ≡ spread tied_len lettered text.now }
+    ensures { result ≡ spread lettered_len lettered text.now }
 {
-    let n = tied_len(text);
+    let n = lettered_len(text);
     let (piece, _) = text.split_at(n);
     let kind = word(piece)?;
     Some((Piece::Token(kind), n))
@@ -116,6 +118,7 @@ fn piece_at(text: &[u8]) -> Option<(Piece, usize)>
 /// The next piece of a text and its length; None where none is next.
 pub fn next(text: &[u8]) -> Option<(Piece, usize)>
     ensures found { IfSome result (λ r. IsNext text.now r.0 r.1) }
+    ensures some { IfSome result (λ r. 0 < r.1) }
     ensures none { IfNone result (IsOver text.now) }
 {
     piece_at(text)

@@ -4,12 +4,13 @@ ghost use Rattle.std.specs.Prelude.{◌≡◌, ◌≤◌, length, IfSome};
 ghost use Rattle.std.specs.Char.{is_digit};
 ghost use Rattle.st_lexer.specs.Bytes.{begins_by};
 ghost use Rattle.st_lexer.specs.Numbers.{base_of, digits_of};
-ghost use Rattle.st_lexer.specs.Reading.{number_step, number_by, integer_by};
+ghost use Rattle.st_lexer.specs.ReadingLiterals.{number_step, number_by, integer_by};
 
 /// The greatest integer that may be written.
 const GREATEST: u64 = 2147483648;
 
-fn begins_by_digit(base: u32, text: &[u8]) -> bool
+/// Whether a text begins with a digit of the base.
+pub fn begins_by_digit(base: u32, text: &[u8]) -> bool
     requires low { 2 ≤ base }
     requires high { base ≤ 36 }
     ensures { result ≡ begins_by (λ b. is_digit b base) text.now }
@@ -20,7 +21,7 @@ fn begins_by_digit(base: u32, text: &[u8]) -> bool
     }
 }
 
-#[tactic(auto, unfolding(crate::specs::Reading::number_step))]
+#[tactic(auto, unfolding(crate::specs::ReadingLiterals::number_step))]
 fn step(base: u32, value: u64, byte: u8, rest: &[u8]) -> Option<u64>
     requires low { 2 ≤ base }
     requires high { base ≤ 36 }
@@ -34,7 +35,7 @@ fn step(base: u32, value: u64, byte: u8, rest: &[u8]) -> Option<u64>
 }
 
 /// The number that digits of a base are, with single underscores between them; None where they are none, or it is above 64 bits.
-#[tactic(auto, unfolding(crate::specs::Reading::number_by))]
+#[tactic(auto, unfolding(crate::specs::ReadingLiterals::number_by))]
 pub fn number(base: u32, text: &[u8]) -> Option<u64>
     requires low { 2 ≤ base }
     requires high { base ≤ 36 }
@@ -65,7 +66,7 @@ fn based(text: &[u8]) -> (u32, &[u8])
 }
 
 /// The integer that a piece is, of base 2, 8, 10 or 16.
-#[tactic(auto, unfolding(crate::specs::Reading::integer_by))]
+#[tactic(auto, unfolding(crate::specs::ReadingLiterals::integer_by))]
 pub fn integer(piece: &[u8]) -> Option<u32>
     ensures { result ≡ integer_by piece.now }
 {

@@ -1,6 +1,6 @@
 use Rattle.std.proofs.Common.{◌≡◌, ◌+◌, drop}
 use Rattle.std.specs.Char.{is_ascii_digit}
-use Rattle.st_lexer.specs.Reading.{linked_len}
+use Rattle.st_lexer.specs.ReadingLiterals.{linked_len}
 use Rattle.st_lexer.proofs.addresses.dotted_len.Given as goal
 
 abbrev pub invariant-loop-i : goal.invariant-loop-i

@@ -1,5 +1,5 @@
 use Rattle.std.proofs.Common.{◌≡◌, drop}
-use Rattle.st_lexer.specs.Reading.{number_after}
+use Rattle.st_lexer.specs.ReadingLiterals.{number_after}
 use Rattle.st_lexer.proofs.numbers.number.Given as goal
 
 abbrev pub invariant-loop-i : goal.invariant-loop-i
