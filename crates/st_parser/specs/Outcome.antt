@@ -4,7 +4,7 @@ use Rattle.st_parser.specs.declared.fault.ParseFault.{ParseFault}
 use Rattle.st_parser.specs.declared.fault.ParseFault.TheVariants as fault
 use Rattle.st_parser.specs.declared.fault.Stop.{Stop}
 use Rattle.st_parser.specs.declared.fault.Stop.TheVariants as stop
-use Rattle.st_parser.specs.Grammar.{Spells}
+use Rattle.st_parser.specs.Declarations.{Spells}
 use Rattle.st_parser.specs.Lexemes.{Lexeme}
 use Rattle.st_parser.specs.Source.{Source}
 

@@ -2,15 +2,15 @@
 use Rattle.std.proofs.Common.{◌∙◌, ap, sym, subst, arith}
 use Rattle.st_parser.specs.Lexemes.{lexemes}
 use Rattle.st_parser.specs.Outcome.{Fails, SpellNone}
-use Rattle.st_parser.specs.Reading.{unit_at}
+use Rattle.st_parser.specs.ReadingUnits.{unit_at}
 use Rattle.st_parser.specs.Source.{source_of}
 use Rattle.st_parser.specs.declared.fault.Stop.{Stop}
-use Rattle.st_parser.proofs.Sources.{all_read, some_left, none_read}
+use Rattle.st_parser.proofs.FoundUnits.{unit_spelled, some_left, none_read}
 use Rattle.st_parser.proofs.units.parse.Goals as goal
 
 pub returns-then-left-eq0-clause-spelled : goal.returns-then-left-eq0-clause-spelled
 returns-then-left-eq0-clause-spelled c =
-    all_read (lexemes c.args.text.now c.args.tokens.now) c.unit.new.reader _ (ap unit_at (sym c.new-reader.ensures) ∙ c.in-Ok.ensures) (omega arith)
+    unit_spelled (lexemes c.args.text.now c.args.tokens.now) c.unit.new.reader _ (ap unit_at (sym c.new-reader.ensures) ∙ c.in-Ok.ensures) (omega arith)
 
 pub returns-else-left-eq0-clause-spelled : goal.returns-else-left-eq0-clause-spelled
 returns-else-left-eq0-clause-spelled c =

@@ -1,0 +1,4 @@
+//! A trial walk.
+#![tactic(auto)]
+
+mod walk;
