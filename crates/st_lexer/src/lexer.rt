@@ -1,9 +1,8 @@
 //! The tokens of a text.
 
-ghost use Rattle.std.specs.Prelude.{◌≡◌, ℕ, List, [], ◌∷◌, ◌++◌, ◌+◌, ◌-◌, ◌<◌, ◌≤◌, ◌^◌, length, All, IfOk, IfErr, OnOk, count_by, ◌==◌, not};
+ghost use Rattle.std.specs.Prelude.{◌≡◌, ℕ, List, [], ◌∷◌, ◌++◌, ◌+◌, ◌<◌, ◌≤◌, ◌^◌, length, All, IfOk, IfErr, OnOk, count_by, ◌==◌, not};
 ghost use Rattle.std.specs.List.{suffix_len};
-ghost use Rattle.st_lexer.specs.Places.{line_at, column_at};
-ghost use Rattle.st_lexer.specs.Lexes.{Lexes, Stops, IsTokenOf, IfBad, mark_len, unmarked, tokens_of};
+ghost use Rattle.st_lexer.specs.Lexes.{Lexes, Stops, IsTokenOf, IfBad, mark_len, tokens_of};
 
 use crate::next::next;
 use crate::piece::Piece;
@@ -57,21 +56,6 @@ fn keep(tokens: &mut Vec<Token>, piece: Piece, from: usize, n: usize) -> Result<
         })?,
     }
     Ok(())
-}
-
-/// The line and the column, both from 1, of the byte at this place of a text, or of its end.
-///
-/// Lines end after each line feed, columns count bytes; a byte order mark at the start of the text isn't counted.
-pub fn place_at(text: &[u8], at: usize) -> (usize, usize)
-    requires within { at ≤ length text.now }
-    requires short { length text.now + 1 < 2 ^ 64 }
-    ensures line { result.0 ≡ line_at (unmarked text.now) (at - mark_len text.now) }
-    ensures column { result.1 ≡ column_at (unmarked text.now) (at - mark_len text.now) }
-{
-    let skipped = mark_len(text);
-    let (_, body) = text.split_at(skipped);
-    let (before, _) = body.split_at(at.saturating_sub(skipped));
-    place_behind(before)
 }
 
 // The fault of a text whose pieces can't go on behind these bytes.

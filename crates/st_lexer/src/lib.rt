@@ -18,6 +18,6 @@ mod tests;
 mod token;
 
 pub use laws::{one_answer, one_cut};
-pub use lexer::{LexFault, lex, place_at};
+pub use lexer::{LexFault, lex};
 pub use piece::Piece;
 pub use token::{Keyword, Region, Symbol, Token, TokenKind};

@@ -1,6 +1,6 @@
 //! Worked examples, each call with ample memory, and where a growth was refused once again.
 
-use crate::{Keyword, LexFault, Region, Symbol, Token, TokenKind, lex, place_at};
+use crate::{Keyword, LexFault, Region, Symbol, Token, TokenKind, lex};
 use std::alloc::Global;
 
 /// The answer with ample memory: where a growth was refused, that of a second call.
@@ -275,13 +275,4 @@ fn stands_at(alloc: Global, text: &[u8], from: usize, until: usize) -> bool {
 fn places_count_bytes_of_the_text(rt: HostRuntime) {
     assert!(rt; stands_at(rt.alloc(), b"a (* *) bc", 8, 10));
     assert!(rt; stands_at(rt.alloc(), b"\xEF\xBB\xBFbc", 3, 5));
-}
-
-#[test]
-fn places_have_lines_and_columns(rt: HostRuntime) {
-    assert!(rt; place_at(b"", 0) == (1, 1));
-    assert!(rt; place_at(b"a\nbc", 3) == (2, 2));
-    assert!(rt; place_at(b"a\n", 2) == (2, 1));
-    assert!(rt; place_at(b"\xEF\xBB\xBFab", 4) == (1, 2));
-    assert!(rt; place_at(b"\xEF\xBB\xBFab", 0) == (1, 1));
 }
