@@ -31,7 +31,7 @@ on_order verb.Reset last a = on_reset a.state
 on_order (verb.Shelve d) last a = on_shelve d a.max_shelve_ms last a.state
 on_order verb.Unshelve last a = on_unshelve a.condition a.suppressed a.state
 on_order verb.Remove last a = on_remove a.state
-on_order verb.Return last a = on_return a.condition a.suppressed a.state
+on_order verb.PutBack last a = on_return a.condition a.suppressed a.state
 on_order verb.Restart last a = wrong_state
 
 -- an alarm after an order, or the refusal

@@ -1,15 +1,19 @@
 -- Laws of the table of transitions and of the codes.
-use Rattle.std.specs.Prelude.{◌≡◌, ℕ, Bool, true, false, nat_le}
+use Rattle.std.specs.Prelude.{◌≡◌, ℕ, Bool, true, false, nat_le, None}
 use Rattle.alarm_machine.specs.declared.states.Code.{Code}
 use Rattle.alarm_machine.specs.declared.states.AlarmState.{AlarmState}
 use Rattle.alarm_machine.specs.declared.states.AlarmState.TheVariants as state
-use Rattle.alarm_machine.specs.Codes.{code_text}
+use Rattle.alarm_machine.specs.Codes.{code_text, change_between}
 use Rattle.alarm_machine.specs.Transitions.{on_scan}
-use Rattle.alarm_machine.specs.Alarms.{Seen, after_scan}
+use Rattle.alarm_machine.specs.Alarms.{Seen, after_scan, settled}
 
 -- what is printed tells the codes apart
 abbrev pub TextsTellApart : Type 0
 TextsTellApart = (a b : Code) → code_text a ≡ code_text b → a ≡ b
+
+-- a change is told wherever two codes differ
+abbrev pub DifferencesAreTold : Type 0
+DifferencesAreTold = (a b : Code) → change_between a b ≡ None → a ≡ b
 
 -- whether a shelf ends by moment t
 abbrev pub shelf_ends : ℕ → AlarmState → Bool
@@ -30,3 +34,13 @@ waits_for_ack _ = false
 -- an alarm that waits for an acknowledgement goes on waiting through every scan that doesn't suppress it
 abbrev pub NoScanAcknowledges : Type 0
 NoScanAcknowledges = (l c : Bool) (t : ℕ) (x : AlarmState) → waits_for_ack x ≡ true → waits_for_ack (on_scan l x c false t) ≡ true
+
+-- whether an alarm is neither shelved nor out of service
+abbrev pub in_service : AlarmState → Bool
+in_service (state.Shelved e) = false
+in_service state.Oos = false
+in_service _ = true
+
+-- a condition that comes anew wants an acknowledgement: where an alarm was left without a condition, a scan with one and no suppression leaves it unacknowledged
+abbrev pub NewConditionsWantAck : Type 0
+NewConditionsWantAck = (l s : Bool) (t : ℕ) (x : AlarmState) → settled x false s ≡ true → in_service x ≡ true → on_scan l x true false t ≡ state.Unack

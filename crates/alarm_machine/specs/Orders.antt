@@ -12,13 +12,13 @@ verb_text verb.Reset = codes "reset"
 verb_text (verb.Shelve d) = codes "shelve"
 verb_text verb.Unshelve = codes "unshelve"
 verb_text verb.Remove = codes "remove"
-verb_text verb.Return = codes "return"
+verb_text verb.PutBack = codes "return"
 verb_text verb.Restart = codes "restart"
 
 -- the number of a refusal, as it is printed
 abbrev pub fault_text : OrderFault → List ℕ
 fault_text fault.UnknownTarget = codes "O1"
-fault_text fault.NotAllowed = codes "O2"
+fault_text fault.NotYourArea = codes "O2"
 fault_text fault.WrongState = codes "O3"
 fault_text fault.ShelveTime = codes "O4"
 fault_text fault.NotFaulted = codes "O5"

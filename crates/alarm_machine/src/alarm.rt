@@ -169,7 +169,7 @@ impl Alarm {
                     Err(OrderFault::ShelveTime)
                 }
             }
-            (Verb::Unshelve, AlarmState::Shelved(_)) | (Verb::Return, AlarmState::Oos) => {
+            (Verb::Unshelve, AlarmState::Shelved(_)) | (Verb::PutBack, AlarmState::Oos) => {
                 Ok(resume(self.condition, self.suppressed))
             }
             (Verb::Remove, AlarmState::Oos) => Err(OrderFault::WrongState),

@@ -11,5 +11,8 @@ mod states;
 
 pub use alarm::Alarm;
 pub use change::Change;
-pub use laws::{no_scan_acknowledges, scans_settle, texts_tell_codes_apart};
+pub use laws::{
+    differences_are_told, new_conditions_want_ack, no_scan_acknowledges, scans_settle,
+    texts_tell_codes_apart,
+};
 pub use states::{AlarmState, Code, OrderFault, Verb};

@@ -83,7 +83,7 @@ pub enum Verb {
     /// Take the alarm out of service.
     Remove,
     /// Return the alarm to service.
-    Return,
+    PutBack,
     /// Restart a program that a trap has stopped. No alarm takes it.
     Restart,
 }
@@ -99,7 +99,7 @@ impl Verb {
             Verb::Shelve(_) => "shelve",
             Verb::Unshelve => "unshelve",
             Verb::Remove => "remove",
-            Verb::Return => "return",
+            Verb::PutBack => "return",
             Verb::Restart => "restart",
         }
     }
@@ -111,7 +111,7 @@ pub enum OrderFault {
     /// O1: there is no such alarm or program.
     UnknownTarget,
     /// O2: there is no such console, or the alarm's area isn't one of the console's.
-    NotAllowed,
+    NotYourArea,
     /// O3: the alarm's state doesn't take this order.
     WrongState,
     /// O4: the time is 0, or longer than the alarm's longest shelving.
@@ -127,7 +127,7 @@ impl OrderFault {
     {
         match self {
             OrderFault::UnknownTarget => "O1",
-            OrderFault::NotAllowed => "O2",
+            OrderFault::NotYourArea => "O2",
             OrderFault::WrongState => "O3",
             OrderFault::ShelveTime => "O4",
             OrderFault::NotFaulted => "O5",
@@ -209,6 +209,25 @@ mod tests {
     }
 
     #[test]
+    fn states_have_their_codes(rt: HostRuntime) {
+        let states = [
+            (AlarmState::Norm, Code::Norm, None),
+            (AlarmState::Unack, Code::Unack, None),
+            (AlarmState::Acked, Code::Acked, None),
+            (AlarmState::Rtnun, Code::Rtnun, None),
+            (AlarmState::Latun, Code::Latun, None),
+            (AlarmState::Latak, Code::Latak, None),
+            (AlarmState::Shelved(7), Code::Shelved, Some(7)),
+            (AlarmState::Suppr, Code::Suppr, None),
+            (AlarmState::Oos, Code::Oos, None),
+        ];
+        for (state, code, end) in states {
+            assert_eq!(rt; state.code(), code);
+            assert_eq!(rt; state.end(), end);
+        }
+    }
+
+    #[test]
     fn orders_have_their_words(rt: HostRuntime) {
         let verbs = [
             (Verb::Ack, "ack"),
@@ -216,7 +235,7 @@ mod tests {
             (Verb::Shelve(5000), "shelve"),
             (Verb::Unshelve, "unshelve"),
             (Verb::Remove, "remove"),
-            (Verb::Return, "return"),
+            (Verb::PutBack, "return"),
             (Verb::Restart, "restart"),
         ];
         for (verb, text) in verbs {
@@ -224,7 +243,7 @@ mod tests {
         }
         let faults = [
             (OrderFault::UnknownTarget, "O1"),
-            (OrderFault::NotAllowed, "O2"),
+            (OrderFault::NotYourArea, "O2"),
             (OrderFault::WrongState, "O3"),
             (OrderFault::ShelveTime, "O4"),
             (OrderFault::NotFaulted, "O5"),

@@ -6,34 +6,43 @@ use Rattle.plant_types.specs.declared.values.Value.{Value}
 use Rattle.plant_types.specs.declared.values.Place.{Place}
 use Rattle.plant_types.specs.declared.values.Trap.{Trap}
 use Rattle.st_tree.specs.Meaning.{Spot}
-use Rattle.st_parser.specs.Source.{Source}
-use Rattle.st_walk.specs.Slots.{spot_of}
+use Rattle.st_walk.specs.Source.{Source}
+use Rattle.st_walk.specs.Runs.{spot_of}
 use Rattle.alarm_machine.specs.Codes.{Move}
 use Rattle.alarm_machine.specs.declared.states.Verb.{Verb}
 use Rattle.plant_config.specs.Meaning.{Meaning}
-use Rattle.plant_config.specs.Names.{alarm_number, tag_of, global_of}
+use Rattle.plant_config.specs.Names.{alarm_number, program_number, tag_of, global_of}
 use Rattle.engine.specs.declared.event.Event.{Event}
 use Rattle.engine.specs.declared.event.EngineFault.{EngineFault}
 use Rattle.engine.specs.declared.event.EngineFault.TheVariants as refusal
 use Rattle.engine.specs.declared.event.Order.{Order as OrderMade}
 use Rattle.engine.specs.declared.event.Reply.{Reply}
 use Rattle.engine.specs.declared.event.Reply.TheVariants as reply
+use Rattle.engine.specs.Orders.{is_restart}
 use Rattle.engine.specs.System.{System, system, step, scan_event, order_event, reply_to, faults_of, changes_of, outs_of}
 use Rattle.command_text.specs.Commands.{Asked, Nothing, Unknown, Scan, Order, command_of}
 use Rattle.command_text.specs.Lines.{path_text, fault_line, alarm_line, out_line, done_line, reply_line, refused_line}
 
--- the alarm that a word names, if there is one; bytes that aren't a text name none
-abbrev pub target_of : Meaning → List ℕ → Option ℕ
-target_of plant word = if is_utf8 word then alarm_number plant word else None
+-- what a text names: for a restart the program of this name, in any letter case, for every other order the alarm of this tag
+abbrev pub named_by : Meaning → Verb → List ℕ → Option ℕ
+named_by plant verb word = if is_restart verb then program_number plant word else alarm_number plant word
 
--- the tag of a target
-abbrev pub target_tag : Meaning → Option ℕ → List ℕ
-target_tag plant None = []
-target_tag plant (Some alarm) = tag_of plant alarm
+-- what a word names, if there is such a program or alarm; bytes that aren't a text name none
+abbrev pub target_of : Meaning → Verb → List ℕ → Option ℕ
+target_of plant verb word = if is_utf8 word then named_by plant verb word else None
+
+-- the tag of an alarm
+abbrev pub tag_of_alarm : Meaning → Option ℕ → List ℕ
+tag_of_alarm plant None = []
+tag_of_alarm plant (Some alarm) = tag_of plant alarm
+
+-- the tag of the alarm that an order is for; a restart is for none
+abbrev pub tag_for : Meaning → OrderMade → List ℕ
+tag_for plant order = if is_restart order.verb then [] else tag_of_alarm plant order.target
 
 -- an order for what a word names
 abbrev pub order_for : Meaning → Verb → List ℕ → OrderMade
-order_for plant verb word = record { verb = verb; target = target_of plant word }
+order_for plant verb word = record { verb = verb; target = target_of plant verb word }
 
 -- ---- the lines of a scan's answer, and of an order's
 
@@ -87,6 +96,10 @@ abbrev pub event_text : Result Event EngineFault → (Event → List ℕ) → Li
 event_text (Ok e) text = text e
 event_text (Err fault) text = refused_line (fault_number fault)
 
+-- the answer to an order: its reply, with the moment of the last scan and the tag of its alarm, or its refusal as an event
+abbrev pub order_answer : Meaning → System → ℕ → OrderMade → List ℕ
+order_answer plant sys console order = event_text (order_event sys console order) (λ _. order_text sys.moment (tag_for plant order) (reply_to plant sys console order))
+
 -- what is asked of a plant in a state: the events that it adds, one or none, and the answer
 abbrev pub added : Result Event EngineFault → List Event
 added (Ok e) = e ∷ []
@@ -102,8 +115,7 @@ abbrev pub asked_text : Meaning → System → Asked → List ℕ
 asked_text plant sys Nothing = []
 asked_text plant sys Unknown = refused_line (codes "L1")
 asked_text plant sys (Scan moment pairs) = event_text (scan_event plant sys pairs moment) (scan_text plant sys)
-asked_text plant sys (Order verb console word) =
-    event_text (order_event sys console (order_for plant verb word)) (λ _. order_text sys.moment (target_tag plant (target_of plant word)) (reply_to plant sys console (order_for plant verb word)))
+asked_text plant sys (Order verb console word) = order_answer plant sys console (order_for plant verb word)
 
 -- ---- lines in turn
 

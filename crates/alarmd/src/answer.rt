@@ -1,10 +1,11 @@
-ghost use Rattle.std.specs.Prelude.{◌≡◌, ◌++◌, ◌⊎◌, ◌<◌, ◌^◌, ◌+◌, OnOk, OnErr, IfSome, All, length};
+ghost use Rattle.std.specs.Prelude.{◌≡◌, ◌++◌, ◌⊎◌, ◌<◌, ◌^◌, ◌+◌, OnOk, OnErr, IfSome, All, length, false};
 ghost use Rattle.command_text.specs.Lines.{path_text};
 ghost use Rattle.engine.specs.Held.{state_of};
 ghost use Rattle.plant_config.specs.Names.{tag_of, global_of};
-ghost use Rattle.st_walk.specs.Slots.{spot_of};
-ghost use Rattle.engine.specs.System.{system, scan_event, order_event, reply_to};
-ghost use Rattle.alarmd.specs.Answers.{spots_of, target_of, target_tag, order_for, fault_lines, alarm_lines, out_lines, report_text, order_text, fault_number, event_text, scan_text, added, after_line, line_answer};
+ghost use Rattle.st_walk.specs.Runs.{spot_of};
+ghost use Rattle.engine.specs.Orders.{is_restart};
+ghost use Rattle.engine.specs.System.{system, scan_event, order_event};
+ghost use Rattle.alarmd.specs.Answers.{spots_of, named_by, target_of, tag_for, order_for, order_answer, fault_lines, alarm_lines, out_lines, report_text, order_text, fault_number, event_text, scan_text, added, after_line, line_answer};
 
 use alarm_machine::{Change, Verb};
 use command_text::{
@@ -16,14 +17,15 @@ use plant_types::{Pair, Place, Trap, Value};
 use std::alloc::{AllocError, Global};
 use std::str;
 
-/// The tag of the alarm that an order is for.
-fn target_tag(plant: &Plant, target: Option<u32>) -> &str
-    requires { IfSome target (λ alarm. alarm < length plant.now.alarms) }
-    ensures { result.now ≡ target_tag plant.now target }
+/// The tag of the alarm that an order is for; a restart is for none.
+fn tag_for(plant: &Plant, order: Order) -> &str
+    requires { is_restart order.verb ≡ false → IfSome order.target (λ alarm. alarm < length plant.now.alarms) }
+    ensures { result.now ≡ tag_for plant.now order }
 {
-    match target {
-        Some(alarm) => plant.tag(alarm),
-        None => "",
+    match (order.verb, order.target) {
+        (Verb::Restart, _) => "",
+        (_, Some(alarm)) => plant.tag(alarm),
+        (_, None) => "",
     }
 }
 
@@ -47,11 +49,7 @@ fn push_changes(
 fn path<'a>(plant: &'a Plant, place: &Place) -> &'a str
     ensures { result.now ≡ path_text (spot_of plant.now.source place.now).path }
 {
-    if place.path == 0 {
-        plant.program(0)
-    } else {
-        ""
-    }
+    if place.path == 0 { plant.path(0) } else { "" }
 }
 
 /// Adds a line for each program that stopped.
@@ -136,13 +134,24 @@ fn scan(
     }
 }
 
-/// The alarm that a word names.
-fn target(plant: &Plant, word: &[u8]) -> Option<u32>
-    ensures number { result ≡ target_of plant.now word.now }
-    ensures within { IfSome result (λ alarm. alarm < length plant.now.alarms) }
+/// The program that a text names for a restart, and the alarm that it names for every other order.
+fn named_by(plant: &Plant, verb: Verb, name: &str) -> Option<u32>
+    ensures number { result ≡ named_by plant.now verb name.now }
+    ensures within { is_restart verb ≡ false → IfSome result (λ alarm. alarm < length plant.now.alarms) }
+{
+    match verb {
+        Verb::Restart => plant.program_number(name),
+        _ => plant.alarm_number(name),
+    }
+}
+
+/// The program or the alarm that a word names.
+fn target(plant: &Plant, verb: Verb, word: &[u8]) -> Option<u32>
+    ensures number { result ≡ target_of plant.now verb word.now }
+    ensures within { is_restart verb ≡ false → IfSome result (λ alarm. alarm < length plant.now.alarms) }
 {
     match str::from_utf8(word) {
-        Ok(tag) => plant.alarm_number(tag),
+        Ok(name) => named_by(plant, verb, name),
         Err(_) => None,
     }
 }
@@ -173,18 +182,17 @@ fn order(
 ) -> Result<(), AllocError>
     ensures plant { engine.new.plant ≡ engine.old.plant }
     ensures history { OnOk result (engine.new.history ≡ engine.old.history ++ added (order_event (state_of engine.old) console (order_for engine.old.plant verb word.now))) }
-    ensures text { OnOk result (text.new.items ≡ text.old.items ++ event_text (order_event (state_of engine.old) console (order_for engine.old.plant verb word.now))
-        (λ _. order_text (state_of engine.old).moment (target_tag engine.old.plant (target_of engine.old.plant word.now)) (reply_to engine.old.plant (state_of engine.old) console (order_for engine.old.plant verb word.now)))) }
+    ensures text { OnOk result (text.new.items ≡ text.old.items ++ order_answer engine.old.plant (state_of engine.old) console (order_for engine.old.plant verb word.now)) }
     ensures err { OnErr result ((engine.new.history ≡ engine.old.history)
         ⊎ (engine.new.history ≡ engine.old.history ++ added (order_event (state_of engine.old) console (order_for engine.old.plant verb word.now)))) }
 {
     let last = engine.moment();
     let order = Order {
         verb,
-        target: target(engine.plant(), word),
+        target: target(engine.plant(), verb, word),
     };
     match engine.order(alloc, console, order) {
-        Ok(reply) => push_order(text, last, target_tag(engine.plant(), order.target), reply),
+        Ok(reply) => push_order(text, last, tag_for(engine.plant(), order), reply),
         Err(EngineFault::Memory) => Err(AllocError),
         Err(fault) => push_refused(text, fault_number(fault)),
     }

@@ -5,6 +5,8 @@
 #![tactic(auto)]
 
 pub mod answer;
+#[cfg(test)]
+mod examples;
 pub mod fault;
 pub mod feed;
 pub mod laws;
@@ -22,7 +24,7 @@ use std::process::ExitCode;
 
 /// The logic of the plant that is built in.
 pub const SOURCE: &[u8] =
-    b"VAR_GLOBAL b AT %IX0.0 : BOOL; c : BOOL; END_VAR PROGRAM p c := b; END_PROGRAM";
+    b"VAR_GLOBAL\n  a AT %ID0 : DINT;\n  c : BOOL;\nEND_VAR\nPROGRAM p\n  c := 100 / a > 10;\nEND_PROGRAM\n";
 
 /// Tells on standard error why the server stopped; the status is 1.
 fn stopped(rt: &HostRuntime, fault: ServeFault) -> ExitCode {

@@ -161,23 +161,40 @@ fn session<H: Wait>(
 }
 
 /// Whether a session ends well and writes just this.
-fn writes<H: Wait>(rt: &H, alloc: Global, source: &[u8], input: &[u8], want: &[u8]) -> bool {
+pub(crate) fn writes<H: Wait>(
+    rt: &H,
+    alloc: Global,
+    source: &[u8],
+    input: &[u8],
+    want: &[u8],
+) -> bool {
     let (outcome, text) = session(rt, alloc, source, input, WHOLE);
     outcome == Ok(()) && text.as_slice() == want
 }
 
 /// The stored run.
-const INPUT: &[u8] =
-    b"scan 0 b=1\nack 2 T1\nack 1 T9\nack 1 T1\nscan 10 b=0\nscan 5 b=1\nscan 11 b=2\n";
+const INPUT: &[u8] = b"scan 0 a=5\nscan 10 a=0\nscan 20 a=50\nrestart 1 p\nscan 30 a=50\n";
 
 const OUTPUT: &[u8] =
-    b"ALARM 0 T1 NORM UNACK\nDONE 0 1\nREPLY O2\nREPLY O1\nREPLY OK\nALARM 0 T1 UNACK ACKED\nALARM 10 T1 ACKED NORM\nDONE 10 1\nREFUSED E1\nREFUSED E4\n";
+    b"ALARM 0 T1 NORM UNACK\nDONE 0 1\nFAULT 10 p 1 DIVZERO\nDONE 10 1\nDONE 20 0\nREPLY OK\nALARM 30 T1 UNACK RTNUN\nDONE 30 1\n";
+
+/// A variable that follows an input, and is the alarm's condition.
+const FOLLOWS: &[u8] =
+    b"VAR_GLOBAL b AT %IX0.0 : BOOL; c : BOOL; END_VAR PROGRAM p c := b; END_PROGRAM";
+
+#[test]
+fn a_stored_run_is_answered(rt: HostRuntime) {
+    assert!(rt; writes(&rt, rt.alloc(), SOURCE, INPUT, OUTPUT));
+}
 
 #[test]
 fn lines_are_answered(rt: HostRuntime) {
     for (input, want) in [
         (b"".as_slice(), b"".as_slice()),
-        (INPUT, OUTPUT),
+        (
+            b"scan 0 b=1\nack 2 T1\nack 1 T9\nack 1 T1\nscan 10 b=0\nscan 5 b=1\nscan 11 b=2\n",
+            b"ALARM 0 T1 NORM UNACK\nDONE 0 1\nREPLY O2\nREPLY O1\nREPLY OK\nALARM 0 T1 UNACK ACKED\nALARM 10 T1 ACKED NORM\nDONE 10 1\nREFUSED E1\nREFUSED E4\n",
+        ),
         (b"\n\r\n \t\n", b""),
         (b"# scan\n  #\n#", b""),
         (b"scan 0\r\nscan 1\r", b"DONE 0 0\nREFUSED L1\n"),
@@ -186,8 +203,8 @@ fn lines_are_answered(rt: HostRuntime) {
         (b"scan 0 b=1", b"ALARM 0 T1 NORM UNACK\nDONE 0 1\n"),
         (b"\r", b"REFUSED L1\n"),
         (
-            b"hello\nSCAN 0\nscan\nlist\nrestart 1 p\n",
-            b"REFUSED L1\nREFUSED L1\nREFUSED L1\nREFUSED L1\nREFUSED L1\n",
+            b"hello\nSCAN 0\nscan\nlist\n",
+            b"REFUSED L1\nREFUSED L1\nREFUSED L1\nREFUSED L1\n",
         ),
         (
             b"scan 4000000000000\nscan 4000000000001 q=1\n",
@@ -205,6 +222,15 @@ fn lines_are_answered(rt: HostRuntime) {
             b"scan 1 b=-1\nscan 1 b=TrUe\nscan 1 B=FALSE\n",
             b"REFUSED E4\nALARM 1 T1 NORM UNACK\nDONE 1 1\nALARM 1 T1 UNACK RTNUN\nDONE 1 1\n",
         ),
+        // A refused scan sets none of its inputs.
+        (
+            b"scan 0 b=1\nscan 1 b=0 q=1\nscan 1\n",
+            b"ALARM 0 T1 NORM UNACK\nDONE 0 1\nREFUSED E3\nDONE 1 0\n",
+        ),
+        (
+            b"ack 3 T9\nack 2 T1\nack 1 T1\n",
+            b"REPLY O1\nREPLY O2\nREPLY O3\n",
+        ),
         (
             b"ack 1 t1\nack 3 T1\nack 1 T1\nack 000000001 \xff\n",
             b"REPLY O1\nREPLY O2\nREPLY O3\nREPLY O1\n",
@@ -215,7 +241,7 @@ fn lines_are_answered(rt: HostRuntime) {
         ),
     ] {
         assert!(rt;
-            writes(&rt, rt.alloc(), SOURCE, input, want),
+            writes(&rt, rt.alloc(), FOLLOWS, input, want),
             "at {input:?}"
         );
     }
@@ -231,6 +257,42 @@ fn outputs_are_told_where_they_change(rt: HostRuntime) {
     assert!(rt; writes(&rt, rt.alloc(), source, input, want));
 }
 
+/// A scan that stops its program, changes the alarm and two outputs.
+const ALL_LINES: &[u8] =
+    b"VAR_GLOBAL a AT %ID0 : DINT; c AT %QX0.0 : BOOL; x AT %QD0 : DINT; END_VAR PROGRAM p x := 7; c := TRUE; x := x / a; END_PROGRAM";
+
+/// An output that follows a time.
+const TIMES: &[u8] =
+    b"VAR_GLOBAL d AT %ID0 : TIME; e AT %QD0 : TIME; c : BOOL; END_VAR PROGRAM p e := d; END_PROGRAM";
+
+#[test]
+fn a_scan_tells_faults_then_alarms_then_outputs(rt: HostRuntime) {
+    let want =
+        b"FAULT 5 p 3 DIVZERO\nALARM 5 T1 NORM UNACK\nOUT 5 c TRUE\nOUT 5 x 7\nDONE 5 4\nDONE 6 0\n";
+    assert!(rt; writes(&rt, rt.alloc(), ALL_LINES, b"scan 5\nscan 6 a=1\n", want));
+}
+
+#[test]
+fn inputs_have_a_range(rt: HostRuntime) {
+    for (source, input, want) in [
+        (
+            SOURCE,
+            b"scan 0 a=2147483648\nscan 0 a=-2147483649\nscan 0 a=-2147483648\nscan 0 a=2147483647\n".as_slice(),
+            b"REFUSED E4\nREFUSED E4\nDONE 0 0\nDONE 0 0\n".as_slice(),
+        ),
+        (
+            TIMES,
+            b"scan 0 d=9223372036854775808\nscan 0 d=-9223372036854775808\nscan 0 d=9223372036854775807\n",
+            b"REFUSED E4\nOUT 0 e -9223372036854775808\nDONE 0 1\nOUT 0 e 9223372036854775807\nDONE 0 1\n",
+        ),
+    ] {
+        assert!(rt;
+            writes(&rt, rt.alloc(), source, input, want),
+            "at {input:?}"
+        );
+    }
+}
+
 /// A line of this many bytes, and what follows it.
 fn long_line(alloc: Global, first: &[u8], len: usize, end: &[u8]) -> Result<Vec<u8>, AllocError> {
     let mut input = Vec::from_slice(alloc, first)?;
@@ -243,7 +305,7 @@ fn long_line(alloc: Global, first: &[u8], len: usize, end: &[u8]) -> Result<Vec<
 fn answers_in_pieces<H: Wait>(rt: &H, alloc: Global, input: &[u8], want: &[u8]) -> bool {
     for read in [NEVER, 1000] {
         let ends = Ends { read, ..WHOLE };
-        let (outcome, text) = session(rt, alloc, SOURCE, input, ends);
+        let (outcome, text) = session(rt, alloc, FOLLOWS, input, ends);
         if outcome != Ok(()) || text.as_slice() != want {
             return false;
         }
@@ -347,7 +409,7 @@ fn a_sink_may_fail_at_each_write(rt: HostRuntime) {
             );
         }
     }
-    for writes in 0..7 {
+    for writes in 0..5 {
         let ends = Ends { writes, ..WHOLE };
         assert!(rt; stops(&rt, rt.alloc(), ends, ServeFault::Write), "{writes}");
     }

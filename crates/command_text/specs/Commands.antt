@@ -32,7 +32,7 @@ scan_of (m ∷ ws) = elim (number_of 19 m) [
   | Some moment ↦ elim (pairs_of ws) [ None ↦ Unknown | Some pairs ↦ Scan moment pairs ]
 ]
 
--- ack CONSOLE TAG, and each other order of this form
+-- ack CONSOLE TAG and restart CONSOLE PROGRAM: the verb is the command's, the target is any word
 unfoldable pub order_of : Verb → List (List ℕ) → Asked
 order_of v [] = Unknown
 order_of v (c ∷ []) = Unknown
@@ -45,6 +45,7 @@ command_in [] = Nothing
 command_in (w ∷ ws) =
     if bytes_eq w (codes "scan") then scan_of ws
     else if bytes_eq w (codes "ack") then order_of verb.Ack ws
+    else if bytes_eq w (codes "restart") then order_of verb.Restart ws
     else Unknown
 
 -- whether the first word begins with #

@@ -10,6 +10,7 @@ pub enum Command<'a> {
     Unknown,
     /// A scan at a moment, in milliseconds, with what is given for inputs.
     Scan(u64, Items<Pair>),
-    /// An order from the console of this number, for the alarm or the program of this name.
+    /// An order from the console of this number: an acknowledgement (ISA-18.2) of the alarm with this tag, or a restart (this profile) of the program
+    /// with this name. The word is as the line has it; whether it names anything is the plant's to tell.
     Order(Verb, u32, &'a [u8]),
 }

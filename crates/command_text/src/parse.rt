@@ -61,6 +61,8 @@ fn command<'a>(alloc: Global, words: &'a [u8]) -> Result<Command<'a>, AllocError
         scan(alloc, others)
     } else if first == b"ack".as_slice() {
         Ok(order(Verb::Ack, others))
+    } else if first == b"restart".as_slice() {
+        Ok(order(Verb::Restart, others))
     } else {
         Ok(Command::Unknown)
     }

@@ -31,6 +31,11 @@ fn lines_ask_for_commands(rt: HostRuntime) {
         (b"".as_slice(), b'N'),
         (b" \t ".as_slice(), b'N'),
         (b"#".as_slice(), b'N'),
+        (b"\r".as_slice(), b'U'),
+        (b"\x0B".as_slice(), b'U'),
+        (b"\x0C#".as_slice(), b'U'),
+        (b"scan\x0C0".as_slice(), b'U'),
+        (b"scan 0 b=1\r".as_slice(), b'U'),
         (b" #scan 0 b=1".as_slice(), b'N'),
         (b"scan".as_slice(), b'U'),
         (b"scan 0".as_slice(), b'S'),
@@ -48,14 +53,39 @@ fn lines_ask_for_commands(rt: HostRuntime) {
         (b"scan 1 a=1=1".as_slice(), b'U'),
         (b"scan 1 a=1234567890123456789".as_slice(), b'S'),
         (b"scan 1 a=-12345678901234567890".as_slice(), b'U'),
+        (b"scan 1 a=12345678901234567890".as_slice(), b'U'),
+        (b"scan 1 a=-".as_slice(), b'U'),
+        (b"scan 1 a=TRUE1".as_slice(), b'U'),
+        (b"ack x T1".as_slice(), b'U'),
         (b"ack 1 T1".as_slice(), b'O'),
         (b"ack 000000001 \xff".as_slice(), b'O'),
         (b"ack 1234567890 T1".as_slice(), b'U'),
         (b"ack 1".as_slice(), b'U'),
         (b"ack 1 T1 x".as_slice(), b'U'),
         (b"ack 1 T1\r".as_slice(), b'O'),
+        (b"restart 1 p".as_slice(), b'O'),
+        (b" restart\t999999999  P ".as_slice(), b'O'),
+        (b"restart 1 p.f".as_slice(), b'O'),
+        (b"restart".as_slice(), b'U'),
+        (b"restart 1".as_slice(), b'U'),
+        (b"restart p".as_slice(), b'U'),
+        (b"restart p 1".as_slice(), b'U'),
+        (b"restart 1 p p".as_slice(), b'U'),
+        (b"restart 1234567890 p".as_slice(), b'U'),
+        (b"restart -1 p".as_slice(), b'U'),
+        (b"Restart 1 p".as_slice(), b'U'),
+        (b"RESTART 1 p".as_slice(), b'U'),
+        (b"restarts 1 p".as_slice(), b'U'),
+        (b"restart1 p".as_slice(), b'U'),
+        (b"#restart 1 p".as_slice(), b'N'),
         (b"reset 1 T1".as_slice(), b'U'),
+        (b"shelve 1 T1 5000".as_slice(), b'U'),
+        (b"unshelve 1 T1".as_slice(), b'U'),
+        (b"remove 1 T1".as_slice(), b'U'),
+        (b"return 1 T1".as_slice(), b'U'),
         (b"list".as_slice(), b'U'),
+        (b"journal".as_slice(), b'U'),
+        (b"reload 1 0".as_slice(), b'U'),
     ] {
         assert_eq!(rt; kind_again(rt.alloc(), line), Ok(want));
     }
@@ -101,6 +131,34 @@ fn scans_give_values(rt: HostRuntime) {
     }
 }
 
+/// Whether a scan of three pairs gives them all, as they stand in the line.
+fn gives_all(alloc: Global) -> Result<bool, AllocError> {
+    Ok(match read_command(alloc, b"scan 5 b=-12\tA=TRUE b=3")? {
+        Command::Scan(5, pairs) => match pairs.as_slice() {
+            [first, second, third] => {
+                first.name.as_str() == "b"
+                    && first.given == Given::Whole(-12)
+                    && second.name.as_str() == "A"
+                    && second.given == Given::Truth(true)
+                    && third.name.as_str() == "b"
+                    && third.given == Given::Whole(3)
+            }
+            _ => false,
+        },
+        _ => false,
+    })
+}
+
+#[test]
+fn scans_give_each_value_in_its_place(rt: HostRuntime) {
+    let alloc = rt.alloc();
+    let all = match gives_all(alloc) {
+        Ok(all) => all,
+        Err(_) => gives_all(alloc).unwrap_or(false),
+    };
+    assert!(rt; all);
+}
+
 /// Whether a line is this order.
 fn orders(alloc: Global, line: &[u8], verb: Verb, console: u32, word: &[u8]) -> bool {
     match read_command(alloc, line) {
@@ -123,21 +181,42 @@ fn orders_have_a_console_and_a_word(rt: HostRuntime) {
             b"\xc3\xa4"
         )
     );
+    assert!(rt; orders(rt.alloc(), b"restart 1 p", Verb::Restart, 1, b"p"));
+    assert!(rt;
+        orders(
+            rt.alloc(),
+            b"\trestart 007 Pump_1\t",
+            Verb::Restart,
+            7,
+            b"Pump_1"
+        )
+    );
+    assert!(rt; orders(rt.alloc(), b"restart 0 T1", Verb::Restart, 0, b"T1"));
+    assert!(rt; orders(rt.alloc(), b"ack 1 T1\r", Verb::Ack, 1, b"T1\r"));
+    assert!(rt; orders(rt.alloc(), b"ack 1 #", Verb::Ack, 1, b"#"));
 }
 
-/// Lines that are one byte too long, and as long as may be.
-fn long(alloc: Global, len: usize) -> Result<u8, AllocError> {
-    let mut line = Vec::from_slice(alloc, b"ack 1 ")?;
-    line.resize(len, b'x')?;
+/// A line that begins so and goes on with one byte to this length.
+fn long(alloc: Global, begin: &[u8], byte: u8, len: usize) -> Result<u8, AllocError> {
+    let mut line = Vec::from_slice(alloc, begin)?;
+    line.resize(len, byte)?;
     kind(alloc, line.as_slice())
 }
 
+// A line that is too long is no command, also where it is blank or a remark.
 #[test]
 fn lines_have_a_longest(rt: HostRuntime) {
-    for (len, want) in [(1_048_576, b'O'), (1_048_577, b'U')] {
-        let found = match long(rt.alloc(), len) {
+    for (begin, byte, len, want) in [
+        (b"ack 1 ".as_slice(), b'x', 1_048_576, b'O'),
+        (b"ack 1 ".as_slice(), b'x', 1_048_577, b'U'),
+        (b"#".as_slice(), b'x', 1_048_576, b'N'),
+        (b"#".as_slice(), b'x', 1_048_577, b'U'),
+        (b"".as_slice(), b' ', 1_048_576, b'N'),
+        (b"".as_slice(), b' ', 1_048_577, b'U'),
+    ] {
+        let found = match long(rt.alloc(), begin, byte, len) {
             Ok(found) => found,
-            Err(_) => long(rt.alloc(), len).unwrap_or(b'?'),
+            Err(_) => long(rt.alloc(), begin, byte, len).unwrap_or(b'?'),
         };
         assert_eq!(rt; found, want);
     }
@@ -156,7 +235,7 @@ fn all_lines(text: &mut Vec<u8>) -> Result<(), AllocError> {
     push_out(text, 1, "e", Value::Time(9223372036854775807))?;
     push_done(text, 10, 1)?;
     push_reply(text, None)?;
-    push_reply(text, Some(OrderFault::NotAllowed))?;
+    push_reply(text, Some(OrderFault::NotYourArea))?;
     push_refused(text, "L1")
 }
 

@@ -1,47 +1,89 @@
 -- Cells that stand for a world: inputs that are set, and values by number.
-use Rattle.std.proofs.Common.{◌≡◌, ℕ, ℤ, pos, List, [], ◌∷◌, sym, ap, ◌∙◌, subst, arith, None, inl, inr, fold}
-use Rattle.std.specs.Prelude.{Option}
-use Rattle.std.proofs.Math.Path.{fun_ext}
+use Rattle.std.proofs.Common.{◌≡◌, ℕ, ◌+◌, ◌<◌, ℤ, pos, Bool, if◌then◌else◌, List, [], ◌∷◌, All, length, refl, sym, ap, ◌∙◌, subst, arith, Option, Some, None, IfSome, inl, inr, fold}
+use Rattle.std.specs.Ordering.{int_eq}
 use Rattle.std.specs.Option.{option_map_or}
 use Rattle.std.proofs.lemmas.Option.{slice_get_cases}
-use Rattle.std.proofs.lemmas.List.{set_past, get_or_past}
+use Rattle.std.proofs.lemmas.List.Elements.{All-head, All-tail}
 use Rattle.plant_types.specs.declared.values.Value.{Value}
-use Rattle.plant_types.specs.Values.{worth}
-use Rattle.st_parser.specs.declared.unit.Variable.{Variable}
-use Rattle.st_parser.specs.Source.{Source}
+use Rattle.plant_types.specs.Values.{is_true, worth}
+use Rattle.alarm_machine.specs.Alarms.{Seen, after_scan}
+use Rattle.st_walk.specs.declared.logic.Variable.{Variable}
+use Rattle.st_walk.specs.Source.{Source}
 use Rattle.st_walk.specs.Worlds.{World, Stands, assign, path_of}
 use Rattle.st_walk.specs.Faults.{first_fault}
 use Rattle.st_walk.specs.Slots.{cell}
-use Rattle.st_walk.proofs.Worlds.{stands-length}
 use Rattle.st_walk.proofs.Standing.{cell_holds, cell_written}
+use Rattle.plant_config.specs.declared.rows.AlarmRow.{AlarmRow}
+use Rattle.plant_config.specs.Meaning.{Meaning, IsAlarm, IsBoolGlobal}
 use Rattle.engine.specs.Programs.{global_in, with_input, with_inputs}
+use Rattle.engine.specs.System.{suppression, alarms_after, is_output, shown, outputs_from, outs_from}
 use Rattle.engine.specs.Steps.{with_cell}
+use Rattle.engine.proofs.Images.{has_number}
 
 -- an input that is set in cells and in the world
-input_stands : (source : Source) (cells : List ℤ) (w : World) (input : ℕ × Value) → first_fault source ≡ None → Stands source.globals cells w → Stands source.globals (with_cell cells input) (with_input source w input)
-input_stands source cells w input sound stands =
+input_stands : (source : Source) (cells : List ℤ) (w : World) (input : ℕ × Value) → first_fault source ≡ None → input.0 < length source.globals → Stands source cells w → Stands source (with_cell cells input) (with_input source w input)
+input_stands source cells w input sound within stands =
     let set_to : Option Variable → World = λ o. option_map_or (λ global. assign w (path_of global.name) (worth input.1)) o w in
     elim (slice_get_cases source.globals input.0).1 [
-      | inl there ↦ subst (λ o. Stands source.globals (with_cell cells input) (set_to o)) (sym there.2) (cell_written source cells w input.0 there.0 (worth input.1) sound there.2 stands)
-      | inr past ↦
-          let same : with_cell cells input ≡ cells = set_past cells input.0 (worth input.1) (omega (arith, stands-length source.globals cells w stands, past.0)) in
-          subst (λ o. Stands source.globals (with_cell cells input) (set_to o)) (sym past.1) (subst (λ c. Stands source.globals c w) (sym same) stands)
+      | inl there ↦ subst (λ o. Stands source (with_cell cells input) (set_to o)) (sym there.2) (cell_written source cells w input.0 there.0 (worth input.1) sound there.2 stands)
+      | inr past ↦ absurd (omega (arith, within, past.0))
     ]
 
 -- an image that is set in cells and in the world
-pub inputs_stand : (source : Source) (image : List (ℕ × Value)) (cells : List ℤ) (w : World) → first_fault source ≡ None → Stands source.globals cells w → Stands source.globals (fold with_cell cells image) (with_inputs source image w)
-inputs_stand source [] cells w sound stands = stands
-inputs_stand source (input ∷ image) cells w sound stands = inputs_stand source image (with_cell cells input) (with_input source w input) sound (input_stands source cells w input sound stands)
+pub inputs_stand : (source : Source) (image : List (ℕ × Value)) (cells : List ℤ) (w : World) → first_fault source ≡ None → All (has_number (length source.globals)) image → Stands source cells w → Stands source (fold with_cell cells image) (with_inputs source image w)
+inputs_stand source [] cells w sound within stands = stands
+inputs_stand source (input ∷ image) cells w sound within stands =
+    let P = has_number (length source.globals) in
+    inputs_stand source image (with_cell cells input) (with_input source w input) sound (All-tail P input image within) (input_stands source cells w input sound (All-head P input image within) stands)
 
--- a cell has its global's value, and there is none where there is no global
-value_stands : (source : Source) (cells : List ℤ) (w : World) (n : ℕ) → Stands source.globals cells w → cell cells n ≡ global_in source w n
-value_stands source cells w n stands =
+-- two ways to look at numbers give the same for the globals
+abbrev pub SameGlobals : Source → (ℕ → ℤ) → (ℕ → ℤ) → Type 0
+SameGlobals source f g = (n : ℕ) → n < length source.globals → f n ≡ g n
+
+-- the cells of the globals have the globals' values
+pub values_stand : (source : Source) (cells : List ℤ) (w : World) → Stands source cells w → SameGlobals source (cell cells) (global_in source w)
+values_stand source cells w stands n within =
     let value : Option Variable → ℤ = λ o. option_map_or (λ global. w (path_of global.name)) o (pos 0) in
     elim (slice_get_cases source.globals n).1 [
-      | inl there ↦ cell_holds source.globals cells w n there.0 there.2 stands ∙ sym (ap value there.2)
-      | inr past ↦ get_or_past cells n (pos 0) (omega (arith, stands-length source.globals cells w stands, past.0)) ∙ sym (ap value past.1)
+      | inl there ↦ cell_holds source cells w n there.0 there.2 stands ∙ sym (ap value there.2)
+      | inr past ↦ absurd (omega (arith, within, past.0))
     ]
 
--- cells have the values of the globals
-pub values_stand : (source : Source) (cells : List ℤ) (w : World) → Stands source.globals cells w → cell cells ≡ global_in source w
-values_stand source cells w stands = fun_ext (λ n. value_stands source cells w n stands)
+suppression_same : (source : Source) (f g : ℕ → ℤ) (suppress : Option ℕ) → SameGlobals source f g → IfSome suppress (IsBoolGlobal source.globals) → suppression f suppress ≡ suppression g suppress
+suppression_same source f g None same is = refl
+suppression_same source f g (Some n) same is = ap is_true (same n is.within)
+
+-- alarms look at globals alone
+pub alarms_same : (plant : Meaning) (f g : ℕ → ℤ) (t : ℕ) (rows : List AlarmRow) (alarms : List Seen) → SameGlobals plant.source f g → All (IsAlarm plant) rows → alarms_after f t rows alarms ≡ alarms_after g t rows alarms
+alarms_same plant f g t [] alarms same all = refl
+alarms_same plant f g t (row ∷ rows) [] same all = refl
+alarms_same plant f g t (row ∷ rows) (a ∷ alarms) same all =
+    let is = All-head (IsAlarm plant) row rows all in
+    let step : ℤ → Bool → List Seen → List Seen = λ n s rest. after_scan (is_true n) s t a ∷ rest in
+    ap (λ n. step n (suppression f row.suppress) (alarms_after f t rows alarms)) (same row.condition is.condition.within)
+    ∙ ap (λ s. step (g row.condition) s (alarms_after f t rows alarms)) (suppression_same plant.source f g row.suppress same is.suppress)
+    ∙ ap (step (g row.condition) (suppression g row.suppress)) (alarms_same plant f g t rows alarms same (All-tail (IsAlarm plant) row rows all))
+
+-- so do outputs
+outputs_same : (f g : ℕ → ℤ) (n : ℕ) (globals : List Variable) → ((k : ℕ) → k < n + length globals → f k ≡ g k) → outputs_from n globals f ≡ outputs_from n globals g
+outputs_same f g n [] same = refl
+outputs_same f g n (global ∷ globals) same =
+    let put : ℤ → List (ℕ × Value) → List (ℕ × Value) = λ v rest. if is_output global.region then (n, shown global.kind v) ∷ rest else rest in
+    ap (λ v. put v (outputs_from (n + 1) globals f)) (same n (omega arith))
+    ∙ ap (put (g n)) (outputs_same f g (n + 1) globals (λ k below. same k (omega (arith, below))))
+
+pub outputs_stand : (source : Source) (f g : ℕ → ℤ) → SameGlobals source f g → outputs_from 0 source.globals f ≡ outputs_from 0 source.globals g
+outputs_stand source f g same = outputs_same f g 0 source.globals (λ k below. same k (omega (arith, below)))
+
+outs_same : (a b f g : ℕ → ℤ) (n : ℕ) (globals : List Variable) → ((k : ℕ) → k < n + length globals → a k ≡ b k) → ((k : ℕ) → k < n + length globals → f k ≡ g k) → outs_from n globals a f ≡ outs_from n globals b g
+outs_same a b f g n [] before now = refl
+outs_same a b f g n (global ∷ globals) before now =
+    let put : ℤ → ℤ → List (ℕ × Value) → List (ℕ × Value) =
+    λ x y rest. elim (if is_output global.region then (if int_eq x y then None else Some (shown global.kind y)) else None) [ None ↦ rest | Some v ↦ (n, v) ∷ rest ] in
+    ap (λ x. put x (f n) (outs_from (n + 1) globals a f)) (before n (omega arith))
+    ∙ ap (λ y. put (b n) y (outs_from (n + 1) globals a f)) (now n (omega arith))
+    ∙ ap (put (b n) (g n)) (outs_same a b f g (n + 1) globals (λ k below. before k (omega (arith, below))) (λ k below. now k (omega (arith, below))))
+
+-- and what is told of them
+pub outs_stand : (source : Source) (a b f g : ℕ → ℤ) → SameGlobals source a b → SameGlobals source f g → outs_from 0 source.globals a f ≡ outs_from 0 source.globals b g
+outs_stand source a b f g before now = outs_same a b f g 0 source.globals (λ k below. before k (omega (arith, below))) (λ k below. now k (omega (arith, below)))

@@ -1,4 +1,5 @@
 pub mod CellWorlds
+pub mod Images
 pub mod OrderLaws
 pub mod ProgramRuns
 pub mod Systems

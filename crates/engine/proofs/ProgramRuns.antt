@@ -1,16 +1,16 @@
 -- The programs of a scan, one after another over cells, are those of the source in the world that the cells stand for.
-use Rattle.std.proofs.Common.{◌≡◌, ℕ, ◌+◌, ◌<◌, ◌≤◌, ℤ, Bool, true, false, List, [], ◌∷◌, ◌++◌, length, take, drop, get_or, map, refl, sym, ap, ◌∙◌, subst, arith, add-one, suc}
+use Rattle.std.proofs.Common.{◌≡◌, ℕ, ◌+◌, ◌<◌, ◌≤◌, ℤ, Bool, true, false, List, [], ◌∷◌, ◌++◌, length, take, drop, get_or, map, Some, None, refl, sym, ap, ◌∙◌, subst, arith, add-one, suc}
 use Rattle.std.specs.Prelude.{slice_set}
 use Rattle.std.proofs.Math.Seq.{drop-cons}
 use Rattle.std.proofs.lemmas.List.{take_more, take_all, drop_all, append-nil, append_assoc, take-set, drop-set-lt, get_or-set_same, length-set, map-append}
 use Rattle.plant_types.specs.declared.values.Place.{Place}
 use Rattle.plant_types.specs.declared.values.Trap.{Trap}
 use Rattle.st_tree.specs.Meaning.{Ran, Done, Trapped, Spot}
-use Rattle.st_parser.specs.Source.{Source}
+use Rattle.st_walk.specs.Source.{Source}
 use Rattle.st_walk.specs.Worlds.{World, Stands, run_program}
-use Rattle.st_walk.specs.Slots.{spot_of, Agree}
+use Rattle.st_walk.specs.Runs.{spot_of, Agree}
 use Rattle.engine.specs.Programs.{Scanned, with_flag, with_fault, after_run, programs_from}
-use Rattle.engine.specs.Steps.{Runs}
+use Rattle.engine.specs.Steps.{Runs, run_by, met}
 
 -- a fault with the names to its place
 abbrev pub located : Source → Place × Trap → Spot × Trap
@@ -29,10 +29,10 @@ joined-with_fault a fs spot trap r = ap (λ (l : List (Spot × Trap)). record { 
 -- the programs below a number have run, and the cells stand for a world in which the others have to
 pub record Reached (source : Source) (t : ℕ) (whole : Scanned) (i : ℕ) (cells : List ℤ) (flags : List Bool) (faults : List (Place × Trap)) : Type 0 where
   pub world : World
-  pub stands : Stands source.globals cells world
+  pub stands : Stands source cells world
   pub so_far : whole ≡ joined (take i flags) (map (located source) faults) (programs_from source t i (drop i flags) world)
 
-pub reached_none : (source : Source) (t : ℕ) (flags : List Bool) (cells : List ℤ) (w : World) → Stands source.globals cells w → Reached source t (programs_from source t 0 flags w) 0 cells flags []
+pub reached_none : (source : Source) (t : ℕ) (flags : List Bool) (cells : List ℤ) (w : World) → Stands source cells w → Reached source t (programs_from source t 0 flags w) 0 cells flags []
 reached_none source t flags cells w stands = record { world = w; stands = stands; so_far = refl }
 
 pub reached_all : (source : Source) (t : ℕ) (whole : Scanned) (i : ℕ) (cells : List ℤ) (flags : List Bool) (faults : List (Place × Trap)) → length flags ≤ i → Reached source t whole i cells flags faults → Runs source whole cells flags faults
@@ -40,7 +40,7 @@ reached_all source t whole i cells flags faults over r =
     let rest : programs_from source t i (drop i flags) r.world ≡ record { world = r.world; faulted = []; faults = [] } = ap (λ l. programs_from source t i l r.world) (drop_all i flags over) in
     let is : whole ≡ joined (take i flags) (map (located source) faults) (record { world = r.world; faulted = []; faults = [] }) = r.so_far ∙ ap (joined (take i flags) (map (located source) faults)) rest in
     record {
-      world_stands = subst (λ (s : Scanned). Stands source.globals cells s.world) (sym is) r.stands;
+      world_stands = subst (λ (s : Scanned). Stands source cells s.world) (sym is) r.stands;
       faulted_is = sym (ap (λ (s : Scanned). s.faulted) is ∙ append-nil (take i flags) ∙ take_all i flags over);
       faults_are = sym (ap (λ (s : Scanned). s.faults) is ∙ append-nil (map (located source) faults));
     }
@@ -49,37 +49,23 @@ reached_all source t whole i cells flags faults over r =
 cut : (flags : List Bool) (i : ℕ) (b : Bool) → i < length flags → get_or flags i b ≡ b → drop i flags ≡ b ∷ drop (i + 1) flags
 cut flags i b h is = drop-cons flags i b h ∙ ap (λ x. x ∷ drop (suc i) flags) is ∙ ap (λ k. b ∷ drop k flags) (sym (add-one i))
 
--- a faulted program is passed over
-pub reached_skip : (source : Source) (t : ℕ) (whole : Scanned) (i : ℕ) (cells : List ℤ) (flags : List Bool) (faults : List (Place × Trap)) → i < length flags → get_or flags i true ≡ true
-    → Reached source t whole i cells flags faults → Reached source t whole (i + 1) cells flags faults
-reached_skip source t whole i cells flags faults h set r =
-    record {
-      world = r.world;
-      stands = r.stands;
-      so_far = r.so_far
-          ∙ ap (λ l. joined (take i flags) (map (located source) faults) (programs_from source t i l r.world)) (cut flags i true h set)
-          ∙ joined-with_flag (take i flags) (map (located source) faults) true (programs_from source t (i + 1) (drop (i + 1) flags) r.world)
-          ∙ ap (λ b. joined (take i flags ++ b ∷ []) (map (located source) faults) (programs_from source t (i + 1) (drop (i + 1) flags) r.world)) (sym set)
-          ∙ ap (λ l. joined l (map (located source) faults) (programs_from source t (i + 1) (drop (i + 1) flags) r.world)) (sym (take_more flags i true h));
-    }
-
 -- a run that ended, and the world in which the others go on
 record Ended (source : Source) (ran : Ran World) (cells : List ℤ) (others : World → Scanned) : Type 0 where
   pub world : World
-  pub stands : Stands source.globals cells world
+  pub stands : Stands source cells world
   pub is : after_run ran others ≡ with_flag false (others world)
 
-ended : (source : Source) (ran : Ran World) (cells : List ℤ) (others : World → Scanned) → Agree source.globals ran (Done cells) → Ended source ran cells others
+ended : (source : Source) (ran : Ran World) (cells : List ℤ) (others : World → Scanned) → Agree source ran (Done cells) → Ended source ran cells others
 ended source (Done w) cells others agree = record { world = w; stands = agree; is = refl }
 ended source (Trapped w spot trap) cells others agree = absurd agree
 
 -- a run that trapped
 record Stopped (source : Source) (ran : Ran World) (cells : List ℤ) (spot : Spot) (trap : Trap) (others : World → Scanned) : Type 0 where
   pub world : World
-  pub stands : Stands source.globals cells world
+  pub stands : Stands source cells world
   pub is : after_run ran others ≡ with_flag true (with_fault spot trap (others world))
 
-stopped : (source : Source) (ran : Ran World) (cells : List ℤ) (spot : Spot) (trap : Trap) (others : World → Scanned) → Agree source.globals ran (Trapped cells spot trap) → Stopped source ran cells spot trap others
+stopped : (source : Source) (ran : Ran World) (cells : List ℤ) (spot : Spot) (trap : Trap) (others : World → Scanned) → Agree source ran (Trapped cells spot trap) → Stopped source ran cells spot trap others
 stopped source (Done w) cells spot trap others agree = absurd agree
 stopped source (Trapped w s k) cells spot trap others agree = record {
   world = w;
@@ -87,9 +73,24 @@ stopped source (Trapped w s k) cells spot trap others agree = record {
   is = ap (λ x. with_flag true (with_fault x k (others w))) agree.1 ∙ ap (λ x. with_flag true (with_fault spot x (others w))) agree.2;
 }
 
+-- a faulted program was passed over
+reached_skip : (source : Source) (t : ℕ) (whole : Scanned) (i : ℕ) (cells after : List ℤ) (flags : List Bool) (faults : List (Place × Trap)) → i < length flags → get_or flags i true ≡ true
+    → ((w : World) → Stands source cells w → Stands source after w)
+    → Reached source t whole i cells flags faults → Reached source t whole (i + 1) after flags faults
+reached_skip source t whole i cells after flags faults h set walks r =
+    record {
+      world = r.world;
+      stands = walks r.world r.stands;
+      so_far = r.so_far
+          ∙ ap (λ l. joined (take i flags) (map (located source) faults) (programs_from source t i l r.world)) (cut flags i true h set)
+          ∙ joined-with_flag (take i flags) (map (located source) faults) true (programs_from source t (i + 1) (drop (i + 1) flags) r.world)
+          ∙ ap (λ b. joined (take i flags ++ b ∷ []) (map (located source) faults) (programs_from source t (i + 1) (drop (i + 1) flags) r.world)) (sym set)
+          ∙ ap (λ l. joined l (map (located source) faults) (programs_from source t (i + 1) (drop (i + 1) flags) r.world)) (sym (take_more flags i true h));
+    }
+
 -- a program ran to its end
-pub reached_done : (source : Source) (t : ℕ) (whole : Scanned) (i : ℕ) (cells after : List ℤ) (flags : List Bool) (faults : List (Place × Trap)) → i < length flags → get_or flags i false ≡ false
-    → ((w : World) → Stands source.globals cells w → Agree source.globals (run_program source w) (Done after))
+reached_done : (source : Source) (t : ℕ) (whole : Scanned) (i : ℕ) (cells after : List ℤ) (flags : List Bool) (faults : List (Place × Trap)) → i < length flags → get_or flags i false ≡ false
+    → ((w : World) → Stands source cells w → Agree source (run_program source w) (Done after))
     → Reached source t whole i cells flags faults → Reached source t whole (i + 1) after flags faults
 reached_done source t whole i cells after flags faults h unset walks r =
     let others : World → Scanned = programs_from source t (i + 1) (drop (i + 1) flags) in
@@ -105,11 +106,18 @@ reached_done source t whole i cells after flags faults h unset walks r =
           ∙ ap (λ l. joined l (map (located source) faults) (others e.world)) (sym (take_more flags i false h));
     }
 
+-- a program met no fault
+pub reached_next : (source : Source) (t : ℕ) (whole : Scanned) (i : ℕ) (cells after : List ℤ) (flags : List Bool) (faults : List (Place × Trap)) (flag : Bool) → i < length flags → get_or flags i flag ≡ flag
+    → ((w : World) → Stands source cells w → Agree source (run_by flag source i t w) (met source None after))
+    → Reached source t whole i cells flags faults → Reached source t whole (i + 1) after flags faults
+reached_next source t whole i cells after flags faults true h set walks r = reached_skip source t whole i cells after flags faults h set walks r
+reached_next source t whole i cells after flags faults false h unset walks r = reached_done source t whole i cells after flags faults h unset walks r
+
 -- a program trapped: it is faulted from then on, and the fault is told
-pub reached_trap : (source : Source) (t : ℕ) (whole : Scanned) (i : ℕ) (cells after : List ℤ) (flags : List Bool) (faults : List (Place × Trap)) (place : Place) (trap : Trap) → i < length flags → get_or flags i false ≡ false
-    → ((w : World) → Stands source.globals cells w → Agree source.globals (run_program source w) (Trapped after (spot_of source place) trap))
+trapped : (source : Source) (t : ℕ) (whole : Scanned) (i : ℕ) (cells after : List ℤ) (flags : List Bool) (faults : List (Place × Trap)) (place : Place) (trap : Trap) → i < length flags → get_or flags i false ≡ false
+    → ((w : World) → Stands source cells w → Agree source (run_program source w) (Trapped after (spot_of source place) trap))
     → Reached source t whole i cells flags faults → Reached source t whole (i + 1) after (slice_set flags i true) (faults ++ (place, trap) ∷ [])
-reached_trap source t whole i cells after flags faults place trap h unset walks r =
+trapped source t whole i cells after flags faults place trap h unset walks r =
     let others : World → Scanned = programs_from source t (i + 1) (drop (i + 1) flags) in
     let s = stopped source (run_program source r.world) after (spot_of source place) trap others (walks r.world r.stands) in
     let told = map (located source) faults in
@@ -129,3 +137,10 @@ reached_trap source t whole i cells after flags faults place trap h unset walks 
           ∙ ap (λ l. joined l (map (located source) (faults ++ (place, trap) ∷ [])) (others s.world)) (sym front)
           ∙ ap (λ l. joined (take (i + 1) (slice_set flags i true)) (map (located source) (faults ++ (place, trap) ∷ [])) (programs_from source t (i + 1) l s.world)) (sym back);
     }
+
+-- a program met a fault: it wasn't faulted before
+pub reached_trap : (source : Source) (t : ℕ) (whole : Scanned) (i : ℕ) (cells after : List ℤ) (flags : List Bool) (faults : List (Place × Trap)) (flag : Bool) (fault : Place × Trap) → i < length flags → get_or flags i flag ≡ flag
+    → ((w : World) → Stands source cells w → Agree source (run_by flag source i t w) (met source (Some fault) after))
+    → Reached source t whole i cells flags faults → Reached source t whole (i + 1) after (slice_set flags i true) (faults ++ fault ∷ [])
+reached_trap source t whole i cells after flags faults true fault h set walks r = absurd (walks r.world r.stands)
+reached_trap source t whole i cells after flags faults false fault h unset walks r = trapped source t whole i cells after flags faults fault.0 fault.1 h unset walks r

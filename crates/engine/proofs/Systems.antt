@@ -11,13 +11,13 @@ use Rattle.alarm_machine.specs.declared.states.OrderFault.{OrderFault}
 use Rattle.alarm_machine.specs.Codes.{Move, code_of, change_between}
 use Rattle.alarm_machine.specs.Alarms.{Seen}
 use Rattle.st_tree.specs.Meaning.{Ran, Done, Trapped}
-use Rattle.st_parser.specs.declared.unit.Variable.{Variable}
-use Rattle.st_parser.specs.Source.{Source}
+use Rattle.st_walk.specs.declared.logic.Variable.{Variable}
+use Rattle.st_walk.specs.Source.{Source}
 use Rattle.st_walk.specs.Worlds.{World, Stands, opening}
 use Rattle.st_walk.specs.Faults.{first_fault}
 use Rattle.st_walk.specs.Slots.{cell}
 use Rattle.plant_config.specs.declared.rows.AlarmRow.{AlarmRow}
-use Rattle.plant_config.specs.Meaning.{Meaning}
+use Rattle.plant_config.specs.Meaning.{Meaning, IsPlant}
 use Rattle.engine.specs.declared.event.Event.{Event}
 use Rattle.engine.specs.declared.event.Event.TheVariants as event
 use Rattle.engine.specs.declared.event.Order.{Order}
@@ -30,8 +30,9 @@ use Rattle.engine.specs.Orders.{outcome, alarms_by, faulted_by, reply_by}
 use Rattle.engine.specs.System.{System, system, step, taken_scan, scan_event, order_event, opening_system, opening_alarm, scanned_by, after_scan_event, ordered, alarms_after, changes_from, outputs_from, out_at, outs_from}
 use Rattle.engine.specs.Told.{Told}
 use Rattle.engine.specs.Held.{Held, Kept, Ready, ReadyOrder, Fits, FitsOrder, Agrees, IsEngine, Tells, state_of}
-use Rattle.engine.specs.Steps.{Runs, Steps, IsOrder}
-use Rattle.engine.proofs.CellWorlds.{inputs_stand, values_stand}
+use Rattle.engine.specs.Steps.{Runs, Steps, IsScan, IsOrder}
+use Rattle.engine.proofs.CellWorlds.{inputs_stand, values_stand, alarms_same, outputs_stand, outs_stand}
+use Rattle.engine.proofs.Images.{has_number, taken_within}
 
 pub system_next : (plant : Meaning) (history : List Event) (e : Event) → system plant (history ++ e ∷ []) ≡ step plant (system plant history) e
 unfolding system
@@ -118,25 +119,26 @@ pub kept_faulted : (plant : Meaning) (history : List Event) (k : Kept) → Agree
 kept_faulted plant history k held = ap length held.faulted_is ∙ system_faulted plant history
 
 -- what the programs leave in cells is what they leave in the system's world
-runs_world : (plant : Meaning) (sys : System) (old new : Kept) (image : List (ℕ × Value)) (t : ℕ) (r : Told) → first_fault plant.source ≡ None → Agrees plant sys old → Steps plant old image t new r
+runs_world : (plant : Meaning) (sys : System) (old new : Kept) (image : List (ℕ × Value)) (t : ℕ) (r : Told) → first_fault plant.source ≡ None → All (has_number (length plant.source.globals)) image → Agrees plant sys old → Steps plant old image t new r
     → Runs plant.source (scanned_by plant sys image t) new.cells new.faulted r.faults
 unfolding world_after
-runs_world plant sys old new image t r sound held made =
+runs_world plant sys old new image t r sound within held made =
     let w = with_inputs plant.source image sys.world in
     subst (λ (flags : List Bool). Runs plant.source (programs_from plant.source t 0 flags w) new.cells new.faulted r.faults) held.faulted_is
-    (made.runs w (inputs_stand plant.source image old.cells sys.world sound held.world_stands))
+    (made.runs w (inputs_stand plant.source image old.cells sys.world sound within held.world_stands))
 
 -- what a scan leaves is the next system
-scan_agrees : (plant : Meaning) (sys : System) (old new : Kept) (image : List (ℕ × Value)) (t : ℕ) (r : Told) → first_fault plant.source ≡ None → Agrees plant sys old → Steps plant old image t new r
+scan_agrees : (plant : Meaning) (sys : System) (old new : Kept) (image : List (ℕ × Value)) (t : ℕ) (r : Told) → IsPlant plant → first_fault plant.source ≡ None → All (has_number (length plant.source.globals)) image → Agrees plant sys old → Steps plant old image t new r
     → Agrees plant (after_scan_event plant sys image t) new
-scan_agrees plant sys old new image t r sound held made =
-    let runs = runs_world plant sys old new image t r sound held made in
-    let now : cell new.cells ≡ global_in plant.source (scanned_by plant sys image t).world = values_stand plant.source new.cells (scanned_by plant sys image t).world runs.world_stands in
+scan_agrees plant sys old new image t r is sound within held made =
+    let runs = runs_world plant sys old new image t r sound within held made in
+    let look = global_in plant.source (scanned_by plant sys image t).world in
+    let now = values_stand plant.source new.cells (scanned_by plant sys image t).world runs.world_stands in
     record {
       world_stands = runs.world_stands;
       faulted_is = runs.faulted_is;
-      alarms_are = made.alarms_are ∙ ap (λ look. alarms_after look t plant.alarms old.alarms) now ∙ ap (alarms_after (global_in plant.source (scanned_by plant sys image t).world) t plant.alarms) held.alarms_are;
-      outputs_are = made.outputs_are ∙ ap (outputs_from 0 plant.source.globals) now;
+      alarms_are = made.alarms_are ∙ alarms_same plant (cell new.cells) look t plant.alarms old.alarms now is.alarms ∙ ap (alarms_after look t plant.alarms) held.alarms_are;
+      outputs_are = made.outputs_are ∙ outputs_stand plant.source (cell new.cells) look now;
       moment_is = made.moment_is;
       in_range = rw made.moment_is made.in_range;
     }
@@ -167,31 +169,36 @@ outs_within n (global ∷ globals) before now =
     told (Some v) rest = All-cons (λ (x : ℕ × Value). x.0 < n + suc (length globals)) (n, v) (outs_from (n + 1) globals before now) (omega arith) rest
 
 -- what a scan tells is what its event did
-scan_tells : (plant : Meaning) (sys : System) (old new : Kept) (image : List (ℕ × Value)) (t : ℕ) (r : Told) → first_fault plant.source ≡ None → length old.alarms ≡ length plant.alarms → Agrees plant sys old → Steps plant old image t new r
+scan_tells : (plant : Meaning) (sys : System) (old new : Kept) (image : List (ℕ × Value)) (t : ℕ) (r : Told) → IsPlant plant → first_fault plant.source ≡ None → All (has_number (length plant.source.globals)) image → length old.alarms ≡ length plant.alarms → Agrees plant sys old → Steps plant old image t new r
     → Tells plant sys (event.Scan image t) r
-scan_tells plant sys old new image t r sound each held made =
-    let runs = runs_world plant sys old new image t r sound held made in
-    let after = scan_agrees plant sys old new image t r sound held made in
-    let before : cell old.cells ≡ global_in plant.source sys.world = values_stand plant.source old.cells sys.world held.world_stands in
-    let now : cell new.cells ≡ global_in plant.source (scanned_by plant sys image t).world = values_stand plant.source new.cells (scanned_by plant sys image t).world runs.world_stands in
+scan_tells plant sys old new image t r is sound within each held made =
+    let runs = runs_world plant sys old new image t r sound within held made in
+    let after = scan_agrees plant sys old new image t r is sound within held made in
+    let look = global_in plant.source (scanned_by plant sys image t).world in
+    let before = values_stand plant.source old.cells sys.world held.world_stands in
+    let now = values_stand plant.source new.cells (scanned_by plant sys image t).world runs.world_stands in
     record {
       moment_is = made.told_at;
       faults_are = runs.faults_are;
       changes_are = made.changes_are ∙ ap (λ a. changes_from 0 a new.alarms) held.alarms_are ∙ ap (changes_from 0 sys.alarms) after.alarms_are;
       changes_within = subst (λ (l : List (ℕ × Move)). All (λ c. c.0 < length plant.alarms) l) (sym made.changes_are) (numbers_more (changes_from 0 old.alarms new.alarms) (0 + length old.alarms) (length plant.alarms) (omega arith) (changes_within 0 old.alarms new.alarms));
       outs_within = subst (λ (l : List (ℕ × Value)). All (λ o. o.0 < length plant.source.globals) l) (sym made.outs_are) (numbers_more (outs_from 0 plant.source.globals (cell old.cells) (cell new.cells)) (0 + length plant.source.globals) (length plant.source.globals) (omega arith) (outs_within 0 plant.source.globals (cell old.cells) (cell new.cells)));
-      outs_are = made.outs_are ∙ ap (λ look. outs_from 0 plant.source.globals look (cell new.cells)) before ∙ ap (outs_from 0 plant.source.globals (global_in plant.source sys.world)) now;
+      outs_are = made.outs_are ∙ outs_stand plant.source (cell old.cells) (global_in plant.source sys.world) (cell new.cells) look before now;
     }
 
 -- a scan that was made ready from what an engine holds fits that engine, where it has room
-pub scan_fits : (e : Held) (p : Ready) (old : Kept) (image : List (ℕ × Value)) (t : ℕ) → first_fault e.plant.source ≡ None → Agrees e.plant (state_of e) old → p.event ≡ event.Scan image t → Steps e.plant old image t p.kept p.report → 0 < e.room → Fits e p
-scan_fits e p old image t sound held is made there =
+pub scan_fits : (e : Held) (p : Ready) (old : Kept) (events : ℕ) (pairs : List Named) (t : ℕ) → IsPlant e.plant → first_fault e.plant.source ≡ None → Agrees e.plant (state_of e) old → IsScan e.plant old events pairs t p → 0 < e.room → Fits e p
+scan_fits e p old events pairs t plant_is sound held scan there =
     let sys = state_of e in
+    let image = scan.image in
+    let is = scan.event_is in
+    let made = scan.steps in
+    let within = taken_within e.plant.source.globals old.moment events pairs t t image (scan.taken ∙ ap Ok is) in
     let next : system e.plant (e.history ++ p.event ∷ []) ≡ after_scan_event e.plant sys image t = system_next e.plant e.history p.event ∙ ap (step e.plant sys) is in
     record {
       room = there;
-      agrees = subst (λ s. Agrees e.plant s p.kept) (sym next) (scan_agrees e.plant sys old p.kept image t p.report sound held made);
-      tells = subst (λ x. Tells e.plant sys x p.report) (sym is) (scan_tells e.plant sys old p.kept image t p.report sound (kept_alarms e.plant e.history old held) held made);
+      agrees = subst (λ s. Agrees e.plant s p.kept) (sym next) (scan_agrees e.plant sys old p.kept image t p.report plant_is sound within held made);
+      tells = subst (λ x. Tells e.plant sys x p.report) (sym is) (scan_tells e.plant sys old p.kept image t p.report plant_is sound within (kept_alarms e.plant e.history old held) held made);
     }
 
 -- what an order that was made ready leaves is the next system
@@ -210,17 +217,18 @@ order_agrees e p old held fits =
     })
 
 -- before the first event
-pub opening_agrees : (plant : Meaning) (k : Kept) → first_fault plant.source ≡ None → length plant.source.globals < 2 ^ 32 → Stands plant.source.globals k.cells opening → k.faulted ≡ false ∷ [] → k.alarms ≡ map opening_alarm plant.alarms → k.outputs ≡ outputs_from 0 plant.source.globals (cell k.cells) → k.moment ≡ 0 → IsEngine plant [] k
-opening_agrees plant k sound numbered stands faulted alarms outputs moment =
+pub opening_agrees : (plant : Meaning) (k : Kept) → IsPlant plant → first_fault plant.source ≡ None → length plant.source.globals < 2 ^ 32 → Stands plant.source k.cells opening → k.faulted ≡ false ∷ [] → k.alarms ≡ map opening_alarm plant.alarms → k.outputs ≡ outputs_from 0 plant.source.globals (cell k.cells) → k.moment ≡ 0 → IsEngine plant [] k
+opening_agrees plant k is sound numbered stands faulted alarms outputs moment =
     record {
       agrees = subst (λ s. Agrees plant s k) (sym (system_none plant)) (record {
         world_stands = stands;
         faulted_is = faulted;
         alarms_are = alarms;
-        outputs_are = outputs ∙ ap (outputs_from 0 plant.source.globals) (values_stand plant.source k.cells opening stands);
+        outputs_are = outputs ∙ outputs_stand plant.source (cell k.cells) (global_in plant.source opening) (values_stand plant.source k.cells opening stands);
         moment_is = moment;
         in_range = rw moment (omega arith);
       });
+      plant_is = is;
       sound = sound;
       numbered = numbered;
     }

@@ -5,10 +5,10 @@ use Rattle.plant_types.specs.Named.{Named}
 use Rattle.plant_types.specs.declared.values.Value.{Value}
 use Rattle.st_walk.specs.Worlds.{Stands}
 use Rattle.st_walk.specs.Faults.{first_fault}
-use Rattle.st_walk.specs.Slots.{spot_of}
+use Rattle.st_walk.specs.Runs.{spot_of}
 use Rattle.alarm_machine.specs.Alarms.{Seen}
 use Rattle.alarm_machine.specs.declared.states.OrderFault.{OrderFault}
-use Rattle.plant_config.specs.Meaning.{Meaning}
+use Rattle.plant_config.specs.Meaning.{Meaning, IsPlant}
 use Rattle.plant_config.specs.Code.{meaning_code}
 use Rattle.engine.specs.declared.event.Event.{Event}
 use Rattle.engine.specs.contracts.event.Event as event_row
@@ -34,7 +34,7 @@ held_code =
     code_by (Meaning × (List Event × ℕ)) (coded× meaning_code (coded× (coded_list event_row.the_row.coded) coded_ℕ))
     (λ e. (e.plant, (e.history, e.room))) (λ p. record { plant = p.0; history = p.1.0; room = p.1.1 }) (λ _. refl)
 
--- what a scan and an order leave beside plant and history: the cells of the globals, the faulted programs, the alarms, the outputs and the last moment
+-- what a scan and an order leave beside plant and history: the cells of the variables, the faulted programs, the alarms, the outputs and the last moment
 pub record Kept : Type 0 where
   pub cells : List ℤ
   pub faulted : List Bool
@@ -44,7 +44,7 @@ pub record Kept : Type 0 where
 
 -- that is what the system has
 pub record Agrees (plant : Meaning) (sys : System) (k : Kept) : Type 0 where
-  pub world_stands : Stands plant.source.globals k.cells sys.world
+  pub world_stands : Stands plant.source k.cells sys.world
   pub faulted_is : k.faulted ≡ sys.faulted
   pub alarms_are : k.alarms ≡ sys.alarms
   pub outputs_are : k.outputs ≡ outputs_of plant sys
@@ -92,8 +92,9 @@ pub record FitsOrder (e : Held) (p : ReadyOrder) : Type 0 where
   pub done_is : p.done ≡ ordered e.plant (state_of e) p.console p.order
   pub reply_is : p.reply ≡ reply_to e.plant (state_of e) p.console p.order
 
--- what an engine keeps agrees with its plant and its history; the source has no fault, and its globals can be numbered
+-- what an engine keeps agrees with its plant and its history; what holds of each plant holds of this one, its source has no fault, and its globals can be numbered
 pub record IsEngine (plant : Meaning) (history : List Event) (k : Kept) : Type 0 where
   pub agrees : Agrees plant (system plant history) k
+  pub plant_is : IsPlant plant
   pub sound : first_fault plant.source ≡ None
   pub numbered : length plant.source.globals < 2 ^ 32

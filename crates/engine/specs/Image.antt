@@ -5,7 +5,7 @@ use Rattle.std.specs.Option.{option_map, option_and_then}
 use Rattle.plant_types.specs.Named.{Named}
 use Rattle.plant_types.specs.Values.{fitted}
 use Rattle.plant_types.specs.declared.values.Value.{Value}
-use Rattle.st_parser.specs.declared.unit.Variable.{Variable}
+use Rattle.st_walk.specs.declared.logic.Variable.{Variable}
 use Rattle.st_walk.specs.Names.{find_global}
 use Rattle.st_walk.specs.Faults.{is_input}
 use Rattle.engine.specs.declared.event.EngineFault.{EngineFault}

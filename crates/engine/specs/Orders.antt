@@ -37,20 +37,24 @@ at_alarm n verb last (Some alarm) = changed n (after_order verb last alarm)
 abbrev pub alarm_order : Meaning → List Seen → ℕ → ℕ → Verb → ℕ → Result Effect OrderFault
 alarm_order plant alarms last console verb n = elim (slice_get plant.alarms n) [
   | None ↦ Err fault.UnknownTarget
-  | Some row ↦ if list_any (has_area console row.area) plant.consoles then at_alarm n verb last (slice_get alarms n) else Err fault.NotAllowed
+  | Some row ↦ if list_any (has_area console row.area) plant.consoles then at_alarm n verb last (slice_get alarms n) else Err fault.NotYourArea
 ]
 
 -- a restart: O1 where the program isn't there, O2 where no console has this number, O5 where the program isn't faulted
 abbrev pub program_order : Meaning → List Bool → ℕ → ℕ → Result Effect OrderFault
 program_order plant faulted console n = elim (slice_get faulted n) [
   | None ↦ Err fault.UnknownTarget
-  | Some flag ↦ if list_any (is_console console) plant.consoles then (if flag then Ok (effect.Restarted n) else Err fault.NotFaulted) else Err fault.NotAllowed
+  | Some flag ↦ if list_any (is_console console) plant.consoles then (if flag then Ok (effect.Restarted n) else Err fault.NotFaulted) else Err fault.NotYourArea
 ]
 
 -- whether an order is for a program
 abbrev pub is_restart : Verb → Bool
 is_restart verb.Restart = true
 is_restart _ = false
+
+-- the order to restart the program of a number
+abbrev pub restart_of : Option ℕ → Order
+restart_of program = record { verb = verb.Restart; target = program }
 
 -- what an order does, or why it is refused
 abbrev pub outcome : Meaning → List Seen → List Bool → ℕ → ℕ → Order → Result Effect OrderFault

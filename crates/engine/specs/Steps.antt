@@ -1,17 +1,19 @@
 -- The parts of a scan over cells, as the functions that make it say them.
-use Rattle.std.specs.Prelude.{◌≡◌, ℕ, ◌≤◌, ℤ, Bool, List, map, fold, slice_set, Ok}
+use Rattle.std.specs.Prelude.{◌≡◌, ℕ, ◌≤◌, ℤ, Bool, true, false, List, map, fold, slice_set, Option, Some, None, Ok}
 use Rattle.plant_types.specs.declared.values.Value.{Value}
 use Rattle.plant_types.specs.declared.values.Trap.{Trap}
 use Rattle.plant_types.specs.declared.values.Place.{Place}
 use Rattle.plant_types.specs.Named.{Named}
 use Rattle.plant_types.specs.Values.{worth}
-use Rattle.st_parser.specs.Source.{Source}
+use Rattle.st_tree.specs.Meaning.{Ran, Done, Trapped}
+use Rattle.st_walk.specs.Source.{Source}
 use Rattle.st_walk.specs.Worlds.{World, Stands}
-use Rattle.st_walk.specs.Slots.{cell, spot_of}
+use Rattle.st_walk.specs.Slots.{cell}
+use Rattle.st_walk.specs.Runs.{spot_of}
 use Rattle.plant_config.specs.Meaning.{Meaning}
 use Rattle.engine.specs.declared.event.Event.TheVariants as event
 use Rattle.engine.specs.Told.{Told}
-use Rattle.engine.specs.Programs.{Scanned, programs_from}
+use Rattle.engine.specs.Programs.{Scanned, run_of, programs_from}
 use Rattle.engine.specs.System.{taken_scan, alarms_after, changes_from, outputs_from, outs_from}
 use Rattle.engine.specs.Held.{Kept, Ready, ReadyOrder}
 use Rattle.engine.specs.declared.event.Order.{Order}
@@ -21,15 +23,25 @@ use Rattle.engine.specs.Orders.{outcome, reply_by}
 abbrev pub with_cell : List ℤ → ℕ × Value → List ℤ
 with_cell cells input = slice_set cells input.0 (worth input.1)
 
+-- what a program does by its flag: a faulted one is passed over
+abbrev pub run_by : Bool → Source → ℕ → ℕ → World → Ran World
+run_by true source n t w = Done w
+run_by false source n t w = run_of source n t w
+
+-- how a program ended over cells, by the fault that it met
+abbrev pub met : Source → Option (Place × Trap) → List ℤ → Ran (List ℤ)
+met source None cells = Done cells
+met source (Some fault) cells = Trapped cells (spot_of source fault.0) fault.1
+
 -- cells, flags and faults by place are what the programs leave and meet in worlds
 pub record Runs (source : Source) (r : Scanned) (cells : List ℤ) (faulted : List Bool) (faults : List (Place × Trap)) : Type 0 where
-  pub world_stands : Stands source.globals cells r.world
+  pub world_stands : Stands source cells r.world
   pub faulted_is : faulted ≡ r.faulted
   pub faults_are : map (λ f. (spot_of source f.0, f.1)) faults ≡ r.faults
 
 -- what a scan with an image at moment t leaves and tells
 pub record Steps (plant : Meaning) (old : Kept) (image : List (ℕ × Value)) (t : ℕ) (new : Kept) (r : Told) : Type 0 where
-  pub runs : (w : World) → Stands plant.source.globals (fold with_cell old.cells image) w → Runs plant.source (programs_from plant.source t 0 old.faulted w) new.cells new.faulted r.faults
+  pub runs : (w : World) → Stands plant.source (fold with_cell old.cells image) w → Runs plant.source (programs_from plant.source t 0 old.faulted w) new.cells new.faulted r.faults
   pub alarms_are : new.alarms ≡ alarms_after (cell new.cells) t plant.alarms old.alarms
   pub changes_are : r.changes ≡ changes_from 0 old.alarms new.alarms
   pub outputs_are : new.outputs ≡ outputs_from 0 plant.source.globals (cell new.cells)

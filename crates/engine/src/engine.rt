@@ -3,7 +3,7 @@
 ghost use Rattle.std.specs.Prelude.{◌≡◌, ◌<◌, ◌++◌, [], ◌∷◌, length, slice_get, Some, Ok, IfOk, OnOk, OnErr, IfErr};
 ghost use Rattle.std.specs.Option.{option_map};
 ghost use Rattle.engine.specs.Image.{IsDue};
-ghost use Rattle.engine.specs.Orders.{alarms_by, faulted_by};
+ghost use Rattle.engine.specs.Orders.{alarms_by, faulted_by, restart_of};
 ghost use Rattle.engine.specs.System.{scan_event, order_event, reply_to, outputs_of};
 ghost use Rattle.engine.specs.Held.{state_of, Fits, FitsOrder, Tells, TakesScan};
 
@@ -11,7 +11,7 @@ use crate::event::{EngineFault, Event, MOST_EVENTS, Order, Reply, Report};
 use crate::orders::PreparedOrder;
 use crate::scan::{Prepared, State, alarm_state, apply, last_moment, made_ready, made_ready_order};
 use crate::steps::{opening_alarms, outputs};
-use alarm_machine::AlarmState;
+use alarm_machine::{AlarmState, Verb};
 use plant_config::Plant;
 use plant_types::{Pair, Value};
 use std::alloc::{AllocError, Global};
@@ -219,5 +219,27 @@ impl Engine {
             Ok(prepared) => Ok(self.commit_order(prepared)),
             Err(fault) => Err(fault),
         }
+    }
+
+    /// Restarts the program of a number, from 0: it runs again from the next scan on, and no variable changes. This is the order
+    /// Restart made ready and committed in one; None stands for a program that isn't there. The replies are `Done(None)`, or O1
+    /// for no such program, O2 for a console that isn't listed, and O5 for a program that isn't faulted, tested in this order. The
+    /// refusals are those of `prepare_order`.
+    pub fn restart(
+        &mut self,
+        alloc: Global,
+        console: u32,
+        program: Option<u32>,
+    ) -> Result<Reply, EngineFault>
+        ensures plant { self.new.plant ≡ self.old.plant }
+        ensures ok { OnOk result (self.new.history ≡ self.old.history ++ Event.Order console (restart_of program) ∷ []) }
+        ensures allowed { OnOk result (order_event (state_of self.old) console (restart_of program) ≡ Ok (Event.Order console (restart_of program))) }
+        ensures reply { IfOk result (λ r. r ≡ reply_to self.old.plant (state_of self.old) console (restart_of program)) }
+        ensures err { IfErr result (λ e. IsDue e (order_event (state_of self.old) console (restart_of program))) }
+        ensures kept { OnErr result (self.new.history ≡ self.old.history) }
+    {
+        let verb = Verb::Restart;
+        let target = program;
+        self.order(alloc, console, Order { verb, target })
     }
 }

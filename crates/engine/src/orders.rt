@@ -98,7 +98,7 @@ fn alarm_order(
         return Err(OrderFault::UnknownTarget);
     }
     if !may_order(plant.consoles(), console, rows[at].area) {
-        return Err(OrderFault::NotAllowed);
+        return Err(OrderFault::NotYourArea);
     }
     match ordered(alarms[at], verb, last) {
         Ok(alarm) => Ok(Effect::Changed(number, alarm)),
@@ -120,7 +120,7 @@ fn program_order(
         return Err(OrderFault::UnknownTarget);
     }
     if !is_listed(plant.consoles(), console) {
-        return Err(OrderFault::NotAllowed);
+        return Err(OrderFault::NotYourArea);
     }
     if faulted[at] {
         Ok(Effect::Restarted(number))

@@ -4,16 +4,16 @@ ghost use Rattle.std.specs.Prelude.{◌≡◌, ◌<◌, ◌^◌, length, fold, m
 ghost use Rattle.plant_types.specs.Values.{is_true};
 ghost use Rattle.st_walk.specs.Worlds.{World, Stands};
 ghost use Rattle.st_walk.specs.Slots.{cell};
+ghost use Rattle.st_walk.specs.Runs.{Agree};
 ghost use Rattle.engine.specs.Programs.{programs_from};
 ghost use Rattle.engine.specs.System.{shown, opening_alarm, suppression, alarms_after, changes_from, is_output, outputs_from, out_at, outs_from};
-ghost use Rattle.engine.specs.Steps.{with_cell, Runs};
+ghost use Rattle.engine.specs.Steps.{with_cell, run_by, met, Runs};
 
 use alarm_machine::{Alarm, Change};
 use plant_config::AlarmRow;
 use plant_types::{Given, Kind, Place, Trap, Value, fitted};
 use st_lexer::Region;
-use st_parser::Variable;
-use st_walk::{Cells, Flat, Walked, walk};
+use st_walk::{Cells, Flat, Variable, Walked, walk};
 use std::alloc::{AllocError, Global};
 
 /// The number that a global holds.
@@ -40,7 +40,27 @@ pub fn set_inputs(image: &[(u32, Value)], cells: &mut Cells)
     }
 }
 
-/// Runs the programs in order, but for those that are faulted, and tells the faults.
+/// Runs the program of a number, from 0, unless it is faulted. What it assigned before a fault stands.
+fn run_program(
+    flat: &Flat,
+    program: u32,
+    moment: u64,
+    cells: &mut Cells,
+    is_faulted: bool,
+) -> Option<(Place, Trap)>
+    requires { program < 1 }
+    ensures { (w : World) → Stands flat.now cells.old w → Agree flat.now (run_by is_faulted flat.now program moment w) (met flat.now result cells.new) }
+{
+    if is_faulted {
+        return None;
+    }
+    match walk(flat, program, cells, moment) {
+        Walked::Done => None,
+        Walked::Trapped(place, trap) => Some((place, trap)),
+    }
+}
+
+/// Runs the programs in order, but for those that are faulted, and tells the faults. A program that meets one is faulted from then on.
 pub fn run_programs(
     alloc: Global,
     flat: &Flat,
@@ -49,19 +69,14 @@ pub fn run_programs(
     faulted: &mut Vec<bool>,
 ) -> Result<Vec<(Place, Trap)>, AllocError>
     requires { length faulted.old.items ≡ 1 }
-    ensures { IfOk result (λ faults. (w : World) → Stands flat.now.globals cells.old w → Runs flat.now (programs_from flat.now moment 0 faulted.old.items w) cells.new faulted.new.items faults.items) }
+    ensures { IfOk result (λ faults. (w : World) → Stands flat.now cells.old w → Runs flat.now (programs_from flat.now moment 0 faulted.old.items w) cells.new faulted.new.items faults.items) }
 {
     let mut faults = Vec::new(alloc);
     for program in 0..faulted.len() {
-        if faulted[program] {
-            continue;
-        }
-        match walk(flat, program as u32, cells, moment) {
-            Walked::Done => {}
-            Walked::Trapped(place, trap) => {
-                faulted[program] = true;
-                faults.push((place, trap))?;
-            }
+        let met = run_program(flat, program as u32, moment, cells, faulted[program]);
+        if let Some(fault) = met {
+            faulted[program] = true;
+            faults.push(fault)?;
         }
     }
     Ok(faults)

@@ -1,10 +1,15 @@
 //! What no clause says: worked events with their reports and replies, the refusals, and each call once with ample memory.
 //! Each call is made again where a growth was refused, and nothing may have changed then.
 
-use crate::{Engine, EngineFault, Order, Reply, Report};
-use alarm_machine::{AlarmState, Change, Code, OrderFault, Verb};
-use plant_config::{ConfigFault, Plant};
-use plant_types::{Given, Pair, Value};
+ghost use Rattle.std.specs.Prelude.{IfSome};
+ghost use Rattle.engine.specs.Held.{Fits, FitsOrder};
+
+use crate::steps::step_alarms;
+use crate::{Engine, EngineFault, Order, Prepared, PreparedOrder, Reply, Report};
+use alarm_machine::{Alarm, AlarmState, Change, Code, OrderFault, Verb};
+use plant_config::{AlarmRow, ConfigFault, Plant};
+use plant_types::{Given, Pair, Place, Text, Trap, Value};
+use st_walk::Cells;
 use std::alloc::{AllocError, Global};
 
 /// A BOOL input, and the condition of the alarm.
@@ -14,6 +19,18 @@ const INPUT: &[u8] =
 /// The condition is an output too.
 const OUTPUT: &[u8] =
     b"VAR_GLOBAL b AT %IX0.0 : BOOL; c AT %QX0.0 : BOOL; END_VAR PROGRAM p c := NOT b; END_PROGRAM";
+
+/// A quotient whose divisor is an input.
+const RATIO: &[u8] =
+    b"VAR_GLOBAL a AT %ID0 : DINT; c : BOOL; END_VAR PROGRAM p c := 100 / a > 10; END_PROGRAM";
+
+/// A sum of times that may leave the range of TIME.
+const TWICE: &[u8] = b"VAR_GLOBAL d AT %ID0 : TIME; e AT %QD0 : TIME; c : BOOL; END_VAR
+    PROGRAM p e := d + d; END_PROGRAM";
+
+/// A program that counts before it may trap; the alarm's condition is an input.
+const COUNT: &[u8] = b"VAR_GLOBAL a AT %ID0 : DINT; c AT %IX0.0 : BOOL; x AT %QD0 : DINT; END_VAR
+    PROGRAM p VAR n : DINT; END_VAR n := n + 1; x := n; x := n + 100 / a; END_PROGRAM";
 
 /// The plant of a source.
 fn plant(alloc: Global, source: &[u8]) -> Option<Plant> {
@@ -91,6 +108,21 @@ fn order(
     }
 }
 
+fn restart(
+    alloc: Global,
+    engine: &mut Engine,
+    console: u32,
+    program: Option<u32>,
+) -> Result<Reply, EngineFault> {
+    let before = seen(engine);
+    match engine.restart(alloc, console, program) {
+        Err(EngineFault::Memory) if seen(engine) == before => {
+            engine.restart(alloc, console, program)
+        }
+        other => other,
+    }
+}
+
 fn is_change(change: Change, from: Code, to: Code) -> bool {
     change.from() == from && change.to() == to
 }
@@ -147,6 +179,35 @@ fn shows(taken: Result<Report, EngineFault>, global: u32, value: Value) -> bool 
     }
 }
 
+/// Whether faults are those of the first program, by statement and kind.
+fn same_faults(found: &[(Place, Trap)], due: &[(u32, Trap)]) -> bool {
+    let mut same = found.len() == due.len();
+    for ((place, trap), (statement, kind)) in found.iter().zip(due) {
+        same = same && place.path == 0 && place.statement == *statement && *trap == *kind;
+    }
+    same
+}
+
+/// Whether a scan was taken and told these faults and outputs, and no change of an alarm.
+fn runs(taken: Result<Report, EngineFault>, faults: &[(u32, Trap)], outs: &[(u32, Value)]) -> bool {
+    match taken {
+        Ok(report) => {
+            same_faults(&report.faults, faults)
+                && report.outs.as_slice() == outs
+                && report.changes.is_empty()
+        }
+        Err(_) => false,
+    }
+}
+
+/// Whether an order was done and changed no alarm's code.
+fn is_plainly_done(taken: Result<Reply, EngineFault>) -> bool {
+    match taken {
+        Ok(reply) => reply == Reply::Done(None),
+        Err(_) => false,
+    }
+}
+
 #[test]
 fn worked_events(rt: HostRuntime) {
     let alloc = rt.alloc();
@@ -166,7 +227,7 @@ fn worked_events(rt: HostRuntime) {
     assert!(rt;
         replies(
             order(alloc, &mut engine, 2, Verb::Ack, Some(0)),
-            OrderFault::NotAllowed
+            OrderFault::NotYourArea
         )
     );
     assert!(rt;
@@ -242,6 +303,11 @@ fn refusals_in_their_order(rt: HostRuntime) {
             100,
             EngineFault::ImageName,
         ),
+        (
+            [("b", Given::Truth(false)), ("zz", set)].as_slice(),
+            100,
+            EngineFault::ImageName,
+        ),
         ([("c", set)].as_slice(), 100, EngineFault::ImageName),
         ([("p", set)].as_slice(), 100, EngineFault::ImageName),
         ([("b", wrong)].as_slice(), 100, EngineFault::ImageKind),
@@ -265,6 +331,8 @@ fn outputs_are_told_where_they_change(rt: HostRuntime) {
         panic!(rt; "no engine");
     };
     assert!(rt; seen(&engine) == (0, 0, Some(AlarmState::Norm), 0));
+    let output = scan(alloc, &mut engine, &[("c", Given::Truth(true))], 0);
+    assert!(rt; is_refused(output, EngineFault::ImageName));
     assert!(rt; shows(scan(alloc, &mut engine, &[], 0), 1, Value::Bool(true)));
     assert!(rt; seen(&engine) == (1, 0, Some(AlarmState::Unack), 1));
     assert!(rt;
@@ -279,6 +347,209 @@ fn outputs_are_told_where_they_change(rt: HostRuntime) {
         Ok(report) => assert!(rt; report.outs.is_empty() && report.changes.is_empty()),
         Err(_) => panic!(rt; "refused"),
     }
+}
+
+#[test]
+fn statements_by_their_meaning(rt: HostRuntime) {
+    let alloc = rt.alloc();
+    for (source, given, faults, outs) in [
+        (
+            b"VAR_GLOBAL a AT %ID0 : DINT; q AT %QX0.0 : BOOL; c : BOOL; END_VAR
+            PROGRAM p q := (a <> 0) AND (100 / a > 1); END_PROGRAM"
+                .as_slice(),
+            [("a", Given::Whole(0))].as_slice(),
+            [(1, Trap::DivZero)].as_slice(),
+            [].as_slice(),
+        ),
+        (
+            b"VAR_GLOBAL x AT %QD0 : DINT; c : BOOL; END_VAR
+            PROGRAM p x := 9; x := -2147483648 / -1; END_PROGRAM"
+                .as_slice(),
+            [].as_slice(),
+            [(2, Trap::Overflow)].as_slice(),
+            [(0, Value::Dint(9))].as_slice(),
+        ),
+        (
+            b"VAR_GLOBAL x AT %QD0 : DINT; c : BOOL; END_VAR
+            PROGRAM p x := 1 + (-2147483648 MOD -1); END_PROGRAM"
+                .as_slice(),
+            [].as_slice(),
+            [].as_slice(),
+            [(0, Value::Dint(1))].as_slice(),
+        ),
+        (
+            b"VAR_GLOBAL x AT %QD0 : DINT; c : BOOL; END_VAR
+            PROGRAM p x := 2 + 5 MOD 0; END_PROGRAM"
+                .as_slice(),
+            [].as_slice(),
+            [].as_slice(),
+            [(0, Value::Dint(2))].as_slice(),
+        ),
+        (
+            b"VAR_GLOBAL x AT %QD0 : DINT; c : BOOL; END_VAR
+            PROGRAM p x := -7 / 2; END_PROGRAM"
+                .as_slice(),
+            [].as_slice(),
+            [].as_slice(),
+            [(0, Value::Dint(-3))].as_slice(),
+        ),
+        (
+            b"VAR_GLOBAL n AT %QD0 : DINT; e AT %QD1 : DINT; c : BOOL; END_VAR
+            PROGRAM p VAR i : DINT; END_VAR
+            FOR i := 2147483646 TO 2147483647 DO n := n + 1; END_FOR; e := i; END_PROGRAM"
+                .as_slice(),
+            [].as_slice(),
+            [].as_slice(),
+            [(0, Value::Dint(2)), (1, Value::Dint(2147483647))].as_slice(),
+        ),
+        (
+            b"VAR_GLOBAL n AT %QD0 : DINT; e AT %QD1 : DINT; c : BOOL; END_VAR
+            PROGRAM p VAR i : DINT; END_VAR
+            FOR i := 3 TO 1 DO n := n + 1; END_FOR; e := i; END_PROGRAM"
+                .as_slice(),
+            [].as_slice(),
+            [].as_slice(),
+            [].as_slice(),
+        ),
+        // Outputs are told in order of declaration, once, and only where the scan left another value; other globals aren't.
+        (
+            b"VAR_GLOBAL x AT %QD0 : DINT; m AT %MD0 : DINT; y AT %QD1 : DINT; z AT %QD2 : DINT; c : BOOL; END_VAR
+            PROGRAM p z := 5; y := 2; m := z; x := 7; z := 0; x := m - 4; END_PROGRAM"
+                .as_slice(),
+            [].as_slice(),
+            [].as_slice(),
+            [(0, Value::Dint(1)), (2, Value::Dint(2))].as_slice(),
+        ),
+        (
+            b"VAR_GLOBAL x AT %ID0 : DINT; y : DINT; c : BOOL; END_VAR
+            PROGRAM p IF x > 0 THEN y := 1; ; ELSE y := 1 / x; END_IF; y := 2; END_PROGRAM"
+                .as_slice(),
+            [].as_slice(),
+            [(4, Trap::DivZero)].as_slice(),
+            [].as_slice(),
+        ),
+    ] {
+        let Some(mut engine) = engine(alloc, source) else {
+            panic!(rt; "no engine");
+        };
+        assert!(rt; runs(scan(alloc, &mut engine, given, 0), faults, outs));
+    }
+}
+
+#[test]
+fn operators_bind_as_they_should(rt: HostRuntime) {
+    let alloc = rt.alloc();
+    let source =
+        b"VAR_GLOBAL x AT %ID0 : DINT; o AT %QX0.0 : BOOL; y AT %QD0 : DINT; r AT %QX0.1 : BOOL;
+        c : BOOL; END_VAR
+        PROGRAM p o := TRUE OR TRUE XOR TRUE; y := 10 - x - 3; r := NOT FALSE AND FALSE; END_PROGRAM";
+    let Some(mut engine) = engine(alloc, source.as_slice()) else {
+        panic!(rt; "no engine");
+    };
+    let first = scan(alloc, &mut engine, &[("x", Given::Whole(4))], 0);
+    assert!(rt; runs(first, &[], &[(1, Value::Bool(true)), (2, Value::Dint(3))]));
+    assert!(rt; runs(scan(alloc, &mut engine, &[], 1), &[], &[]));
+}
+
+#[test]
+fn the_first_branch_that_fits(rt: HostRuntime) {
+    let alloc = rt.alloc();
+    let source = b"VAR_GLOBAL x AT %ID0 : DINT; y AT %QD0 : DINT; c : BOOL; END_VAR
+        PROGRAM p CASE x OF 1, 3..5: y := 1; 4: y := 2; 9..8: y := 3; ELSE y := 4; END_CASE; END_PROGRAM";
+    let Some(mut engine) = engine(alloc, source.as_slice()) else {
+        panic!(rt; "no engine");
+    };
+    for (moment, x, outs) in [
+        (0, 4, [(1, Value::Dint(1))].as_slice()),
+        (1, 9, [(1, Value::Dint(4))].as_slice()),
+        (2, 8, [].as_slice()),
+    ] {
+        let taken = scan(alloc, &mut engine, &[("x", Given::Whole(x))], moment);
+        assert!(rt; runs(taken, &[], outs));
+    }
+}
+
+#[test]
+fn a_fault_and_a_restart(rt: HostRuntime) {
+    let alloc = rt.alloc();
+    let Some(mut engine) = engine(alloc, RATIO) else {
+        panic!(rt; "no engine");
+    };
+    let five = scan(alloc, &mut engine, &[("a", Given::Whole(5))], 0);
+    assert!(rt; tells(five, 0, Code::Norm, Code::Unack));
+    assert!(rt;
+        replies(
+            restart(alloc, &mut engine, 1, Some(0)),
+            OrderFault::NotFaulted
+        )
+    );
+    let zero = scan(alloc, &mut engine, &[("a", Given::Whole(0))], 10);
+    assert!(rt; runs(zero, &[(1, Trap::DivZero)], &[]));
+    let fifty = scan(alloc, &mut engine, &[("a", Given::Whole(50))], 20);
+    assert!(rt; runs(fifty, &[], &[]));
+    assert!(rt; seen(&engine) == (4, 20, Some(AlarmState::Unack), 0));
+    assert!(rt;
+        replies(
+            restart(alloc, &mut engine, 3, None),
+            OrderFault::UnknownTarget
+        )
+    );
+    assert!(rt;
+        replies(
+            restart(alloc, &mut engine, 3, Some(1)),
+            OrderFault::UnknownTarget
+        )
+    );
+    assert!(rt;
+        replies(
+            restart(alloc, &mut engine, 3, Some(0)),
+            OrderFault::NotYourArea
+        )
+    );
+    assert!(rt; is_plainly_done(restart(alloc, &mut engine, 1, Some(0))));
+    assert!(rt; seen(&engine) == (8, 20, Some(AlarmState::Unack), 0));
+    let again = scan(alloc, &mut engine, &[("a", Given::Whole(50))], 30);
+    assert!(rt; tells(again, 30, Code::Unack, Code::Rtnun));
+}
+
+#[test]
+fn times_and_a_second_restart(rt: HostRuntime) {
+    let alloc = rt.alloc();
+    let Some(mut engine) = engine(alloc, TWICE) else {
+        panic!(rt; "no engine");
+    };
+    let before = scan(alloc, &mut engine, &[("d", Given::Whole(-1500))], 0);
+    assert!(rt; runs(before, &[], &[(1, Value::Time(-3000))]));
+    let longest = [("d", Given::Whole(9_223_372_036_854_775_807))];
+    let over = scan(alloc, &mut engine, &longest, 1);
+    assert!(rt; runs(over, &[(1, Trap::Overflow)], &[]));
+    assert!(rt; is_plainly_done(restart(alloc, &mut engine, 1, Some(0))));
+    assert!(rt;
+        replies(
+            restart(alloc, &mut engine, 1, Some(0)),
+            OrderFault::NotFaulted
+        )
+    );
+    assert!(rt; seen(&engine) == (4, 1, Some(AlarmState::Norm), 0));
+}
+
+#[test]
+fn what_was_assigned_before_a_trap_stands(rt: HostRuntime) {
+    let alloc = rt.alloc();
+    let Some(mut engine) = engine(alloc, COUNT) else {
+        panic!(rt; "no engine");
+    };
+    let first = scan(alloc, &mut engine, &[("a", Given::Whole(0))], 0);
+    assert!(rt; runs(first, &[(3, Trap::DivZero)], &[(2, Value::Dint(1))]));
+    // The program is passed over, and the other parts of a scan go on.
+    let given = [("a", Given::Whole(5)), ("c", Given::Truth(true))];
+    let second = scan(alloc, &mut engine, &given, 1);
+    assert!(rt; tells(second, 1, Code::Norm, Code::Unack));
+    assert!(rt; is_plainly_done(restart(alloc, &mut engine, 2, Some(0))));
+    assert!(rt; engine.outputs() == [(2, Value::Dint(1))].as_slice());
+    // The program's own variable and the inputs are as they were.
+    let third = scan(alloc, &mut engine, &[], 2);
+    assert!(rt; runs(third, &[], &[(2, Value::Dint(22))]));
 }
 
 #[test]
@@ -302,7 +573,7 @@ fn no_program_is_faulted(rt: HostRuntime) {
     assert!(rt;
         replies(
             order(alloc, &mut engine, 3, Verb::Restart, Some(0)),
-            OrderFault::NotAllowed
+            OrderFault::NotYourArea
         )
     );
     assert!(rt;
@@ -314,6 +585,115 @@ fn no_program_is_faulted(rt: HostRuntime) {
     assert!(rt; seen(&engine) == (4, 0, Some(AlarmState::Norm), 0));
 }
 
+/// A scan made ready, without inputs.
+fn ready(alloc: Global, engine: &mut Engine, moment: u64) -> Option<Prepared>
+    ensures { IfSome result (λ p. Fits engine.new p) }
+{
+    match engine.prepare(alloc, &[], moment) {
+        Ok(prepared) => Some(prepared),
+        Err(EngineFault::Memory) => engine.prepare(alloc, &[], moment).ok(),
+        Err(_) => None,
+    }
+}
+
+/// An order of console 1 made ready.
+fn ready_order(alloc: Global, engine: &mut Engine, order: Order) -> Option<PreparedOrder>
+    ensures { IfSome result (λ p. FitsOrder engine.new p) }
+{
+    match engine.prepare_order(alloc, 1, order) {
+        Ok(prepared) => Some(prepared),
+        Err(EngineFault::Memory) => engine.prepare_order(alloc, 1, order).ok(),
+        Err(_) => None,
+    }
+}
+
+/// Three alarms: on the first global, on the second and suppressed by the third, and on the second.
+fn three_alarms(alloc: Global) -> Result<Vec<AlarmRow>, AllocError> {
+    let mut rows = Vec::new(alloc);
+    for (condition, suppress) in [(0, None), (1, Some(2)), (1, None)] {
+        let tag = Text::from_str(alloc, "T")?;
+        let text = Text::from_str(alloc, "")?;
+        rows.push(AlarmRow {
+            tag,
+            area: 0,
+            priority: 1,
+            condition,
+            suppress,
+            latching: false,
+            max_shelve_ms: 0,
+            text,
+        })?;
+    }
+    Ok(rows)
+}
+
+/// What is told of three alarms that were normal, after a step with these values of three globals.
+fn stepped(alloc: Global, values: [i64; 3]) -> Result<Vec<(u32, Change)>, AllocError> {
+    let rows = three_alarms(alloc)?;
+    let mut cells = Vec::new(alloc);
+    let mut alarms = Vec::new(alloc);
+    for value in values {
+        cells.push(value)?;
+        alarms.push(Alarm::new(false, 0))?;
+    }
+    if rows.len() != 3 || alarms.len() != 3 {
+        return Err(AllocError);
+    }
+    let (_, changes) = step_alarms(alloc, &rows, &Cells::new(cells), 5, &alarms)?;
+    Ok(changes)
+}
+
+/// Whether these alarms, and no others, come from normal to these codes, in this order.
+fn leave_normal(alloc: Global, values: [i64; 3], due: &[(u32, Code)]) -> bool {
+    let told = match stepped(alloc, values) {
+        Ok(told) => Ok(told),
+        Err(AllocError) => stepped(alloc, values),
+    };
+    match told {
+        Ok(told) => {
+            let mut same = told.len() == due.len();
+            for ((alarm, change), (number, code)) in told.iter().zip(due) {
+                same = same && *alarm == *number && is_change(*change, Code::Norm, *code);
+            }
+            same
+        }
+        Err(AllocError) => false,
+    }
+}
+
+#[test]
+fn each_alarm_has_globals_of_its_own(rt: HostRuntime) {
+    for (values, due) in [
+        ([0, 0, 0], [].as_slice()),
+        ([1, 0, 0], [(0, Code::Unack)].as_slice()),
+        ([0, 1, 0], [(1, Code::Unack), (2, Code::Unack)].as_slice()),
+        ([0, 1, 1], [(1, Code::Suppr), (2, Code::Unack)].as_slice()),
+        ([1, 0, 1], [(0, Code::Unack), (1, Code::Suppr)].as_slice()),
+    ] {
+        assert!(rt; leave_normal(rt.alloc(), values, due));
+    }
+}
+
+/// Of several refusals of an order the first is told: no such alarm, then the console, then the alarm's state.
+#[test]
+fn replies_in_their_order(rt: HostRuntime) {
+    let alloc = rt.alloc();
+    let Some(mut engine) = engine(alloc, INPUT) else {
+        panic!(rt; "no engine");
+    };
+    for (console, target, fault) in [
+        (3, None, OrderFault::UnknownTarget),
+        (3, Some(1), OrderFault::UnknownTarget),
+        (3, Some(0), OrderFault::NotYourArea),
+        (2, Some(0), OrderFault::NotYourArea),
+        (1, Some(0), OrderFault::WrongState),
+    ] {
+        let taken = order(alloc, &mut engine, console, Verb::Ack, target);
+        assert!(rt; replies(taken, fault));
+    }
+    assert!(rt; seen(&engine) == (5, 0, Some(AlarmState::Norm), 0));
+}
+
 #[test]
 fn what_is_made_ready_is_committed(rt: HostRuntime) {
     let alloc = rt.alloc();
@@ -321,13 +701,8 @@ fn what_is_made_ready_is_committed(rt: HostRuntime) {
         panic!(rt; "no engine");
     };
     let before = seen(&engine);
-    let prepared = match engine.prepare(alloc, &[], 7) {
-        Ok(prepared) => prepared,
-        Err(EngineFault::Memory) => match engine.prepare(alloc, &[], 7) {
-            Ok(prepared) => prepared,
-            Err(_) => panic!(rt; "refused"),
-        },
-        Err(_) => panic!(rt; "refused"),
+    let Some(prepared) = ready(alloc, &mut engine, 7) else {
+        panic!(rt; "refused");
     };
     assert!(rt; seen(&engine) == before);
     let report = engine.commit(prepared);
@@ -336,13 +711,8 @@ fn what_is_made_ready_is_committed(rt: HostRuntime) {
         verb: Verb::Ack,
         target: Some(0),
     };
-    let prepared = match engine.prepare_order(alloc, 1, ack) {
-        Ok(prepared) => prepared,
-        Err(EngineFault::Memory) => match engine.prepare_order(alloc, 1, ack) {
-            Ok(prepared) => prepared,
-            Err(_) => panic!(rt; "refused"),
-        },
-        Err(_) => panic!(rt; "refused"),
+    let Some(prepared) = ready_order(alloc, &mut engine, ack) else {
+        panic!(rt; "refused");
     };
     assert!(rt; seen(&engine) == (1, 7, Some(AlarmState::Unack), 1));
     let reply = engine.commit_order(prepared);
@@ -368,9 +738,14 @@ fn a_full_history_takes_no_event(rt: HostRuntime) {
             EngineFault::ImageKind
         )
     );
-    match order(alloc, &mut engine, 1, Verb::Ack, Some(0)) {
-        Ok(_) => panic!(rt; "taken"),
-        Err(fault) => assert!(rt; fault == EngineFault::HistoryFull),
+    for taken in [
+        order(alloc, &mut engine, 1, Verb::Ack, Some(0)),
+        restart(alloc, &mut engine, 1, Some(0)),
+    ] {
+        match taken {
+            Ok(_) => panic!(rt; "taken"),
+            Err(fault) => assert!(rt; fault == EngineFault::HistoryFull),
+        }
     }
-    assert!(rt; engine.events() == 1_000_000);
+    assert!(rt; seen(&engine) == (1_000_000, 0, Some(AlarmState::Norm), 0));
 }

@@ -1,2 +1,3 @@
+pub mod Answered
 pub mod Examples
 pub mod Refusals

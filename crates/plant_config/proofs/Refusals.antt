@@ -1,172 +1,179 @@
 -- A text has one answer: what is accepted isn't refused.
-use Rattle.std.proofs.Common.{◌≡◌, ℕ, List, Bool, Some, None, Result, Ok, Err, IfOk, IfErr, refl, sym, ap, ◌∙◌, subst}
+use Rattle.std.proofs.Common.{◌≡◌, ℕ, List, Bool, Some, None, Option, Result, Ok, Err, IfOk, IfErr, ◌⊎◌, inl, inr, refl, sym, ap, ◌∙◌, subst}
 use Rattle.st_lexer.specs.declared.token.Token.{Token}
-use Rattle.st_lexer.specs.Lexes.{Lexes}
+use Rattle.st_lexer.specs.Lexes.{Lexes, Stops}
 use Rattle.st_lexer.proofs.Cutting.{one_list, one_place, never_both}
-use Rattle.st_parser.specs.Source.{Source}
 use Rattle.st_parser.specs.Lexemes.{lexemes}
-use Rattle.st_parser.specs.Grammar.{Spells}
-use Rattle.st_parser.proofs.Sources.{one_unit}
+use Rattle.st_parser.specs.Units.{PlainUnit}
+use Rattle.st_parser.specs.Declarations.{Spells}
+use Rattle.st_parser.proofs.FoundUnits.{one_unit}
+use Rattle.st_walk.specs.Source.{Source}
+use Rattle.st_walk.specs.declared.faults.FirstFault.{FirstFault}
 use Rattle.st_walk.specs.declared.faults.FirstFault.TheVariants as first
 use Rattle.st_walk.specs.Faults.{first_fault}
 use Rattle.plant_config.specs.declared.fault.ConfigFault.{ConfigFault}
 use Rattle.plant_config.specs.declared.fault.ConfigFault.TheVariants as fault
+use Rattle.plant_config.specs.Logic.{logic_of}
 use Rattle.plant_config.specs.Meaning.{Meaning}
 use Rattle.plant_config.specs.Example.{condition_of, example, IsExample}
-use Rattle.plant_config.specs.Accepted.{Spelled, Accepted, Unspelled, unit_of, IsUnfit, IsRefused, SameRefusal}
+use Rattle.plant_config.specs.Accepted.{Tells, Spelled, Accepted, Unspelled, unit_of, IsUnfit, IsRefused, SameRefusal}
+
+same_some : {A : Type 0} (x y : A) → Some x ≡ Some y → x ≡ y
+same_some x y e = cc
 
 none_some : {A : Type 0} (x : A) → None ≡ Some x → ⊥
 none_some x e = cc
 
+-- ---- one unit, one source
+-- a text tells one unit
+same_unit : (text : List ℕ) (a b : PlainUnit) → Tells text a → Tells text b → a ≡ b
+same_unit text a b x y = one_unit _ a b (subst (λ (tokens : List Token). Spells (lexemes text tokens) a) (one_list text _ _ x.lexed y.lexed) x.spelled) y.spelled
+
 -- a text spells one source
 one_source : (text : List ℕ) (a b : Source) → Spelled text a → Spelled text b → a ≡ b
-one_source text a b x y = one_unit _ a b (subst (λ (tokens : List Token). Spells (lexemes text tokens) a) (one_list text _ _ x.lexed y.lexed) x.spelled) y.spelled
+one_source text a b x y = same_some a b (sym x.built ∙ ap logic_of (same_unit text x.unit y.unit x.told y.told) ∙ y.built)
 
--- the refusal of a source without faults that has a condition is memory
-unfit_is_memory : (source : Source) (number : ℕ) (f : ConfigFault) → first_fault source ≡ None → condition_of source ≡ Some number → IsUnfit source f → f ≡ fault.Memory
-unfit_is_memory source number fault.Memory sound has h = refl
-unfit_is_memory source number (fault.Spelling line column) sound has h = absurd h
-unfit_is_memory source number (fault.Grammar line column) sound has h = absurd h
-unfit_is_memory source number (fault.Name unit) sound has h = absurd (none_some _ (sym sound ∙ h.1))
-unfit_is_memory source number (fault.Kind unit) sound has h = absurd (none_some _ (sym sound ∙ h.0))
-unfit_is_memory source number fault.Condition sound has h = absurd (none_some _ (sym h.1 ∙ has))
+-- a text whose tokens spell no unit tells none
+told_or_not : (text : List ℕ) (unit : PlainUnit) (line column : ℕ) → Tells text unit → Unspelled text line column → ⊥
+told_or_not text unit line column a b = b.no_unit unit (subst (λ (tokens : List Token). Spells (lexemes text tokens) unit) (one_list text _ _ a.lexed b.lexed) a.spelled)
 
-taken : (text : List ℕ) (plant : Meaning) (f : ConfigFault) → Accepted text plant → (source : Source) × Spelled text source × IsUnfit source f → f ≡ fault.Memory
-taken text plant f a r =
-    unfit_is_memory plant.source a.example.number f a.sound a.example.condition (subst (λ (source : Source). IsUnfit source f) (one_source text r.0 plant.source r.1 a.spelled) r.2)
+-- a unit has a source or none
+built_or_not : (text : List ℕ) (source : Source) (unit : PlainUnit) → Spelled text source → Tells text unit → logic_of unit ≡ None → ⊥
+built_or_not text source unit a told none = none_some source (sym none ∙ ap logic_of (same_unit text unit a.unit told a.told) ∙ a.built)
 
+-- ---- the refusal of a source
+-- how the first fault is told, else whether there is a condition
+abbrev refusal_by : Source → Option FirstFault → Option ℕ → Option ConfigFault
+refusal_by source (Some first.Memory) condition = Some fault.Memory
+refusal_by source (Some (first.Name globals)) condition = Some (fault.Name (unit_of globals source))
+refusal_by source (Some first.Kind) condition = Some (fault.Kind source.name)
+refusal_by source (Some first.Constant) condition = Some (fault.Constant source.name)
+refusal_by source (Some first.Turns) condition = Some fault.Turns
+refusal_by source None None = Some fault.Condition
+refusal_by source None (Some number) = None
+
+abbrev refusal_of : Source → Option ConfigFault
+refusal_of source = refusal_by source (first_fault source) (condition_of source)
+
+by_first : (source : Source) (found : FirstFault) → first_fault source ≡ Some found → refusal_of source ≡ refusal_by source (Some found) (condition_of source)
+by_first source found e = ap (λ o. refusal_by source o (condition_of source)) e
+
+without_fault : (source : Source) (condition : Option ℕ) → first_fault source ≡ None → condition_of source ≡ condition → refusal_of source ≡ refusal_by source None condition
+without_fault source condition e h = ap (λ o. refusal_by source o (condition_of source)) e ∙ ap (refusal_by source None) h
+
+-- a refusal of a source is memory, or the one that it has
+its_refusal : (source : Source) (f : ConfigFault) → IsUnfit source f → (f ≡ fault.Memory) ⊎ (refusal_of source ≡ Some f)
+its_refusal source fault.Memory h = inl refl
+its_refusal source (fault.Spelling line column) h = absurd h
+its_refusal source (fault.Grammar line column) h = absurd h
+its_refusal source fault.NotYet h = absurd h
+its_refusal source (fault.Name unit) h = inr (by_first source (first.Name h.0) h.1 ∙ ap (λ u. Some (fault.Name u)) (sym h.2))
+its_refusal source (fault.Kind unit) h = inr (by_first source first.Kind h.0 ∙ ap (λ u. Some (fault.Kind u)) (sym h.1))
+its_refusal source (fault.Constant unit) h = inr (by_first source first.Constant h.0 ∙ ap (λ u. Some (fault.Constant u)) (sym h.1))
+its_refusal source fault.Turns h = inr (by_first source first.Turns h)
+its_refusal source fault.Condition h = inr (without_fault source None h.0 h.1)
+
+-- ---- the refusal of a text
+-- why a text is refused, by the stage that refuses it
+data Reason (text : List ℕ) (f : ConfigFault) : Type 0 where
+  memory : f ≡ fault.Memory → Reason text f
+  stopped : (line column : ℕ) → f ≡ fault.Spelling line column → Stops text line column → Reason text f
+  unspelled : (line column : ℕ) → f ≡ fault.Grammar line column → Unspelled text line column → Reason text f
+  unbuilt : (unit : PlainUnit) → f ≡ fault.NotYet → Tells text unit → logic_of unit ≡ None → Reason text f
+  unfit : (source : Source) → Spelled text source → refusal_of source ≡ Some f → Reason text f
+
+of_source : (text : List ℕ) (f : ConfigFault) → (source : Source) × Spelled text source × IsUnfit source f → Reason text f
+of_source text f h = elim (its_refusal h.0 f h.2) [ inl is ↦ memory is | inr is ↦ unfit h.0 h.1 is ]
+
+reason : (text : List ℕ) (f : ConfigFault) → IsRefused text f → Reason text f
+reason text fault.Memory h = memory refl
+reason text (fault.Spelling line column) h = stopped line column refl h
+reason text (fault.Grammar line column) h = unspelled line column refl h
+reason text fault.NotYet h = unbuilt h.0 refl h.1 h.2
+reason text (fault.Name unit) h = of_source text (fault.Name unit) h
+reason text (fault.Kind unit) h = of_source text (fault.Kind unit) h
+reason text (fault.Constant unit) h = of_source text (fault.Constant unit) h
+reason text fault.Turns h = of_source text fault.Turns h
+reason text fault.Condition h = of_source text fault.Condition h
+
+-- ---- what is accepted
 -- what is accepted is refused by memory alone
+taken : (text : List ℕ) (plant : Meaning) (f : ConfigFault) → Accepted text plant → Reason text f → f ≡ fault.Memory
+taken text plant f a (memory is) = is
+taken text plant f a (stopped line column is stops) = absurd (never_both text _ _ _ a.spelled.told.lexed stops)
+taken text plant f a (unspelled line column is none) = absurd (told_or_not text _ line column a.spelled.told none)
+taken text plant f a (unbuilt unit is told none) = absurd (built_or_not text plant.source unit a.spelled told none)
+taken text plant f a (unfit source spelled is) =
+    absurd (none_some f (sym (without_fault plant.source (Some a.example.number) a.sound a.example.condition) ∙ ap refusal_of (one_source text plant.source source a.spelled spelled) ∙ is))
+
 pub accepted_is_taken : (text : List ℕ) (plant : Meaning) (f : ConfigFault) → Accepted text plant → IsRefused text f → f ≡ fault.Memory
-accepted_is_taken text plant fault.Memory a r = refl
-accepted_is_taken text plant (fault.Spelling line column) a r = absurd (never_both text _ _ _ a.spelled.lexed r)
-accepted_is_taken text plant (fault.Grammar line column) a r =
-    absurd (r.no_unit plant.source (subst (λ (tokens : List Token). Spells (lexemes text tokens) plant.source) (one_list text _ _ a.spelled.lexed r.lexed) a.spelled.spelled))
-accepted_is_taken text plant (fault.Name unit) a r = taken text plant (fault.Name unit) a r
-accepted_is_taken text plant (fault.Kind unit) a r = taken text plant (fault.Kind unit) a r
-accepted_is_taken text plant fault.Condition a r = taken text plant fault.Condition a r
-
--- a source is refused where its text is
-pub unfit_is_refused : (text : List ℕ) (source : Source) (f : ConfigFault) → Spelled text source → IsUnfit source f → IsRefused text f
-unfit_is_refused text source fault.Memory spelled h = tt
-unfit_is_refused text source (fault.Spelling line column) spelled h = absurd h
-unfit_is_refused text source (fault.Grammar line column) spelled h = absurd h
-unfit_is_refused text source (fault.Name unit) spelled h = (source, spelled, h)
-unfit_is_refused text source (fault.Kind unit) spelled h = (source, spelled, h)
-unfit_is_refused text source fault.Condition spelled h = (source, spelled, h)
-
-pub unfit_result_is_refused : (text : List ℕ) (source : Source) (r : Result Meaning ConfigFault) → Spelled text source → IfErr r (IsUnfit source) → IfErr r (IsRefused text)
-unfit_result_is_refused text source (Ok plant) spelled h = tt
-unfit_result_is_refused text source (Err f) spelled h = unfit_is_refused text source f spelled h
-
--- what is built around the source of a text is accepted
-pub built_is_accepted : (text : List ℕ) (source : Source) (r : Result Meaning ConfigFault) → Spelled text source → first_fault source ≡ None → IfOk r (λ plant. (plant.source ≡ source) × IsExample plant) → IfOk r (Accepted text)
-built_is_accepted text source (Ok plant) spelled sound h =
-    record {
-      spelled = subst (λ (s : Source). Spelled text s) (sym h.0) spelled;
-      sound = ap first_fault h.0 ∙ sound;
-      example = h.1;
-    }
-built_is_accepted text source (Err f) spelled sound h = tt
+accepted_is_taken text plant f a r = taken text plant f a (reason text f r)
 
 -- where something is accepted, the refusal is memory
 pub refusal_is_memory : (text : List ℕ) (r : Result Meaning ConfigFault) → IfErr r (IsRefused text) → (plant : Meaning) → Accepted text plant → IfErr r (λ f. f ≡ fault.Memory)
 refusal_is_memory text (Ok built) h plant accepted = tt
 refusal_is_memory text (Err f) h plant accepted = accepted_is_taken text plant f accepted h
 
--- the source that a text's tokens spell
-pub spelled_by : (text : List ℕ) (tokens slice : List Token) (source flat : Source) → slice ≡ tokens → Lexes text tokens → Spells (lexemes text slice) source → flat ≡ source → Spelled text flat
-spelled_by text tokens slice source flat same lexed spelled is =
-    record {
-      tokens = tokens;
-      lexed = lexed;
-      spelled = subst (λ (s : Source). Spells (lexemes text tokens) s) (sym is) (subst (λ (ts : List Token). Spells (lexemes text ts) source) same spelled);
-    }
-
--- ---- one refusal
-same_globals : (a b : Bool) → Some (first.Name a) ≡ Some (first.Name b) → a ≡ b
-same_globals a b e = cc
-
--- a source has one refusal
-unfit_once : (source : Source) (f g : ConfigFault) → IsUnfit source f → IsUnfit source g → SameRefusal f g
-unfit_once source fault.Memory g a b = tt
-unfit_once source (fault.Spelling l c) fault.Memory a b = tt
-unfit_once source (fault.Spelling l c) (fault.Spelling k d) a b = absurd a
-unfit_once source (fault.Spelling l c) (fault.Grammar k d) a b = absurd a
-unfit_once source (fault.Spelling l c) (fault.Name v) a b = absurd a
-unfit_once source (fault.Spelling l c) (fault.Kind v) a b = absurd a
-unfit_once source (fault.Spelling l c) fault.Condition a b = absurd a
-unfit_once source (fault.Grammar l c) fault.Memory a b = tt
-unfit_once source (fault.Grammar l c) (fault.Spelling k d) a b = absurd a
-unfit_once source (fault.Grammar l c) (fault.Grammar k d) a b = absurd a
-unfit_once source (fault.Grammar l c) (fault.Name v) a b = absurd a
-unfit_once source (fault.Grammar l c) (fault.Kind v) a b = absurd a
-unfit_once source (fault.Grammar l c) fault.Condition a b = absurd a
-unfit_once source (fault.Name u) fault.Memory a b = tt
-unfit_once source (fault.Name u) (fault.Spelling k d) a b = absurd b
-unfit_once source (fault.Name u) (fault.Grammar k d) a b = absurd b
-unfit_once source (fault.Name u) (fault.Name v) a b = a.2 ∙ (ap (λ g. unit_of g source) (same_globals _ _ (sym a.1 ∙ b.1)) ∙ sym b.2)
-unfit_once source (fault.Name u) (fault.Kind v) a b = absurd (let e = sym a.1 ∙ b.0 in cc)
-unfit_once source (fault.Name u) fault.Condition a b = absurd (let e = sym a.1 ∙ b.0 in cc)
-unfit_once source (fault.Kind u) fault.Memory a b = tt
-unfit_once source (fault.Kind u) (fault.Spelling k d) a b = absurd b
-unfit_once source (fault.Kind u) (fault.Grammar k d) a b = absurd b
-unfit_once source (fault.Kind u) (fault.Name v) a b = absurd (let e = sym a.0 ∙ b.1 in cc)
-unfit_once source (fault.Kind u) (fault.Kind v) a b = a.1 ∙ sym b.1
-unfit_once source (fault.Kind u) fault.Condition a b = absurd (let e = sym a.0 ∙ b.0 in cc)
-unfit_once source fault.Condition fault.Memory a b = tt
-unfit_once source fault.Condition (fault.Spelling k d) a b = absurd b
-unfit_once source fault.Condition (fault.Grammar k d) a b = absurd b
-unfit_once source fault.Condition (fault.Name v) a b = absurd (let e = sym a.0 ∙ b.1 in cc)
-unfit_once source fault.Condition (fault.Kind v) a b = absurd (let e = sym a.0 ∙ b.0 in cc)
-unfit_once source fault.Condition fault.Condition a b = tt
-
--- a text whose tokens spell no unit spells no source
-spelled_or_not : (text : List ℕ) (source : Source) (line column : ℕ) → Spelled text source → Unspelled text line column → ⊥
-spelled_or_not text source line column a b = b.no_unit source (subst (λ (tokens : List Token). Spells (lexemes text tokens) source) (one_list text _ _ a.lexed b.lexed) a.spelled)
-
-unfit_twice : (text : List ℕ) (f g : ConfigFault) → (source : Source) × Spelled text source × IsUnfit source f → (source : Source) × Spelled text source × IsUnfit source g → SameRefusal f g
-unfit_twice text f g a b = unfit_once b.0 f g (subst (λ (source : Source). IsUnfit source f) (one_source text a.0 b.0 a.1 b.1) a.2) b.2
-
--- a text has one refusal
-pub refused_once : (text : List ℕ) (f g : ConfigFault) → IsRefused text f → IsRefused text g → SameRefusal f g
-refused_once text fault.Memory g a b = tt
-refused_once text (fault.Spelling l c) fault.Memory a b = tt
-refused_once text (fault.Spelling l c) (fault.Spelling k d) a b = one_place text _ _ _ _ a b
-refused_once text (fault.Spelling l c) (fault.Grammar k d) a b = absurd (never_both text _ _ _ b.lexed a)
-refused_once text (fault.Spelling l c) (fault.Name v) a b = absurd (never_both text _ _ _ b.1.lexed a)
-refused_once text (fault.Spelling l c) (fault.Kind v) a b = absurd (never_both text _ _ _ b.1.lexed a)
-refused_once text (fault.Spelling l c) fault.Condition a b = absurd (never_both text _ _ _ b.1.lexed a)
-refused_once text (fault.Grammar l c) fault.Memory a b = tt
-refused_once text (fault.Grammar l c) (fault.Spelling k d) a b = absurd (never_both text _ _ _ a.lexed b)
-refused_once text (fault.Grammar l c) (fault.Grammar k d) a b = tt
-refused_once text (fault.Grammar l c) (fault.Name v) a b = absurd (spelled_or_not text _ _ _ b.1 a)
-refused_once text (fault.Grammar l c) (fault.Kind v) a b = absurd (spelled_or_not text _ _ _ b.1 a)
-refused_once text (fault.Grammar l c) fault.Condition a b = absurd (spelled_or_not text _ _ _ b.1 a)
-refused_once text (fault.Name u) fault.Memory a b = tt
-refused_once text (fault.Name u) (fault.Spelling k d) a b = absurd (never_both text _ _ _ a.1.lexed b)
-refused_once text (fault.Name u) (fault.Grammar k d) a b = absurd (spelled_or_not text _ _ _ a.1 b)
-refused_once text (fault.Name u) (fault.Name v) a b = unfit_twice text (fault.Name u) (fault.Name v) a b
-refused_once text (fault.Name u) (fault.Kind v) a b = unfit_twice text (fault.Name u) (fault.Kind v) a b
-refused_once text (fault.Name u) fault.Condition a b = unfit_twice text (fault.Name u) fault.Condition a b
-refused_once text (fault.Kind u) fault.Memory a b = tt
-refused_once text (fault.Kind u) (fault.Spelling k d) a b = absurd (never_both text _ _ _ a.1.lexed b)
-refused_once text (fault.Kind u) (fault.Grammar k d) a b = absurd (spelled_or_not text _ _ _ a.1 b)
-refused_once text (fault.Kind u) (fault.Name v) a b = unfit_twice text (fault.Kind u) (fault.Name v) a b
-refused_once text (fault.Kind u) (fault.Kind v) a b = unfit_twice text (fault.Kind u) (fault.Kind v) a b
-refused_once text (fault.Kind u) fault.Condition a b = unfit_twice text (fault.Kind u) fault.Condition a b
-refused_once text fault.Condition fault.Memory a b = tt
-refused_once text fault.Condition (fault.Spelling k d) a b = absurd (never_both text _ _ _ a.1.lexed b)
-refused_once text fault.Condition (fault.Grammar k d) a b = absurd (spelled_or_not text _ _ _ a.1 b)
-refused_once text fault.Condition (fault.Name v) a b = unfit_twice text fault.Condition (fault.Name v) a b
-refused_once text fault.Condition (fault.Kind v) a b = unfit_twice text fault.Condition (fault.Kind v) a b
-refused_once text fault.Condition fault.Condition a b = unfit_twice text fault.Condition fault.Condition a b
-
-some_same : (a b : ℕ) → Some a ≡ Some b → a ≡ b
-some_same a b e = cc
-
 -- a text is one plant
 pub accepted_once : (text : List ℕ) (a b : Meaning) → Accepted text a → Accepted text b → a ≡ b
 accepted_once text a b x y =
     let same = one_source text a.source b.source x.spelled y.spelled in
-    let number : x.example.number ≡ y.example.number = some_same _ _ (sym x.example.condition ∙ (ap condition_of same ∙ y.example.condition)) in
+    let number : x.example.number ≡ y.example.number = same_some _ _ (sym x.example.condition ∙ (ap condition_of same ∙ y.example.condition)) in
     x.example.built ∙ (ap (λ s. example s x.example.number) same ∙ (ap (example b.source) number ∙ sym y.example.built))
+
+-- ---- one refusal
+memory_too : (f : ConfigFault) → SameRefusal f fault.Memory
+memory_too fault.Memory = tt
+memory_too (fault.Spelling line column) = tt
+memory_too (fault.Grammar line column) = tt
+memory_too fault.NotYet = tt
+memory_too (fault.Name unit) = tt
+memory_too (fault.Kind unit) = tt
+memory_too (fault.Constant unit) = tt
+memory_too fault.Turns = tt
+memory_too fault.Condition = tt
+
+itself : (f : ConfigFault) → SameRefusal f f
+itself fault.Memory = tt
+itself (fault.Spelling line column) = (refl, refl)
+itself (fault.Grammar line column) = tt
+itself fault.NotYet = tt
+itself (fault.Name unit) = refl
+itself (fault.Kind unit) = refl
+itself (fault.Constant unit) = refl
+itself fault.Turns = tt
+itself fault.Condition = tt
+
+first_is : (f g h : ConfigFault) → f ≡ g → SameRefusal g h → SameRefusal f h
+first_is f g h e same = subst (λ (x : ConfigFault). SameRefusal x h) (sym e) same
+
+both_are : (f g x y : ConfigFault) → f ≡ x → g ≡ y → SameRefusal x y → SameRefusal f g
+both_are f g x y e h same = first_is f x g e (subst (λ (z : ConfigFault). SameRefusal x z) (sym h) same)
+
+one_reason : (text : List ℕ) (f g : ConfigFault) → Reason text f → Reason text g → SameRefusal f g
+one_reason text f g (memory is) b = first_is f fault.Memory g is tt
+one_reason text f g (stopped l c is s) (memory too) = both_are f g f fault.Memory refl too (memory_too f)
+one_reason text f g (stopped l c is s) (stopped k d too t) = both_are f g (fault.Spelling l c) (fault.Spelling k d) is too (one_place text l c k d s t)
+one_reason text f g (stopped l c is s) (unspelled k d too t) = absurd (never_both text _ _ _ t.lexed s)
+one_reason text f g (stopped l c is s) (unbuilt unit too told none) = absurd (never_both text _ _ _ told.lexed s)
+one_reason text f g (stopped l c is s) (unfit source spelled too) = absurd (never_both text _ _ _ spelled.told.lexed s)
+one_reason text f g (unspelled l c is s) (memory too) = both_are f g f fault.Memory refl too (memory_too f)
+one_reason text f g (unspelled l c is s) (stopped k d too t) = absurd (never_both text _ _ _ s.lexed t)
+one_reason text f g (unspelled l c is s) (unspelled k d too t) = both_are f g (fault.Grammar l c) (fault.Grammar k d) is too tt
+one_reason text f g (unspelled l c is s) (unbuilt unit too told none) = absurd (told_or_not text unit l c told s)
+one_reason text f g (unspelled l c is s) (unfit source spelled too) = absurd (told_or_not text _ l c spelled.told s)
+one_reason text f g (unbuilt unit is told none) (memory too) = both_are f g f fault.Memory refl too (memory_too f)
+one_reason text f g (unbuilt unit is told none) (stopped k d too t) = absurd (never_both text _ _ _ told.lexed t)
+one_reason text f g (unbuilt unit is told none) (unspelled k d too t) = absurd (told_or_not text unit k d told t)
+one_reason text f g (unbuilt unit is told none) (unbuilt other too t n) = both_are f g fault.NotYet fault.NotYet is too tt
+one_reason text f g (unbuilt unit is told none) (unfit source spelled too) = absurd (built_or_not text source unit spelled told none)
+one_reason text f g (unfit source spelled is) (memory too) = both_are f g f fault.Memory refl too (memory_too f)
+one_reason text f g (unfit source spelled is) (stopped k d too t) = absurd (never_both text _ _ _ spelled.told.lexed t)
+one_reason text f g (unfit source spelled is) (unspelled k d too t) = absurd (told_or_not text _ k d spelled.told t)
+one_reason text f g (unfit source spelled is) (unbuilt unit too told none) = absurd (built_or_not text source unit spelled told none)
+one_reason text f g (unfit source spelled is) (unfit other s too) =
+    first_is f g g (same_some f g (sym is ∙ ap refusal_of (one_source text source other spelled s) ∙ too)) (itself g)
+
+-- a text has one refusal
+pub refused_once : (text : List ℕ) (f g : ConfigFault) → IsRefused text f → IsRefused text g → SameRefusal f g
+refused_once text f g a b = one_reason text f g (reason text f a) (reason text g b)

@@ -4,21 +4,29 @@ use Rattle.std.specs.Option.{option_map_or}
 use Rattle.st_lexer.specs.declared.token.Token.{Token}
 use Rattle.st_lexer.specs.Lexes.{Lexes, Stops, mark_len, unmarked}
 use Rattle.st_lexer.specs.Places.{line_at, column_at}
-use Rattle.st_parser.specs.Source.{Source}
 use Rattle.st_parser.specs.Lexemes.{lexemes}
-use Rattle.st_parser.specs.Grammar.{Spells}
+use Rattle.st_parser.specs.Units.{PlainUnit}
+use Rattle.st_parser.specs.Declarations.{Spells}
+use Rattle.st_walk.specs.Source.{Source}
 use Rattle.st_walk.specs.declared.faults.FirstFault.TheVariants as first
 use Rattle.st_walk.specs.Faults.{first_fault}
 use Rattle.plant_config.specs.declared.fault.ConfigFault.{ConfigFault}
 use Rattle.plant_config.specs.declared.fault.ConfigFault.TheVariants as fault
+use Rattle.plant_config.specs.Logic.{logic_of}
 use Rattle.plant_config.specs.Meaning.{Meaning}
 use Rattle.plant_config.specs.Example.{condition_of, IsExample}
 
--- a text's tokens spell a unit, which is this source
-pub record Spelled (text : List ℕ) (source : Source) : Type 0 where
+-- a text has tokens, and these spell a unit
+pub record Tells (text : List ℕ) (unit : PlainUnit) : Type 0 where
   pub tokens : List Token
   pub lexed : Lexes text tokens
-  pub spelled : Spells (lexemes text tokens) source
+  pub spelled : Spells (lexemes text tokens) unit
+
+-- a text tells a unit, all of it is built, and this is the unit's source
+pub record Spelled (text : List ℕ) (source : Source) : Type 0 where
+  pub unit : PlainUnit
+  pub told : Tells text unit
+  pub built : logic_of unit ≡ Some source
 
 -- a text spells a source without faults, and the plant is the one that is built in, around this source and its condition
 pub record Accepted (text : List ℕ) (plant : Meaning) : Type 0 where
@@ -34,7 +42,7 @@ start_of text tokens token = option_map_or (λ t. t.from) (slice_get tokens toke
 pub record Unspelled (text : List ℕ) (line column : ℕ) : Type 0 where
   pub tokens : List Token
   pub lexed : Lexes text tokens
-  pub no_unit : (source : Source) → Spells (lexemes text tokens) source → ⊥
+  pub no_unit : (unit : PlainUnit) → Spells (lexemes text tokens) unit → ⊥
   pub token : ℕ
   pub within : token ≤ length tokens
   pub line_is : line ≡ line_at (unmarked text) (start_of text tokens token)
@@ -44,20 +52,24 @@ pub record Unspelled (text : List ℕ) (line column : ℕ) : Type 0 where
 abbrev pub unit_of : Bool → Source → List ℕ
 unit_of globals source = if globals then codes "VAR_GLOBAL" else source.name
 
--- why a source is refused, memory apart: the first fault of its names and kinds, or else that it has no condition
+-- why a source is refused, memory apart: its first fault, or else that it has no condition
 abbrev pub IsUnfit : Source → ConfigFault → Type 0
 IsUnfit source fault.Memory = ⊤
 IsUnfit source (fault.Spelling line column) = ⊥
 IsUnfit source (fault.Grammar line column) = ⊥
+IsUnfit source fault.NotYet = ⊥
 IsUnfit source (fault.Name unit) = (globals : Bool) × (first_fault source ≡ Some (first.Name globals)) × (unit ≡ unit_of globals source)
 IsUnfit source (fault.Kind unit) = (first_fault source ≡ Some first.Kind) × (unit ≡ source.name)
+IsUnfit source (fault.Constant unit) = (first_fault source ≡ Some first.Constant) × (unit ≡ source.name)
+IsUnfit source fault.Turns = first_fault source ≡ Some first.Turns
 IsUnfit source fault.Condition = (first_fault source ≡ None) × (condition_of source ≡ None)
 
--- why a text is refused, memory apart: it has no tokens, or these spell no unit, or the source that they spell is refused
+-- why a text is refused, memory apart: it has no tokens, or these spell no unit, or not all of the unit is built, or its source is refused
 abbrev pub IsRefused : List ℕ → ConfigFault → Type 0
 IsRefused text fault.Memory = ⊤
 IsRefused text (fault.Spelling line column) = Stops text line column
 IsRefused text (fault.Grammar line column) = Unspelled text line column
+IsRefused text fault.NotYet = (unit : PlainUnit) × Tells text unit × (logic_of unit ≡ None)
 IsRefused text fault = (source : Source) × Spelled text source × IsUnfit source fault
 
 -- two refusals are the same, memory and the place of a C5 apart
@@ -67,10 +79,16 @@ SameRefusal (fault.Spelling line column) fault.Memory = ⊤
 SameRefusal (fault.Spelling line column) (fault.Spelling other_line other_column) = (line ≡ other_line) × (column ≡ other_column)
 SameRefusal (fault.Grammar line column) fault.Memory = ⊤
 SameRefusal (fault.Grammar line column) (fault.Grammar other_line other_column) = ⊤
+SameRefusal fault.NotYet fault.Memory = ⊤
+SameRefusal fault.NotYet fault.NotYet = ⊤
 SameRefusal (fault.Name unit) fault.Memory = ⊤
 SameRefusal (fault.Name unit) (fault.Name other) = unit ≡ other
 SameRefusal (fault.Kind unit) fault.Memory = ⊤
 SameRefusal (fault.Kind unit) (fault.Kind other) = unit ≡ other
+SameRefusal (fault.Constant unit) fault.Memory = ⊤
+SameRefusal (fault.Constant unit) (fault.Constant other) = unit ≡ other
+SameRefusal fault.Turns fault.Memory = ⊤
+SameRefusal fault.Turns fault.Turns = ⊤
 SameRefusal fault.Condition fault.Memory = ⊤
 SameRefusal fault.Condition fault.Condition = ⊤
 SameRefusal _ _ = ⊥

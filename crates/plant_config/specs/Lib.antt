@@ -1,6 +1,8 @@
 pub mod Accepted
+pub mod Built
 pub mod Code
 pub mod Example
 pub mod FaultLine
+pub mod Logic
 pub mod Meaning
 pub mod Names

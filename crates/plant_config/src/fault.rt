@@ -17,10 +17,17 @@ pub enum ConfigFault {
     Spelling { line: usize, column: usize },
     /// C5: a token with which no unit goes on, or the text's end.
     Grammar { line: usize, column: usize },
+    /// The source has what isn't built yet: a function block, a word in a kind's place, a call, an output of an instance, an initial
+    /// value, VAR_EXTERNAL, or any number of programs but one.
+    NotYet,
     /// C6: a name that isn't there, is there twice or is a standard block's, in a unit: `VAR_GLOBAL`, or the program by its name.
     Name { unit: Text },
-    /// C7: an operand or a right side of another kind, or an assigned input, in a unit.
+    /// C7: an operand, right side, test, selector, bound or step of another kind, or an assigned input, in a unit.
     Kind { unit: Text },
+    /// C9: a bound or step of a FOR that reads a variable or traps, a step 0, or a control variable that isn't allowed, in a unit.
+    Constant { unit: Text },
+    /// C10: a FOR of more than 10,000 turns.
+    Turns,
     /// C14: the alarm's condition is no BOOL global.
     Condition,
 }
@@ -47,8 +54,11 @@ impl ConfigFault {
             ConfigFault::Grammar { line, column } => {
                 placed(alloc, "CONFIG C5 p.st ", *line, *column)
             }
+            ConfigFault::NotYet => String::from_str(alloc, "CONFIG NOTYET"),
             ConfigFault::Name { unit } => named(alloc, "CONFIG C6 p.st ", unit),
             ConfigFault::Kind { unit } => named(alloc, "CONFIG C7 p.st ", unit),
+            ConfigFault::Constant { unit } => named(alloc, "CONFIG C9 p.st ", unit),
+            ConfigFault::Turns => String::from_str(alloc, "CONFIG C10 TURNS"),
             ConfigFault::Condition => String::from_str(alloc, "CONFIG C14 1 condition"),
         }
     }

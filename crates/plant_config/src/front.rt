@@ -3,30 +3,45 @@
 ghost use Rattle.std.specs.Prelude.{◌≡◌, ◌≤◌, None, IfOk, IfErr, length};
 ghost use Rattle.st_lexer.specs.Lexes.{Lexes, mark_len, unmarked};
 ghost use Rattle.st_lexer.specs.Places.{line_at, column_at};
-ghost use Rattle.st_parser.specs.Grammar.{Spells};
+ghost use Rattle.st_parser.specs.Declarations.{Spells};
 ghost use Rattle.st_parser.specs.Lexemes.{lexemes};
-ghost use Rattle.st_parser.specs.Source.{source_of};
-ghost use Rattle.st_walk.specs.Faults.{first_fault};
+ghost use Rattle.st_parser.specs.Units.{view_unit};
+ghost use Rattle.st_walk.specs.Source.{source_of};
+ghost use Rattle.st_walk.specs.Faults.{first_fault, Refuses};
 ghost use Rattle.plant_config.specs.Accepted.{Spelled, IsRefused, IsUnfit, start_of, unit_of};
 
 use crate::fault::ConfigFault;
+use crate::logic;
 use plant_types::Text;
 use st_lexer::{LexFault, Token, lex};
 use st_parser::{ParseFault, Unit, parse};
-use st_walk::{FirstFault, Flat};
+use st_walk::{FirstFault, Flat, Logic};
 use std::alloc::{AllocError, Global};
 
-/// The logic that a text spells, or why there is none.
-pub fn logic(alloc: Global, text: &[u8]) -> Result<Flat, ConfigFault>
+/// The logic that a text spells, made ready to run, or why there is none.
+pub fn read(alloc: Global, text: &[u8]) -> Result<Flat, ConfigFault>
     ensures spelled { IfOk result (Spelled text.now) }
     ensures sound { IfOk result (λ flat. first_fault flat ≡ None) }
     ensures refused { IfErr result (IsRefused text.now) }
 {
-    let tokens = tokens(alloc, text)?;
-    let unit = unit(alloc, text, tokens.as_slice())?;
-    match flat(alloc, &unit) {
+    let logic = logic(alloc, text)?;
+    match flat(alloc, &logic) {
         Ok(flat) => Ok(flat),
         Err(fault) => Err(fault),
+    }
+}
+
+/// The logic that a text spells, if all of it is built, or C4, C5 or NotYet.
+fn logic(alloc: Global, text: &[u8]) -> Result<Logic, ConfigFault>
+    ensures spelled { IfOk result (λ logic. Spelled text.now (source_of logic)) }
+    ensures refused { IfErr result (IsRefused text.now) }
+{
+    let tokens = tokens(alloc, text)?;
+    let unit = unit(alloc, text, tokens.as_slice())?;
+    match logic::logic(alloc, &unit) {
+        Ok(Some(logic)) => Ok(logic),
+        Ok(None) => Err(ConfigFault::NotYet),
+        Err(AllocError) => Err(ConfigFault::Memory),
     }
 }
 
@@ -45,7 +60,7 @@ fn tokens(alloc: Global, text: &[u8]) -> Result<Vec<Token>, ConfigFault>
 /// The unit that a text's tokens spell, or C5.
 fn unit(alloc: Global, text: &[u8], tokens: &[Token]) -> Result<Unit, ConfigFault>
     requires { Lexes text.now tokens.now }
-    ensures unit { IfOk result (λ unit. Spells (lexemes text.now tokens.now) (source_of unit)) }
+    ensures unit { IfOk result (λ unit. Spells (lexemes text.now tokens.now) (view_unit unit)) }
     ensures refused { IfErr result (IsRefused text.now) }
 {
     match parse(alloc, text, tokens) {
@@ -87,33 +102,48 @@ fn start(text: &[u8], tokens: &[Token], token: usize) -> usize
     at.saturating_sub(mark_len(text))
 }
 
-/// The logic of a unit, or C6 or C7.
-fn flat(alloc: Global, unit: &Unit) -> Result<Flat, ConfigFault>
-    ensures flat { IfOk result (λ flat. (flat ≡ source_of unit.now) × (first_fault flat ≡ None)) }
-    ensures refused { IfErr result (IsUnfit (source_of unit.now)) }
+/// The logic made ready to run, or its first fault.
+fn flat(alloc: Global, logic: &Logic) -> Result<Flat, ConfigFault>
+    ensures flat { IfOk result (λ flat. (flat ≡ source_of logic.now) × (first_fault flat ≡ None)) }
+    ensures refused { IfErr result (IsUnfit (source_of logic.now)) }
 {
-    match Flat::of(alloc, unit) {
+    match Flat::of(alloc, logic) {
         Ok(flat) => Ok(flat),
-        Err(FirstFault::Memory) => Err(ConfigFault::Memory),
-        Err(FirstFault::Name { globals }) => match unit_name(alloc, globals, unit) {
-            Ok(unit) => Err(ConfigFault::Name { unit }),
-            Err(AllocError) => Err(ConfigFault::Memory),
+        Err(fault) => Err(told(alloc, fault, logic)),
+    }
+}
+
+/// How the first fault of a logic is told: C6, C7, C9 or C10.
+fn told(alloc: Global, fault: FirstFault, logic: &Logic) -> ConfigFault
+    requires { Refuses (first_fault (source_of logic.now)) fault }
+    ensures { IsUnfit (source_of logic.now) result }
+{
+    match fault {
+        FirstFault::Memory => ConfigFault::Memory,
+        FirstFault::Name { globals } => match unit_name(alloc, globals, logic) {
+            Ok(unit) => ConfigFault::Name { unit },
+            Err(AllocError) => ConfigFault::Memory,
         },
-        Err(FirstFault::Kind) => match unit_name(alloc, false, unit) {
-            Ok(unit) => Err(ConfigFault::Kind { unit }),
-            Err(AllocError) => Err(ConfigFault::Memory),
+        FirstFault::Kind => match unit_name(alloc, false, logic) {
+            Ok(unit) => ConfigFault::Kind { unit },
+            Err(AllocError) => ConfigFault::Memory,
         },
+        FirstFault::Constant => match unit_name(alloc, false, logic) {
+            Ok(unit) => ConfigFault::Constant { unit },
+            Err(AllocError) => ConfigFault::Memory,
+        },
+        FirstFault::Turns => ConfigFault::Turns,
     }
 }
 
 /// The name of the unit in which a fault is.
-fn unit_name(alloc: Global, globals: bool, unit: &Unit) -> Result<Text, AllocError>
-    ensures { IfOk result (λ name. name ≡ unit_of globals (source_of unit.now)) }
+fn unit_name(alloc: Global, globals: bool, logic: &Logic) -> Result<Text, AllocError>
+    ensures { IfOk result (λ name. name ≡ unit_of globals (source_of logic.now)) }
 {
     if globals {
         Text::from_str(alloc, "VAR_GLOBAL")
     } else {
-        unit.program.name.copy(alloc)
+        logic.program.name.copy(alloc)
     }
 }
 

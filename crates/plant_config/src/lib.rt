@@ -1,10 +1,12 @@
 //! A plant as it is configured: its logic, areas, consoles and alarms.
 #![tactic(auto)]
 
+mod built;
 mod example;
 mod fault;
 mod front;
 mod laws;
+mod logic;
 mod plant;
 mod rows;
 #[cfg(test)]

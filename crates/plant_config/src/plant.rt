@@ -43,7 +43,7 @@ impl Model for Plant {
 
 impl Plant {
     /// The plant that is built in, around the logic of a source: areas north and south, console 1 for north and 2 for south, and
-    /// the alarm T1 in north on the BOOL global `c`. The source is Structured Text (IEC 61131-3, this profile's first language).
+    /// the alarm T1 in north on the BOOL global `c`. The source is Structured Text (IEC 61131-3, this profile).
     ///
     /// Every fault but `Memory` is the first that the source has, in the order of `ConfigFault`. `Memory` comes where a growth is
     /// refused, and where the number of the global `c` is 2^32 or more.
@@ -53,7 +53,7 @@ impl Plant {
         // What is accepted is taken, memory apart.
         ensures accepted { (plant : Meaning) → Accepted source.now plant → IfErr result (λ e. e ≡ fault.Memory) }
     {
-        match front::logic(alloc, source) {
+        match front::read(alloc, source) {
             Ok(flat) => Plant::around(alloc, flat),
             Err(fault) => Err(fault),
         }
@@ -187,6 +187,15 @@ impl Plant {
     {
         let _number = program;
         self.flat.program()
+    }
+
+    /// The path that a place of a trap names by its number, as a fault prints it: the names that lead there, with points between
+    /// them. It is the program's name, as declared.
+    pub fn path(&self, path: u32) -> &str
+        requires { path < 1 }
+        ensures { result.now ≡ self.now.source.name }
+    {
+        self.program(path)
     }
 }
 

@@ -11,6 +11,10 @@ fn letter_case_has_no_meaning(rt: HostRuntime) {
         (b"a".as_slice(), b"b".as_slice(), false),
         (b"a".as_slice(), b"aa".as_slice(), false),
         (b"[".as_slice(), b"{".as_slice(), false),
+        (b"@".as_slice(), b"`".as_slice(), false),
+        (b"_".as_slice(), b"\x7f".as_slice(), false),
+        (b"AZ".as_slice(), b"az".as_slice(), true),
+        (b"\xc3\x84".as_slice(), b"\xc3\xa4".as_slice(), false),
         (b"".as_slice(), b"".as_slice(), true),
     ] {
         assert!(rt; same_word(left, right) == want);
@@ -27,6 +31,18 @@ fn words_have_a_form(rt: HostRuntime) {
         (b"".as_slice(), false),
         (b"a-b".as_slice(), false),
         (b"\xc3\xa4".as_slice(), false),
+        (b"AZaz_09".as_slice(), true),
+        (b"Z9".as_slice(), true),
+        (b"a@".as_slice(), false),
+        (b"a[".as_slice(), false),
+        (b"a`".as_slice(), false),
+        (b"a{".as_slice(), false),
+        (b"a/".as_slice(), false),
+        (b"a:".as_slice(), false),
+        (b"a.b".as_slice(), false),
+        (b"a b".as_slice(), false),
+        (b"$a".as_slice(), false),
+        (b"a#".as_slice(), false),
     ] {
         assert!(rt; is_name(word) == want);
     }
@@ -46,7 +62,26 @@ fn each_kind_takes_its_range(rt: HostRuntime) {
             Given::Whole(-2147483648),
             Some(Value::Dint(-2147483648)),
         ),
+        (
+            Kind::Dint,
+            Given::Whole(2147483647),
+            Some(Value::Dint(2147483647)),
+        ),
         (Kind::Dint, Given::Whole(2147483648), None),
+        (Kind::Dint, Given::Whole(-2147483649), None),
+        (Kind::Time, Given::Truth(false), None),
+        (
+            Kind::Time,
+            Given::Whole(9223372036854775807),
+            Some(Value::Time(9223372036854775807)),
+        ),
+        (
+            Kind::Time,
+            Given::Whole(-9223372036854775808),
+            Some(Value::Time(-9223372036854775808)),
+        ),
+        (Kind::Time, Given::Whole(-9223372036854775809), None),
+        (Kind::Bool, Given::Truth(false), Some(Value::Bool(false))),
         (Kind::Time, Given::Whole(-1500), Some(Value::Time(-1500))),
         (Kind::Time, Given::Whole(9223372036854775808), None),
     ] {
@@ -57,6 +92,12 @@ fn each_kind_takes_its_range(rt: HostRuntime) {
 #[test]
 fn values_are_whole_numbers(rt: HostRuntime) {
     assert_eq!(rt; Value::Bool(true).worth(), 1);
+    assert_eq!(rt; Value::Bool(false).worth(), 0);
+    assert_eq!(rt; Value::Dint(-2147483648).worth(), -2147483648);
+    assert_eq!(rt; Value::Bool(false).kind(), Kind::Bool);
+    assert_eq!(rt; Value::Time(7).kind(), Kind::Time);
+    assert_eq!(rt; Value::of_kind(Kind::Bool, 0), Value::Bool(false));
+    assert_eq!(rt; Value::of_kind(Kind::Time, 3000), Value::Time(3000));
     assert_eq!(rt; Value::Time(-3000).worth(), -3000);
     assert_eq!(rt; Value::Dint(7).kind(), Kind::Dint);
     assert_eq!(rt; Value::of_kind(Kind::Bool, 1), Value::Bool(true));

@@ -87,6 +87,9 @@ fn typed_literals_have_values(rt: HostRuntime) {
         (b"%qd1".as_slice(), TokenKind::Address(Region::Output)),
         (b"%MW*".as_slice(), TokenKind::Address(Region::Plain)),
         (b"%i12.3.45".as_slice(), TokenKind::Address(Region::Input)),
+        (b"%QB7".as_slice(), TokenKind::Address(Region::Output)),
+        (b"%ml0".as_slice(), TokenKind::Address(Region::Plain)),
+        (b"%M*".as_slice(), TokenKind::Address(Region::Plain)),
     ] {
         assert!(rt; has_kinds(rt.alloc(), text, &[kind]));
     }
@@ -123,6 +126,22 @@ fn what_is_no_token_has_a_place(rt: HostRuntime) {
         (b"%".as_slice(), 1, 1),
         (b"%X1".as_slice(), 1, 1),
         (b"%I_1".as_slice(), 1, 1),
+        (b"%I1_0".as_slice(), 1, 1),
+        (b"%IK1".as_slice(), 1, 1),
+        (b"%IXX1".as_slice(), 1, 1),
+        (b"DINT#-2147483649".as_slice(), 1, 1),
+        (b"DINT#--1".as_slice(), 1, 1),
+        (b"T#-9223372036854775809ms".as_slice(), 1, 1),
+        (b"T#_1s".as_slice(), 1, 1),
+        (b"T#1_s".as_slice(), 1, 1),
+        (b"T#1s__1ms".as_slice(), 1, 1),
+        (b"16#_F".as_slice(), 1, 1),
+        (b"9#1".as_slice(), 1, 1),
+        (b"8#8".as_slice(), 1, 1),
+        (b"16#G".as_slice(), 1, 1),
+        (b"a\t?".as_slice(), 1, 3),
+        (b"a\r?".as_slice(), 1, 3),
+        (b"\xC3\xA4".as_slice(), 1, 1),
         (b"(*)".as_slice(), 1, 1),
         (b"/*/".as_slice(), 1, 1),
         (b"PROGRAM p (* x".as_slice(), 1, 11),
@@ -148,6 +167,8 @@ fn pieces_are_the_longest(rt: HostRuntime) {
     assert!(rt; has_kinds(alloc, b"(* a (* /* \xFF *)b", &[word]));
     assert!(rt; has_kinds(alloc, b"/* ** * // */a//(*\nb//", &[word, word]));
     assert!(rt; has_kinds(alloc, b"(**)/**/", &[]));
+    assert!(rt; has_kinds(alloc, b"//a\rb\x0Cc\nd", &[word]));
+    assert!(rt; has_kinds(alloc, b"/**)*/(**/*)", &[]));
     assert!(rt;
         has_kinds(
             alloc,
@@ -255,6 +276,81 @@ fn every_keyword_is_a_token(rt: HostRuntime) {
     ] {
         assert!(rt; has_kinds(rt.alloc(), text, &[TokenKind::Keyword(keyword)]));
     }
+}
+
+// A text of each byte alone: a separator, a word, an integer, a symbol, or no token.
+#[test]
+fn every_byte_is_what_it_is(rt: HostRuntime) {
+    for byte in 0..=255u8 {
+        let text = [byte];
+        let alloc = rt.alloc();
+        let is = match byte {
+            b' ' | 9 | 10 | 12 | 13 => has_kinds(alloc, &text, &[]),
+            b'A'..=b'Z' | b'a'..=b'z' | b'_' => has_kinds(alloc, &text, &[TokenKind::Word]),
+            b'0'..=b'9' => {
+                has_kinds(alloc, &text, &[TokenKind::Integer(u32::from(byte - b'0'))])
+            }
+            b':'
+            | b';'
+            | b','
+            | b'('
+            | b')'
+            | b'.'
+            | b'+'
+            | b'-'
+            | b'*'
+            | b'/'
+            | b'&'
+            | b'='
+            | b'<'
+            | b'>' => !is_bad(alloc, &text, 1, 1),
+            _ => is_bad(alloc, &text, 1, 1),
+        };
+        assert!(rt; is, "{byte}");
+    }
+}
+
+// Words that look like keywords, or are those of a larger language.
+#[test]
+fn other_words_are_words(rt: HostRuntime) {
+    for text in [
+        b"WHILE".as_slice(),
+        b"REPEAT".as_slice(),
+        b"EXIT".as_slice(),
+        b"RETURN".as_slice(),
+        b"REAL".as_slice(),
+        b"TON".as_slice(),
+        b"R_TRIG".as_slice(),
+        b"VAR_IN_OUT".as_slice(),
+        b"END".as_slice(),
+        b"END_IF_".as_slice(),
+        b"_IF".as_slice(),
+        b"IFS".as_slice(),
+        b"T".as_slice(),
+    ] {
+        assert!(rt; has_kinds(rt.alloc(), text, &[TokenKind::Word]));
+    }
+}
+
+/// How many tokens a text has that says one word so many times.
+fn count_of(alloc: Global, times: u32) -> Result<usize, LexFault> {
+    let mut text = Vec::new(alloc);
+    for _ in 0..times {
+        text.push(b'a')?;
+        text.push(b' ')?;
+    }
+    Ok(lex(alloc, text.as_slice())?.len())
+}
+
+// With ample memory a long text has its tokens too.
+#[test]
+fn long_texts_have_tokens(rt: HostRuntime) {
+    let alloc = rt.alloc();
+    let found = match count_of(alloc, 20_000) {
+        Ok(found) => found,
+        Err(_) => count_of(alloc, 20_000).unwrap_or(0),
+    };
+    assert_eq!(rt; found, 20_000);
 }
 
 fn stands_at(alloc: Global, text: &[u8], from: usize, until: usize) -> bool {

@@ -1,6 +1,9 @@
 pub mod Steps
 pub mod Chain
 pub mod Complete
-pub mod Sound
 pub mod Many
-pub mod Sources
+pub mod Sound
+pub mod ReadStatements
+pub mod FoundStatements
+pub mod ReadUnits
+pub mod FoundUnits

@@ -1,7 +1,7 @@
 -- Reading one lexeme, and what an answer of two steps says of each.
-use Rattle.std.proofs.Common.{◌≡◌, ℕ, List, [], ◌∷◌, Option, Some, None, drop, refl, sym, ap, ◌∙◌, subst, Bool, true, false, cond, ◌⊎◌, inl, inr, ◌≤◌, ◌<◌, nat_le}
+use Rattle.std.proofs.Common.{◌≡◌, ℕ, List, [], ◌∷◌, drop, Option, Some, None, refl, sym, ap, ◌∙◌, subst, Bool, true, false, cond, ◌⊎◌, inl, inr, ◌≤◌, ◌<◌, nat_le}
 use Rattle.std.proofs.lemmas.Bool.Decides.{leb_tells}
-use denote.Enum.Bare.{sameb, same_true, true_same}
+use denote.Enum.Bare.{same_true}
 use Rattle.st_lexer.specs.contracts.token.Keyword.{the_type as keyword_type}
 use Rattle.st_lexer.specs.contracts.token.Symbol.{the_type as symbol_type}
 use Rattle.st_lexer.specs.declared.token.Keyword.{Keyword}
@@ -9,13 +9,17 @@ use Rattle.st_lexer.specs.declared.token.Symbol.{Symbol}
 use Rattle.st_lexer.specs.declared.token.TokenKind.{TokenKind}
 use Rattle.st_lexer.specs.declared.token.TokenKind.TheVariants as kind
 use Rattle.st_parser.specs.Lexemes.{Lexeme, word, keyword, symbol, lexeme_of, first_name}
-use Rattle.st_parser.specs.Reading.{Answer, tree_of, ◌>>=◌, word_at, symbol_at, keyword_at}
+use Rattle.st_parser.specs.Reading.{Answer, tree_of, ◌>>=◌, word_at, next_symbol, next_keyword, symbol_at, keyword_at}
 use Rattle.st_parser.specs.Outcome.{Fails}
 use Rattle.st_parser.specs.declared.fault.Stop.{Stop}
 use Rattle.st_parser.specs.declared.fault.Stop.TheVariants as stop
 
 pub both_ways : (l k : ℕ) → ((nat_le l k ≡ true) × (l ≤ k)) ⊎ ((nat_le l k ≡ false) × (k < l))
 both_ways l k = leb_tells l k
+
+pub true_or_false : (b : Bool) → (b ≡ true) ⊎ (b ≡ false)
+true_or_false true = inl refl
+true_or_false false = inr refl
 
 pub some_or_none : {A : Type 0} (o : Option A) → (o ≡ None) ⊎ ((x : A) × (o ≡ Some x))
 some_or_none None = inl refl
@@ -28,32 +32,36 @@ bind_some None f y h = absurd (cc)
 pub same_some : {A : Type 0} (x y : A) → (let s : Option A = Some x in s) ≡ Some y → x ≡ y
 same_some x y h = cc
 
-pub symbol_read : (wanted : Symbol) (ts : List Lexeme) → symbol_at wanted (symbol wanted ∷ ts) ≡ Some ts
-symbol_read wanted ts = ap (λ b. cond b (Some ts) None) (true_same symbol_type wanted wanted refl)
-
-pub keyword_read : (wanted : Keyword) (ts : List Lexeme) → keyword_at wanted (keyword wanted ∷ ts) ≡ Some ts
-keyword_read wanted ts = ap (λ b. cond b (Some ts) None) (true_same keyword_type wanted wanted refl)
-
 -- a test that was passed
-passed : {A : Type 0} (b : Bool) (x y : A) → cond b (let s : Option A = Some x in s) None ≡ Some y → (b ≡ true) × (x ≡ y)
-passed true x y h = (refl, same_some x y h)
-passed false x y h = absurd (cc)
+pub passed : {A : Type 0} (b : Bool) (o : Option A) (y : A) → cond b o None ≡ Some y → (b ≡ true) × (o ≡ Some y)
+passed true o y h = (refl, h)
+passed false o y h = absurd (cc)
+
+symbol_next : (wanted : Symbol) (ts : List Lexeme) → next_symbol wanted ts ≡ true → ts ≡ symbol wanted ∷ drop 1 ts
+symbol_next wanted (symbol found ∷ ts) h = ap (λ x. symbol x ∷ ts) (same_true symbol_type tt found wanted h)
+symbol_next wanted [] h = absurd (cc)
+symbol_next wanted (_ ∷ ts) h = absurd (cc)
+
+keyword_next : (wanted : Keyword) (ts : List Lexeme) → next_keyword wanted ts ≡ true → ts ≡ keyword wanted ∷ drop 1 ts
+keyword_next wanted (keyword found ∷ ts) h = ap (λ x. keyword x ∷ ts) (same_true keyword_type tt found wanted h)
+keyword_next wanted [] h = absurd (cc)
+keyword_next wanted (_ ∷ ts) h = absurd (cc)
+
+pub next_is_symbol : (wanted : Symbol) (ts : List Lexeme) → next_symbol wanted ts ≡ true → ts ≡ symbol wanted ∷ drop 1 ts
+next_is_symbol = symbol_next
+
+pub next_is_keyword : (wanted : Keyword) (ts : List Lexeme) → next_keyword wanted ts ≡ true → ts ≡ keyword wanted ∷ drop 1 ts
+next_is_keyword = keyword_next
 
 pub symbol_found : (wanted : Symbol) (ts rest : List Lexeme) → symbol_at wanted ts ≡ Some rest → ts ≡ symbol wanted ∷ rest
-symbol_found wanted (symbol found ∷ ts) rest h =
-    let p = passed (sameb symbol_type found wanted) ts rest h in
-    let same = same_true symbol_type tt found wanted p.0 in
-    ap (λ s. symbol s ∷ ts) same ∙ ap (λ r. symbol wanted ∷ r) p.1
-symbol_found wanted [] rest h = absurd (cc)
-symbol_found wanted (_ ∷ ts) rest h = absurd (cc)
+symbol_found wanted ts rest h =
+    let p = passed (next_symbol wanted ts) (Some (drop 1 ts)) rest h in
+    symbol_next wanted ts p.0 ∙ ap (λ r. symbol wanted ∷ r) (same_some _ _ p.1)
 
 pub keyword_found : (wanted : Keyword) (ts rest : List Lexeme) → keyword_at wanted ts ≡ Some rest → ts ≡ keyword wanted ∷ rest
-keyword_found wanted (keyword found ∷ ts) rest h =
-    let p = passed (sameb keyword_type found wanted) ts rest h in
-    let same = same_true keyword_type tt found wanted p.0 in
-    ap (λ s. keyword s ∷ ts) same ∙ ap (λ r. keyword wanted ∷ r) p.1
-keyword_found wanted [] rest h = absurd (cc)
-keyword_found wanted (_ ∷ ts) rest h = absurd (cc)
+keyword_found wanted ts rest h =
+    let p = passed (next_keyword wanted ts) (Some (drop 1 ts)) rest h in
+    keyword_next wanted ts p.0 ∙ ap (λ r. keyword wanted ∷ r) (same_some _ _ p.1)
 
 pub word_found : (ts : List Lexeme) (r : List ℕ × List Lexeme) → word_at ts ≡ Some r → ts ≡ word r.0 ∷ r.1
 word_found (word name ∷ ts) r h = ap (λ (p : List ℕ × List Lexeme). word p.0 ∷ p.1) (same_some _ _ h)

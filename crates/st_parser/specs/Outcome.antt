@@ -4,9 +4,9 @@ use Rattle.st_parser.specs.declared.fault.ParseFault.{ParseFault}
 use Rattle.st_parser.specs.declared.fault.ParseFault.TheVariants as fault
 use Rattle.st_parser.specs.declared.fault.Stop.{Stop}
 use Rattle.st_parser.specs.declared.fault.Stop.TheVariants as stop
-use Rattle.st_parser.specs.Grammar.{Spells}
+use Rattle.st_parser.specs.Declarations.{Spells}
 use Rattle.st_parser.specs.Lexemes.{Lexeme}
-use Rattle.st_parser.specs.Source.{Source}
+use Rattle.st_parser.specs.Units.{PlainUnit}
 
 abbrev pub Fails : {Y : Type 0} → Stop → Option Y → Type 0
 Fails stop.Memory answer = Unit {0}
@@ -20,7 +20,7 @@ Gives view (Err e) answer = Fails e answer
 -- the lexemes spell no unit, or memory ran out
 abbrev pub SpellNone : List Lexeme → ParseFault → Type 0
 SpellNone ts fault.Memory = Unit {0}
-SpellNone ts (fault.At token) = (source : Source) → Spells ts source → ⊥
+SpellNone ts (fault.At token) = (u : PlainUnit) → Spells ts u → ⊥
 
 -- a fault names one of so many tokens, or their end
 abbrev pub NamesOneOf : ℕ → ParseFault → Type 0

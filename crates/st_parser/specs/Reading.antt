@@ -1,23 +1,21 @@
--- The phrase at the front of lexemes, and the lexemes behind it.
-use Rattle.std.specs.Prelude.{ℕ, zero, suc, ◌+◌, max, nat_le, Bool, true, false, List, [], ◌∷◌, ◌++◌, drop, length, Option, Some, None, if◌then◌else◌}
+-- The phrase at the front of lexemes, and the lexemes behind it: single lexemes, lists of phrases, and expressions.
+use Rattle.std.specs.Prelude.{ℕ, zero, suc, ◌+◌, max, nat_le, pos, Bool, true, false, List, [], ◌∷◌, ◌++◌, drop, length, Option, Some, None, if◌then◌else◌}
+use Rattle.std.proofs.Common.{neg_ℤ}
 use denote.Enum.Bare.{sameb}
-use Rattle.plant_types.specs.declared.values.Kind.TheVariants as kind
 use Rattle.plant_types.specs.declared.values.Value.TheVariants as value
 use Rattle.st_lexer.specs.contracts.token.Keyword.{the_type as keyword_type}
 use Rattle.st_lexer.specs.contracts.token.Symbol.{the_type as symbol_type}
 use Rattle.st_lexer.specs.declared.token.Keyword.{Keyword}
 use Rattle.st_lexer.specs.declared.token.Keyword.TheVariants as k
-use Rattle.st_lexer.specs.declared.token.Region.{Region}
 use Rattle.st_lexer.specs.declared.token.Symbol.{Symbol}
 use Rattle.st_lexer.specs.declared.token.Symbol.TheVariants as s
 use Rattle.st_tree.specs.declared.tree.Binary.{Binary}
+use Rattle.st_tree.specs.declared.tree.Literal.TheVariants.{Value}
 use Rattle.st_tree.specs.declared.tree.Unary.{Unary}
 use Rattle.st_tree.specs.declared.tree.Unary.TheVariants as u
-use Rattle.st_tree.specs.Plain.{PlainExpr, literal, read, one, two, PlainBody, done, next, assign}
-use Rattle.st_parser.specs.Lexemes.{Lexeme, word, keyword, address, symbol}
-use Rattle.st_parser.specs.Grammar.{operator_of, level_of, top}
-use Rattle.st_parser.specs.Source.{Source}
-use Rattle.st_parser.specs.declared.unit.Variable.{Variable}
+use Rattle.st_tree.specs.Plain.{PlainExpr, literal, read, output_of, one, two}
+use Rattle.st_parser.specs.Lexemes.{Lexeme, word, keyword, integer, symbol}
+use Rattle.st_parser.specs.Grammar.{literal_of, operator_of, level_of, top, grouped}
 
 infixl 10 ◌>>=◌
 abbrev pub ◌>>=◌ : {A B : Type 0} → Option A → (A → Option B) → Option B
@@ -29,13 +27,66 @@ abbrev pub word_at : List Lexeme → Option (List ℕ × List Lexeme)
 word_at (word name ∷ ts) = Some (name, ts)
 word_at _ = None
 
+-- whether this symbol, this keyword, a word is next
+abbrev pub next_symbol : Symbol → List Lexeme → Bool
+next_symbol wanted (symbol found ∷ ts) = sameb symbol_type found wanted
+next_symbol wanted _ = false
+
+abbrev pub next_keyword : Keyword → List Lexeme → Bool
+next_keyword wanted (keyword found ∷ ts) = sameb keyword_type found wanted
+next_keyword wanted _ = false
+
+abbrev pub next_word : List Lexeme → Bool
+next_word (word name ∷ ts) = true
+next_word _ = false
+
 abbrev pub symbol_at : Symbol → List Lexeme → Option (List Lexeme)
-symbol_at wanted (symbol found ∷ ts) = if sameb symbol_type found wanted then Some ts else None
-symbol_at wanted _ = None
+symbol_at wanted ts = if next_symbol wanted ts then Some (drop 1 ts) else None
 
 abbrev pub keyword_at : Keyword → List Lexeme → Option (List Lexeme)
-keyword_at wanted (keyword found ∷ ts) = if sameb keyword_type found wanted then Some ts else None
-keyword_at wanted _ = None
+keyword_at wanted ts = if next_keyword wanted ts then Some (drop 1 ts) else None
+
+-- ---- phrases of phrases
+abbrev pub ahead : {A : Type 0} → A → List A × List Lexeme → Option (List A × List Lexeme)
+ahead a more = Some (a ∷ more.0, more.1)
+
+-- what was read before, and what is read behind it
+abbrev pub behind : {A : Type 0} → List A → Option (List A × List Lexeme) → Option (List A × List Lexeme)
+behind before None = None
+behind before (Some more) = Some (before ++ more.0, more.1)
+
+module _ {A : Type 0} (starts : List Lexeme → Bool) (one_at : List Lexeme → Option (A × List Lexeme)) where
+  -- one after another; each takes a lexeme at least
+  abbrev pub many : ℕ → List Lexeme → Option (List A × List Lexeme)
+  many zero ts = if starts ts then None else Some ([], ts)
+  many (suc fuel) ts = if starts ts then (one_at ts >>= λ a. many fuel a.1 >>= ahead a.0) else Some ([], ts)
+
+  -- as many as there are
+  abbrev pub all_at : List Lexeme → Option (List A × List Lexeme)
+  all_at ts = many (length ts) ts
+
+  abbrev pub perhaps_at : List Lexeme → Option (Option A × List Lexeme)
+  perhaps_at ts = if starts ts then (one_at ts >>= λ a. Some (Some a.0, a.1)) else Some (None, ts)
+
+abbrev pub after_symbol : {A : Type 0} → Symbol → (List Lexeme → Option (A × List Lexeme)) → List Lexeme → Option (A × List Lexeme)
+after_symbol wanted one_at ts = symbol_at wanted ts >>= one_at
+
+abbrev pub after_keyword : {A : Type 0} → Keyword → (List Lexeme → Option (A × List Lexeme)) → List Lexeme → Option (A × List Lexeme)
+after_keyword wanted one_at ts = keyword_at wanted ts >>= one_at
+
+abbrev pub others_at : {A : Type 0} → (List Lexeme → Option (A × List Lexeme)) → List Lexeme → Option (List A × List Lexeme)
+others_at one_at ts = all_at (next_symbol s.Comma) (after_symbol s.Comma one_at) ts
+
+abbrev pub listed_at : {A : Type 0} → (List Lexeme → Option (A × List Lexeme)) → List Lexeme → Option (List A × List Lexeme)
+listed_at one_at ts = one_at ts >>= λ a. behind (a.0 ∷ []) (others_at one_at a.1)
+
+-- what a table says of the next lexeme
+abbrev pub told_next : {A : Type 0} → (Lexeme → Option A) → List Lexeme → Option A
+told_next table [] = None
+told_next table (t ∷ ts) = table t
+
+abbrev pub told_at : {A : Type 0} → (Lexeme → Option A) → List Lexeme → Option (A × List Lexeme)
+told_at table ts = told_next table ts >>= λ a. Some (a, drop 1 ts)
 
 -- ---- expressions: the tree, its depth, and what is behind it
 abbrev pub Answer : Type 0
@@ -57,15 +108,34 @@ prefixed op (Some r) = Some (one op r.0, r.1 + 1, r.2)
 
 abbrev pub closed : PlainExpr (List ℕ) → ℕ → Option (List Lexeme) → Answer
 closed e n None = None
-closed e n (Some ts) = Some (e, n + 1, ts)
+closed e n (Some ts) = Some (grouped e, n + 1, ts)
+
+-- a literal that a lexeme is by itself
+abbrev pub constant_at : Option (PlainExpr (List ℕ)) → List Lexeme → Answer
+constant_at None ts = None
+constant_at (Some e) ts = Some (e, 1, ts)
+
+-- behind the name of an instance and a point
+abbrev pub part_at : List ℕ → List Lexeme → Answer
+part_at name ts = word_at ts >>= λ part. Some (output_of name part.0, 1, part.1)
+
+-- behind a word
+abbrev pub named_at : List ℕ → List Lexeme → Answer
+named_at name ts = if next_symbol s.Point ts then part_at name (drop 1 ts) else Some (read name, 1, ts)
+
+-- behind a minus
+abbrev pub minus_at : (ℕ → List Lexeme → Answer) → List Lexeme → Answer
+minus_at inner (integer n ∷ ts) = if nat_le n 2147483648 then Some (literal (Value (value.Dint (neg_ℤ (pos n)))), 1, ts) else None
+minus_at inner [] = prefixed u.Negate (inner top [])
+minus_at inner (t ∷ ts) = prefixed u.Negate (inner top (t ∷ ts))
 
 unfoldable pub operand : (ℕ → List Lexeme → Answer) → List Lexeme → Answer
-operand inner (word name ∷ ts) = Some (read name, 1, ts)
-operand inner (keyword k.True ∷ ts) = Some (literal (value.Bool true), 1, ts)
-operand inner (keyword k.False ∷ ts) = Some (literal (value.Bool false), 1, ts)
+operand inner [] = None
+operand inner (word name ∷ ts) = named_at name ts
 operand inner (keyword k.Not ∷ ts) = prefixed u.Not (inner top ts)
+operand inner (symbol s.Minus ∷ ts) = minus_at inner ts
 operand inner (symbol s.Open ∷ ts) = inner 0 ts >>= λ r. closed r.0 r.1 (symbol_at s.Close r.2)
-operand inner _ = None
+operand inner (t ∷ ts) = constant_at (literal_of t) ts
 
 abbrev pub go_on : Answer → Option Binary → (Binary → Answer) → Answer
 go_on stop None more = stop
@@ -83,61 +153,10 @@ abbrev pub climb : ℕ → ℕ → List Lexeme → Answer
 climb zero level ts = None
 climb (suc d) level ts = operand (climb d) ts >>= λ r. chain (climb d) d level (suc d) r.0 r.1 r.2
 
-unfoldable pub expression_at : List Lexeme → Answer
-expression_at ts = climb 128 0 ts
-
 -- without its depth
 abbrev pub tree_of : Answer → Option (PlainExpr (List ℕ) × List Lexeme)
 tree_of None = None
 tree_of (Some r) = Some (r.0, r.2)
 
--- ---- phrases one after another
-abbrev pub ahead : {A : Type 0} → A → List A × List Lexeme → Option (List A × List Lexeme)
-ahead a more = Some (a ∷ more.0, more.1)
-
-module _ {A : Type 0} (starts : List Lexeme → Bool) (one_at : List Lexeme → Option (A × List Lexeme)) where
-  -- each takes a lexeme at least
-  abbrev pub many : ℕ → List Lexeme → Option (List A × List Lexeme)
-  many zero ts = if starts ts then None else Some ([], ts)
-  many (suc fuel) ts = if starts ts then (one_at ts >>= λ a. many fuel a.1 >>= ahead a.0) else Some ([], ts)
-
--- what was read before, and what is read behind it
-abbrev pub behind : {A : Type 0} → List A → Option (List A × List Lexeme) → Option (List A × List Lexeme)
-behind before None = None
-behind before (Some more) = Some (before ++ more.0, more.1)
-
--- ---- declarations
-abbrev pub after_at : List Lexeme → Option (Option Region × List Lexeme)
-after_at (address r ∷ ts) = Some (Some r, ts)
-after_at _ = None
-
-abbrev pub region_at : List Lexeme → Option (Option Region × List Lexeme)
-region_at (keyword k.At ∷ ts) = after_at ts
-region_at ts = Some (None, ts)
-
-unfoldable pub declaration_at : List Lexeme → Option (Variable × List Lexeme)
-declaration_at ts =
-    word_at ts >>= λ name. region_at name.1 >>= λ region. symbol_at s.Colon region.1 >>= λ colon. keyword_at k.Bool colon >>= λ bool. symbol_at s.Semicolon bool >>= λ rest.
-    Some (record { name = name.0; region = region.0; kind = kind.Bool }, rest)
-
--- all but END_VAR begins a declaration or nothing
-abbrev pub declares : List Lexeme → Bool
-declares (keyword k.EndVar ∷ ts) = false
-declares _ = true
-
-unfoldable pub globals_at : List Lexeme → Option (List Variable × List Lexeme)
-globals_at ts = keyword_at k.VarGlobal ts >>= λ inside. many declares declaration_at (length inside) inside >>= λ globals. keyword_at k.EndVar globals.1 >>= λ rest. Some (globals.0, rest)
-
--- ---- units
-unfoldable pub assignment_at : List Lexeme → Option (PlainBody (List ℕ) × List Lexeme)
-assignment_at ts =
-    word_at ts >>= λ target. symbol_at s.Becomes target.1 >>= λ right. tree_of (expression_at right) >>= λ e. symbol_at s.Semicolon e.1 >>= λ rest.
-    Some (next (assign target.0 e.0) done, rest)
-
-unfoldable pub program_at : List Lexeme → Option ((List ℕ × PlainBody (List ℕ)) × List Lexeme)
-program_at ts =
-    keyword_at k.Program ts >>= λ behind. word_at behind >>= λ name. assignment_at name.1 >>= λ body. keyword_at k.EndProgram body.1 >>= λ rest.
-    Some ((name.0, body.0), rest)
-
-unfoldable pub unit_at : List Lexeme → Option (Source × List Lexeme)
-unit_at ts = globals_at ts >>= λ globals. program_at globals.1 >>= λ program. Some (record { globals = globals.0; name = program.0.0; body = program.0.1 }, program.1)
+unfoldable pub expression_at : List Lexeme → Option (PlainExpr (List ℕ) × List Lexeme)
+expression_at ts = tree_of (climb 128 0 ts)

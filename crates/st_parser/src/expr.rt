@@ -1,31 +1,53 @@
 //! Expressions, by their operators' levels.
 
-ghost use Rattle.std.specs.Prelude.{◌≡◌, IfOk, IfSome, IfNone, Some, None, drop, ◌+◌, ◌-◌, ◌≤◌, ◌<◌};
+ghost use Rattle.std.specs.Prelude.{◌≡◌, IfOk, Some, None, drop, ◌+◌, ◌-◌, ◌≤◌, ◌<◌, pos};
+ghost use Rattle.std.proofs.Common.{neg_ℤ};
 ghost use Rattle.st_tree.specs.View.{view_expr};
-ghost use Rattle.st_parser.specs.Grammar.{level_of, top};
+ghost use Rattle.st_parser.specs.Grammar.{level_of, top, grouped};
 ghost use Rattle.st_parser.specs.Outcome.{Gives};
-ghost use Rattle.st_parser.specs.Reading.{operator_at, operand as operand_at, prefixed as prefixed_at, chain as chain_at, climb, expression_at, tree_of};
+ghost use Rattle.st_parser.specs.Reading.{operator_at, named_at, minus_at, operand as operand_at, prefixed as prefixed_at, chain as chain_at, climb, expression_at};
 
 use crate::fault::Stop;
 use crate::reader::Reader;
 use plant_types::{Text, Value};
 use st_lexer::{Keyword, Symbol, TokenKind};
-use st_tree::{Binary, Expr, Unary};
+use st_tree::{Binary, Expr, Literal, Unary};
 use std::alloc::Global;
 
 /// How deep an expression may be (this profile).
 const DEPTH: u32 = 128;
 
 /// Tighter than each operator between operands.
-const TOP: u32 = 2;
+const TOP: u32 = 8;
 
-/// How tightly an operator binds, 1 the least.
+/// The greatest integer without a minus.
+const GREATEST: u32 = 2147483647;
+
+/// The greatest integer behind a minus.
+const GREATEST_NEGATIVE: u32 = 2147483648;
+
+/// How tightly an operator binds, 1 the least (IEC 61131-3).
 fn level(op: Binary) -> u32
     ensures found { result ≡ level_of op }
-    ensures small { result < 2 }
+    ensures small { result < 8 }
 {
     match op {
-        Binary::And => 1,
+        Binary::Or => 1,
+        Binary::Xor => 2,
+        Binary::And => 3,
+        Binary::Equal => 4,
+        Binary::Unequal => 4,
+        Binary::Less => 5,
+        Binary::Greater => 5,
+        Binary::AtMost => 5,
+        Binary::AtLeast => 5,
+        Binary::Add => 6,
+        Binary::AddTime => 6,
+        Binary::Subtract => 6,
+        Binary::SubtractTime => 6,
+        Binary::Multiply => 7,
+        Binary::Divide => 7,
+        Binary::Mod => 7,
     }
 }
 
@@ -34,7 +56,21 @@ fn next_operator(level_wanted: u32, reader: &Reader) -> Option<Binary>
     ensures { result ≡ operator_at level_wanted reader.now }
 {
     let op = match reader.peek()? {
+        TokenKind::Keyword(Keyword::Or) => Binary::Or,
+        TokenKind::Keyword(Keyword::Xor) => Binary::Xor,
         TokenKind::Keyword(Keyword::And) => Binary::And,
+        TokenKind::Symbol(Symbol::Ampersand) => Binary::And,
+        TokenKind::Symbol(Symbol::Equal) => Binary::Equal,
+        TokenKind::Symbol(Symbol::Unequal) => Binary::Unequal,
+        TokenKind::Symbol(Symbol::Less) => Binary::Less,
+        TokenKind::Symbol(Symbol::Greater) => Binary::Greater,
+        TokenKind::Symbol(Symbol::AtMost) => Binary::AtMost,
+        TokenKind::Symbol(Symbol::AtLeast) => Binary::AtLeast,
+        TokenKind::Symbol(Symbol::Plus) => Binary::Add,
+        TokenKind::Symbol(Symbol::Minus) => Binary::Subtract,
+        TokenKind::Symbol(Symbol::Times) => Binary::Multiply,
+        TokenKind::Symbol(Symbol::Divide) => Binary::Divide,
+        TokenKind::Keyword(Keyword::Mod) => Binary::Mod,
         _ => return None,
     };
     if level_wanted <= level(op) {
@@ -44,9 +80,31 @@ fn next_operator(level_wanted: u32, reader: &Reader) -> Option<Binary>
     }
 }
 
+/// An expression in parentheses, in which an integer is a DINT and no longer an integer without a kind.
+fn group(expr: Expr<Text>) -> Expr<Text>
+    ensures { view_expr result ≡ grouped (view_expr expr) }
+{
+    match expr {
+        Expr::Literal(Literal::Integer(n)) => Expr::Literal(Literal::Value(Value::Dint(n))),
+        Expr::Literal(Literal::Value(value)) => Expr::Literal(Literal::Value(value)),
+        Expr::Read(name) => Expr::Read(name),
+        Expr::Output(instance, name) => Expr::Output(instance, name),
+        Expr::One(op, a) => Expr::One(op, a),
+        Expr::Two(op, a, b) => Expr::Two(op, a, b),
+    }
+}
+
+/// An integer behind a minus.
+fn negated(n: u32) -> i32
+    requires { n ≤ 2147483648 }
+    ensures { result ≡ neg_ℤ (pos n) }
+{
+    (-i64::from(n)) as i32
+}
+
 /// Reads an expression.
 pub fn expression(alloc: Global, reader: &mut Reader) -> Result<Expr<Text>, Stop>
-    ensures { Gives (λ e. (view_expr e, reader.new)) result (tree_of (expression_at reader.old)) }
+    ensures { Gives (λ e. (view_expr e, reader.new)) result (expression_at reader.old) }
 {
     match climb(alloc, DEPTH, 0, reader) {
         Ok((expr, _depth)) => Ok(expr),
@@ -81,26 +139,82 @@ fn operand(alloc: Global, deeper: u32, reader: &mut Reader) -> Result<(Expr<Text
     ensures deep { IfOk result (λ x. x.1 ≤ deeper + 1) }
 {
     match reader.peek() {
-        Some(TokenKind::Word) => Ok((Expr::Read(reader.word(alloc)?), 1)),
+        Some(TokenKind::Word) => {
+            let word = reader.word(alloc)?;
+            named(alloc, word, reader)
+        }
         Some(TokenKind::Keyword(Keyword::True)) => {
             reader.advance();
-            Ok((Expr::Literal(Value::Bool(true)), 1))
+            Ok((Expr::Literal(Literal::Value(Value::Bool(true))), 1))
         }
         Some(TokenKind::Keyword(Keyword::False)) => {
             reader.advance();
-            Ok((Expr::Literal(Value::Bool(false)), 1))
+            Ok((Expr::Literal(Literal::Value(Value::Bool(false))), 1))
+        }
+        Some(TokenKind::Truth(truth)) => {
+            reader.advance();
+            Ok((Expr::Literal(Literal::Value(Value::Bool(truth))), 1))
+        }
+        Some(TokenKind::Dint(n)) => {
+            reader.advance();
+            Ok((Expr::Literal(Literal::Value(Value::Dint(n))), 1))
+        }
+        Some(TokenKind::Duration(n)) => {
+            reader.advance();
+            Ok((Expr::Literal(Literal::Value(Value::Time(n))), 1))
+        }
+        Some(TokenKind::Integer(n)) if n <= GREATEST => {
+            reader.advance();
+            Ok((Expr::Literal(Literal::Integer(n as i32)), 1))
         }
         Some(TokenKind::Keyword(Keyword::Not)) if deeper > 0 => {
             reader.advance();
             prefixed(alloc, Unary::Not, deeper, reader)
         }
+        Some(TokenKind::Symbol(Symbol::Minus)) => {
+            reader.advance();
+            minus(alloc, deeper, reader)
+        }
         Some(TokenKind::Symbol(Symbol::Open)) if deeper > 0 => {
             reader.advance();
             let (inner, depth) = climb(alloc, deeper, 0, reader)?;
             reader.symbol(Symbol::Close)?;
-            Ok((inner, depth + 1))
+            Ok((group(inner), depth + 1))
         }
         _ => Err(reader.stop()),
+    }
+}
+
+/// Reads what is behind a word: a point and the name of an output, or nothing.
+fn named(alloc: Global, word: Text, reader: &mut Reader) -> Result<(Expr<Text>, u32), Stop>
+    ensures read { Gives (λ x. (view_expr x.0, x.1, reader.new)) result (named_at word reader.old) }
+    ensures deep { IfOk result (λ x. x.1 ≡ 1) }
+{
+    if reader.is_symbol(Symbol::Point) {
+        reader.advance();
+        let output = reader.word(alloc)?;
+        Ok((Expr::Output(word, output), 1))
+    } else {
+        Ok((Expr::Read(word), 1))
+    }
+}
+
+/// Reads what is behind a minus: an integer, which is one literal with it, or another operand.
+#[cycle(expr)]
+fn minus(alloc: Global, deeper: u32, reader: &mut Reader) -> Result<(Expr<Text>, u32), Stop>
+    requires { deeper < u32.MAX }
+    ensures read { Gives (λ x. (view_expr x.0, x.1, reader.new)) result (minus_at (climb deeper) reader.old) }
+    ensures deep { IfOk result (λ x. x.1 ≤ deeper + 1) }
+{
+    match reader.peek() {
+        Some(TokenKind::Integer(n)) => {
+            if n > GREATEST_NEGATIVE {
+                return Err(reader.stop());
+            }
+            reader.advance();
+            Ok((Expr::Literal(Literal::Value(Value::Dint(negated(n)))), 1))
+        }
+        _ => prefixed(alloc, Unary::Negate, deeper, reader),
     }
 }
 

@@ -1,16 +1,22 @@
 //! The grammar of Structured Text: tokens are read as a unit, or refused at the first token that fits no unit.
 //!
-//! Contracts speak of a unit as a `Source`, its globals, its program's name and the plain body, and of a text's tokens as lexemes.
+//! Contracts speak of a unit as a `PlainUnit`, its sections of globals and its blocks and programs with plain bodies, and of a text's tokens as lexemes.
 #![tactic(auto)]
 
+mod calls;
+mod declare;
 mod expr;
 mod fault;
+mod labels;
+#[cfg(test)]
+mod notation;
 mod reader;
+mod stmt;
 #[cfg(test)]
 mod tests;
 mod unit;
 mod units;
 
 pub use fault::ParseFault;
-pub use unit::{Program, Unit, Variable};
+pub use unit::{Declaration, Pou, PouKind, Section, SectionKind, Sort, Unit};
 pub use units::{one_unit, parse};

@@ -1,8 +1,8 @@
 //! A place in a text's tokens.
 
-ghost use Rattle.std.specs.Prelude.{◌≡◌, ℕ, ◌∷◌, [], List, length, drop, MatchOption, Option, Some, None};
-ghost use Rattle.st_parser.specs.Lexemes.{Lexeme, lexemes, lexeme_of, first_name, span_of};
-ghost use Rattle.st_parser.specs.Reading.{word_at, symbol_at, keyword_at};
+ghost use Rattle.std.specs.Prelude.{◌≡◌, ◌∷◌, [], length, drop, MatchOption};
+ghost use Rattle.st_parser.specs.Lexemes.{lexemes, lexeme_of, first_name, span_of};
+ghost use Rattle.st_parser.specs.Reading.{word_at, next_symbol, next_keyword, next_word, symbol_at, keyword_at};
 ghost use Rattle.st_parser.specs.Outcome.{Gives};
 
 use crate::fault::Stop;
@@ -58,6 +58,36 @@ impl<'a> Reader<'a> {
         Some(kind)
     }
 
+    /// Whether this symbol is next.
+    pub fn is_symbol(&self, wanted: Symbol) -> bool
+        ensures { result ≡ next_symbol wanted self.now }
+    {
+        match self.peek() {
+            Some(TokenKind::Symbol(found)) => found == wanted,
+            _ => false,
+        }
+    }
+
+    /// Whether this keyword is next.
+    pub fn is_keyword(&self, wanted: Keyword) -> bool
+        ensures { result ≡ next_keyword wanted self.now }
+    {
+        match self.peek() {
+            Some(TokenKind::Keyword(found)) => found == wanted,
+            _ => false,
+        }
+    }
+
+    /// Whether a word is next.
+    pub fn is_word(&self) -> bool
+        ensures { result ≡ next_word self.now }
+    {
+        match self.peek() {
+            Some(TokenKind::Word) => true,
+            _ => false,
+        }
+    }
+
     /// Leaves the next token behind, if there is one.
     pub fn advance(&mut self)
         ensures { self.new ≡ drop 1 self.old }
@@ -71,12 +101,11 @@ impl<'a> Reader<'a> {
     pub fn symbol(&mut self, wanted: Symbol) -> Result<(), Stop>
         ensures { Gives (λ _. self.new) result (symbol_at wanted self.old) }
     {
-        match self.peek() {
-            Some(TokenKind::Symbol(found)) if found == wanted => {
-                self.advance();
-                Ok(())
-            }
-            _ => Err(self.stop()),
+        if self.is_symbol(wanted) {
+            self.advance();
+            Ok(())
+        } else {
+            Err(self.stop())
         }
     }
 
@@ -84,12 +113,11 @@ impl<'a> Reader<'a> {
     pub fn keyword(&mut self, wanted: Keyword) -> Result<(), Stop>
         ensures { Gives (λ _. self.new) result (keyword_at wanted self.old) }
     {
-        match self.peek() {
-            Some(TokenKind::Keyword(found)) if found == wanted => {
-                self.advance();
-                Ok(())
-            }
-            _ => Err(self.stop()),
+        if self.is_keyword(wanted) {
+            self.advance();
+            Ok(())
+        } else {
+            Err(self.stop())
         }
     }
 

@@ -1,201 +1,181 @@
-//! Worked examples of the grammar. The texts here have a space between any two tokens.
+//! Worked examples of the grammar.
 
-use crate::{ParseFault, Unit, Variable, parse};
-use plant_types::{Kind, Text, Value};
-use st_lexer::{Keyword, Region, Symbol, Token, TokenKind};
-use st_tree::{Expr, Stmt};
-use std::alloc::{AllocError, Global};
+use crate::notation::{refusal, statements, told};
 use std::test::Fail;
 
-const HEAD: &[u8] = b"VAR_GLOBAL c : BOOL ; END_VAR PROGRAM p c := ";
-
-/// The tokens of `HEAD`.
-const BEFORE: usize = 10;
-
-fn kind_of(piece: &[u8]) -> TokenKind {
-    match piece {
-        b"VAR_GLOBAL" => TokenKind::Keyword(Keyword::VarGlobal),
-        b"END_VAR" => TokenKind::Keyword(Keyword::EndVar),
-        b"PROGRAM" => TokenKind::Keyword(Keyword::Program),
-        b"END_PROGRAM" => TokenKind::Keyword(Keyword::EndProgram),
-        b"AT" => TokenKind::Keyword(Keyword::At),
-        b"BOOL" => TokenKind::Keyword(Keyword::Bool),
-        b"AND" => TokenKind::Keyword(Keyword::And),
-        b"NOT" => TokenKind::Keyword(Keyword::Not),
-        b"TRUE" => TokenKind::Keyword(Keyword::True),
-        b"FALSE" => TokenKind::Keyword(Keyword::False),
-        b"%IX0.0" => TokenKind::Address(Region::Input),
-        b"%QX1" => TokenKind::Address(Region::Output),
-        b"%MX1" => TokenKind::Address(Region::Plain),
-        b":=" => TokenKind::Symbol(Symbol::Becomes),
-        b":" => TokenKind::Symbol(Symbol::Colon),
-        b";" => TokenKind::Symbol(Symbol::Semicolon),
-        b"(" => TokenKind::Symbol(Symbol::Open),
-        b")" => TokenKind::Symbol(Symbol::Close),
-        _ => TokenKind::Word,
-    }
-}
-
-fn split(alloc: Global, text: &[u8]) -> Result<Vec<Token>, AllocError> {
-    let mut tokens = Vec::new(alloc);
-    let mut from = 0;
-    for (i, byte) in text.iter().enumerate() {
-        if *byte == b' ' {
-            if let Some(piece) = text.get(from..i) {
-                if !piece.is_empty() {
-                    tokens.push(Token {
-                        kind: kind_of(piece),
-                        from,
-                        until: i,
-                    })?;
-                }
-            }
-            from = i + 1;
-        }
-    }
-    Ok(tokens)
-}
-
-/// What a text is parsed to; its last token has a space behind it too. A growth that was refused is tried again.
-fn parsed(alloc: Global, text: &[u8]) -> Result<Unit, ParseFault> {
-    let tokens = match split(alloc, text) {
-        Ok(tokens) => tokens,
-        Err(_) => split(alloc, text).map_err(|_| ParseFault::Memory)?,
-    };
-    match parse(alloc, text, &tokens) {
-        Err(ParseFault::Memory) => parse(alloc, text, &tokens),
-        other => other,
-    }
-}
-
-/// Writes an expression with parentheses round each operator's operands.
-fn show(expr: &Expr<Text>, out: &mut String) -> Result<(), AllocError> {
-    match expr {
-        Expr::Literal(Value::Bool(true)) => out.push_str("TRUE"),
-        Expr::Literal(Value::Bool(false)) => out.push_str("FALSE"),
-        Expr::Literal(_) => out.push_str("?"),
-        Expr::Read(name) => out.push_str(name.as_str()),
-        Expr::One(_, a) => {
-            out.push_str("NOT ")?;
-            show(a, out)
-        }
-        Expr::Two(_, a, b) => {
-            out.push_str("(")?;
-            show(a, out)?;
-            out.push_str(" AND ")?;
-            show(b, out)?;
-            out.push_str(")")
-        }
-    }
-}
-
-fn show_body(alloc: Global, body: &[Stmt<Text>]) -> Result<String, AllocError> {
-    let mut out = String::new(alloc);
-    for stmt in body {
-        match stmt {
-            Stmt::Assign(target, value) => {
-                out.push_str(target.as_str())?;
-                out.push_str(" := ")?;
-                show(value, &mut out)?;
-                out.push_str(";")?;
-            }
-        }
-    }
-    Ok(out)
-}
-
-fn shown(alloc: Global, body: &[Stmt<Text>]) -> Result<String, AllocError> {
-    match show_body(alloc, body) {
-        Ok(text) => Ok(text),
-        Err(_) => show_body(alloc, body),
-    }
-}
-
-fn put(out: &mut Vec<u8>, piece: &[u8], times: usize) -> Result<(), AllocError> {
-    for _turn in 0..times {
-        out.extend_from_slice(piece)?;
-    }
-    Ok(())
-}
-
-/// A unit whose expression is made of pieces, so often each.
-fn composed(alloc: Global, pieces: &[(&[u8], usize)]) -> Result<Vec<u8>, AllocError> {
-    let mut text = Vec::new(alloc);
-    put(&mut text, HEAD, 1)?;
-    for (piece, times) in pieces {
-        put(&mut text, piece, *times)?;
-    }
-    put(&mut text, b"; END_PROGRAM ", 1)?;
-    Ok(text)
-}
-
-/// Where the unit whose expression is made of these pieces is refused, if it is.
-fn refusal(alloc: Global, pieces: &[(&[u8], usize)]) -> Result<Option<usize>, AllocError> {
-    let text = match composed(alloc, pieces) {
-        Ok(text) => text,
-        Err(_) => composed(alloc, pieces)?,
-    };
-    match parsed(alloc, &text) {
-        Ok(_) => Ok(None),
-        Err(ParseFault::At { token }) => Ok(Some(token)),
-        Err(ParseFault::Memory) => Err(AllocError),
-    }
-}
-
-fn is_global(variable: &Variable, name: &[u8], region: Option<Region>) -> bool {
-    variable.name.as_bytes() == name && variable.region == region && variable.kind == Kind::Bool
-}
-
 #[test]
-fn reads_the_first_unit(rt: HostRuntime) -> Result<(), Fail> {
-    let text =
-        b"VAR_GLOBAL b AT %IX0.0 : BOOL ; c : BOOL ; END_VAR PROGRAM p c := b ; END_PROGRAM ";
-    let unit = parsed(rt.alloc(), text)?;
-    assert_eq!(rt; unit.globals.len(), 2);
-    assert!(rt; is_global(&unit.globals[0], b"b", Some(Region::Input)));
-    assert!(rt; is_global(&unit.globals[1], b"c", None));
-    assert!(rt; unit.program.name.as_bytes() == b"p".as_slice());
-    assert_eq!(rt; shown(rt.alloc(), &unit.program.body)?.as_str(), "c := b;");
-    Ok(())
-}
-
-#[test]
-fn keeps_regions_and_spelling(rt: HostRuntime) -> Result<(), Fail> {
-    let text =
-        b"VAR_GLOBAL Out AT %QX1 : BOOL ; m AT %MX1 : BOOL ; END_VAR PROGRAM Main oUT := M ; END_PROGRAM ";
-    let unit = parsed(rt.alloc(), text)?;
-    assert_eq!(rt; unit.globals.len(), 2);
-    assert!(rt; is_global(&unit.globals[0], b"Out", Some(Region::Output)));
-    assert!(rt; is_global(&unit.globals[1], b"m", Some(Region::Plain)));
-    assert!(rt; unit.program.name.as_bytes() == b"Main".as_slice());
-    assert_eq!(rt;
-        shown(rt.alloc(), &unit.program.body)?.as_str(),
-        "oUT := M;"
-    );
+fn reads_units(rt: HostRuntime) -> Result<(), Fail> {
+    let rows: [(&[u8], &str); 7] = [
+        (b"", ""),
+        (
+            b"VAR_GLOBAL b AT %IX0.0 : BOOL ; c : BOOL ; END_VAR PROGRAM p c := b ; END_PROGRAM ",
+            "GLOBAL b %I BOOL; c BOOL; PROGRAM p DO c := b; ",
+        ),
+        (
+            b"VAR_GLOBAL END_VAR VAR_GLOBAL a , B : DINT := 2 ; q AT %QD1 : TIME := T#1s ; END_VAR ",
+            "GLOBAL GLOBAL a B DINT [2]; q %Q TIME T#1000; ",
+        ),
+        (
+            b"FUNCTION_BLOCK f VAR_INPUT x : DINT ; END_VAR VAR_OUTPUT y : BOOL ; END_VAR VAR t : TON ; END_VAR VAR_EXTERNAL c : BOOL ; END_VAR END_FUNCTION_BLOCK ",
+            "BLOCK f INPUT x DINT; OUTPUT y BOOL; LOCAL t TON; EXTERNAL c BOOL; DO ",
+        ),
+        (
+            b"PROGRAM p VAR END_VAR VAR_EXTERNAL END_VAR END_PROGRAM FUNCTION_BLOCK f ; END_FUNCTION_BLOCK PROGRAM q END_PROGRAM ",
+            "PROGRAM p LOCAL EXTERNAL DO BLOCK f DO ; PROGRAM q DO ",
+        ),
+        (
+            b"VAR_GLOBAL d AT %IX0.0 : DINT ; t : TIME ; END_VAR ",
+            "GLOBAL d %I DINT; t TIME; ",
+        ),
+        (
+            b"PROGRAM p ; ; x := 1 ; END_PROGRAM ",
+            "PROGRAM p DO ; ; x := [1]; ",
+        ),
+    ];
+    for (text, want) in rows {
+        assert_eq!(rt; told(rt.alloc(), text)?.as_str(), want);
+    }
     Ok(())
 }
 
 #[test]
 fn groups_operators(rt: HostRuntime) -> Result<(), Fail> {
-    let alloc = rt.alloc();
-    let rows: [(&[u8], &str); 6] = [
-        (b"a AND b AND d ", "c := ((a AND b) AND d);"),
-        (b"a AND ( b AND d ) ", "c := (a AND (b AND d));"),
-        (b"NOT a AND b ", "c := (NOT a AND b);"),
-        (b"NOT ( a AND b ) ", "c := NOT (a AND b);"),
+    let rows: [(&[u8], &str); 29] = [
+        (b"x := a - b - c ; ", "PROGRAM p DO x := ((a - b) - c); "),
         (
-            b"NOT NOT TRUE AND NOT FALSE ",
-            "c := (NOT NOT TRUE AND NOT FALSE);",
+            b"x := NOT FALSE AND FALSE ; ",
+            "PROGRAM p DO x := (NOT FALSE AND FALSE); ",
         ),
-        (b"( ( a ) ) ", "c := a;"),
+        (
+            b"x := TRUE OR TRUE XOR TRUE ; ",
+            "PROGRAM p DO x := (TRUE OR (TRUE XOR TRUE)); ",
+        ),
+        (
+            b"x := a XOR b AND c & d ; ",
+            "PROGRAM p DO x := (a XOR ((b AND c) AND d)); ",
+        ),
+        (
+            b"x := a AND b = c <> d ; ",
+            "PROGRAM p DO x := (a AND ((b = c) <> d)); ",
+        ),
+        (b"x := a = b < c ; ", "PROGRAM p DO x := (a = (b < c)); "),
+        (
+            b"x := a >= b + c > d <= e ; ",
+            "PROGRAM p DO x := (((a >= (b + c)) > d) <= e); ",
+        ),
+        (
+            b"x := 1 + 2 * 3 MOD 5 / a ; ",
+            "PROGRAM p DO x := ([1] + ((([2] * [3]) MOD [5]) / a)); ",
+        ),
+        (
+            b"x := ( a + b ) * c ; ",
+            "PROGRAM p DO x := ((a + b) * c); ",
+        ),
+        (
+            b"x := a - ( b - c ) ; ",
+            "PROGRAM p DO x := (a - (b - c)); ",
+        ),
+        (b"x := - 5 ; ", "PROGRAM p DO x := DINT#-5; "),
+        (
+            b"x := - - 2147483648 ; ",
+            "PROGRAM p DO x := - DINT#-2147483648; ",
+        ),
+        (b"x := a - 5 ; ", "PROGRAM p DO x := (a - [5]); "),
+        (
+            b"y := 10 - x - 3 ; ",
+            "PROGRAM p DO y := (([10] - x) - [3]); ",
+        ),
+        (
+            b"x := NOT ( a OR b ) = NOT c ; ",
+            "PROGRAM p DO x := (NOT (a OR b) = NOT c); ",
+        ),
+        (
+            b"x := T#1s + - t . ET ; ",
+            "PROGRAM p DO x := (T#1000 + - t.ET); ",
+        ),
+        (b"x := ( ( 5 ) ) ; ", "PROGRAM p DO x := DINT#5; "),
+        (b"x := - ( 5 ) ; ", "PROGRAM p DO x := - DINT#5; "),
+        (b"x := - DINT#5 ; ", "PROGRAM p DO x := - DINT#5; "),
+        (b"x := - a * b ; ", "PROGRAM p DO x := (- a * b); "),
+        (b"x := - 5 * b ; ", "PROGRAM p DO x := (DINT#-5 * b); "),
+        (b"x := ( 1 ) ; ", "PROGRAM p DO x := DINT#1; "),
+        (
+            b"x := BOOL#1 AND NOT t . Q ; ",
+            "PROGRAM p DO x := (TRUE AND NOT t.Q); ",
+        ),
+        (b"x := 2147483647 ; ", "PROGRAM p DO x := [2147483647]; "),
+        (
+            b"x := a = b <= c <> d >= e ; ",
+            "PROGRAM p DO x := ((a = (b <= c)) <> (d >= e)); ",
+        ),
+        (
+            b"x := a + b - c * d < e - f ; ",
+            "PROGRAM p DO x := (((a + b) - (c * d)) < (e - f)); ",
+        ),
+        (
+            b"x := a - b / c MOD d ; ",
+            "PROGRAM p DO x := (a - ((b / c) MOD d)); ",
+        ),
+        (
+            b"x := a > b OR c < d & e ; ",
+            "PROGRAM p DO x := ((a > b) OR ((c < d) AND e)); ",
+        ),
+        (b"x := a - - 5 ; ", "PROGRAM p DO x := (a - DINT#-5); "),
     ];
-    for (expr, want) in rows {
-        let text = match composed(alloc, &[(expr, 1)]) {
-            Ok(text) => text,
-            Err(_) => composed(alloc, &[(expr, 1)])?,
-        };
-        let unit = parsed(alloc, &text)?;
-        assert_eq!(rt; shown(alloc, &unit.program.body)?.as_str(), want);
+    for (text, want) in rows {
+        assert_eq!(rt; statements(rt.alloc(), text)?.as_str(), want);
+    }
+    Ok(())
+}
+
+#[test]
+fn reads_statements(rt: HostRuntime) -> Result<(), Fail> {
+    let rows: [(&[u8], &str); 12] = [
+        (b"f ( ) ; ", "PROGRAM p DO f( ); "),
+        (
+            b"f ( x := 1 , y => v ) ; ",
+            "PROGRAM p DO f( x := [1], y => v, ); ",
+        ),
+        (
+            b"f ( y => v , x := a + b , z => w ) ; ",
+            "PROGRAM p DO f( y => v, x := (a + b), z => w, ); ",
+        ),
+        (
+            b"f ( x := a , y := 2 ) ; f ( y => v ) ; ",
+            "PROGRAM p DO f( x := a, y := [2], ); f( y => v, ); ",
+        ),
+        (b"IF a THEN END_IF ; ", "PROGRAM p DO IF ? a: ELSE END; "),
+        (
+            b"IF a THEN ; ELSIF b THEN x := 1 ; ELSIF c THEN ELSE x := 2 ; ; END_IF ; ",
+            "PROGRAM p DO IF ? a: ; ? b: x := [1]; ? c: ELSE x := [2]; ; END; ",
+        ),
+        (
+            b"CASE n OF 1 , - 5 : x := 1 ; 2 .. 3 , - 2147483648 .. - 1 : ELSE ; END_CASE ; ",
+            "PROGRAM p DO CASE n OF 1..1 -5..-5 : x := [1]; 2..3 -2147483648..-1 : ELSE ; END; ",
+        ),
+        (
+            b"CASE n OF 5 .. 1 : x := 1 ; - 1 .. 0 : END_CASE ; ",
+            "PROGRAM p DO CASE n OF 5..1 : x := [1]; -1..0 : ELSE END; ",
+        ),
+        (
+            b"CASE n OF 2147483647 : ; - 5 .. 2147483647 : END_CASE ; ",
+            "PROGRAM p DO CASE n OF 2147483647..2147483647 : ; -5..2147483647 : ELSE END; ",
+        ),
+        (
+            b"IF a THEN FOR i := 1 TO 5 DO CASE i OF 1 : f ( ) ; END_CASE ; END_FOR ; END_IF ; ",
+            "PROGRAM p DO IF ? a: FOR i := [1] TO [5] DO CASE i OF 1..1 : f( ); ELSE END; END; ELSE END; ",
+        ),
+        (
+            b"FOR i := 1 TO 5 DO x := i ; END_FOR ; ",
+            "PROGRAM p DO FOR i := [1] TO [5] DO x := i; END; ",
+        ),
+        (
+            b"FOR i := 5 TO 1 BY - 2 DO END_FOR ; ",
+            "PROGRAM p DO FOR i := [5] TO [1] BY DINT#-2 DO END; ",
+        ),
+    ];
+    for (text, want) in rows {
+        assert_eq!(rt; statements(rt.alloc(), text)?.as_str(), want);
     }
     Ok(())
 }
@@ -203,63 +183,219 @@ fn groups_operators(rt: HostRuntime) -> Result<(), Fail> {
 #[test]
 fn limits_the_depth(rt: HostRuntime) -> Result<(), Fail> {
     let alloc = rt.alloc();
+    let x: (&[u8], usize) = (b"x := ", 1);
+    let end: (&[u8], usize) = (b"; ", 1);
     assert_eq!(rt;
-        refusal(alloc, &[(b"( ", 127), (b"b ", 1), (b") ", 127)])?,
+        refusal(alloc, &[x, (b"( ", 127), (b"b ", 1), (b") ", 127), end])?,
         None
     );
     assert_eq!(rt;
-        refusal(alloc, &[(b"( ", 128), (b"b ", 1), (b") ", 128)])?,
-        Some(BEFORE + 127)
-    );
-    assert_eq!(rt; refusal(alloc, &[(b"NOT ", 127), (b"b ", 1)])?, None);
-    assert_eq!(rt;
-        refusal(alloc, &[(b"NOT ", 128), (b"b ", 1)])?,
-        Some(BEFORE + 127)
-    );
-    assert_eq!(rt; refusal(alloc, &[(b"b AND ", 127), (b"b ", 1)])?, None);
-    assert_eq!(rt;
-        refusal(alloc, &[(b"b AND ", 128), (b"b ", 1)])?,
-        Some(BEFORE + 255)
+        refusal(alloc, &[x, (b"( ", 128), (b"b ", 1), (b") ", 128), end])?,
+        Some(129)
     );
     assert_eq!(rt;
-        refusal(alloc, &[(b"( ", 127), (b"b AND b ", 1), (b") ", 127)])?,
-        Some(BEFORE + 128)
+        refusal(alloc, &[x, (b"NOT ", 127), (b"b ", 1), end])?,
+        None
     );
-    assert_eq!(rt; refusal(alloc, &[(b"( ", 100000)])?, Some(BEFORE + 127));
+    assert_eq!(rt;
+        refusal(alloc, &[x, (b"NOT ", 128), (b"b ", 1), end])?,
+        Some(129)
+    );
+    assert_eq!(rt;
+        refusal(alloc, &[x, (b"b AND ", 127), (b"b ", 1), end])?,
+        None
+    );
+    assert_eq!(rt;
+        refusal(alloc, &[x, (b"b AND ", 128), (b"b ", 1), end])?,
+        Some(257)
+    );
+    assert_eq!(rt; refusal(alloc, &[x, (b"- ", 128), (b"5 ", 1), end])?, None);
+    assert_eq!(rt;
+        refusal(alloc, &[x, (b"- ", 128), (b"b ", 1), end])?,
+        Some(130)
+    );
+    assert_eq!(rt; refusal(alloc, &[x, (b"- ", 127), (b"b ", 1), end])?, None);
+    assert_eq!(rt;
+        refusal(
+            alloc,
+            &[x, (b"- ", 127), (b"( ", 1), (b"b ", 1), (b") ", 1), end]
+        )?,
+        Some(129)
+    );
+    assert_eq!(rt;
+        refusal(alloc, &[x, (b"( ", 127), (b"b + b ", 1), (b") ", 127), end])?,
+        Some(130)
+    );
+    assert_eq!(rt; refusal(alloc, &[x, (b"( ", 100000)])?, Some(129));
+    assert_eq!(rt;
+        refusal(alloc, &[x, (b"( ", 127), (b"t . Q ", 1), (b") ", 127), end])?,
+        None
+    );
+    // The deeper operand counts, be it the right one.
+    let deep: (&[u8], usize) = (b"( ", 126);
+    let shut: (&[u8], usize) = (b") ", 126);
+    assert_eq!(rt;
+        refusal(alloc, &[x, (b"b AND ", 1), deep, (b"b ", 1), shut, end])?,
+        None
+    );
+    assert_eq!(rt;
+        refusal(
+            alloc,
+            &[
+                x,
+                (b"b AND ", 1),
+                deep,
+                (b"b ", 1),
+                shut,
+                (b"AND b ", 1),
+                end
+            ]
+        )?,
+        Some(257)
+    );
+    Ok(())
+}
+
+#[test]
+fn limits_the_depth_of_statements(rt: HostRuntime) -> Result<(), Fail> {
+    let alloc = rt.alloc();
+    let end: (&[u8], usize) = (b"; ", 1);
+    assert_eq!(rt;
+        refusal(alloc, &[(b"IF a THEN ", 64), (b"END_IF ; ", 64)])?,
+        None
+    );
+    assert_eq!(rt;
+        refusal(alloc, &[(b"IF a THEN ", 64), end, (b"END_IF ; ", 64)])?,
+        Some(192)
+    );
+    assert_eq!(rt;
+        refusal(alloc, &[(b"IF a THEN ", 63), end, (b"END_IF ; ", 63)])?,
+        None
+    );
+    assert_eq!(rt; refusal(alloc, &[(b"IF a THEN ", 65)])?, Some(192));
+    assert_eq!(rt;
+        refusal(
+            alloc,
+            &[
+                (b"IF a THEN ELSE ", 64),
+                (b"x := a ; ", 1),
+                (b"END_IF ; ", 64)
+            ]
+        )?,
+        Some(256)
+    );
+    assert_eq!(rt;
+        refusal(alloc, &[(b"CASE n OF 1 : ", 64), (b"END_CASE ; ", 64)])?,
+        None
+    );
+    assert_eq!(rt;
+        refusal(alloc, &[(b"CASE n OF 1 : ", 64), end, (b"END_CASE ; ", 64)])?,
+        Some(320)
+    );
+    assert_eq!(rt;
+        refusal(
+            alloc,
+            &[
+                (b"FOR i := 1 TO 5 DO ", 64),
+                (b"f ( ) ; ", 1),
+                (b"END_FOR ; ", 64)
+            ]
+        )?,
+        Some(448)
+    );
+    assert_eq!(rt; refusal(alloc, &[(b"; ", 100000)])?, None);
     Ok(())
 }
 
 #[test]
 fn names_the_first_token_that_does_not_fit(rt: HostRuntime) -> Result<(), Fail> {
-    let rows: [(&[u8], usize); 18] = [
-        (b"", 0),
-        (b"PROGRAM p c := c ; END_PROGRAM ", 0),
-        (b"VAR_GLOBAL ", 1),
-        (b"VAR_GLOBAL c : BOOL ; PROGRAM p c := c ; END_PROGRAM ", 5),
-        (b"VAR_GLOBAL c : BOOL END_VAR ", 4),
-        (b"VAR_GLOBAL c BOOL ; END_VAR ", 2),
-        (b"VAR_GLOBAL c AT : BOOL ; END_VAR ", 3),
-        (b"VAR_GLOBAL c : c ; END_VAR ", 3),
-        (b"VAR_GLOBAL BOOL : BOOL ; END_VAR ", 1),
-        (b"VAR_GLOBAL END_VAR ", 2),
-        (b"VAR_GLOBAL END_VAR PROGRAM p END_PROGRAM ", 4),
-        (b"VAR_GLOBAL END_VAR PROGRAM p c = c ; END_PROGRAM ", 5),
-        (b"VAR_GLOBAL END_VAR PROGRAM p c := ; END_PROGRAM ", 6),
-        (b"VAR_GLOBAL END_VAR PROGRAM p c := c END_PROGRAM ", 7),
-        (b"VAR_GLOBAL END_VAR PROGRAM p c := ( c ; END_PROGRAM ", 8),
+    let rows: [(&[u8], &str); 47] = [
+        (b"x ", "AT 0"),
+        (b"PROGRAM ", "AT 1"),
+        (b"PROGRAM p ", "AT 2"),
+        (b"PROGRAM p END_FUNCTION_BLOCK ", "AT 2"),
+        (b"PROGRAM p END_PROGRAM VAR_GLOBAL END_VAR ", "AT 3"),
+        (b"PROGRAM p VAR_INPUT END_VAR END_PROGRAM ", "AT 2"),
         (
-            b"VAR_GLOBAL END_VAR PROGRAM p c := c AND ) ; END_PROGRAM ",
-            8,
+            b"PROGRAM p VAR x AT %IX0.0 : BOOL ; END_VAR END_PROGRAM ",
+            "AT 4",
         ),
-        (b"VAR_GLOBAL END_VAR PROGRAM p c := c ; ", 8),
-        (b"VAR_GLOBAL END_VAR PROGRAM p c := c ; END_PROGRAM ; ", 9),
+        (b"VAR_GLOBAL x , y AT %IX0.0 : BOOL ; END_VAR ", "AT 4"),
+        (b"VAR_GLOBAL x AT %IX0.0 , y : BOOL ; END_VAR ", "AT 4"),
+        (b"VAR_GLOBAL x AT %IX0.0 : TON ; END_VAR ", "AT 5"),
+        (b"VAR_GLOBAL x : BOOL := ; END_VAR ", "AT 5"),
+        (b"VAR_GLOBAL x : BOOL END_VAR ", "AT 4"),
+        (b"VAR_GLOBAL x : BOOL ; PROGRAM p END_PROGRAM ", "AT 5"),
+        (b"PROGRAM p x := 1 END_PROGRAM ", "AT 5"),
+        (b"PROGRAM p x = 1 ; END_PROGRAM ", "AT 3"),
+        (b"PROGRAM p x . y := 1 ; END_PROGRAM ", "AT 3"),
+        (b"PROGRAM p x := t . 1 ; END_PROGRAM ", "AT 6"),
+        (b"PROGRAM p x := i - 2147483648 ; END_PROGRAM ", "AT 6"),
+        (b"PROGRAM p x := 2147483648 ; END_PROGRAM ", "AT 4"),
+        (b"PROGRAM p x := ( a ; END_PROGRAM ", "AT 6"),
+        (b"PROGRAM p x := a b ; END_PROGRAM ", "AT 5"),
+        (b"PROGRAM p f ( x := 1 , ) ; END_PROGRAM ", "AT 8"),
+        (b"PROGRAM p f ( x ) ; END_PROGRAM ", "AT 5"),
+        (b"PROGRAM p IF a THEN END_IF END_PROGRAM ", "AT 6"),
+        (b"PROGRAM p IF a THEN END_PROGRAM ", "AT 5"),
+        (b"PROGRAM p IF a x := 1 ; END_IF ; END_PROGRAM ", "AT 4"),
+        (b"PROGRAM p f ( y => 1 ) ; END_PROGRAM ", "AT 6"),
+        (
+            b"PROGRAM p x := - 2147483648 + 2147483648 ; END_PROGRAM ",
+            "AT 7",
+        ),
+        (b"PROGRAM p x := ( 2147483648 ) ; END_PROGRAM ", "AT 5"),
+        (
+            b"PROGRAM p CASE n OF 2147483648 : ; END_CASE ; END_PROGRAM ",
+            "AT 5",
+        ),
+        (
+            b"PROGRAM p CASE n OF - DINT#5 : ; END_CASE ; END_PROGRAM ",
+            "AT 6",
+        ),
+        (
+            b"PROGRAM p IF a THEN ELSE ELSIF b THEN END_IF ; END_PROGRAM ",
+            "AT 6",
+        ),
+        (b"PROGRAM p CASE n OF END_CASE ; END_PROGRAM ", "AT 5"),
+        (
+            b"PROGRAM p CASE n OF 1 x := 1 ; END_CASE ; END_PROGRAM ",
+            "AT 6",
+        ),
+        (
+            b"PROGRAM p CASE n OF 1 : ; 2 .. : ; END_CASE ; END_PROGRAM ",
+            "AT 10",
+        ),
+        (
+            b"PROGRAM p CASE n OF DINT#5 : ; END_CASE ; END_PROGRAM ",
+            "AT 5",
+        ),
+        (b"PROGRAM p FOR i := 1 DO END_FOR ; END_PROGRAM ", "AT 6"),
+        (b"PROGRAM p VAR_OUTPUT END_VAR END_PROGRAM ", "AT 2"),
+        (b"PROGRAM p VAR_GLOBAL END_VAR END_PROGRAM ", "AT 2"),
+        (b"PROGRAM p ; VAR END_VAR END_PROGRAM ", "AT 3"),
+        (b"FUNCTION_BLOCK f END_PROGRAM ", "AT 2"),
+        (
+            b"PROGRAM p IF a THEN ELSE ELSE END_IF ; END_PROGRAM ",
+            "AT 6",
+        ),
+        (
+            b"PROGRAM p CASE n OF 1 : ELSE 2 : END_CASE ; END_PROGRAM ",
+            "AT 8",
+        ),
+        (b"PROGRAM p CASE n OF 1 : END_CASE END_PROGRAM ", "AT 8"),
+        (
+            b"PROGRAM p FOR i := 1 TO 2 DO END_FOR END_PROGRAM ",
+            "AT 10",
+        ),
+        (b"PROGRAM p f ( y => v . q ) ; END_PROGRAM ", "AT 7"),
+        (
+            b"PROGRAM p CASE n OF 1 .. 2147483648 : END_CASE ; END_PROGRAM ",
+            "AT 7",
+        ),
     ];
     for (text, want) in rows {
-        let found = match parsed(rt.alloc(), text) {
-            Ok(_) => None,
-            Err(fault) => Some(fault),
-        };
-        assert_eq!(rt; found, Some(ParseFault::At { token: want }));
+        assert_eq!(rt; told(rt.alloc(), text)?.as_str(), want);
     }
     Ok(())
 }

@@ -1,128 +1,132 @@
-//! Units.
+//! Blocks, programs and units.
 
-ghost use Rattle.std.specs.Prelude.{◌≡◌, List, IfErr, MatchResult, length, ◌-◌};
-ghost use Rattle.st_parser.specs.Grammar.{Spells};
+ghost use Rattle.std.specs.Prelude.{◌≡◌, ◌-◌, List, map, length, IfErr, MatchResult};
+ghost use Rattle.st_parser.specs.Declarations.{Spells, closing};
 ghost use Rattle.st_parser.specs.Lexemes.{Lexeme, lexemes};
 ghost use Rattle.st_parser.specs.Outcome.{Gives, SpellNone, NamesOneOf};
-ghost use Rattle.st_parser.specs.Reading.{region_at, declaration_at, declares, globals_at, assignment_at, program_at, unit_at, many};
-ghost use Rattle.st_parser.specs.Source.{Source, source_of};
-ghost use Rattle.st_tree.specs.View.{view_body};
+ghost use Rattle.st_parser.specs.Reading.{all_at, told_next, next_keyword};
+ghost use Rattle.st_parser.specs.ReadingUnits.{globals_at, next_section as next_section_of, section_at, pou_of, next_pou, pou_at, unit_at};
+ghost use Rattle.st_parser.specs.Units.{PlainUnit, view_unit, view_section, view_pou};
 
-use crate::expr::expression;
+use crate::declare::{globals, is_section, section};
 use crate::fault::{ParseFault, Stop};
 use crate::reader::Reader;
-use crate::unit::{Program, Unit, Variable};
-use plant_types::{Kind, Text};
-use st_lexer::{Keyword, Region, Symbol, Token, TokenKind};
-use st_tree::Stmt;
+use crate::stmt::statements;
+use crate::unit::{Pou, PouKind, Section, Unit};
+use st_lexer::{Keyword, Token, TokenKind};
 use std::alloc::Global;
 
-/// Reads `AT` and an address, if they are next.
-fn region(reader: &mut Reader) -> Result<Option<Region>, Stop>
-    ensures { Gives (λ region. (region, reader.new)) result (region_at reader.old) }
+/// Reads the sections of globals.
+fn global_sections(alloc: Global, reader: &mut Reader) -> Result<Vec<Section>, Stop>
+    ensures { Gives (λ all. (map view_section all.items, reader.new)) result (all_at (next_keyword Keyword.VarGlobal) globals_at reader.old) }
 {
-    match reader.peek() {
-        Some(TokenKind::Keyword(Keyword::At)) => {
-            reader.advance();
-            match reader.peek() {
-                Some(TokenKind::Address(region)) => {
-                    reader.advance();
-                    Ok(Some(region))
-                }
-                _ => Err(reader.stop()),
-            }
+    let mut all = Vec::new(alloc);
+    // Each takes a token at least.
+    for _turn in 0..reader.left() {
+        if !reader.is_keyword(Keyword::VarGlobal) {
+            return Ok(all);
         }
-        _ => Ok(None),
+        all.push(globals(alloc, reader)?)?;
+    }
+    if reader.is_keyword(Keyword::VarGlobal) {
+        return Err(reader.stop());
+    }
+    Ok(all)
+}
+
+/// Reads the sections of a block or a program.
+fn sections(alloc: Global, pou: PouKind, reader: &mut Reader) -> Result<Vec<Section>, Stop>
+    ensures { Gives (λ all. (map view_section all.items, reader.new)) result (all_at (next_section_of pou) (section_at pou) reader.old) }
+{
+    let mut all = Vec::new(alloc);
+    // Each takes a token at least.
+    for _turn in 0..reader.left() {
+        if !is_section(pou, reader) {
+            return Ok(all);
+        }
+        all.push(section(alloc, pou, reader)?)?;
+    }
+    if is_section(pou, reader) {
+        return Err(reader.stop());
+    }
+    Ok(all)
+}
+
+/// What the next token opens.
+fn next_kind(reader: &Reader) -> Option<PouKind>
+    ensures { result ≡ told_next pou_of reader.now }
+{
+    match reader.peek()? {
+        TokenKind::Keyword(Keyword::FunctionBlock) => Some(PouKind::Block),
+        TokenKind::Keyword(Keyword::Program) => Some(PouKind::Program),
+        _ => None,
     }
 }
 
-/// Reads a declaration of a global with its semicolon.
-#[tactic(auto, unfolding(crate::specs::Reading::declaration_at))]
-fn declaration(alloc: Global, reader: &mut Reader) -> Result<Variable, Stop>
-    ensures { Gives (λ variable. (variable, reader.new)) result (declaration_at reader.old) }
+/// Whether a block or a program is next.
+fn is_pou(reader: &Reader) -> bool
+    ensures { result ≡ next_pou reader.now }
 {
+    next_kind(reader).is_some()
+}
+
+/// The keyword at the end of a block or a program.
+fn closing(kind: PouKind) -> Keyword
+    ensures { result ≡ closing kind }
+{
+    match kind {
+        PouKind::Block => Keyword::EndFunctionBlock,
+        PouKind::Program => Keyword::EndProgram,
+    }
+}
+
+/// Reads a block or a program.
+#[tactic(auto, unfolding(crate::specs::ReadingUnits::pou_at))]
+fn pou(alloc: Global, reader: &mut Reader) -> Result<Pou, Stop>
+    ensures { Gives (λ p. (view_pou p, reader.new)) result (pou_at reader.old) }
+{
+    let Some(kind) = next_kind(reader) else {
+        return Err(reader.stop());
+    };
+    reader.advance();
     let name = reader.word(alloc)?;
-    let region = region(reader)?;
-    reader.symbol(Symbol::Colon)?;
-    reader.keyword(Keyword::Bool)?;
-    reader.symbol(Symbol::Semicolon)?;
-    Ok(Variable {
+    let sections = sections(alloc, kind, reader)?;
+    let body = statements(alloc, reader)?;
+    reader.keyword(closing(kind))?;
+    Ok(Pou {
+        kind,
         name,
-        region,
-        kind: Kind::Bool,
+        sections,
+        body,
     })
 }
 
-/// Reads an assignment with its semicolon.
-#[tactic(auto, unfolding(crate::specs::Reading::assignment_at))]
-fn assignment(alloc: Global, reader: &mut Reader) -> Result<Vec<Stmt<Text>>, Stop>
-    ensures { Gives (λ body. (view_body body.items, reader.new)) result (assignment_at reader.old) }
+/// Reads the blocks and programs.
+fn pous(alloc: Global, reader: &mut Reader) -> Result<Vec<Pou>, Stop>
+    ensures { Gives (λ all. (map view_pou all.items, reader.new)) result (all_at next_pou pou_at reader.old) }
 {
-    let target = reader.word(alloc)?;
-    reader.symbol(Symbol::Becomes)?;
-    let value = expression(alloc, reader)?;
-    reader.symbol(Symbol::Semicolon)?;
-    let mut body = Vec::new(alloc);
-    body.push(Stmt::Assign(target, value))?;
-    Ok(body)
-}
-
-/// Reads a program.
-#[tactic(auto, unfolding(crate::specs::Reading::program_at))]
-fn program(alloc: Global, reader: &mut Reader) -> Result<Program, Stop>
-    ensures { Gives (λ program. ((program.name, view_body program.body.items), reader.new)) result (program_at reader.old) }
-{
-    reader.keyword(Keyword::Program)?;
-    let name = reader.word(alloc)?;
-    let body = assignment(alloc, reader)?;
-    reader.keyword(Keyword::EndProgram)?;
-    Ok(Program { name, body })
-}
-
-/// Whether a declaration is next: not `END_VAR`.
-fn declares_next(reader: &Reader) -> bool
-    ensures { result ≡ declares reader.now }
-{
-    reader.peek() != Some(TokenKind::Keyword(Keyword::EndVar))
-}
-
-/// Reads declarations up to `END_VAR`.
-fn declarations(alloc: Global, reader: &mut Reader) -> Result<Vec<Variable>, Stop>
-    ensures { Gives (λ variables. (variables.items, reader.new)) result (many declares declaration_at (length reader.old) reader.old) }
-{
-    let mut variables = Vec::new(alloc);
+    let mut all = Vec::new(alloc);
     // Each takes a token at least.
     for _turn in 0..reader.left() {
-        if !declares_next(reader) {
-            return Ok(variables);
+        if !is_pou(reader) {
+            return Ok(all);
         }
-        variables.push(declaration(alloc, reader)?)?;
+        all.push(pou(alloc, reader)?)?;
     }
-    if declares_next(reader) {
+    if is_pou(reader) {
         return Err(reader.stop());
     }
-    Ok(variables)
-}
-
-/// Reads the globals.
-#[tactic(auto, unfolding(crate::specs::Reading::globals_at))]
-fn globals(alloc: Global, reader: &mut Reader) -> Result<Vec<Variable>, Stop>
-    ensures { Gives (λ variables. (variables.items, reader.new)) result (globals_at reader.old) }
-{
-    reader.keyword(Keyword::VarGlobal)?;
-    let variables = declarations(alloc, reader)?;
-    reader.keyword(Keyword::EndVar)?;
-    Ok(variables)
+    Ok(all)
 }
 
 /// Reads a unit.
-#[tactic(auto, unfolding(crate::specs::Reading::unit_at))]
+#[tactic(auto, unfolding(crate::specs::ReadingUnits::unit_at))]
 fn unit(alloc: Global, reader: &mut Reader) -> Result<Unit, Stop>
-    ensures { Gives (λ unit. (source_of unit, reader.new)) result (unit_at reader.old) }
+    ensures { Gives (λ unit. (view_unit unit, reader.new)) result (unit_at reader.old) }
 {
-    let globals = globals(alloc, reader)?;
-    let program = program(alloc, reader)?;
-    Ok(Unit { globals, program })
+    let globals = global_sections(alloc, reader)?;
+    let pous = pous(alloc, reader)?;
+    Ok(Unit { globals, pous })
 }
 
 /// The refusal of the token before which so many are left, itself among them.
@@ -136,7 +140,7 @@ fn refused(tokens: &[Token], left: usize) -> ParseFault
 
 /// The unit that the tokens of a text spell, all of them. The error is Memory where a growth was refused; else no unit is spelled, and it names the first token with which none can go on.
 pub fn parse(alloc: Global, text: &[u8], tokens: &[Token]) -> Result<Unit, ParseFault>
-    ensures spelled { MatchResult result (λ unit. Spells (lexemes text.now tokens.now) (source_of unit)) (SpellNone (lexemes text.now tokens.now)) }
+    ensures spelled { MatchResult result (λ unit. Spells (lexemes text.now tokens.now) (view_unit unit)) (SpellNone (lexemes text.now tokens.now)) }
     ensures within { IfErr result (NamesOneOf (length tokens.now)) }
 {
     let mut reader = Reader::new(text, tokens);
@@ -156,5 +160,5 @@ pub fn parse(alloc: Global, text: &[u8], tokens: &[Token]) -> Result<Unit, Parse
 
 /// A text's tokens spell at most one unit.
 pub fn one_unit()
-    ensures { (ts : List Lexeme) (a b : Source) → Spells ts a → Spells ts b → a ≡ b }
+    ensures { (ts : List Lexeme) (a b : PlainUnit) → Spells ts a → Spells ts b → a ≡ b }
 {}

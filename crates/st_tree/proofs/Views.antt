@@ -1,15 +1,21 @@
--- The plain tree of each form of an expression, and of one statement more.
+-- The plain tree of each form of an expression and of a statement, and of one more item of a list.
 use Rattle.std.proofs.Common.{◌≡◌, ℕ, List, [], ◌∷◌, ◌++◌, ◌+◌, ◌<◌, map, take, length, get_or, sym, ap, ◌∙◌}
 use Rattle.std.proofs.lemmas.List.{take_more, map_push}
-use Rattle.std.specs.Prelude.{Box}
+use Rattle.std.specs.Prelude.{Box, Vec, Option}
 use Rattle.std.specs.declared.alloc.Global.{Global}
 use Rattle.st_tree.specs.declared.tree.Unary.{Unary}
 use Rattle.st_tree.specs.declared.tree.Binary.{Binary}
+use Rattle.st_tree.specs.declared.tree.Label.{Label}
 use Rattle.st_tree.specs.declared.tree.Expr.{Expr, One, Two, fold-roll-Expr}
 use Rattle.st_tree.specs.declared.tree.Expr.TheOpen.{Expr-F}
 use Rattle.st_tree.specs.declared.tree.Expr.TheVariants.{rolls-One, rolls-Two}
-use Rattle.st_tree.specs.Plain.{PlainExpr, one, two}
-use Rattle.st_tree.specs.View.{view_expr_step, view_expr}
+use Rattle.st_tree.specs.declared.tree.Branch.{Branch, roll-Branch, fold-roll-Branch, fold_out-Branch}
+use Rattle.st_tree.specs.declared.tree.Choice.{Choice, roll-Choice, fold-roll-Choice, fold_out-Choice}
+use Rattle.st_tree.specs.declared.tree.Stmt.{Stmt, If, Case, For, fold-roll-Stmt}
+use Rattle.st_tree.specs.declared.tree.Stmt.TheOpen.{Stmt-F}
+use Rattle.st_tree.specs.declared.tree.Stmt.TheVariants.{rolls-If, rolls-Case, rolls-For}
+use Rattle.st_tree.specs.Plain.{PlainExpr, one, two, PlainStmt, PlainBody, choose, select, repeat}
+use Rattle.st_tree.specs.View.{view_expr_step, view_step, view_branch_step, view_choice_step, view_expr, view_option, view_stmt, view_body, view_branch, view_branches, view_choice, view_choices}
 
 module _ {V : Type 0} where
   pub view_expr-One : (op : Unary) (a : Box (Expr V) Global) → view_expr (One op a) ≡ one op (view_expr a.value)
@@ -17,6 +23,37 @@ module _ {V : Type 0} where
 
   pub view_expr-Two : (op : Binary) (a b : Box (Expr V) Global) → view_expr (Two op a b) ≡ two op (view_expr a.value) (view_expr b.value)
   view_expr-Two op a b = ap view_expr (sym (rolls-Two op a b)) ∙ fold-roll-Expr V (PlainExpr V) view_expr_step (Expr-F.Two op a b)
+
+  pub view_stmt-If : (number : ℕ) (branches : Vec (Branch V) Global) (last : Vec (Stmt V) Global) → view_stmt (If number branches last) ≡ choose number (view_branches branches.items) (view_body last.items)
+  view_stmt-If number branches last =
+      ap view_stmt (sym (rolls-If number branches last))
+      ∙ fold-roll-Stmt V (PlainStmt V) (PlainExpr V × PlainBody V) (List Label × PlainBody V) view_step view_branch_step view_choice_step (Stmt-F.If number branches last)
+
+  pub view_stmt-Case : (number : ℕ) (selector : Expr V) (choices : Vec (Choice V) Global) (last : Vec (Stmt V) Global)
+      → view_stmt (Case number selector choices last) ≡ select number (view_expr selector) (view_choices choices.items) (view_body last.items)
+  view_stmt-Case number selector choices last =
+      ap view_stmt (sym (rolls-Case number selector choices last))
+      ∙ fold-roll-Stmt V (PlainStmt V) (PlainExpr V × PlainBody V) (List Label × PlainBody V) view_step view_branch_step view_choice_step (Stmt-F.Case number selector choices last)
+
+  pub view_stmt-For : (number : ℕ) (v : V) (from to : Expr V) (by : Option (Expr V)) (body : Vec (Stmt V) Global)
+      → view_stmt (For number v from to by body) ≡ repeat number v (view_expr from) (view_expr to) (view_option by) (view_body body.items)
+  view_stmt-For number v from to by body =
+      ap view_stmt (sym (rolls-For number v from to by body))
+      ∙ fold-roll-Stmt V (PlainStmt V) (PlainExpr V × PlainBody V) (List Label × PlainBody V) view_step view_branch_step view_choice_step (Stmt-F.For number v from to by body)
+
+  pub view_branch_is : (b : Branch V) → view_branch b ≡ (view_expr b.test, view_body b.body.items)
+  view_branch_is b = fold_out-Branch V (PlainStmt V) (PlainExpr V × PlainBody V) (List Label × PlainBody V) view_step view_branch_step view_choice_step b
+
+  pub view_branch_made : (test : Expr V) (body : Vec (Stmt V) Global) → view_branch (roll-Branch V record { test = test; body = body }) ≡ (view_expr test, view_body body.items)
+  view_branch_made test body =
+      fold-roll-Branch V (PlainStmt V) (PlainExpr V × PlainBody V) (List Label × PlainBody V) view_step view_branch_step view_choice_step record { test = test; body = body }
+
+  pub view_choice_is : (c : Choice V) → view_choice c ≡ (c.labels.items, view_body c.body.items)
+  view_choice_is c = fold_out-Choice V (PlainStmt V) (PlainExpr V × PlainBody V) (List Label × PlainBody V) view_step view_branch_step view_choice_step c
+
+  pub view_choice_made : (labels : Vec Label Global) (body : Vec (Stmt V) Global) → view_choice (roll-Choice V record { labels = labels; body = body }) ≡ (labels.items, view_body body.items)
+  view_choice_made labels body =
+      fold-roll-Choice V (PlainStmt V) (PlainExpr V × PlainBody V) (List Label × PlainBody V) view_step view_branch_step view_choice_step record { labels = labels; body = body }
 
 -- one more item of a list that is gone over, seen by view
 pub one_more : {X Y Z : Type 0} (view : X → Z) (other : Y → Z) (xs : List X) (i : ℕ) (x : X) (ys zs : List Y) (y : Y) → i < length xs → x ≡ get_or xs i x → zs ≡ ys ++ y ∷ [] → map other ys ≡ map view (take i xs) → other y ≡ view x → map other zs ≡ map view (take (i + 1) xs)

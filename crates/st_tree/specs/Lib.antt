@@ -1,4 +1,9 @@
 pub mod Plain
 pub mod View
+pub mod Operators
+pub mod Controls
 pub mod Meaning
+pub mod Numbers
+pub mod Kinds
+pub mod Constants
 pub mod Code

@@ -1,39 +1,35 @@
--- What an expression and a body mean, by cases on the plain tree. Every value is a whole number: FALSE is 0 and TRUE is 1.
-use Rattle.std.specs.Prelude.{ℕ, ◌+◌, ℤ, not, ◌&&◌, Result, Ok, Err, List}
+-- What an expression and a body mean, by cases on the plain tree.
+use Rattle.std.specs.Prelude.{ℕ, ℤ, pos, int_lt, Bool, false, not, ◌&&◌, ◌||◌, if◌then◌else◌, Option, Some, None, Result, Ok, Err, List, [], ◌∷◌}
 use Rattle.plant_types.specs.declared.values.Trap.{Trap}
-use Rattle.plant_types.specs.Values.{truth, is_true, worth}
-use Rattle.st_tree.specs.declared.tree.Unary.{Unary}
-use Rattle.st_tree.specs.declared.tree.Unary.TheVariants.{Not}
-use Rattle.st_tree.specs.declared.tree.Binary.{Binary}
-use Rattle.st_tree.specs.declared.tree.Binary.TheVariants.{And}
-use Rattle.st_tree.specs.Plain.{PlainExpr, literal, read, one, two, PlainStmt, assign, PlainBody, done, next}
+use Rattle.plant_types.specs.Values as values
+use Rattle.st_tree.specs.declared.tree.Literal.{Literal}
+use Rattle.st_tree.specs.declared.tree.Literal.TheVariants.{Integer, Value}
+use Rattle.st_tree.specs.declared.tree.Label.{Label}
+use Rattle.st_tree.specs.Plain.{PlainExpr, literal, read, output_of, one, two, PlainArgument, input, output}
+use Rattle.st_tree.specs.Plain.{PlainStmt, empty, assign, call, choose, select, repeat, PlainBody, done, next, Branches, no_branch, branch, Choices, no_choice, choice}
+use Rattle.st_tree.specs.Operators.{Outcome, one_of, two_of}
+use Rattle.st_tree.specs.Controls.{control_values, span_of}
 
--- what an expression gives: a value, or the kind of a trap
-abbrev pub Outcome : Type 0
-Outcome = Result ℤ Trap
-
--- what an operator gives of its operand's value
-abbrev pub one_of : Unary → ℤ → Outcome
-one_of Not x = Ok (truth (not (is_true x)))
-
--- what an operator gives of its operands' values
-abbrev pub two_of : Binary → ℤ → ℤ → Outcome
-two_of And x y = Ok (truth (is_true x && is_true y))
+-- a literal as a whole number
+abbrev pub worth : Literal → ℤ
+worth (Integer n) = n
+worth (Value v) = values.worth v
 
 abbrev pub then_one : Outcome → (ℤ → Outcome) → Outcome
 then_one (Ok x) f = f x
-then_one (Err t) f = Err t
+then_one (Err trap) f = Err trap
 
 -- both operands have an outcome, and the left one's trap wins
 abbrev pub then_two : Outcome → Outcome → (ℤ → ℤ → Outcome) → Outcome
 then_two a b f = then_one a (λ x. then_one b (f x))
 
--- the outcome of an expression where each variable has the value that is looked up for it
-abbrev pub value_of : {V : Type 0} → (V → ℤ) → PlainExpr V → Outcome
-value_of look (literal value) = Ok (worth value)
-value_of look (read v) = Ok (look v)
-value_of look (one op a) = then_one (value_of look a) (one_of op)
-value_of look (two op a b) = then_two (value_of look a) (value_of look b) (two_of op)
+-- the outcome of an expression where each variable, and each output of an instance, has the value that is looked up for it
+abbrev pub value_of : {V : Type 0} → (V → ℤ) → (V → V → ℤ) → PlainExpr V → Outcome
+value_of look peek (literal n) = Ok (worth n)
+value_of look peek (read v) = Ok (look v)
+value_of look peek (output_of instance name) = Ok (peek instance name)
+value_of look peek (one op a) = then_one (value_of look peek a) (one_of op)
+value_of look peek (two op a b) = then_two (value_of look peek a) (value_of look peek b) (two_of op)
 
 -- where a run traps: the names of the program and the instances that lead there, the innermost first, each as declared, and the number of the statement in its body
 pub record Spot : Type 0 where
@@ -45,38 +41,104 @@ pub data Ran (W : Type 0) : Type 0 where
   Done : W → Ran W
   Trapped : (world : W) (spot : Spot) (trap : Trap) → Ran W
 
--- what a body's variables mean in worlds of the type W, and the path of the body
+-- what a body's variables and instances mean in worlds of the type W, and the path of the body
 pub record Space (V W : Type 0) : Type 0 where
   pub path : List (List ℕ)
+  -- a variable's value, and the world after a variable is assigned a value
   pub get : W → V → ℤ
   pub put : W → V → ℤ → W
+  -- the same of an instance's output and of an instance's input
+  pub get_output : W → V → V → ℤ
+  pub put_input : W → V → V → ℤ → W
+  -- what an instance does when it is called, after its inputs were assigned
+  pub enter : W → V → Ran W
 
 abbrev pub then_run : {W : Type 0} → Ran W → (W → Ran W) → Ran W
 then_run (Done w) rest = rest w
 then_run (Trapped w spot trap) rest = Trapped w spot trap
 
-abbrev pub with_value : {W : Type 0} → W → Spot → Outcome → (ℤ → Ran W) → Ran W
-with_value w spot (Ok n) rest = rest n
+abbrev pub with_value : {A W : Type 0} → W → Spot → Result A Trap → (A → Ran W) → Ran W
+with_value w spot (Ok a) rest = rest a
 with_value w spot (Err trap) rest = Trapped w spot trap
 
--- how many statements a statement is, with those inside it
+-- the body once for each value of the control variable, which has the last of them afterwards
+abbrev pub turns : {W : Type 0} → (W → ℤ → W) → (W → Ran W) → List ℤ → W → Ran W
+turns set body [] w = Done w
+turns set body (n ∷ ns) w = then_run (body (set w n)) (turns set body ns)
+
+-- a label fits from its low end to its high end
+abbrev pub fits : ℤ → Label → Bool
+fits n label = not (int_lt n label.low) && not (int_lt label.high n)
+
+abbrev pub fits_one : ℤ → List Label → Bool
+fits_one n [] = false
+fits_one n (label ∷ labels) = fits n label || fits_one n labels
+
+-- one of several was taken, or all were passed by
+pub data Chosen (W : Type 0) : Type 0 where
+  Took : Ran W → Chosen W
+  Passed : W → Chosen W
+
+abbrev pub or_else : {W : Type 0} → Chosen W → (W → Ran W) → Ran W
+or_else (Took r) last = r
+or_else (Passed w) last = last w
+
+abbrev pub on_test : {W : Type 0} → W → Spot → Outcome → (W → Ran W) → (W → Chosen W) → Chosen W
+on_test w spot (Ok n) body later = if values.is_true n then Took (body w) else later w
+on_test w spot (Err trap) body later = Took (Trapped w spot trap)
+
+-- the place of a statement
+abbrev pub spot_of : {V W : Type 0} → Space V W → ℕ → Spot
+spot_of space number = record { path = space.path; statement = number }
+
+-- the outcome of an expression in a world
+abbrev pub outcome : {V W : Type 0} → Space V W → W → PlainExpr V → Outcome
+outcome space w e = value_of (space.get w) (space.get_output w) e
+
+-- the outcome of the step of a FOR, which is 1 where none is written
+abbrev pub step_of : {V W : Type 0} → Space V W → W → Option (PlainExpr V) → Outcome
+step_of space w None = Ok (pos 1)
+step_of space w (Some e) = outcome space w e
+
+-- the inputs of a call are evaluated and assigned one after another as written
+abbrev pub take_inputs : {V W : Type 0} → Space V W → ℕ → V → List (PlainArgument V) → W → Ran W
+take_inputs space number instance [] w = Done w
+take_inputs space number instance (input name e ∷ rest) w =
+    with_value w (spot_of space number) (outcome space w e) (λ n. take_inputs space number instance rest (space.put_input w instance name n))
+take_inputs space number instance (output name v ∷ rest) w = take_inputs space number instance rest w
+
+-- the outputs of a call are assigned one after another as written
+abbrev pub give_outputs : {V W : Type 0} → Space V W → V → List (PlainArgument V) → W → W
+give_outputs space instance [] w = w
+give_outputs space instance (input name e ∷ rest) w = give_outputs space instance rest w
+give_outputs space instance (output name v ∷ rest) w = give_outputs space instance rest (space.put w v (space.get_output w instance name))
+
 abbrev mutual
-  pub count : {V : Type 0} → PlainStmt V → ℕ
-  count (assign v e) = 1
+  -- what a statement does
+  pub run : {V W : Type 0} → Space V W → PlainStmt V → W → Ran W
+  run space (empty number) w = Done w
+  run space (assign number v e) w = with_value w (spot_of space number) (outcome space w e) (λ n. Done (space.put w v n))
+  run space (call number instance arguments) w =
+      then_run (then_run (take_inputs space number instance arguments w) (λ u. space.enter u instance)) (λ u. Done (give_outputs space instance arguments u))
+  run space (choose number branches last) w = or_else (first_true space number branches w) (run_all space last)
+  run space (select number e choices last) w =
+      with_value w (spot_of space number) (outcome space w e) (λ n. or_else (first_fit space n choices w) (run_all space last))
+  run space (repeat number v from to by body) w =
+      with_value w (spot_of space number) (span_of (outcome space w from) (outcome space w to) (step_of space w by)) (λ span.
+      turns (λ u n. space.put u v n) (run_all space body) (control_values span) w)
 
-  pub count_all : {V : Type 0} → PlainBody V → ℕ
-  count_all done = 0
-  count_all (next s rest) = count s + count_all rest
+  -- what a body does
+  pub run_all : {V W : Type 0} → Space V W → PlainBody V → W → Ran W
+  run_all space done w = Done w
+  run_all space (next s rest) w = then_run (run space s w) (run_all space rest)
 
--- what a statement of a number does, and what a body does whose first statement has the number
-abbrev mutual
-  pub run : {V W : Type 0} → Space V W → ℕ → PlainStmt V → W → Ran W
-  run space number (assign v e) w = with_value w (record { path = space.path; statement = number }) (value_of (space.get w) e) (λ n. Done (space.put w v n))
+  -- the first branch whose test is TRUE; later tests aren't evaluated
+  pub first_true : {V W : Type 0} → Space V W → ℕ → Branches V → W → Chosen W
+  first_true space number no_branch w = Passed w
+  first_true space number (branch test body rest) w =
+      on_test w (spot_of space number) (outcome space w test) (run_all space body) (first_true space number rest)
 
-  pub run_from : {V W : Type 0} → Space V W → ℕ → PlainBody V → W → Ran W
-  run_from space number done w = Done w
-  run_from space number (next s rest) w = then_run (run space number s w) (run_from space (number + count s) rest)
-
--- what a body does: its statements are numbered from 1 in the order of their first tokens
-abbrev pub run_all : {V W : Type 0} → Space V W → PlainBody V → W → Ran W
-run_all space body w = run_from space 1 body w
+  -- the first choice with a label that fits
+  pub first_fit : {V W : Type 0} → Space V W → ℤ → Choices V → W → Chosen W
+  first_fit space n no_choice w = Passed w
+  first_fit space n (choice labels body rest) w = if fits_one n labels then Took (run_all space body w) else first_fit space n rest w

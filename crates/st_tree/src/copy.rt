@@ -1,9 +1,9 @@
 //! Copies of trees.
 
-ghost use Rattle.std.specs.Prelude.{◌≡◌, IfOk};
-ghost use Rattle.st_tree.specs.View.{view_expr, view_stmt, view_body};
+ghost use Rattle.std.specs.Prelude.{◌≡◌, IfOk, map};
+ghost use Rattle.st_tree.specs.View.{view_expr, view_option, view_argument, view_stmt, view_body, view_branches, view_choices};
 
-use crate::tree::{Expr, Stmt};
+use crate::tree::{Argument, Branch, Choice, Expr, Label, Stmt};
 use plant_types::Text;
 use std::alloc::{AllocError, Global};
 
@@ -31,8 +31,12 @@ pub fn copy_expr<V: Duplicate>(alloc: Global, expr: &Expr<V>) -> Result<Expr<V>,
     ensures { IfOk result (λ e. view_expr e ≡ view_expr expr.now) }
 {
     match expr {
-        Expr::Literal(value) => Ok(Expr::Literal(*value)),
+        Expr::Literal(literal) => Ok(Expr::Literal(*literal)),
         Expr::Read(variable) => Ok(Expr::Read(variable.duplicate(alloc)?)),
+        Expr::Output(instance, name) => {
+            let instance = instance.duplicate(alloc)?;
+            Ok(Expr::Output(instance, name.duplicate(alloc)?))
+        }
         Expr::One(op, a) => Ok(Expr::One(*op, Box::new(alloc, copy_expr(alloc, a)?)?)),
         Expr::Two(op, a, b) => {
             let left = Box::new(alloc, copy_expr(alloc, a)?)?;
@@ -42,19 +46,129 @@ pub fn copy_expr<V: Duplicate>(alloc: Global, expr: &Expr<V>) -> Result<Expr<V>,
     }
 }
 
-/// The same statement.
-fn copy_stmt<V: Duplicate>(alloc: Global, stmt: &Stmt<V>) -> Result<Stmt<V>, AllocError>
-    ensures { IfOk result (λ s. view_stmt s ≡ view_stmt stmt.now) }
+/// The same expression, if there is one.
+fn copy_option<V: Duplicate>(
+    alloc: Global,
+    expr: &Option<Expr<V>>,
+) -> Result<Option<Expr<V>>, AllocError>
+    ensures { IfOk result (λ e. view_option e ≡ view_option expr.now) }
 {
-    match stmt {
-        Stmt::Assign(variable, expr) => {
-            let variable = variable.duplicate(alloc)?;
-            Ok(Stmt::Assign(variable, copy_expr(alloc, expr)?))
+    match expr {
+        Some(expr) => Ok(Some(copy_expr(alloc, expr)?)),
+        None => Ok(None),
+    }
+}
+
+/// The same argument.
+fn copy_argument<V: Duplicate>(
+    alloc: Global,
+    argument: &Argument<V>,
+) -> Result<Argument<V>, AllocError>
+    ensures { IfOk result (λ copy. view_argument copy ≡ view_argument argument.now) }
+{
+    match argument {
+        Argument::Input(name, expr) => {
+            let name = name.duplicate(alloc)?;
+            Ok(Argument::Input(name, copy_expr(alloc, expr)?))
+        }
+        Argument::Output(name, variable) => {
+            let name = name.duplicate(alloc)?;
+            Ok(Argument::Output(name, variable.duplicate(alloc)?))
         }
     }
 }
 
+/// The same arguments in their order.
+fn copy_arguments<V: Duplicate>(
+    alloc: Global,
+    arguments: &[Argument<V>],
+) -> Result<Vec<Argument<V>>, AllocError>
+    ensures { IfOk result (λ copy. map view_argument copy.items ≡ map view_argument arguments.now) }
+{
+    let mut copies = Vec::new(alloc);
+    for argument in arguments {
+        copies.push(copy_argument(alloc, argument)?)?;
+    }
+    Ok(copies)
+}
+
+/// The same labels in their order.
+fn copy_labels(alloc: Global, labels: &[Label]) -> Result<Vec<Label>, AllocError>
+    ensures { IfOk result (λ copy. copy.items ≡ labels.now) }
+{
+    labels.iter().copied().collect(alloc)
+}
+
+/// The same statement.
+#[cycle(copy)]
+fn copy_stmt<V: Duplicate>(alloc: Global, stmt: &Stmt<V>) -> Result<Stmt<V>, AllocError>
+    ensures { IfOk result (λ s. view_stmt s ≡ view_stmt stmt.now) }
+{
+    match stmt {
+        Stmt::Empty(number) => Ok(Stmt::Empty(*number)),
+        Stmt::Assign(number, variable, expr) => {
+            let variable = variable.duplicate(alloc)?;
+            Ok(Stmt::Assign(*number, variable, copy_expr(alloc, expr)?))
+        }
+        Stmt::Call(number, instance, arguments) => {
+            let instance = instance.duplicate(alloc)?;
+            Ok(Stmt::Call(*number, instance, copy_arguments(alloc, arguments)?))
+        }
+        Stmt::If(number, branches, last) => {
+            let branches = copy_branches(alloc, branches)?;
+            Ok(Stmt::If(*number, branches, copy_body(alloc, last)?))
+        }
+        Stmt::Case(number, selector, choices, last) => {
+            let selector = copy_expr(alloc, selector)?;
+            let choices = copy_choices(alloc, choices)?;
+            Ok(Stmt::Case(*number, selector, choices, copy_body(alloc, last)?))
+        }
+        Stmt::For(number, variable, from, to, by, body) => {
+            let variable = variable.duplicate(alloc)?;
+            let from = copy_expr(alloc, from)?;
+            let to = copy_expr(alloc, to)?;
+            let by = copy_option(alloc, by)?;
+            Ok(Stmt::For(*number, variable, from, to, by, copy_body(alloc, body)?))
+        }
+    }
+}
+
+/// The same branches in their order.
+#[cycle(copy)]
+fn copy_branches<V: Duplicate>(
+    alloc: Global,
+    branches: &[Branch<V>],
+) -> Result<Vec<Branch<V>>, AllocError>
+    ensures { IfOk result (λ copy. view_branches copy.items ≡ view_branches branches.now) }
+{
+    let mut copies = Vec::new(alloc);
+    for branch in branches {
+        let test = copy_expr(alloc, &branch.test)?;
+        let body = copy_body(alloc, &branch.body)?;
+        copies.push(Branch { test, body })?;
+    }
+    Ok(copies)
+}
+
+/// The same choices in their order.
+#[cycle(copy)]
+fn copy_choices<V: Duplicate>(
+    alloc: Global,
+    choices: &[Choice<V>],
+) -> Result<Vec<Choice<V>>, AllocError>
+    ensures { IfOk result (λ copy. view_choices copy.items ≡ view_choices choices.now) }
+{
+    let mut copies = Vec::new(alloc);
+    for choice in choices {
+        let labels = copy_labels(alloc, &choice.labels)?;
+        let body = copy_body(alloc, &choice.body)?;
+        copies.push(Choice { labels, body })?;
+    }
+    Ok(copies)
+}
+
 /// The same statements in their order. The error is a refused growth.
+#[cycle(copy)]
 pub fn copy_body<V: Duplicate>(alloc: Global, body: &[Stmt<V>]) -> Result<Vec<Stmt<V>>, AllocError>
     ensures { IfOk result (λ copy. view_body copy.items ≡ view_body body.now) }
 {
@@ -63,80 +177,4 @@ pub fn copy_body<V: Duplicate>(alloc: Global, body: &[Stmt<V>]) -> Result<Vec<St
         copies.push(copy_stmt(alloc, stmt)?)?;
     }
     Ok(copies)
-}
-
-#[cfg(test)]
-mod tests {
-    use super::*;
-    use crate::tree::{Binary, Unary};
-    use plant_types::Value;
-    use std::test::Fail;
-
-    // c := b AND NOT TRUE
-    fn sample(alloc: Global) -> Result<Vec<Stmt<Text>>, AllocError> {
-        let left = Expr::Read(Text::from_str(alloc, "b")?);
-        let right = Expr::One(
-            Unary::Not,
-            Box::new(alloc, Expr::Literal(Value::Bool(true)))?,
-        );
-        let whole = Expr::Two(Binary::And, Box::new(alloc, left)?, Box::new(alloc, right)?);
-        let mut body = Vec::new(alloc);
-        body.push(Stmt::Assign(Text::from_str(alloc, "c")?, whole))?;
-        Ok(body)
-    }
-
-    fn is_not_true(expr: &Expr<Text>) -> bool {
-        match expr {
-            Expr::One(Unary::Not, a) => match &**a {
-                Expr::Literal(value) => *value == Value::Bool(true),
-                _ => false,
-            },
-            _ => false,
-        }
-    }
-
-    fn is_read_of(expr: &Expr<Text>, name: &[u8]) -> bool {
-        match expr {
-            Expr::Read(variable) => variable.as_bytes() == name,
-            _ => false,
-        }
-    }
-
-    fn is_sample(stmt: &Stmt<Text>) -> bool {
-        match stmt {
-            Stmt::Assign(variable, Expr::Two(Binary::And, a, b)) => {
-                variable.as_bytes() == b"c".as_slice() && is_read_of(a, b"b") && is_not_true(b)
-            }
-            _ => false,
-        }
-    }
-
-    fn copied<V: Duplicate>(alloc: Global, body: &[Stmt<V>]) -> Result<Vec<Stmt<V>>, AllocError> {
-        match copy_body(alloc, body) {
-            Ok(copy) => Ok(copy),
-            Err(_) => copy_body(alloc, body),
-        }
-    }
-
-    #[test]
-    fn copies_a_body_of_names(rt: HostRuntime) -> Result<(), Fail> {
-        let alloc = rt.alloc();
-        let body = match sample(alloc) {
-            Ok(body) => body,
-            Err(_) => sample(alloc)?,
-        };
-        let copy = copied(alloc, &body)?;
-        assert_eq!(rt; copy.len(), 1);
-        assert!(rt; is_sample(&copy[0]));
-        Ok(())
-    }
-
-    #[test]
-    fn copies_a_body_of_numbers(rt: HostRuntime) -> Result<(), Fail> {
-        let body = [Stmt::Assign(4, Expr::Read(7usize))];
-        let copy = copied(rt.alloc(), &body)?;
-        assert_eq!(rt; copy.len(), 1);
-        assert!(rt; matches!(&copy[0], Stmt::Assign(4, Expr::Read(7))));
-        Ok(())
-    }
 }

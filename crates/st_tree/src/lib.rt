@@ -5,8 +5,20 @@
 //! A tree over `Text` is in contracts a tree over lists of bytes.
 #![tactic(auto)]
 
+mod constants;
+mod controls;
 mod copy;
+mod kinds;
+mod labels;
+mod operators;
+#[cfg(test)]
+mod tests;
 mod tree;
 
+pub use constants::constant;
+pub use controls::{Span, count_turns, span_of};
 pub use copy::{Duplicate, copy_body, copy_expr};
-pub use tree::{Binary, Expr, Stmt, Unary};
+pub use kinds::{is_bit, one_kind, one_told, two_kind, two_told};
+pub use labels::fits;
+pub use operators::{one, two};
+pub use tree::{Argument, Binary, Branch, Choice, Expr, Label, Literal, Stmt, Unary};

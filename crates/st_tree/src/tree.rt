@@ -2,32 +2,124 @@
 
 use plant_types::Value;
 
+/// A literal as it is written (IEC 61131-3).
+#[derive(Clone, Copy, PartialEq, Eq, Debug, Drop)]
+pub enum Literal {
+    /// An integer without a kind, a sign or parentheses. It is a DINT; where 0 or 1 is the whole of what is assigned to a BOOL, it is FALSE or TRUE.
+    Integer(i32),
+    /// Any other literal: a truth, a duration, a DINT with its kind, and an integer with a sign or in parentheses.
+    Value(Value),
+}
+
 /// An operator with one operand (IEC 61131-3).
 #[derive(Clone, Copy, PartialEq, Eq, Debug, Drop)]
 pub enum Unary {
     /// `NOT`, of a BOOL.
     Not,
+    /// `-`, of a DINT. A parser writes it for every unary `-`.
+    Negate,
+    /// `-`, of a TIME.
+    NegateTime,
 }
 
 /// An operator with two operands (IEC 61131-3).
 #[derive(Clone, Copy, PartialEq, Eq, Debug, Drop)]
 pub enum Binary {
-    /// `AND`, of two BOOLs.
+    /// `AND` and `&`, of two BOOLs.
     And,
+    /// `XOR`, of two BOOLs.
+    Xor,
+    /// `OR`, of two BOOLs.
+    Or,
+    /// `=`, of two values of one kind.
+    Equal,
+    /// `<>`, of two values of one kind.
+    Unequal,
+    /// `<`, of two DINTs or two TIMEs.
+    Less,
+    /// `>`, of two DINTs or two TIMEs.
+    Greater,
+    /// `<=`, of two DINTs or two TIMEs.
+    AtMost,
+    /// `>=`, of two DINTs or two TIMEs.
+    AtLeast,
+    /// `+`, of two DINTs. A parser writes it for every `+`.
+    Add,
+    /// `+`, of two TIMEs.
+    AddTime,
+    /// `-`, of two DINTs. A parser writes it for every `-`.
+    Subtract,
+    /// `-`, of two TIMEs.
+    SubtractTime,
+    /// `*`, of two DINTs.
+    Multiply,
+    /// `/`, of two DINTs.
+    Divide,
+    /// `MOD`, of two DINTs.
+    Mod,
 }
 
-/// An expression over variables of the type V. Parentheses leave no mark in it.
+/// An expression over variables of the type V. Parentheses leave no mark in it but on an integer.
 #[derive(Drop)]
 pub enum Expr<V> {
-    Literal(Value),
+    Literal(Literal),
+    /// The value of a variable.
     Read(V),
+    /// `instance.output`: an output of a block's instance.
+    Output(V, V),
     One(Unary, Box<Expr<V>>),
     Two(Binary, Box<Expr<V>>, Box<Expr<V>>),
 }
 
-/// A statement over variables of the type V. It has no number of its own: the statements of a body are numbered from 1 in the order of their first tokens.
+/// An argument of a call, as it is written.
 #[derive(Drop)]
+pub enum Argument<V> {
+    /// `input := expression`
+    Input(V, Expr<V>),
+    /// `output => variable`
+    Output(V, V),
+}
+
+/// A label of a CASE: the numbers from a low end to a high end. A single number is both its ends.
+#[derive(Clone, Copy, PartialEq, Eq, Debug, Drop)]
+pub struct Label {
+    pub low: i64,
+    pub high: i64,
+}
+
+/// A test of an IF, and what is done where it is the first that is TRUE.
+#[derive(Drop)]
+#[cycle(stmt)]
+pub struct Branch<V> {
+    pub test: Expr<V>,
+    pub body: Vec<Stmt<V>>,
+}
+
+/// Labels of a CASE, and what is done where they are the first of which one fits.
+#[derive(Drop)]
+#[cycle(stmt)]
+pub struct Choice<V> {
+    pub labels: Vec<Label>,
+    pub body: Vec<Stmt<V>>,
+}
+
+/// A statement over variables of the type V.
+///
+/// Each has a number first: the statements of a body, nested and empty ones too, are numbered from 1 in the order of their first tokens.
+/// A parser writes 0 for every number.
+#[derive(Drop)]
+#[cycle(stmt)]
 pub enum Stmt<V> {
+    /// Nothing: a bare `;`.
+    Empty(u32),
     /// `variable := expression`
-    Assign(V, Expr<V>),
+    Assign(u32, V, Expr<V>),
+    /// `instance(arguments)`
+    Call(u32, V, Vec<Argument<V>>),
+    /// `IF`, its branches (those of `ELSIF` too) and the body of `ELSE`, which is empty where none is written.
+    If(u32, Vec<Branch<V>>, Vec<Stmt<V>>),
+    /// `CASE`, its selector, its choices and the body of `ELSE`, which is empty where none is written.
+    Case(u32, Expr<V>, Vec<Choice<V>>, Vec<Stmt<V>>),
+    /// `FOR`, its control variable, its bounds `from` and `to`, its step, if one is written after `BY`, and its body.
+    For(u32, V, Expr<V>, Expr<V>, Option<Expr<V>>, Vec<Stmt<V>>),
 }

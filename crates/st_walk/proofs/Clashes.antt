@@ -7,11 +7,12 @@ use Rattle.std.specs.List.{list_any}
 use Rattle.std.specs.Str.{bytes_eq}
 use Rattle.std.specs.Cmp.Lexicographic.{bytes_decides}
 use Rattle.plant_types.specs.Words.{folded}
-use Rattle.st_parser.specs.declared.unit.Variable.{Variable}
-use Rattle.st_walk.specs.Worlds.{words_of}
-use Rattle.st_walk.specs.Names.{is_standard, is_among, repeats}
+use Rattle.st_walk.specs.declared.logic.Variable.{Variable}
+use Rattle.st_walk.specs.Names.{words_of}
+use Rattle.st_walk.specs.declared.logic.Local.{Local}
+use Rattle.st_walk.specs.Names.{own_words, is_standard, is_among, repeats}
 use Rattle.st_walk.specs.Faults.{globals_clash}
-use Rattle.st_walk.specs.Resolved.{is_taken}
+use Rattle.st_walk.specs.Taken.{is_taken}
 
 -- which of two words stands first doesn't matter
 pub turned : (x y : List ℕ) (b : Bool) → bytes_eq x y ≡ b → bytes_eq y x ≡ b
@@ -81,3 +82,28 @@ gone_taken globals i g words within is gone taken =
     let split : globals ≡ take i globals ++ g ∷ drop (i + 1) globals = sym (take-append-drop i globals) ∙ ap (λ l. take i globals ++ l) (drop_more globals i g within ∙ ap (λ (x : Variable). x ∷ drop (i + 1) globals) (sym is)) in
     let taken' : is_taken (words_of (take i globals)) g.name ≡ true = ap (λ ws. is_taken ws g.name) (sym gone.are) ∙ taken in
     ap globals_clash split ∙ clash_found (take i globals) (drop (i + 1) globals) g taken'
+
+abbrev own_word : Local → List ℕ
+own_word l = folded l.name
+
+-- the names of the program's own variables that were gone over, of which none stands twice
+pub record OwnGone (locals : List Local) (i : ℕ) (words : List (List ℕ)) : Type 0 where
+  pub are : words ≡ own_words (take i locals)
+  pub sound : repeats (own_words (take i locals)) ≡ false
+
+pub own_more : (locals : List Local) (i : ℕ) (l : Local) (words more : List (List ℕ)) → i < length locals → l ≡ get_or locals i l → OwnGone locals i words → is_among words (folded l.name) ≡ false → more ≡ words ++ folded l.name ∷ [] → OwnGone locals (i + 1) more
+own_more locals i l words more within is gone free new =
+    let step : take (i + 1) locals ≡ take i locals ++ l ∷ [] = take_more locals i l within ∙ ap (λ (x : Local). take i locals ++ x ∷ []) (sym is) in
+    let pushed : own_words (take i locals ++ l ∷ []) ≡ own_words (take i locals) ++ folded l.name ∷ [] = map_push own_word (take i locals) l in
+    let free' : is_among (own_words (take i locals)) (folded l.name) ≡ false = ap (λ ws. is_among ws (folded l.name)) (sym gone.are) ∙ free in
+    record {
+      are = new ∙ ap (λ ws. ws ++ folded l.name ∷ []) gone.are ∙ sym pushed ∙ ap own_words (sym step);
+      sound = ap (λ ls. repeats (own_words ls)) step ∙ ap repeats pushed ∙ repeats_push (own_words (take i locals)) (folded l.name) gone.sound free';
+    }
+
+pub own_taken : (locals : List Local) (i : ℕ) (l : Local) (words : List (List ℕ)) → i < length locals → l ≡ get_or locals i l → OwnGone locals i words → is_among words (folded l.name) ≡ true → repeats (own_words locals) ≡ true
+own_taken locals i l words within is gone taken =
+    let rest = drop (i + 1) locals in
+    let split : locals ≡ take i locals ++ l ∷ rest = sym (take-append-drop i locals) ∙ ap (λ ls. take i locals ++ ls) (drop_more locals i l within ∙ ap (λ (x : Local). x ∷ rest) (sym is)) in
+    let taken' : is_among (own_words (take i locals)) (folded l.name) ≡ true = ap (λ ws. is_among ws (folded l.name)) (sym gone.are) ∙ taken in
+    ap (λ ls. repeats (own_words ls)) split ∙ ap repeats (map-append own_word (take i locals) (l ∷ rest)) ∙ repeats_found (own_words (take i locals)) (own_words rest) (folded l.name) taken'

@@ -1,10 +1,13 @@
+mod Turns
 mod Positions
-pub mod Worlds
-pub mod Standing
-mod Found
-mod Fits
-mod Runs
-mod Loops
 mod Clashes
-mod Bodies
+mod Joined
+mod Entries
+mod Found
+mod Passed
+mod Worlds
+mod Agreeing
+mod Renaming
 mod Judged
+pub mod Standing
+mod Ends

@@ -10,19 +10,17 @@ use Rattle.std.specs.List.{list_any, position_or_len}
 use Rattle.std.specs.Str.{bytes_eq}
 use Rattle.std.specs.Cmp.Lexicographic.{bytes_decides}
 use Rattle.plant_types.specs.Words.{folded}
-use Rattle.st_parser.specs.declared.unit.Variable.{Variable}
-use Rattle.st_parser.specs.Source.{Source}
-use Rattle.st_walk.specs.Worlds.{World, Stands, assign, path_of, words_of}
-use Rattle.st_walk.specs.Names.{find_global, is_among, is_standard, repeats, all_pass}
-use Rattle.st_walk.specs.Faults.{globals_clash, program_clashes, is_global, all_fit, global_of, first_fault}
+use Rattle.st_walk.specs.declared.logic.Variable.{Variable}
+use Rattle.st_walk.specs.Source.{Source}
+use Rattle.st_walk.specs.Worlds.{World, Stands, assign, path_of}
+use Rattle.st_walk.specs.Names.{words_of, find_global, is_among, is_standard, repeats}
+use Rattle.st_walk.specs.Faults.{first_fault}
 use Rattle.st_walk.proofs.Clashes.{turned}
-use Rattle.st_walk.proofs.Found.{sound_parts}
-use Rattle.st_walk.proofs.Worlds.{Found, found, read_stands, write_stands}
+use Rattle.st_walk.proofs.Judged.{sound_parts}
+use Rattle.st_walk.proofs.Worlds.{Found, found, read_place, write_place}
 
 pub words_apart : (source : Source) → first_fault source ≡ None → repeats (words_of source.globals) ≡ false
-words_apart source sound =
-    let parts = sound_parts (globals_clash source.globals) (program_clashes source) (all_pass (is_global source.globals) source.body) (all_fit (global_of source.globals) source.body) sound in
-    (or_parts (list_any (λ (g : Variable). is_standard g.name) source.globals) (repeats (words_of source.globals)) parts.distinct).1
+words_apart source sound = (or_parts (list_any (λ (g : Variable). is_standard g.name) source.globals) (repeats (words_of source.globals)) (sound_parts source sound).apart).1
 
 abbrev word : Variable → List ℕ
 word g = folded g.name
@@ -38,11 +36,11 @@ found_number globals i g at =
       is = (bytes_decides (folded g.name) (get_or (words_of globals) i (folded g.name))).1 (sym (word_at globals i g (folded g.name) at));
     }
 
-pub cell_holds : (globals : List Variable) (cells : List ℤ) (w : World) (i : ℕ) (g : Variable) → slice_get globals i ≡ Some g → Stands globals cells w → get_or cells i (pos 0) ≡ w (path_of g.name)
-cell_holds globals cells w i g at stands = sym (read_stands globals cells w g.name i stands (found_number globals i g at))
+pub cell_holds : (source : Source) (cells : List ℤ) (w : World) (i : ℕ) (g : Variable) → slice_get source.globals i ≡ Some g → Stands source cells w → get_or cells i (pos 0) ≡ w (path_of g.name)
+cell_holds source cells w i g at stands = sym (read_place source cells w stands g.name i (found_number source.globals i g at))
 
-pub cell_written : (source : Source) (cells : List ℤ) (w : World) (i : ℕ) (g : Variable) (n : ℤ) → first_fault source ≡ None → slice_get source.globals i ≡ Some g → Stands source.globals cells w → Stands source.globals (slice_set cells i n) (assign w (path_of g.name) n)
-cell_written source cells w i g n sound at stands = write_stands source.globals cells w g.name i n (words_apart source sound) stands (found_number source.globals i g at)
+pub cell_written : (source : Source) (cells : List ℤ) (w : World) (i : ℕ) (g : Variable) (n : ℤ) → first_fault source ≡ None → slice_get source.globals i ≡ Some g → Stands source cells w → Stands source (slice_set cells i n) (assign w (path_of g.name) n)
+cell_written source cells w i g n sound at stands = write_place source cells w stands g.name i n (words_apart source sound) (found_number source.globals i g at)
 
 there : (globals : List Variable) (name : List ℕ) (i : ℕ) → i < length globals → bytes_eq (folded name) (get_or (words_of globals) i (folded name)) ≡ true → (g : Variable) × (slice_get globals i ≡ Some g) × (path_of g.name ≡ path_of name)
 there [] name i within is = absurd (omega arith)

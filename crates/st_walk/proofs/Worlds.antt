@@ -1,20 +1,22 @@
 -- Cells that stand for a world, after a value is read or written.
-use Rattle.std.proofs.Common.{◌≡◌, ◌∙◌, ap, sym, subst, refl, arith, ℕ, zero, suc, ◌<◌, ℤ, pos, true, false, List, [], ◌∷◌, Option, Some, None, map, length, get_or, inl, inr}
-use Rattle.std.proofs.Math.ListN.{set}
-use Rattle.std.proofs.lemmas.List.{get_or-map, length-map}
+use Rattle.std.proofs.Common.{◌≡◌, ◌∙◌, ap, sym, subst, refl, arith, ℕ, zero, suc, ◌+◌, ◌<◌, ℤ, pos, true, false, List, [], ◌∷◌, ◌++◌, Option, Some, None, map, length, get_or, inl, inr, ◌-◌, ◌⊎◌}
+use Rattle.std.proofs.Math.ListN.{set, get_or-append}
+use Rattle.std.proofs.lemmas.List.{get_or-map, length-map, map-append, length-append, get_or-append-add, set-append_left, set-append_right}
 use Rattle.std.proofs.lemmas.List.Folds.{list_any_at}
 use Rattle.std.proofs.lemmas.List.Quantifiers.{position-Some}
 use Rattle.std.proofs.lemmas.Bool.{cases_Bool, or_parts, both_ways}
-use Rattle.std.specs.Prelude.{is_some, unwrap_or, if◌then◌else◌, slice_set}
+use Rattle.std.specs.Prelude.{is_some, unwrap_or, if◌then◌else◌, slice_set, ◌&&◌}
 use Rattle.std.specs.List.{list_any}
 use Rattle.std.specs.Str.{bytes_eq}
 use Rattle.std.specs.Cmp.Lexicographic.{bytes_decides}
 use Rattle.plant_types.specs.Words.{folded}
-use Rattle.st_parser.specs.declared.unit.Variable.{Variable}
-use Rattle.st_walk.specs.Worlds.{World, Stands, opening, assign, path_of, words_of}
-use Rattle.st_walk.specs.Names.{find_word, is_among, repeats}
-use Rattle.st_walk.specs.Resolved.{is_word}
-use Rattle.st_walk.specs.Slots.{cell, slot_of}
+use Rattle.st_walk.specs.declared.logic.Variable.{Variable}
+use Rattle.st_walk.specs.declared.logic.Local.{Local}
+use Rattle.st_walk.specs.Source.{Source}
+use Rattle.st_walk.specs.Worlds.{World, Stands, opening, assign, path_of, own_path, path_in}
+use Rattle.st_walk.specs.Names.{words_of, own_words, find_word, behind, is_among, repeats}
+use Rattle.st_walk.specs.Faults.{entry_of, own_entry, entries_of, is_known, number_of}
+use Rattle.st_walk.specs.Slots.{cell}
 
 -- words of which none is x keep what they have
 untouched : (x : List ℕ) (n : ℤ) (f : List ℕ → ℤ) (words : List (List ℕ)) → list_any (bytes_eq x) words ≡ false → map (λ y. if bytes_eq x y then n else f y) words ≡ map f words
@@ -51,31 +53,121 @@ found words name i at =
     let facts = position-Some (bytes_eq (folded name)) words i (folded name) at in
     record { within = facts.0; is = facts.1 }
 
-found_in : (words : List (List ℕ)) (name : List ℕ) (o : Option ℕ) → find_word words name ≡ o → is_some o ≡ true → Found words name (slot_of words name)
-found_in words name None at known = absurd (cc)
-found_in words name (Some i) at known = let same : slot_of words name ≡ i = ap (λ o. unwrap_or o 0) at in subst (Found words name) (sym same) (found words name i at)
+-- the word at the place of a name is the name in small letters
+pub word_is : (words : List (List ℕ)) (name : List ℕ) (i : ℕ) → Found words name i → folded name ≡ get_or words i (folded name)
+word_is words name i f = (bytes_decides (folded name) (get_or words i (folded name))).0 f.is
 
-pub found_slot : (words : List (List ℕ)) (name : List ℕ) → is_word words name ≡ true → Found words name (slot_of words name)
-found_slot words name known = found_in words name (find_word words name) refl known
+-- what a name in the body names: a variable of the program's own, or a global
+pub record OwnAt (source : Source) (name : List ℕ) (slot : ℕ) : Type 0 where
+  pub place : ℕ
+  pub slot_is : slot ≡ length (words_of source.globals) + place
+  pub found_at : Found (own_words source.locals) name place
+  pub path_is : path_in source name ≡ own_path source name
 
--- the cell of a name holds what the world has for it
-pub read_stands : (globals : List Variable) (cells : List ℤ) (w : World) (name : List ℕ) (i : ℕ) → Stands globals cells w → Found (words_of globals) name i → w (path_of name) ≡ cell cells i
-read_stands globals cells w name i stands f =
-    let words = words_of globals in
-    let e : cell cells i ≡ w (get_or words i (folded name) ∷ []) = ap (λ c. cell c i) stands ∙ get_or-map (λ word. w (word ∷ [])) words i (folded name) (pos 0) f.within in
-    let same : folded name ≡ get_or words i (folded name) = (bytes_decides (folded name) (get_or words i (folded name))).0 f.is in
-    ap (λ word. w (word ∷ [])) same ∙ sym e
+pub record GlobalAt (source : Source) (name : List ℕ) (slot : ℕ) : Type 0 where
+  pub found_at : Found (words_of source.globals) name slot
+  pub path_is : path_in source name ≡ path_of name
 
--- a value written to the cell of a name stands for its assignment
-pub write_stands : (globals : List Variable) (cells : List ℤ) (w : World) (name : List ℕ) (i : ℕ) (n : ℤ) → repeats (words_of globals) ≡ false → Stands globals cells w → Found (words_of globals) name i → Stands globals (slice_set cells i n) (assign w (path_of name) n)
-write_stands globals cells w name i n once stands f =
-    ap (λ c. set c i n) stands ∙ sym (written (folded name) n (λ word. w (word ∷ [])) (words_of globals) i once f.within f.is)
+located_by : (source : Source) (name : List ℕ) (o p : Option ℕ) → find_word (own_words source.locals) name ≡ o → find_word (words_of source.globals) name ≡ p → is_some (behind (length (words_of source.globals)) o p) ≡ true
+    → OwnAt source name (number_of source name) ⊎ GlobalAt source name (number_of source name)
+located_by source name (Some j) p e f known =
+    let n = length (words_of source.globals) in
+    inl
+    (record {
+      place = j;
+      slot_is = ap (λ o. unwrap_or (behind n o (find_word (words_of source.globals) name)) (n + length (own_words source.locals))) e;
+      found_at = found (own_words source.locals) name j e;
+      path_is = ap (λ o. if is_some o then own_path source name else path_of name) e;
+    })
+located_by source name None (Some i) e f known =
+    let n = length (words_of source.globals) in
+    let at : number_of source name ≡ i = λ k. unwrap_or (behind n (e k) (f k)) (n + length (own_words source.locals)) in
+    inr
+    (record {
+      found_at = subst (Found (words_of source.globals) name) (sym at) (found (words_of source.globals) name i f);
+      path_is = ap (λ o. if is_some o then own_path source name else path_of name) e;
+    })
+located_by source name None None e f known = absurd (cc)
 
--- as many cells as globals
-pub stands-length : (globals : List Variable) (cells : List ℤ) (w : World) → Stands globals cells w → length cells ≡ length globals
-stands-length globals cells w stands = ap length stands ∙ length-map (words_of globals) (λ word. w (word ∷ [])) ∙ length-map globals (λ (g : Variable). folded g.name)
+pub located : (source : Source) (name : List ℕ) → is_known source name ≡ true → OwnAt source name (number_of source name) ⊎ GlobalAt source name (number_of source name)
+located source name known = located_by source name (find_word (own_words source.locals) name) (find_word (words_of source.globals) name) refl refl known
+
+module _ (source : Source) (cells : List ℤ) (w : World) (stands : Stands source cells w) where
+  abbrev words : List (List ℕ)
+  words = words_of source.globals
+
+  abbrev own : List (List ℕ)
+  own = own_words source.locals
+
+  abbrev of_global : List ℕ → ℤ
+  of_global word = w (word ∷ [])
+
+  abbrev of_own : List ℕ → ℤ
+  of_own word = w (word ∷ folded source.name ∷ [])
+
+  pub read_own : (name : List ℕ) (slot : ℕ) → OwnAt source name slot → w (path_in source name) ≡ cell cells slot
+  read_own name slot at =
+      let f = at.found_at in
+      let x = folded name in
+      let here : get_or (map of_global words ++ map of_own own) (length (map of_global words) + at.place) (pos 0) ≡ of_own (get_or own at.place x) =
+      get_or-append-add (map of_global words) (map of_own own) at.place (pos 0) ∙ get_or-map of_own own at.place x (pos 0) f.within in
+      let place : slot ≡ length (map of_global words) + at.place = at.slot_is ∙ ap (λ n. n + at.place) (sym (length-map words of_global)) in
+      ap w at.path_is ∙ ap of_own (word_is own name at.place f) ∙ sym here ∙ sym (λ k. cell (stands k) (place k))
+
+  pub read_place : (name : List ℕ) (slot : ℕ) → Found words name slot → w (path_of name) ≡ cell cells slot
+  read_place name slot f =
+      let x = folded name in
+      let within : slot < length (map of_global words) = subst (λ n. slot < n) (sym (length-map words of_global)) f.within in
+      let here : get_or (map of_global words ++ map of_own own) slot (pos 0) ≡ of_global (get_or words slot x) =
+      get_or-append (map of_global words) (map of_own own) (pos 0) slot within ∙ get_or-map of_global words slot x (pos 0) f.within in
+      ap of_global (word_is words name slot f) ∙ sym here ∙ sym (ap (λ c. cell c slot) stands)
+
+  pub read_global : (name : List ℕ) (slot : ℕ) → GlobalAt source name slot → w (path_in source name) ≡ cell cells slot
+  read_global name slot at = ap w at.path_is ∙ read_place name slot at.found_at
+
+  -- a value written to the cell of a name stands for its assignment
+  pub write_place : (name : List ℕ) (slot : ℕ) (n : ℤ) → repeats words ≡ false → Found words name slot → Stands source (slice_set cells slot n) (assign w (path_of name) n)
+  write_place name slot n once f =
+      let within : slot < length (map of_global words) = subst (λ n. slot < n) (sym (length-map words of_global)) f.within in
+      ap (λ c. set c slot n) stands ∙ set-append_left (map of_global words) (map of_own own) slot n within
+      ∙ ap (λ l. l ++ map of_own own) (sym (written (folded name) n of_global words slot once f.within f.is))
+
+  pub write_global : (name : List ℕ) (slot : ℕ) (n : ℤ) → repeats words ≡ false → GlobalAt source name slot → Stands source (slice_set cells slot n) (assign w (path_in source name) n)
+  write_global name slot n once at = subst (λ path. Stands source (slice_set cells slot n) (assign w path n)) (sym at.path_is) (write_place name slot n once at.found_at)
+
+  pub write_own : (name : List ℕ) (slot : ℕ) (n : ℤ) → repeats own ≡ false → OwnAt source name slot → Stands source (slice_set cells slot n) (assign w (path_in source name) n)
+  write_own name slot n once at =
+      let f = at.found_at in
+      let p = folded source.name in
+      let long = length-map words of_global in
+      let place = at.slot_is in
+      let behind_it : slot - length words ≡ at.place = omega arith in
+      let same_program : bytes_eq p p ≡ true = (bytes_decides p p).1 refl in
+      let set_own : set (map of_global words ++ map of_own own) slot n ≡ map of_global words ++ set (map of_own own) at.place n =
+      set-append_right (map of_global words) (map of_own own) (length words) slot n long (omega arith) ∙ ap (λ i. map of_global words ++ set (map of_own own) i n) behind_it in
+      let into : set (map of_own own) at.place n ≡ map (λ word. if bytes_eq p p && bytes_eq (folded name) word then n else of_own word) own =
+      sym (written (folded name) n of_own own at.place once f.within f.is) ∙ ap (λ b. map (λ word. if b && bytes_eq (folded name) word then n else of_own word) own) (sym same_program) in
+      subst (λ path. set cells slot n ≡ map (λ word. assign w path n (word ∷ [])) words ++ map (λ word. assign w path n (word ∷ folded source.name ∷ [])) own) (sym at.path_is)
+      (ap (λ c. set c slot n) stands ∙ set_own ∙ ap (λ l. map of_global words ++ l) into)
+
+-- as many cells as variables
+pub stands-length : (source : Source) (cells : List ℤ) (w : World) → Stands source cells w → length cells ≡ length source.globals + length source.locals
+stands-length source cells w stands =
+    let words = words_of source.globals in
+    let own = own_words source.locals in
+    let a = length-map words (λ word. w (word ∷ [])) in
+    let b = length-map own (λ word. w (word ∷ folded source.name ∷ [])) in
+    let c = length-map source.globals (λ (g : Variable). folded g.name) in
+    let d = length-map source.locals (λ (l : Local). folded l.name) in
+    let e = ap length stands ∙ length-append (map (λ word. w (word ∷ [])) words) (map (λ word. w (word ∷ folded source.name ∷ [])) own) in
+    omega arith
 
 -- cells of 0 stand for the opening world
-pub zeros_stand : (globals : List Variable) → Stands globals (map (λ _. pos 0) globals) opening
-zeros_stand [] = refl
-zeros_stand (g ∷ gs) = ap (λ l. pos 0 ∷ l) (zeros_stand gs)
+zeros_map : {X Y Z : Type 0} (f : X → Y) (g : X → Z) (xs : List X) → map (λ _. pos 0) (map f xs) ≡ map (λ _. pos 0) (map g xs)
+zeros_map f g [] = refl
+zeros_map f g (x ∷ xs) = ap (λ l. pos 0 ∷ l) (zeros_map f g xs)
+
+pub zeros_stand : (source : Source) → Stands source (map (λ _. pos 0) (entries_of source.globals source.locals)) opening
+zeros_stand source =
+    map-append (λ _. pos 0) (map entry_of source.globals) (map own_entry source.locals)
+    ∙ (λ k. zeros_map entry_of (λ (g : Variable). folded g.name) source.globals k ++ zeros_map own_entry (λ (l : Local). folded l.name) source.locals k)

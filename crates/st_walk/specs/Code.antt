@@ -7,8 +7,9 @@ use Rattle.st_lexer.specs.declared.token.Region.{Region}
 use Rattle.st_lexer.specs.declared.token.Region.TheVariants as region
 use Rattle.st_tree.specs.Plain.{PlainBody}
 use Rattle.st_tree.specs.Code.{body_code}
-use Rattle.st_parser.specs.declared.unit.Variable.{Variable}
-use Rattle.st_parser.specs.Source.{Source}
+use Rattle.st_walk.specs.declared.logic.Variable.{Variable}
+use Rattle.st_walk.specs.declared.logic.Local.{Local}
+use Rattle.st_walk.specs.Source.{Source}
 
 abbrev kind_in : Kind → ℕ
 kind_in kind.Bool = 0
@@ -50,7 +51,11 @@ abbrev pub variable_code : Coded Variable
 variable_code =
     code_by (List ℕ × (Option Region × Kind)) (coded× (coded_list coded_ℕ) (coded× (coded_option region_code) kind_code)) (λ v. (v.name, (v.region, v.kind))) (λ p. record { name = p.0; region = p.1.0; kind = p.1.1 }) (λ _. refl)
 
--- a source is kept as its globals, its name and its body
+abbrev pub local_code : Coded Local
+local_code = code_by (List ℕ × Kind) (coded× (coded_list coded_ℕ) kind_code) (λ l. (l.name, l.kind)) (λ p. record { name = p.0; kind = p.1 }) (λ _. refl)
+
+-- a source is kept as its globals, its name, its own variables and its body
 abbrev pub source_code : Coded Source
 source_code =
-    code_by (List Variable × (List ℕ × PlainBody (List ℕ))) (coded× (coded_list variable_code) (coded× (coded_list coded_ℕ) body_code)) (λ s. (s.globals, (s.name, s.body))) (λ p. record { globals = p.0; name = p.1.0; body = p.1.1 }) (λ _. refl)
+    code_by (List Variable × (List ℕ × (List Local × PlainBody (List ℕ)))) (coded× (coded_list variable_code) (coded× (coded_list coded_ℕ) (coded× (coded_list local_code) body_code))) (λ s. (s.globals, (s.name, (s.locals, s.body))))
+    (λ p. record { globals = p.0; name = p.1.0; locals = p.1.1.0; body = p.1.1.1 }) (λ _. refl)

@@ -1,13 +1,23 @@
 -- What a source without faults is kept as.
-use Rattle.std.specs.Prelude.{◌≡◌, ℕ, List, None}
+use Rattle.std.specs.Prelude.{◌≡◌, ℕ, List, None, false}
 use Rattle.st_tree.specs.Plain.{PlainBody}
-use Rattle.st_parser.specs.Source.{Source}
-use Rattle.st_walk.specs.Worlds.{words_of}
-use Rattle.st_walk.specs.Faults.{first_fault}
-use Rattle.st_walk.specs.Slots.{slot_of, renamed}
+use Rattle.st_walk.specs.declared.scope.Scope.{Scope}
+use Rattle.st_walk.specs.Source.{Source}
+use Rattle.st_walk.specs.Names.{words_of, own_words}
+use Rattle.st_walk.specs.Faults.{globals_clash, program_clashes, locals_clash, entries_of, number_of, meant_of, first_fault}
+use Rattle.st_walk.specs.Resolved.{renamed}
 
--- the source has no fault; its globals' names in small letters are kept, and its body over their numbers
-pub record IsFlat (source : Source) (words : List (List ℕ)) (body : PlainBody ℕ) : Type 0 where
+-- the scope has the source's names in small letters, none of them taken, and what its variables are
+pub record IsScope (source : Source) (scope : Scope) : Type 0 where
+  pub apart : globals_clash source.globals ≡ false
+  pub free : program_clashes source ≡ false
+  pub own_apart : locals_clash source ≡ false
+  pub globals_are : scope.globals ≡ words_of source.globals
+  pub own_are : scope.own ≡ own_words source.locals
+  pub entries_are : scope.entries.items ≡ entries_of source.globals source.locals
+
+-- the source has no fault, and its body is kept over the numbers of its variables
+pub record IsFlat (source : Source) (scope : Scope) (body : PlainBody ℕ) : Type 0 where
+  pub named : IsScope source scope
   pub sound : first_fault source ≡ None
-  pub words_are : words ≡ words_of source.globals
-  pub body_is : body ≡ renamed (slot_of words) source.body
+  pub body_is : body ≡ renamed (number_of source) (meant_of source)

@@ -1,7 +1,11 @@
-pub mod Worlds
+pub mod Source
 pub mod Names
+pub mod Loops
 pub mod Faults
-pub mod Slots
+pub mod Taken
 pub mod Resolved
-pub mod Code
+pub mod Slots
+pub mod Worlds
+pub mod Runs
 pub mod Kept
+pub mod Code

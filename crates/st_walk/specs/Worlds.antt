@@ -1,10 +1,11 @@
 -- Worlds, and what a program does in them.
-use Rattle.std.specs.Prelude.{◌≡◌, ℕ, ℤ, pos, Bool, true, false, ◌&&◌, if◌then◌else◌, List, [], ◌∷◌, map}
+use Rattle.std.specs.Prelude.{◌≡◌, ℕ, ℤ, pos, Bool, true, false, ◌&&◌, if◌then◌else◌, List, [], ◌∷◌, ◌++◌, map, is_some}
 use Rattle.std.specs.Str.{bytes_eq}
 use Rattle.plant_types.specs.Words.{folded}
-use Rattle.st_tree.specs.Meaning.{Space, Ran, run_all}
-use Rattle.st_parser.specs.declared.unit.Variable.{Variable}
-use Rattle.st_parser.specs.Source.{Source}
+use Rattle.st_tree.specs.Meaning.{Space, Ran, Done, run_all}
+use Rattle.st_walk.specs.Source.{Source}
+use Rattle.st_walk.specs.Names.{words_of, own_words, find_word}
+use Rattle.st_walk.specs.Faults.{meant_of}
 
 -- a list of names in small letters, the innermost first
 abbrev pub Path : Type 0
@@ -32,18 +33,29 @@ opening path = pos 0
 abbrev pub path_of : List ℕ → Path
 path_of name = folded name ∷ []
 
--- the names of the program's body: each is that of a global
+-- the path of a program's own variable
+abbrev pub own_path : Source → List ℕ → Path
+own_path source name = folded name ∷ folded source.name ∷ []
+
+-- the path of a name in the program's body: a variable of its own hides a global
+abbrev pub path_in : Source → List ℕ → Path
+path_in source name = if is_some (find_word (own_words source.locals) name) then own_path source name else path_of name
+
+-- the names of the program's body; none is that of an instance
 abbrev pub names : Source → Space (List ℕ) World
-names source = record { path = source.name ∷ []; get = λ w name. w (path_of name); put = λ w name n. assign w (path_of name) n }
+names source = record {
+  path = source.name ∷ [];
+  get = λ w name. w (path_in source name);
+  put = λ w name n. assign w (path_in source name) n;
+  get_output = λ w instance name. pos 0;
+  put_input = λ w instance name n. w;
+  enter = λ w instance. Done w;
+}
 
 -- what the program does
 abbrev pub run_program : Source → World → Ran World
-run_program source w = run_all (names source) source.body w
+run_program source w = run_all (names source) (meant_of source) w
 
--- the globals' names in small letters, in order of declaration
-abbrev pub words_of : List Variable → List (List ℕ)
-words_of globals = map (λ (global : Variable). folded global.name) globals
-
--- the cells hold what the world has for each global, in order of declaration
-abbrev pub Stands : List Variable → List ℤ → World → Type 0
-Stands globals cells w = cells ≡ map (λ word. w (word ∷ [])) (words_of globals)
+-- the cells hold what the world has for each global, and then for each of the program's own variables, in order of declaration
+abbrev pub Stands : Source → List ℤ → World → Type 0
+Stands source cells w = cells ≡ map (λ word. w (word ∷ [])) (words_of source.globals) ++ map (λ word. w (word ∷ folded source.name ∷ [])) (own_words source.locals)

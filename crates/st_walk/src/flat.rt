@@ -1,38 +1,41 @@
-//! A unit's program made ready to run.
+//! A program made ready to run.
 
 ghost use Rattle.std.specs.Prelude.{◌≡◌, None, IfOk, MatchResult, map, pos};
-ghost use Rattle.st_parser.specs.Source.{source_of};
-ghost use Rattle.st_walk.specs.Worlds.{Stands, opening, words_of};
+ghost use Rattle.st_walk.specs.Source.{source_of};
+ghost use Rattle.st_walk.specs.Worlds.{Stands, opening};
 ghost use Rattle.st_walk.specs.Names.{find_global};
-ghost use Rattle.st_walk.specs.Faults.{first_fault, Refuses};
-ghost use Rattle.st_walk.specs.Slots.{slot_of, renamed};
-ghost use Rattle.st_walk.specs.Kept.{IsFlat};
+ghost use Rattle.st_walk.specs.Faults.{first_fault, Refuses, number_of, meant_of};
+ghost use Rattle.st_walk.specs.Resolved.{renamed};
+ghost use Rattle.st_walk.specs.Kept.{IsScope, IsFlat};
 ghost use Rattle.st_tree.specs.View.{view_body};
 
 use crate::cells::Cells;
 use crate::faults::FirstFault;
 use crate::kinds::all_fit;
-use crate::names::{Names, is_standard, names_of};
+use crate::known::all_known;
+use crate::logic::{Local, Logic, Variable};
+use crate::loops::{all_allowed, all_short};
 use crate::resolve::resolve_body;
+use crate::scope::{Entry, Scope, scope_of};
 use plant_types::Text;
-use st_parser::{Unit, Variable};
 use st_tree::{Stmt, copy_body};
 use std::alloc::{AllocError, Global};
 use std::marker::Model;
 
-/// A source without faults, its names numbered. Contracts see the source: its globals in order of declaration with their names as
-/// declared, and the program's name and plain body.
+/// A source without faults, its names numbered. Contracts see the source: its globals and the program's own variables in order of
+/// declaration with their names as declared, and the program's name and plain body.
 #[derive(Drop)]
 pub struct Flat {
     globals: Vec<Variable>,
     program: Text,
+    locals: Vec<Local>,
     source: Vec<Stmt<Text>>,
-    names: Names,
+    scope: Scope,
     body: Vec<Stmt<usize>>,
 }
 
 impl Model for Flat {
-    ghost use Rattle.st_parser.specs.Source.{Source};
+    ghost use Rattle.st_walk.specs.Source.{Source};
     ghost use Rattle.st_tree.specs.View.{view_body};
     ghost use Rattle.st_walk.specs.Code.{source_code};
 
@@ -42,16 +45,16 @@ impl Model for Flat {
 
     ghost use Rattle.st_walk.specs.Kept.{IsFlat};
 
-    ghost view = { λ flat. record { globals = flat.globals.items; name = flat.program; body = view_body flat.source.items } };
+    ghost view = { λ flat. record { globals = flat.globals.items; name = flat.program; locals = flat.locals.items; body = view_body flat.source.items } };
 
-    ghost invariant = { λ flat. IsFlat (record { globals = flat.globals.items; name = flat.program; body = view_body flat.source.items }) flat.names (view_body flat.body.items) };
+    ghost invariant = { λ flat. IsFlat (record { globals = flat.globals.items; name = flat.program; locals = flat.locals.items; body = view_body flat.source.items }) flat.scope (view_body flat.body.items) };
 }
 
-/// A value of 0 for each global.
-fn zeros(alloc: Global, globals: &[Variable]) -> Result<Vec<i64>, AllocError>
-    ensures { IfOk result (λ values. values.items ≡ map (λ _. pos 0) globals.now) }
+/// A value of 0 for each variable.
+fn zeros(alloc: Global, entries: &[Entry]) -> Result<Vec<i64>, AllocError>
+    ensures { IfOk result (λ values. values.items ≡ map (λ _. pos 0) entries.now) }
 {
-    globals.iter().map(|_| 0).collect(alloc)
+    entries.iter().map(|_| 0).collect(alloc)
 }
 
 /// The same globals. The error is a refused growth.
@@ -68,39 +71,61 @@ fn copy_globals(alloc: Global, globals: &[Variable]) -> Result<Vec<Variable>, Al
     Ok(copies)
 }
 
-/// The globals' names and the program's body over their numbers, of a unit without faults.
-fn checked(alloc: Global, unit: &Unit) -> Result<(Names, Vec<Stmt<usize>>), FirstFault>
-    ensures { MatchResult result (λ r. IsFlat (source_of unit.now) r.0 (view_body r.1.items)) (Refuses (first_fault (source_of unit.now))) }
+/// The same variables of a program's own. The error is a refused growth.
+fn copy_locals(alloc: Global, locals: &[Local]) -> Result<Vec<Local>, AllocError>
+    ensures { IfOk result (λ copy. copy.items ≡ locals.now) }
 {
-    let names = names_of(alloc, &unit.globals)?;
-    let program = &unit.program;
-    let taken = names.find(alloc, program.name.as_str())?;
-    if is_standard(program.name.as_bytes()) || taken.is_some() {
+    let mut copies = Vec::new(alloc);
+    for local in locals {
+        let name = local.name.copy(alloc)?;
+        let kind = local.kind;
+        copies.push(Local { name, kind })?;
+    }
+    Ok(copies)
+}
+
+/// The body of a program over the numbers of its variables, if it has no fault.
+fn checked(alloc: Global, logic: &Logic, scope: &Scope) -> Result<Vec<Stmt<usize>>, FirstFault>
+    requires { IsScope (source_of logic.now) scope.now }
+    ensures { MatchResult result (λ body. IsFlat (source_of logic.now) scope.now (view_body body.items)) (Refuses (first_fault (source_of logic.now))) }
+{
+    let mut number = 1;
+    let body = resolve_body(alloc, scope, &logic.program.body, &mut number)?;
+    if !all_known(scope.entries.len(), &body) {
         return Err(FirstFault::Name { globals: false });
     }
-    let body = resolve_body(alloc, &names, &program.body)?;
-    if !all_fit(&unit.globals, &body) {
+    if !all_fit(&scope.entries, &body) {
         return Err(FirstFault::Kind);
     }
-    Ok((names, body))
+    if !all_allowed(&scope.entries, &body) {
+        return Err(FirstFault::Constant);
+    }
+    if !all_short(&body) {
+        return Err(FirstFault::Turns);
+    }
+    Ok(body)
 }
 
 impl Flat {
-    /// A unit made ready to run, if its names and kinds are right. The fault is the first one that holds: a name of a global that is
-    /// taken, then one of the program that is unknown or taken (C6), then a misfit of kinds or an assigned input (C7); Memory comes
-    /// only where a growth was refused.
-    pub fn of(alloc: Global, unit: &Unit) -> Result<Flat, FirstFault>
-        ensures { MatchResult result (λ flat. (first_fault (source_of unit.now) ≡ None) × (flat ≡ source_of unit.now)) (Refuses (first_fault (source_of unit.now))) }
+    /// A program made ready to run, if it has no fault. The fault is the first one that holds: a name of a global that is taken, then
+    /// one of the program that is unknown or taken (C6), then a misfit of kinds or an assigned input (C7), then a control variable,
+    /// bound or step that isn't allowed (C9), then a FOR of more than 10,000 turns (C10); Memory comes only where a growth was
+    /// refused.
+    pub fn of(alloc: Global, logic: &Logic) -> Result<Flat, FirstFault>
+        ensures { MatchResult result (λ flat. (first_fault (source_of logic.now) ≡ None) × (flat ≡ source_of logic.now)) (Refuses (first_fault (source_of logic.now))) }
     {
-        let (names, body) = checked(alloc, unit)?;
-        let globals = copy_globals(alloc, &unit.globals)?;
-        let program = unit.program.name.copy(alloc)?;
-        let source = copy_body(alloc, &unit.program.body)?;
+        let scope = scope_of(alloc, logic)?;
+        let body = checked(alloc, logic, &scope)?;
+        let globals = copy_globals(alloc, &logic.globals)?;
+        let program = logic.program.name.copy(alloc)?;
+        let locals = copy_locals(alloc, &logic.program.locals)?;
+        let source = copy_body(alloc, &logic.program.body)?;
         Ok(Flat {
             globals,
             program,
+            locals,
             source,
-            names,
+            scope,
             body,
         })
     }
@@ -111,6 +136,13 @@ impl Flat {
         ensures sound { first_fault self.now ≡ None }
     {
         self.globals.as_slice()
+    }
+
+    /// The program's own variables in order of declaration, numbered behind the globals.
+    pub fn locals(&self) -> &[Local]
+        ensures { result.now ≡ self.now.locals }
+    {
+        self.locals.as_slice()
     }
 
     /// The program's name as declared.
@@ -124,20 +156,20 @@ impl Flat {
     pub fn slot(&self, alloc: Global, name: &str) -> Result<Option<usize>, AllocError>
         ensures { IfOk result (λ slot. slot ≡ find_global self.now.globals name.now) }
     {
-        self.names.find(alloc, name)
+        self.scope.globals.find(alloc, name)
     }
 
     /// The opening cells: each value is FALSE or 0. The error is a refused growth.
     pub fn cells(&self, alloc: Global) -> Result<Cells, AllocError>
-        ensures { IfOk result (λ cells. Stands self.now.globals cells opening) }
+        ensures { IfOk result (λ cells. Stands self.now cells opening) }
     {
-        let values = zeros(alloc, &self.globals)?;
+        let values = zeros(alloc, &self.scope.entries)?;
         Ok(Cells::new(values))
     }
 
-    /// The program's body over the numbers of its cells.
+    /// The program's body over the numbers of its variables.
     pub(crate) fn body(&self) -> &[Stmt<usize>]
-        ensures body { view_body result.now ≡ renamed (slot_of (words_of self.now.globals)) self.now.body }
+        ensures body { view_body result.now ≡ renamed (number_of self.now) (meant_of self.now) }
         ensures sound { first_fault self.now ≡ None }
     {
         self.body.as_slice()

@@ -1,16 +1,45 @@
-//! The kinds of a body's expressions.
+//! Whether each expression of a body is of the kind that its place asks for.
 
 ghost use Rattle.std.specs.Prelude.{◌≡◌, slice_get, option_copied};
-ghost use Rattle.st_tree.specs.View.{view_expr, view_stmt, view_body};
-ghost use Rattle.st_walk.specs.Faults.{same_kind, is_of, is_input, kind_of_one, kind_of_two, kind_of_expr, takes, fits, all_fit};
+ghost use Rattle.st_tree.specs.View.{view_expr, view_option, view_stmt, view_body, view_branches, view_choices};
+ghost use Rattle.st_tree.specs.Kinds.{judged, is_kind};
+ghost use Rattle.st_walk.specs.Faults.{kind_named, output_named, is_of, option_is_of, takes, fits, all_fit, branches_fit, choices_fit};
 
+use crate::scope::Entry;
 use plant_types::Kind;
-use st_lexer::Region;
-use st_parser::Variable;
-use st_tree::{Binary, Expr, Stmt, Unary};
+use st_tree::{Branch, Choice, Expr, Stmt, is_bit, one_kind, two_kind};
 
-fn is_of(kind: Kind, found: Option<Kind>) -> bool
-    ensures { result ≡ is_of kind found }
+fn entry_at(entries: &[Entry], slot: usize) -> Option<Entry>
+    ensures { result ≡ slice_get entries.now slot }
+{
+    entries.get(slot).copied()
+}
+
+/// The kind of an expression, if its operators take their operands.
+fn judge(entries: &[Entry], expr: &Expr<usize>) -> Option<Kind>
+    ensures { result ≡ judged (kind_named (slice_get entries.now)) (output_named (slice_get entries.now)) (view_expr expr.now) }
+{
+    match expr {
+        Expr::Literal(literal) => Some(literal.kind()),
+        Expr::Read(slot) => match entry_at(entries, *slot) {
+            Some(entry) => Some(entry.kind),
+            None => None,
+        },
+        Expr::Output(_, _) => None,
+        Expr::One(op, a) => {
+            let kind = judge(entries, a)?;
+            one_kind(*op, kind)
+        }
+        Expr::Two(op, a, b) => {
+            let left = judge(entries, a)?;
+            let right = judge(entries, b)?;
+            two_kind(*op, left, right)
+        }
+    }
+}
+
+fn is_kind(kind: Kind, found: Option<Kind>) -> bool
+    ensures { result ≡ is_kind kind found }
 {
     match (kind, found) {
         (Kind::Bool, Some(Kind::Bool)) => true,
@@ -20,88 +49,90 @@ fn is_of(kind: Kind, found: Option<Kind>) -> bool
     }
 }
 
-/// The kind of an operator's result: `NOT` is of a BOOL (IEC 61131-3).
-fn kind_of_one(op: Unary, a: Option<Kind>) -> Option<Kind>
-    ensures { result ≡ kind_of_one op a }
+/// Whether an expression is of a kind.
+fn is_of(entries: &[Entry], kind: Kind, expr: &Expr<usize>) -> bool
+    ensures { result ≡ is_of (slice_get entries.now) kind (view_expr expr.now) }
 {
-    match op {
-        Unary::Not => {
-            if is_of(Kind::Bool, a) {
-                Some(Kind::Bool)
-            } else {
-                None
-            }
-        }
-    }
+    is_kind(kind, judge(entries, expr))
 }
 
-/// The kind of an operator's result: `AND` is of two BOOLs (IEC 61131-3).
-fn kind_of_two(op: Binary, a: Option<Kind>, b: Option<Kind>) -> Option<Kind>
-    ensures { result ≡ kind_of_two op a b }
-{
-    match op {
-        Binary::And => {
-            if is_of(Kind::Bool, a) && is_of(Kind::Bool, b) {
-                Some(Kind::Bool)
-            } else {
-                None
-            }
-        }
-    }
-}
-
-fn global_at(globals: &[Variable], slot: usize) -> Option<&Variable>
-    ensures { option_copied result ≡ slice_get globals.now slot }
-{
-    globals.get(slot)
-}
-
-/// The kind of an expression, if its operands have the kinds that its operators ask for.
-fn kind_of_expr(globals: &[Variable], expr: &Expr<usize>) -> Option<Kind>
-    ensures { result ≡ kind_of_expr (slice_get globals.now) (view_expr expr.now) }
+fn option_is_of(entries: &[Entry], kind: Kind, expr: &Option<Expr<usize>>) -> bool
+    ensures { result ≡ option_is_of (slice_get entries.now) kind (view_option expr.now) }
 {
     match expr {
-        Expr::Literal(value) => Some(value.kind()),
-        Expr::Read(slot) => match global_at(globals, *slot) {
-            Some(global) => Some(global.kind),
-            None => None,
-        },
-        Expr::One(op, a) => kind_of_one(*op, kind_of_expr(globals, a)),
-        Expr::Two(op, a, b) => {
-            let left = kind_of_expr(globals, a);
-            let right = kind_of_expr(globals, b);
-            kind_of_two(*op, left, right)
+        Some(expr) => is_of(entries, kind, expr),
+        None => true,
+    }
+}
+
+/// Whether a variable takes a right side: one of its own kind, the integers 0 and 1 for a BOOL (this profile), and an input none.
+fn takes(entries: &[Entry], slot: usize, expr: &Expr<usize>) -> bool
+    ensures { result ≡ takes (slice_get entries.now) (slice_get entries.now slot) (view_expr expr.now) }
+{
+    match entry_at(entries, slot) {
+        Some(entry) => {
+            !entry.is_input
+                && (is_of(entries, entry.kind, expr)
+                    || (is_kind(entry.kind, Some(Kind::Bool)) && is_bit(expr)))
+        }
+        None => false,
+    }
+}
+
+#[cycle(fits)]
+fn stmt_fits(entries: &[Entry], stmt: &Stmt<usize>) -> bool
+    ensures { result ≡ fits (slice_get entries.now) (view_stmt stmt.now) }
+{
+    match stmt {
+        Stmt::Empty(_) => true,
+        Stmt::Assign(_, slot, expr) => takes(entries, *slot, expr),
+        Stmt::Call(_, _, _) => false,
+        Stmt::If(_, branches, last) => branches_fit(entries, branches) && all_fit(entries, last),
+        Stmt::Case(_, selector, choices, last) => {
+            is_of(entries, Kind::Dint, selector)
+                && choices_fit(entries, choices)
+                && all_fit(entries, last)
+        }
+        Stmt::For(_, _, from, to, by, body) => {
+            is_of(entries, Kind::Dint, from)
+                && is_of(entries, Kind::Dint, to)
+                && option_is_of(entries, Kind::Dint, by)
+                && all_fit(entries, body)
         }
     }
 }
 
-/// Whether a variable takes a right side: one of its own kind, and an input none.
-fn takes(global: &Variable, side: Option<Kind>) -> bool
-    ensures { result ≡ takes (Some global.now) side }
+#[cycle(fits)]
+fn branches_fit(entries: &[Entry], branches: &[Branch<usize>]) -> bool
+    ensures { result ≡ branches_fit (slice_get entries.now) (view_branches branches.now) }
 {
-    match global.region {
-        Some(Region::Input) => false,
-        _ => is_of(global.kind, side),
+    for branch in branches {
+        if !is_of(entries, Kind::Bool, &branch.test) || !all_fit(entries, &branch.body) {
+            return false;
+        }
     }
+    true
 }
 
-fn fits(globals: &[Variable], stmt: &Stmt<usize>) -> bool
-    ensures { result ≡ fits (slice_get globals.now) (view_stmt stmt.now) }
+#[cycle(fits)]
+fn choices_fit(entries: &[Entry], choices: &[Choice<usize>]) -> bool
+    ensures { result ≡ choices_fit (slice_get entries.now) (view_choices choices.now) }
 {
-    match stmt {
-        Stmt::Assign(slot, expr) => match global_at(globals, *slot) {
-            Some(global) => takes(global, kind_of_expr(globals, expr)),
-            None => false,
-        },
+    for choice in choices {
+        if !all_fit(entries, &choice.body) {
+            return false;
+        }
     }
+    true
 }
 
-/// Whether each assignment of a body is to a variable that takes its right side.
-pub fn all_fit(globals: &[Variable], body: &[Stmt<usize>]) -> bool
-    ensures { result ≡ all_fit (slice_get globals.now) (view_body body.now) }
+/// Whether each right side, test, selector, bound and step of a body is of its kind, and nothing is called.
+#[cycle(fits)]
+pub fn all_fit(entries: &[Entry], body: &[Stmt<usize>]) -> bool
+    ensures { result ≡ all_fit (slice_get entries.now) (view_body body.now) }
 {
     for stmt in body {
-        if !fits(globals, stmt) {
+        if !stmt_fits(entries, stmt) {
             return false;
         }
     }

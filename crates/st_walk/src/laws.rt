@@ -1,25 +1,25 @@
 //! Laws of cells that stand for worlds. These functions do nothing; each has a law as its contract, for the crates above.
 
-ghost use Rattle.std.specs.Prelude.{◌≡◌, ◌<◌, ℕ, ℤ, List, Some, None, pos, length, slice_get, slice_index_or, slice_set};
-ghost use Rattle.st_parser.specs.declared.unit.Variable.{Variable};
-ghost use Rattle.st_parser.specs.Source.{Source};
+ghost use Rattle.std.specs.Prelude.{◌≡◌, ◌+◌, ℕ, ℤ, List, Some, None, pos, length, slice_get, slice_index_or, slice_set};
+ghost use Rattle.st_walk.specs.declared.logic.Variable.{Variable};
+ghost use Rattle.st_walk.specs.Source.{Source};
 ghost use Rattle.st_walk.specs.Worlds.{World, Stands, assign, path_of};
 ghost use Rattle.st_walk.specs.Names.{find_global};
 ghost use Rattle.st_walk.specs.Faults.{first_fault};
 
-/// There are as many cells as globals.
+/// There are as many cells as variables.
 pub fn as_many_cells()
-    ensures { (globals : List Variable) (cells : List ℤ) (w : World) → Stands globals cells w → length cells ≡ length globals }
+    ensures { (source : Source) (cells : List ℤ) (w : World) → Stands source cells w → length cells ≡ length source.globals + length source.locals }
 {}
 
 /// The cell of a global's number holds what the world has at its path.
 pub fn cell_of_global()
-    ensures { (globals : List Variable) (cells : List ℤ) (w : World) (i : ℕ) (global : Variable) → slice_get globals i ≡ Some global → Stands globals cells w → slice_index_or cells i (pos 0) ≡ w (path_of global.name) }
+    ensures { (source : Source) (cells : List ℤ) (w : World) (i : ℕ) (global : Variable) → slice_get source.globals i ≡ Some global → Stands source cells w → slice_index_or cells i (pos 0) ≡ w (path_of global.name) }
 {}
 
 /// A value written to the cell of a global's number stands for its assignment to the global's path.
 pub fn written_cell()
-    ensures { (source : Source) (cells : List ℤ) (w : World) (i : ℕ) (global : Variable) (n : ℤ) → first_fault source ≡ None → slice_get source.globals i ≡ Some global → Stands source.globals cells w → Stands source.globals (slice_set cells i n) (assign w (path_of global.name) n) }
+    ensures { (source : Source) (cells : List ℤ) (w : World) (i : ℕ) (global : Variable) (n : ℤ) → first_fault source ≡ None → slice_get source.globals i ≡ Some global → Stands source cells w → Stands source (slice_set cells i n) (assign w (path_of global.name) n) }
 {}
 
 /// The number that a name has is that of a global at the path of the name.

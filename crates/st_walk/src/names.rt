@@ -1,17 +1,16 @@
 //! The names of the globals, to be found without a look at each.
 
-ghost use Rattle.std.specs.Prelude.{◌≡◌, ◌++◌, ◌∷◌, [], IfOk, IfErr, not, if◌then◌else◌, Some, None, true, false, MatchResult, string_bytes, ◌||◌};
+ghost use Rattle.std.specs.Prelude.{◌≡◌, ◌++◌, ◌∷◌, [], IfOk, IfErr, not, if◌then◌else◌, Some, None, true, false, MatchResult, string_bytes, ◌||◌, ◌<◌, ◌^◌, length, IfSome};
 ghost use Rattle.std.specs.List.{list_any};
 ghost use Rattle.plant_types.specs.Words.{folded};
-ghost use Rattle.st_walk.specs.Worlds.{words_of};
-ghost use Rattle.st_walk.specs.Names.{find_word, is_standard, is_among};
+ghost use Rattle.st_walk.specs.Names.{find_word, is_standard, is_among, words_of, own_words, repeats};
 ghost use Rattle.st_walk.specs.Faults.{globals_clash, Refuses};
-ghost use Rattle.st_walk.specs.Resolved.{is_taken};
+ghost use Rattle.st_walk.specs.Taken.{is_taken};
 
 use crate::faults::FirstFault;
+use crate::logic::{Local, Variable};
 use indexmap::IndexSet;
 use plant_types::same_word;
-use st_parser::Variable;
 use std::alloc::{AllocError, Global};
 use std::marker::Model;
 
@@ -41,10 +40,20 @@ impl Names {
 
     /// The number of a name in any letter case.
     pub fn find(&self, alloc: Global, name: &str) -> Result<Option<usize>, AllocError>
-        ensures { IfOk result (λ slot. slot ≡ find_word self.now name.now) }
+        ensures slot { IfOk result (λ slot. slot ≡ find_word self.now name.now) }
+        ensures small { IfOk result (λ slot. IfSome slot (λ i. i < 2 ^ 63)) }
     {
         let word = small_letters(alloc, name)?;
+        let _small = self.words.len();
         Ok(self.words.get_index_of(word.as_str()))
+    }
+
+    /// How many there are.
+    pub fn len(&self) -> usize
+        ensures count { result ≡ length self.now }
+        ensures small { result < 2 ^ 63 }
+    {
+        self.words.len()
     }
 
     /// Adds a name. False where it was there, whatever the letter case.
@@ -96,6 +105,28 @@ pub fn names_of(alloc: Global, globals: &[Variable]) -> Result<Names, FirstFault
     let mut names = Names::new(alloc);
     for global in globals {
         add_global(alloc, &mut names, global)?;
+    }
+    Ok(names)
+}
+
+/// Adds the name of a program's own variable, where none has it.
+fn add_own(alloc: Global, names: &mut Names, local: &Local) -> Result<(), FirstFault>
+    ensures { MatchResult result (λ _. (is_among names.old (folded local.now.name) ≡ false) × (names.new ≡ names.old ++ folded local.now.name ∷ [])) (Refuses (if is_among names.old (folded local.now.name) then Some (FirstFault.Name false) else None)) }
+{
+    if names.add(alloc, local.name.as_str())? {
+        Ok(())
+    } else {
+        Err(FirstFault::Name { globals: false })
+    }
+}
+
+/// The names of a program's own variables in order, where none stands twice.
+pub fn own_names_of(alloc: Global, locals: &[Local]) -> Result<Names, FirstFault>
+    ensures { MatchResult result (λ names. (repeats (own_words locals.now) ≡ false) × (names ≡ own_words locals.now)) (Refuses (if repeats (own_words locals.now) then Some (FirstFault.Name false) else None)) }
+{
+    let mut names = Names::new(alloc);
+    for local in locals {
+        add_own(alloc, &mut names, local)?;
     }
     Ok(names)
 }

@@ -1,16 +1,17 @@
-//! A program run over cells.
+//! A body run over cells.
 
-ghost use Rattle.std.specs.Prelude.{◌≡◌, ◌<◌, ℕ, Ok, slice_set};
-ghost use Rattle.plant_types.specs.Values.{truth as truth_of};
-ghost use Rattle.st_tree.specs.View.{view_expr, view_stmt, view_body};
-ghost use Rattle.st_tree.specs.Meaning.{value_of, one_of, two_of, run, run_from, run_all, Done};
-ghost use Rattle.st_walk.specs.Worlds.{Path, World, Stands, run_program};
-ghost use Rattle.st_walk.specs.Slots.{cell, slots, ran, Agree};
+ghost use Rattle.std.specs.Prelude.{◌≡◌, pos, map, slice_set, ◌<ℤ◌, ◌<◌};
+ghost use Rattle.st_tree.specs.View.{view_expr, view_body, view_stmt, view_branches, view_choices, view_option, view_argument};
+ghost use Rattle.st_tree.specs.Meaning.{run, run_all, turns, first_true, first_fit, outcome, step_of, take_inputs, give_outputs};
+ghost use Rattle.st_tree.specs.Controls.{up, down, control_values};
+ghost use Rattle.st_walk.specs.Slots.{cell, slots, ended, chosen};
+ghost use Rattle.st_walk.specs.Worlds.{World, Stands, run_program};
+ghost use Rattle.st_walk.specs.Runs.{ran, Agree};
 
 use crate::cells::Cells;
 use crate::flat::Flat;
 use plant_types::{Place, Trap};
-use st_tree::{Binary, Expr, Stmt, Unary};
+use st_tree::{Argument, Branch, Choice, Expr, Span, Stmt, fits, one, span_of, two};
 
 /// How a walk ends.
 #[derive(Clone, Copy, Debug, PartialEq, Eq, Drop)]
@@ -21,11 +22,11 @@ pub enum Walked {
     Trapped(Place, Trap),
 }
 
-/// The value of a BOOL as a cell holds it.
-fn truth(holds: bool) -> i64
-    ensures { result ≡ truth_of holds }
-{
-    if holds { 1 } else { 0 }
+/// How a run of a body ends: behind its last statement, or within the statement of a number.
+#[derive(Clone, Copy, Debug, Drop)]
+pub enum Ended {
+    Done,
+    Trapped(u32, Trap),
 }
 
 fn read(cells: &Cells, slot: usize) -> i64
@@ -46,56 +47,204 @@ fn write(cells: &mut Cells, slot: usize, value: i64)
     }
 }
 
-fn one(op: Unary, x: i64) -> i64
-    ensures { one_of op x ≡ Ok result }
-{
-    match op {
-        Unary::Not => truth(x == 0),
-    }
-}
-
-/// What an operator gives of its operands' values; both were taken before.
-fn two(op: Binary, x: i64, y: i64) -> i64
-    ensures { two_of op x y ≡ Ok result }
-{
-    match op {
-        Binary::And => truth(x != 0 && y != 0),
-    }
-}
-
 /// The value of an expression, its operands from the left.
-fn value(expr: &Expr<usize>, cells: &Cells) -> i64
-    ensures { value_of (cell cells.now) (view_expr expr.now) ≡ Ok result }
+fn value(expr: &Expr<usize>, cells: &Cells) -> Result<i64, Trap>
+    ensures { result ≡ outcome slots cells.now (view_expr expr.now) }
 {
     match expr {
-        Expr::Literal(value) => value.worth(),
-        Expr::Read(slot) => read(cells, *slot),
-        Expr::One(op, a) => one(*op, value(a, cells)),
+        Expr::Literal(literal) => Ok(literal.worth()),
+        Expr::Read(slot) => Ok(read(cells, *slot)),
+        Expr::Output(_, _) => Ok(0),
+        Expr::One(op, a) => {
+            let x = value(a, cells)?;
+            one(*op, x)
+        }
         Expr::Two(op, a, b) => {
-            let x = value(a, cells);
-            let y = value(b, cells);
+            let x = value(a, cells)?;
+            let y = value(b, cells)?;
             two(*op, x, y)
         }
     }
 }
 
-fn step(stmt: &Stmt<usize>, cells: &mut Cells)
-    ensures { (path : Path) (number : ℕ) → run (slots path) number (view_stmt stmt.now) cells.old ≡ Done cells.new }
+/// Evaluates the inputs of a call one after another. No cell is an instance that takes them.
+fn take_inputs(number: u32, instance: usize, arguments: &[Argument<usize>], cells: &Cells) -> Ended
+    ensures { ended result cells.now ≡ take_inputs slots number instance (map view_argument arguments.now) cells.now }
 {
-    match stmt {
-        Stmt::Assign(slot, expr) => {
-            let n = value(expr, cells);
-            write(cells, *slot, n);
+    let _instance = instance;
+    for argument in arguments {
+        if let Argument::Input(_, expr) = argument {
+            if let Err(trap) = value(expr, cells) {
+                return Ended::Trapped(number, trap);
+            }
+        }
+    }
+    Ended::Done
+}
+
+/// Assigns the outputs of a call one after another. No cell is an instance, so each of them is 0.
+fn give_outputs(instance: usize, arguments: &[Argument<usize>], cells: &mut Cells)
+    ensures { cells.new ≡ give_outputs slots instance (map view_argument arguments.now) cells.old }
+{
+    let _instance = instance;
+    for argument in arguments {
+        if let Argument::Output(_, slot) = argument {
+            write(cells, *slot, 0);
         }
     }
 }
 
-fn walk_body(body: &[Stmt<usize>], cells: &mut Cells)
-    ensures { (path : Path) (number : ℕ) → run_from (slots path) number (view_body body.now) cells.old ≡ Done cells.new }
+/// Runs the statements of a body one after another.
+#[cycle(walk)]
+pub(crate) fn run_body(body: &[Stmt<usize>], cells: &mut Cells) -> Ended
+    ensures { ended result cells.new ≡ run_all slots (view_body body.now) cells.old }
 {
     for stmt in body {
-        step(stmt, cells);
+        if let Ended::Trapped(number, trap) = run_stmt(stmt, cells) {
+            return Ended::Trapped(number, trap);
+        }
     }
+    Ended::Done
+}
+
+#[cycle(walk)]
+fn run_stmt(stmt: &Stmt<usize>, cells: &mut Cells) -> Ended
+    ensures { ended result cells.new ≡ run slots (view_stmt stmt.now) cells.old }
+{
+    match stmt {
+        Stmt::Empty(_) => Ended::Done,
+        Stmt::Assign(number, slot, expr) => match value(expr, cells) {
+            Ok(n) => {
+                write(cells, *slot, n);
+                Ended::Done
+            }
+            Err(trap) => Ended::Trapped(*number, trap),
+        },
+        Stmt::Call(number, instance, arguments) => {
+            match take_inputs(*number, *instance, arguments, cells) {
+                Ended::Done => {
+                    give_outputs(*instance, arguments, cells);
+                    Ended::Done
+                }
+                Ended::Trapped(number, trap) => Ended::Trapped(number, trap),
+            }
+        }
+        Stmt::If(number, branches, last) => match run_first_true(*number, branches, cells) {
+            Some(ended) => ended,
+            None => run_body(last, cells),
+        },
+        Stmt::Case(number, selector, choices, last) => match value(selector, cells) {
+            Ok(n) => match run_first_fit(n, choices, cells) {
+                Some(ended) => ended,
+                None => run_body(last, cells),
+            },
+            Err(trap) => Ended::Trapped(*number, trap),
+        },
+        Stmt::For(number, slot, from, to, by, body) => {
+            match span_of(value(from, cells), value(to, cells), step_value(by, cells)) {
+                Ok(span) => run_turns(*slot, span, body, cells),
+                Err(trap) => Ended::Trapped(*number, trap),
+            }
+        }
+    }
+}
+
+/// Runs the first branch whose test is TRUE; None where there is none.
+#[cycle(walk)]
+fn run_first_true(number: u32, branches: &[Branch<usize>], cells: &mut Cells) -> Option<Ended>
+    ensures { chosen result cells.new ≡ first_true slots number (view_branches branches.now) cells.old }
+{
+    for branch in branches {
+        match value(&branch.test, cells) {
+            Ok(0) => {}
+            Ok(_) => return Some(run_body(&branch.body, cells)),
+            Err(trap) => return Some(Ended::Trapped(number, trap)),
+        }
+    }
+    None
+}
+
+/// Runs the first choice with a label that fits the number; None where there is none.
+#[cycle(walk)]
+fn run_first_fit(n: i64, choices: &[Choice<usize>], cells: &mut Cells) -> Option<Ended>
+    ensures { chosen result cells.new ≡ first_fit slots n (view_choices choices.now) cells.old }
+{
+    for choice in choices {
+        if fits(n, &choice.labels) {
+            return Some(run_body(&choice.body, cells));
+        }
+    }
+    None
+}
+
+/// The value of the step of a loop, which is 1 where none is written.
+fn step_value(by: &Option<Expr<usize>>, cells: &Cells) -> Result<i64, Trap>
+    ensures { result ≡ step_of slots cells.now (view_option by.now) }
+{
+    match by {
+        Some(by) => value(by, cells),
+        None => Ok(1),
+    }
+}
+
+/// Runs a body once for each value of its control variable; not at all by the step 0.
+#[cycle(walk)]
+fn run_turns(slot: usize, span: Span, body: &[Stmt<usize>], cells: &mut Cells) -> Ended
+    ensures { ended result cells.new ≡ turns (λ w n. slots.put w slot n) (run_all slots (view_body body.now)) (control_values span) cells.old }
+{
+    if span.step > 0 {
+        count_up(slot, span.from, span.to, span.step, body, cells)
+    } else if span.step < 0 {
+        count_down(slot, span.from, span.to, span.step, body, cells)
+    } else {
+        Ended::Done
+    }
+}
+
+#[cycle(walk)]
+fn count_up(
+    slot: usize,
+    from: i64,
+    to: i64,
+    step: i64,
+    body: &[Stmt<usize>],
+    cells: &mut Cells,
+) -> Ended
+    requires { pos 0 <ℤ step }
+    ensures { ended result cells.new ≡ turns (λ w n. slots.put w slot n) (run_all slots (view_body body.now)) (up from to step) cells.old }
+{
+    let mut at = i128::from(from);
+    while at <= i128::from(to) {
+        write(cells, slot, at as i64);
+        match run_body(body, cells) {
+            Ended::Done => at += i128::from(step),
+            Ended::Trapped(number, trap) => return Ended::Trapped(number, trap),
+        }
+    }
+    Ended::Done
+}
+
+#[cycle(walk)]
+fn count_down(
+    slot: usize,
+    from: i64,
+    to: i64,
+    step: i64,
+    body: &[Stmt<usize>],
+    cells: &mut Cells,
+) -> Ended
+    requires { step <ℤ pos 0 }
+    ensures { ended result cells.new ≡ turns (λ w n. slots.put w slot n) (run_all slots (view_body body.now)) (down from to step) cells.old }
+{
+    let mut at = i128::from(from);
+    while i128::from(to) <= at {
+        write(cells, slot, at as i64);
+        match run_body(body, cells) {
+            Ended::Done => at += i128::from(step),
+            Ended::Trapped(number, trap) => return Ended::Trapped(number, trap),
+        }
+    }
+    Ended::Done
 }
 
 /// Runs the program of a number, from 0, over the cells: from cells that stand for a world, it ends as the source does in that
@@ -103,9 +252,18 @@ fn walk_body(body: &[Stmt<usize>], cells: &mut Cells)
 /// It asks for no memory.
 pub fn walk(flat: &Flat, program: u32, cells: &mut Cells, _moment: u64) -> Walked
     requires there { program < 1 }
-    ensures { (w : World) → Stands flat.now.globals cells.old w → Agree flat.now.globals (run_program flat.now w) (ran flat.now result cells.new) }
+    ensures { (w : World) → Stands flat.now cells.old w → Agree flat.now (run_program flat.now w) (ran flat.now result cells.new) }
 {
-    let _program = program;
-    walk_body(flat.body(), cells);
-    Walked::Done
+    match run_body(flat.body(), cells) {
+        Ended::Done => Walked::Done,
+        Ended::Trapped(statement, trap) => {
+            Walked::Trapped(
+                Place {
+                    path: program,
+                    statement,
+                },
+                trap,
+            )
+        }
+    }
 }

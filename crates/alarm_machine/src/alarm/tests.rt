@@ -127,7 +127,7 @@ fn orders_follow_the_printed_table(rt: HostRuntime) {
         assert_eq!(rt; ordered(&alarm, Verb::Reset, 2), reset, "{state:?}");
         assert_eq!(rt; ordered(&alarm, Verb::Unshelve, 2), unshelve, "{state:?}");
         assert_eq!(rt; ordered(&alarm, Verb::Remove, 2), remove, "{state:?}");
-        assert_eq!(rt; ordered(&alarm, Verb::Return, 2), back, "{state:?}");
+        assert_eq!(rt; ordered(&alarm, Verb::PutBack, 2), back, "{state:?}");
         assert_eq!(rt; ordered(&alarm, Verb::Restart, 2), restart, "{state:?}");
         assert_eq!(rt; ordered(&alarm, Verb::Shelve(5000), 2), shelve, "{state:?}");
         assert_eq!(rt; ordered(&alarm, Verb::Shelve(5001), 2), out, "{state:?}");
@@ -149,7 +149,7 @@ fn alarms_resume_by_the_last_scan(rt: HostRuntime) {
         assert_eq!(rt; ordered(&shelved, Verb::Unshelve, 3), Ok(state));
         let mut removed = given(false, &[], Verb::Remove);
         assert_eq!(rt; removed.scan(condition, suppressed, 3), None);
-        assert_eq!(rt; ordered(&removed, Verb::Return, 3), Ok(state));
+        assert_eq!(rt; ordered(&removed, Verb::PutBack, 3), Ok(state));
     }
 }
 
@@ -212,7 +212,7 @@ fn a_removed_alarm_sees_scans_and_stays(rt: HostRuntime) {
     assert_eq!(rt; alarm.order(Verb::Remove, 1), told(Code::Unack, Code::Oos));
     assert_eq!(rt; alarm.scan(false, false, 2), None);
     assert_eq!(rt; alarm.scan(true, false, 3), None);
-    assert_eq!(rt; alarm.order(Verb::Return, 3), told(Code::Oos, Code::Unack));
+    assert_eq!(rt; alarm.order(Verb::PutBack, 3), told(Code::Oos, Code::Unack));
 }
 
 #[test]
@@ -230,6 +230,46 @@ fn an_alarm_tells_what_it_is(rt: HostRuntime) -> Result<(), Fail> {
     assert_eq!(rt; alarm.state().code(), Code::Suppr);
     assert_eq!(rt; alarm.state().end(), None);
     let last = 4_000_000_000_000;
-    assert_eq!(rt; alarm.order(Verb::Return, last), Err(WrongState));
+    assert_eq!(rt; alarm.order(Verb::PutBack, last), Err(WrongState));
     Ok(())
+}
+
+// A change is told wherever two codes differ; the codes' places stand for the codes.
+#[test]
+fn changes_are_told_where_codes_differ(rt: HostRuntime) {
+    for (i, from) in Code::all().into_iter().enumerate() {
+        for (j, to) in Code::all().into_iter().enumerate() {
+            match Change::between(from, to) {
+                None => {
+                    assert!(rt; i == j, "{from:?} {to:?}");
+                }
+                Some(change) => {
+                    assert!(rt; i != j, "{from:?} {to:?}");
+                    assert_eq!(rt; change.from(), from);
+                    assert_eq!(rt; change.to(), to);
+                }
+            }
+        }
+    }
+}
+
+#[test]
+fn refused_orders_leave_the_whole_alarm(rt: HostRuntime) {
+    for alarm in in_each_state() {
+        for verb in [
+            Verb::Ack,
+            Verb::Reset,
+            Verb::Shelve(0),
+            Verb::Shelve(5001),
+            Verb::Unshelve,
+            Verb::Remove,
+            Verb::PutBack,
+            Verb::Restart,
+        ] {
+            let mut copy = alarm;
+            if copy.order(verb, 2).is_err() {
+                assert_eq!(rt; copy, alarm, "{verb:?}");
+            }
+        }
+    }
 }

@@ -4,7 +4,7 @@ use Rattle.alarmd.proofs.AnswerLaws.{is_utf8-none}
 use Rattle.alarmd.proofs.answer.target.Goals as goal
 
 pub returns-in-Ok-clause-number : goal.returns-in-Ok-clause-number
-returns-in-Ok-clause-number c = rw (is_utf8-from_IsUtf8 c.args.word.now c.in-Ok.ensures.cases.1, c.alarm_number.ensures, c.in-Ok.ensures.cases.0) refl
+returns-in-Ok-clause-number c = rw (is_utf8-from_IsUtf8 c.args.word.now c.in-Ok.ensures.cases.1, c.named_by.ensures.number, c.in-Ok.ensures.cases.0) refl
 
 pub returns-in-Err-clause-number : goal.returns-in-Err-clause-number
 returns-in-Err-clause-number c = rw (is_utf8-none c.args.word.now c.in-Err.ensures.cases.0) refl

@@ -8,5 +8,5 @@ abbrev pub invariant-loop-program : goal.invariant-loop-program
 invariant-loop-program l = record {
   one : length l.faulted.items ≡ 1;
   same : l.program-end ≡ length l.faulted.items;
-  reached : (w : World) → Stands l.flat.globals l.fn.cells w → Reached l.flat l.moment (programs_from l.flat l.moment 0 l.fn.faulted.items w) l.program l.cells l.faulted.items l.faults.items;
+  reached : (w : World) → Stands l.flat l.fn.cells w → Reached l.flat l.moment (programs_from l.flat l.moment 0 l.fn.faulted.items w) l.program l.cells l.faulted.items l.faults.items;
 }

@@ -1,13 +1,17 @@
--- The logic is the source that the text's tokens spell, and where that source is refused the text is.
-use Rattle.std.proofs.Common.{refl}
-use Rattle.st_parser.specs.Source.{source_of}
-use Rattle.plant_config.proofs.Refusals.{spelled_by, unfit_is_refused}
+-- The logic is that of the unit which the text's tokens spell; where this has none, not all of it is built.
+use Rattle.std.proofs.Common.{sym}
+use Rattle.st_parser.specs.Units.{view_unit}
+use Rattle.plant_config.proofs.Answered.{tells}
 use Rattle.plant_config.proofs.front.logic.Goals as goal
 
-pub returns-in-Ok-clause-spelled : goal.returns-in-Ok-clause-spelled
-returns-in-Ok-clause-spelled c =
-    spelled_by _ _ _ (source_of c.in_ok-unit.unit) _ c.as_slice.ensures.value c.in_ok-tokens.ensures.tokens c.in_ok-unit.ensures.unit c.in-Ok.ensures.flat.0
+pub returns-in-Ok-Some-clause-spelled : goal.returns-in-Ok-Some-clause-spelled
+returns-in-Ok-Some-clause-spelled c =
+    record {
+      unit = view_unit c.in_ok-unit.unit;
+      told = tells _ _ _ _ c.as_slice.ensures.value c.in_ok-tokens.ensures.tokens c.in_ok-unit.ensures.unit;
+      built = sym (rw c.in-Ok-Some.field-0-is at c.in-Ok-Some.ensures);
+    }
 
-pub returns-clause-refused : goal.returns-clause-refused
-returns-clause-refused c =
-    unfit_is_refused _ (source_of c.in_ok-unit.unit) _ (spelled_by _ _ _ _ _ c.as_slice.ensures.value c.in_ok-tokens.ensures.tokens c.in_ok-unit.ensures.unit refl) c.in-Err.ensures.refused
+pub returns-in-Ok-None-clause-refused : goal.returns-in-Ok-None-clause-refused
+returns-in-Ok-None-clause-refused c =
+    (view_unit c.in_ok-unit.unit, tells _ _ _ _ c.as_slice.ensures.value c.in_ok-tokens.ensures.tokens c.in_ok-unit.ensures.unit, sym (rw c.in-Ok-None.field-0-is at c.in-Ok-None.ensures))

@@ -1,5 +1,5 @@
 -- One operator more, with its right operand.
-use Rattle.std.proofs.Common.{◌≡◌, List, ℕ, ap, sym, ◌∙◌, arith, rules, ◌+◌, ◌-◌, max, drop, Some}
+use Rattle.std.proofs.Common.{◌≡◌, ap, sym, ◌∙◌, arith, rules, ◌+◌, ◌-◌, max, drop, Some, List, ℕ}
 use Rattle.st_tree.specs.Plain.{two}
 use Rattle.st_tree.specs.View.{view_expr}
 use Rattle.st_tree.specs.declared.tree.Expr.{Expr, Two}

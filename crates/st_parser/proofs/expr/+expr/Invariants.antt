@@ -4,16 +4,19 @@ use Rattle.st_parser.specs.Reading.{climb, chain}
 use Rattle.st_parser.proofs.expr.+expr.Given as goal
 
 abbrev pub decreases-climb : goal.decreases-climb
-decreases-climb l = 3 * l.limit
+decreases-climb l = 4 * l.limit
 
 abbrev pub decreases-operand : goal.decreases-operand
-decreases-operand l = 3 * l.deeper + 2
+decreases-operand l = 4 * l.deeper + 3
+
+abbrev pub decreases-minus : goal.decreases-minus
+decreases-minus l = 4 * l.deeper + 2
 
 abbrev pub decreases-prefixed : goal.decreases-prefixed
-decreases-prefixed l = 3 * l.deeper + 1
+decreases-prefixed l = 4 * l.deeper + 1
 
 abbrev pub decreases-chain : goal.decreases-chain
-decreases-chain l = 3 * (l.limit - 1) + 2
+decreases-chain l = 4 * (l.limit - 1) + 2
 
 abbrev pub invariant-chain-loop-turn : goal.invariant-chain-loop-turn
 invariant-chain-loop-turn l =

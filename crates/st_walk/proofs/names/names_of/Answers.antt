@@ -1,5 +1,6 @@
+use Rattle.std.proofs.Common.{true}
 use Rattle.std.proofs.lemmas.Result.{err_from_is_err_and}
-use Rattle.st_walk.specs.Resolved.{is_taken}
+use Rattle.st_walk.specs.Taken.{is_taken}
 use Rattle.st_walk.specs.Faults.{globals_clash}
 use Rattle.st_walk.proofs.Clashes.{gone_more, gone_taken}
 use Rattle.st_walk.proofs.Found.{refused_where}
@@ -9,7 +10,7 @@ pub returns-in_err-add_global : goal.returns-in_err-add_global
 returns-in_err-add_global c =
     let p = err_from_is_err_and c.from_residual.result c.from_residual.ensures.1 in
     rw (p.1, p.2)
-    (refused_where (is_taken c.loop-global.names c.global-item.result.name) (globals_clash c.args.globals.now) c.in_err-add_global.field-0.0
+    (refused_where true (is_taken c.loop-global.names c.global-item.result.name) (globals_clash c.args.globals.now) c.in_err-add_global.field-0.0
     (λ taken. gone_taken c.args.globals.now c.loop-global.global-index c.global-item.result c.loop-global.names c.loop-global-test.true c.global-item.is c.loop-global.invariant taken) c.in_err-add_global.ensures)
 
 pub loop-global-preserved : goal.loop-global-preserved

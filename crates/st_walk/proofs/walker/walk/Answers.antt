@@ -1,15 +1,12 @@
-use Rattle.std.proofs.Common.{◌∙◌, ap, sym, subst, List}
-use Rattle.std.specs.Prelude.{[], ◌∷◌, ℤ}
-use Rattle.st_parser.specs.Source.{Source}
-use Rattle.st_tree.specs.Meaning.{Ran, run_from}
-use Rattle.st_walk.specs.Worlds.{run_program}
-use Rattle.st_walk.specs.Slots.{slots, Agree}
-use Rattle.st_walk.proofs.Runs.{program_agrees}
+use Rattle.std.proofs.Common.{◌∙◌, ap, sym}
+use Rattle.st_tree.specs.View.{view_body}
+use Rattle.st_walk.specs.Slots.{ended}
+use Rattle.st_walk.proofs.Ends.{walk_done, walk_trapped}
 use Rattle.st_walk.proofs.walker.walk.Goals as goal
 
-pub returns : goal.returns
-returns c = λ w stands.
-    let flat : Source = c.args.flat.now in
-    let path = flat.name ∷ [] in
-    let same = ap (λ b. run_from (slots path) 1 b c.args.cells.now) (sym c.body.ensures.body) ∙ c.walk_body.ensures path 1 in
-    subst (λ (r : Ran (List ℤ)). Agree flat.globals (run_program flat w) r) same (program_agrees flat c.body.ensures.sound w c.args.cells.now stands)
+pub returns-in-Done : goal.returns-in-Done
+returns-in-Done c = λ w stands. walk_done c.args.flat.now c.body.ensures.sound w c.args.cells.now c.run_body.new.cells stands (view_body c.body.result.now) c.body.ensures.body (sym (ap (λ e. ended e c.run_body.new.cells) c.in-Done.is) ∙ c.run_body.ensures)
+
+pub returns-in-Trapped : goal.returns-in-Trapped
+returns-in-Trapped c =
+    λ w stands. walk_trapped c.args.flat.now c.body.ensures.sound w c.args.cells.now c.run_body.new.cells stands (view_body c.body.result.now) c.body.ensures.body c.in-Trapped.statement c.args.program c.in-Trapped.trap c.requires.there (sym (ap (λ e. ended e c.run_body.new.cells) c.in-Trapped.is) ∙ c.run_body.ensures)

@@ -7,6 +7,7 @@ invariant_of-result c =
     let globals = c.globals-globals.ensures.globals ∙ ap (λ s. s.globals) c.flat.ensures.source in
     let few : length c.args.plant.source.globals < 4294967296 = omega (arith, ap length globals) in
     rw c.new.ensures.items (opening_agrees _ _
+    c.flat.ensures.plant
     (rw c.flat.ensures.source at c.globals-globals.ensures.sound)
     few
     (rw c.flat-2.ensures.source at c.in_ok-cells.ensures)

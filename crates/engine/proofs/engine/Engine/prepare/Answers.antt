@@ -23,4 +23,4 @@ returns-clause-ok c =
     let len : c.len-events.result ≡ length c.self.inside.history.items = search rules in
     let due = scan_event_is c.self.inside.plant c.self.inside.history.items c.self.inside.state c.len-events.result c.args.pairs.now c.args.moment c.self.invariant.agrees len in
     let held : Agrees c.self.inside.plant (system c.self.inside.plant c.reserve.new.self.items) c.self.inside.state = rw c.in_ok-reserve.ensures.items c.self.invariant.agrees in
-    (scan_fits _ c.in-Ok.prepared c.self.inside.state made.image c.args.moment c.self.invariant.sound held made.event_is made.steps (omega (arith, c.in_ok-reserve.ensures.ok)), rw (← c.self.view_is) (sym due ∙ made.taken))
+    (scan_fits _ c.in-Ok.prepared c.self.inside.state c.len-events.result c.args.pairs.now c.args.moment c.self.invariant.plant_is c.self.invariant.sound held made (omega (arith, c.in_ok-reserve.ensures.ok)), rw (← c.self.view_is) (sym due ∙ made.taken))

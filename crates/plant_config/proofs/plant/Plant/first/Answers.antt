@@ -1,5 +1,6 @@
 -- What is built around the logic of a text is accepted, and a text is refused where its logic is.
-use Rattle.plant_config.proofs.Refusals.{unfit_result_is_refused, built_is_accepted, accepted_is_taken, refusal_is_memory}
+use Rattle.plant_config.proofs.Answered.{unfit_result_is_refused, built_is_accepted}
+use Rattle.plant_config.proofs.Refusals.{accepted_is_taken, refusal_is_memory}
 use Rattle.plant_config.proofs.plant.Plant.first.Goals as goal
 
 pub returns-in-Ok-clause-plant : goal.returns-in-Ok-clause-plant

@@ -5,8 +5,8 @@ use Rattle.plant_types.specs.Words.{folded}
 use Rattle.st_walk.proofs.Positions.{position-map}
 use Rattle.st_walk.proofs.names.Names.find.Goals as goal
 
-pub returns : goal.returns
-returns c =
+pub returns-clause-slot : goal.returns-clause-slot
+returns-clause-slot c =
     let word : string_bytes c.in_ok-word.word ≡ folded c.args.name.now = c.in_ok-word.ensures in
     c.get_index_of.ensures.index ∙ position-map (bytes_eq c.as_str.result.now) string_bytes c.self.inside.words.keys
     ∙ ap (λ w. position (bytes_eq w) (map string_bytes c.self.inside.words.keys)) (c.as_str.ensures.value ∙ word)

@@ -1,0 +1,102 @@
+-- The image of a scan that is taken names globals alone.
+use Rattle.std.proofs.Common.{◌≡◌, ℕ, ◌<◌, Bool, true, false, if◌then◌else◌, List, [], ◌∷◌, All, length, refl, subst, Option, Some, None, Ok, Err}
+use Rattle.std.specs.Prelude.{slice_get, nat_lt, nat_le}
+use Rattle.std.specs.declared.result.Result.{Result}
+use Rattle.std.specs.Option.{option_map, option_and_then}
+use Rattle.std.proofs.lemmas.Option.{option_and_then_some, slice_get_within}
+use Rattle.std.proofs.lemmas.List.Elements.{All-nil, All-cons, All-head, All-tail}
+use Rattle.plant_types.specs.Named.{Named}
+use Rattle.plant_types.specs.Values.{fitted}
+use Rattle.plant_types.specs.declared.values.Value.{Value}
+use Rattle.st_walk.specs.declared.logic.Variable.{Variable}
+use Rattle.st_walk.specs.Names.{find_global}
+use Rattle.st_walk.specs.Faults.{is_input}
+use Rattle.engine.specs.declared.event.Event.{Event}
+use Rattle.engine.specs.declared.event.Event.TheVariants as event
+use Rattle.engine.specs.declared.event.EngineFault.{EngineFault}
+use Rattle.engine.specs.declared.event.EngineFault.TheVariants as refusal
+use Rattle.engine.specs.declared.image.Placed.{Placed}
+use Rattle.engine.specs.Image.{at_input, place_of, places_of, has_twin, values_of, image_of}
+use Rattle.engine.specs.System.{taken_scan}
+
+-- a place, or a value, is that of a number below
+abbrev is_below : ℕ → Placed → Type 0
+is_below n p = p.number < n
+
+abbrev pub has_number : ℕ → ℕ × Value → Type 0
+has_number n input = input.0 < n
+
+same_some : {A : Type 0} (a b : A) → Some a ≡ Some b → a ≡ b
+same_some a b h = cc
+
+mapped_some : {A B P : Type 0} (f : A → B) (o : Option A) (y : B) → option_map f o ≡ Some y → ((x : A) → o ≡ Some x → f x ≡ y → P) → P
+mapped_some f None y h found = absurd (cc)
+mapped_some f (Some x) y h found = found x refl (same_some (f x) y h)
+
+taken_input : (b : Bool) (x p : Placed) → (if b then Some x else None) ≡ Some p → x ≡ p
+taken_input true x p h = same_some x p h
+taken_input false x p h = absurd (cc)
+
+place_within : (globals : List Variable) (pair : Named) (p : Placed) → place_of globals pair ≡ Some p → p.number < length globals
+place_within globals pair p h =
+    option_and_then_some (λ n. option_and_then (at_input n pair) (slice_get globals n)) (find_global globals pair.name) p h
+    (λ n found at. option_and_then_some (at_input n pair) (slice_get globals n) p at
+    (λ g there is. subst (λ (q : Placed). q.number < length globals) (taken_input (is_input g.region) (record { number = n; kind = g.kind; given = pair.given }) p is) (slice_get_within globals n g there)))
+
+places_within : (globals : List Variable) (pairs : List Named) (places : List Placed) → places_of globals pairs ≡ Some places → All (is_below (length globals)) places
+places_within globals [] places h = subst (All (is_below (length globals))) (same_some [] places h) (All-nil (is_below (length globals)))
+places_within globals (pair ∷ pairs) places h =
+    let P = is_below (length globals) in
+    option_and_then_some (λ place. option_map (λ rest. place ∷ rest) (places_of globals pairs)) (place_of globals pair) places h
+    (λ place at is. mapped_some (λ rest. place ∷ rest) (places_of globals pairs) places is
+    (λ rest others made. subst (All P) made (All-cons P place rest (place_within globals pair place at) (places_within globals pairs rest others))))
+
+values_within : (n : ℕ) (places : List Placed) (values : List (ℕ × Value)) → All (is_below n) places → values_of places ≡ Some values → All (has_number n) values
+values_within n [] values below h = subst (All (has_number n)) (same_some [] values h) (All-nil (has_number n))
+values_within n (p ∷ ps) values below h =
+    let P = has_number n in
+    option_and_then_some (λ v. option_map (λ rest. (p.number, v) ∷ rest) (values_of ps)) (fitted p.kind p.given) values h
+    (λ v at is. mapped_some (λ rest. (p.number, v) ∷ rest) (values_of ps) values is
+    (λ rest others made. subst (All P) made (All-cons P (p.number, v) rest (All-head (is_below n) p ps below) (values_within n ps rest (All-tail (is_below n) p ps below) others))))
+
+-- an image by the values of its places, by the places, and an event by its image
+abbrev by_values : Option (List (ℕ × Value)) → Result (List (ℕ × Value)) EngineFault
+by_values o = elim o [ None ↦ Err refusal.ImageKind | Some values ↦ Ok values ]
+
+abbrev by_places : Option (List Placed) → Result (List (ℕ × Value)) EngineFault
+by_places o = elim o [ None ↦ Err refusal.ImageName | Some places ↦ if has_twin places then Err refusal.ImageName else by_values (values_of places) ]
+
+abbrev by_image : Bool → ℕ → Result (List (ℕ × Value)) EngineFault → Result Event EngineFault
+by_image full t r = elim r [ Err e ↦ Err e | Ok image ↦ if full then Err refusal.HistoryFull else Ok (event.Scan image t) ]
+
+all_valued : (o : Option (List (ℕ × Value))) (image : List (ℕ × Value)) → by_values o ≡ Ok image → o ≡ Some image
+all_valued None image h = absurd (cc)
+all_valued (Some values) image h = cc
+
+none_twice : (b : Bool) (o : Option (List (ℕ × Value))) (image : List (ℕ × Value)) → (if b then Err refusal.ImageName else by_values o) ≡ Ok image → o ≡ Some image
+none_twice true o image h = absurd (cc)
+none_twice false o image h = all_valued o image h
+
+placed_within : (n : ℕ) (o : Option (List Placed)) (image : List (ℕ × Value)) → ((places : List Placed) → o ≡ Some places → All (is_below n) places) → by_places o ≡ Ok image → All (has_number n) image
+placed_within n None image below h = absurd (cc)
+placed_within n (Some places) image below h = values_within n places image (below places refl) (none_twice (has_twin places) (values_of places) image h)
+
+image_within : (globals : List Variable) (pairs : List Named) (image : List (ℕ × Value)) → image_of globals pairs ≡ Ok image → All (has_number (length globals)) image
+unfolding image_of
+image_within globals pairs image h = placed_within (length globals) (places_of globals pairs) image (places_within globals pairs) h
+
+made_image : (full : Bool) (r : Result (List (ℕ × Value)) EngineFault) (t u : ℕ) (image : List (ℕ × Value)) → by_image full t r ≡ Ok (event.Scan image u) → r ≡ Ok image
+made_image full (Err e) t u image h = absurd (cc)
+made_image true (Ok i) t u image h = absurd (cc)
+made_image false (Ok i) t u image h = cc
+
+in_time : (late early full : Bool) (r : Result (List (ℕ × Value)) EngineFault) (t u : ℕ) (image : List (ℕ × Value))
+    → (if late then Err refusal.MomentRange else if early then Err refusal.MomentBack else by_image full t r) ≡ Ok (event.Scan image u) → r ≡ Ok image
+in_time true early full r t u image h = absurd (cc)
+in_time false true full r t u image h = absurd (cc)
+in_time false false full r t u image h = made_image full r t u image h
+
+pub taken_within : (globals : List Variable) (last events : ℕ) (pairs : List Named) (t u : ℕ) (image : List (ℕ × Value)) → taken_scan globals last events pairs t ≡ Ok (event.Scan image u) → All (has_number (length globals)) image
+unfolding taken_scan
+taken_within globals last events pairs t u image h =
+    image_within globals pairs image (in_time (nat_lt 4000000000000 t) (nat_lt t last) (nat_le 1000000 events) (image_of globals pairs) t u image h)

@@ -1,0 +1,20 @@
+-- One more, and none more.
+use Rattle.std.proofs.Common.{◌≡◌, ◌+◌, ◌-◌, ◌∙◌, sym, arith, rules, length, map, true, false}
+use Rattle.st_parser.specs.Units.{view_section}
+use Rattle.st_parser.specs.ReadingUnits.{next_section, section_at}
+use Rattle.st_parser.proofs.Many.{many_goes, many_ends}
+use Rattle.st_parser.proofs.units.sections.Goals as goal
+
+pub returns-then-not-is_section : goal.returns-then-not-is_section
+returns-then-not-is_section c =
+    let count = length c.args.reader.now in
+    let stop : (next_section c.args.pou) c.loop-turn.reader ≡ false = search rules in
+    sym c.loop-turn.invariant ∙ many_ends (next_section c.args.pou) (section_at c.args.pou) (map view_section c.loop-turn.all.items) (count - c.loop-turn._turn) c.loop-turn.reader stop
+
+pub loop-turn-preserved : goal.loop-turn-preserved
+loop-turn-preserved c =
+    let count = length c.args.reader.now in
+    let turn = c.loop-turn._turn in
+    let ts = c.loop-turn.reader in
+    let some : (next_section c.args.pou) ts ≡ true = search rules in
+    many_goes view_section (next_section c.args.pou) (section_at c.args.pou) c.loop-turn.all.items c.push.new.self.items c.in_ok-section.field-0 (count - turn) (count - (turn + 1)) ts c.section.new.reader c.in_ok-push.ensures.items (omega arith) some c.in_ok-section.ensures ∙ c.loop-turn.invariant

@@ -1,0 +1,266 @@
+//! Declarations and their sections.
+
+ghost use Rattle.std.specs.Prelude.{◌≡◌, ◌∷◌, [], map, option_map};
+ghost use Rattle.st_parser.specs.Declarations.{kind_of_word, sort_of, section_of};
+ghost use Rattle.st_parser.specs.Outcome.{Gives};
+ghost use Rattle.st_parser.specs.Reading.{behind, others_at, word_at, perhaps_at, next_symbol, after_symbol, expression_at, told_next, told_at, all_at, next_word};
+ghost use Rattle.st_parser.specs.ReadingUnits.{address_at, initial_at, declared_at, placed_at, declaration_at, global_at, globals_at, next_section as next_section_of, section_at};
+ghost use Rattle.st_parser.specs.Units.{view_declaration, view_section};
+ghost use Rattle.st_tree.specs.View.{view_expr};
+
+use crate::expr::expression;
+use crate::fault::Stop;
+use crate::reader::Reader;
+use crate::unit::{Declaration, PouKind, Section, SectionKind, Sort};
+use plant_types::{Kind, Text};
+use st_lexer::{Keyword, Region, Symbol, TokenKind};
+use st_tree::Expr;
+use std::alloc::Global;
+
+/// The kind that the next token names.
+fn next_kind(reader: &Reader) -> Option<Kind>
+    ensures { result ≡ told_next kind_of_word reader.now }
+{
+    match reader.peek()? {
+        TokenKind::Keyword(Keyword::Bool) => Some(Kind::Bool),
+        TokenKind::Keyword(Keyword::Dint) => Some(Kind::Dint),
+        TokenKind::Keyword(Keyword::Time) => Some(Kind::Time),
+        _ => None,
+    }
+}
+
+/// Reads a kind.
+fn kind(reader: &mut Reader) -> Result<Kind, Stop>
+    ensures { Gives (λ kind. (kind, reader.new)) result (told_at kind_of_word reader.old) }
+{
+    match next_kind(reader) {
+        Some(kind) => {
+            reader.advance();
+            Ok(kind)
+        }
+        None => Err(reader.stop()),
+    }
+}
+
+/// Reads a kind or the name of a block type.
+fn sort(alloc: Global, reader: &mut Reader) -> Result<Sort, Stop>
+    ensures { Gives (λ sort. (sort, reader.new)) result (told_at sort_of reader.old) }
+{
+    match reader.peek() {
+        Some(TokenKind::Word) => {
+            let name = reader.word(alloc)?;
+            Ok(Sort::Block(name))
+        }
+        Some(TokenKind::Keyword(Keyword::Bool)) => {
+            reader.advance();
+            Ok(Sort::Kind(Kind::Bool))
+        }
+        Some(TokenKind::Keyword(Keyword::Dint)) => {
+            reader.advance();
+            Ok(Sort::Kind(Kind::Dint))
+        }
+        Some(TokenKind::Keyword(Keyword::Time)) => {
+            reader.advance();
+            Ok(Sort::Kind(Kind::Time))
+        }
+        _ => Err(reader.stop()),
+    }
+}
+
+/// Reads an address.
+fn address(reader: &mut Reader) -> Result<Region, Stop>
+    ensures { Gives (λ region. (region, reader.new)) result (address_at reader.old) }
+{
+    match reader.peek() {
+        Some(TokenKind::Address(region)) => {
+            reader.advance();
+            Ok(region)
+        }
+        _ => Err(reader.stop()),
+    }
+}
+
+/// Reads `:=` and an initial value, if it is next.
+fn initial_value(alloc: Global, reader: &mut Reader) -> Result<Option<Expr<Text>>, Stop>
+    ensures { Gives (λ o. (option_map view_expr o, reader.new)) result (perhaps_at (next_symbol Symbol.Becomes) (after_symbol Symbol.Becomes expression_at) reader.old) }
+{
+    if reader.is_symbol(Symbol::Becomes) {
+        reader.symbol(Symbol::Becomes)?;
+        let value = expression(alloc, reader)?;
+        Ok(Some(value))
+    } else {
+        Ok(None)
+    }
+}
+
+/// Reads what is behind the sort of a declaration.
+#[tactic(auto, unfolding(crate::specs::ReadingUnits::initial_at))]
+fn end_of_declaration(
+    alloc: Global,
+    names: Vec<Text>,
+    region: Option<Region>,
+    sort: Sort,
+    reader: &mut Reader,
+) -> Result<Declaration, Stop>
+    ensures { Gives (λ d. (view_declaration d, reader.new)) result (initial_at names.items region sort reader.old) }
+{
+    let initial = initial_value(alloc, reader)?;
+    reader.symbol(Symbol::Semicolon)?;
+    Ok(Declaration {
+        names,
+        region,
+        sort,
+        initial,
+    })
+}
+
+/// Reads the names behind a first one, each with its comma.
+fn more_names(alloc: Global, first: Text, reader: &mut Reader) -> Result<Vec<Text>, Stop>
+    ensures { Gives (λ names. (names.items, reader.new)) result (behind (first ∷ []) (others_at word_at reader.old)) }
+{
+    let mut names = Vec::new(alloc);
+    names.push(first)?;
+    // Each takes a token at least.
+    for _turn in 0..reader.left() {
+        if !reader.is_symbol(Symbol::Comma) {
+            return Ok(names);
+        }
+        reader.symbol(Symbol::Comma)?;
+        names.push(reader.word(alloc)?)?;
+    }
+    if reader.is_symbol(Symbol::Comma) {
+        return Err(reader.stop());
+    }
+    Ok(names)
+}
+
+/// Reads what is behind the first name of a declaration.
+#[tactic(auto, unfolding(crate::specs::ReadingUnits::declared_at))]
+fn declared(alloc: Global, first: Text, reader: &mut Reader) -> Result<Declaration, Stop>
+    ensures { Gives (λ d. (view_declaration d, reader.new)) result (declared_at first reader.old) }
+{
+    let names = more_names(alloc, first, reader)?;
+    reader.symbol(Symbol::Colon)?;
+    let sort = sort(alloc, reader)?;
+    end_of_declaration(alloc, names, None, sort, reader)
+}
+
+/// Reads what is behind the name of a global and `AT`.
+#[tactic(auto, unfolding(crate::specs::ReadingUnits::placed_at))]
+fn placed(alloc: Global, name: Text, reader: &mut Reader) -> Result<Declaration, Stop>
+    ensures { Gives (λ d. (view_declaration d, reader.new)) result (placed_at name reader.old) }
+{
+    let mut names = Vec::new(alloc);
+    names.push(name)?;
+    let region = address(reader)?;
+    reader.symbol(Symbol::Colon)?;
+    let kind = kind(reader)?;
+    end_of_declaration(alloc, names, Some(region), Sort::Kind(kind), reader)
+}
+
+/// Reads a declaration of a block or a program.
+#[tactic(auto, unfolding(crate::specs::ReadingUnits::declaration_at))]
+fn declaration(alloc: Global, reader: &mut Reader) -> Result<Declaration, Stop>
+    ensures { Gives (λ d. (view_declaration d, reader.new)) result (declaration_at reader.old) }
+{
+    let name = reader.word(alloc)?;
+    declared(alloc, name, reader)
+}
+
+/// Reads a declaration of globals.
+#[tactic(auto, unfolding(crate::specs::ReadingUnits::global_at))]
+fn global(alloc: Global, reader: &mut Reader) -> Result<Declaration, Stop>
+    ensures { Gives (λ d. (view_declaration d, reader.new)) result (global_at reader.old) }
+{
+    let name = reader.word(alloc)?;
+    if reader.is_keyword(Keyword::At) {
+        reader.advance();
+        placed(alloc, name, reader)
+    } else {
+        declared(alloc, name, reader)
+    }
+}
+
+/// Reads the declarations of a section.
+fn declarations(alloc: Global, reader: &mut Reader) -> Result<Vec<Declaration>, Stop>
+    ensures { Gives (λ all. (map view_declaration all.items, reader.new)) result (all_at next_word declaration_at reader.old) }
+{
+    let mut all = Vec::new(alloc);
+    // Each takes a token at least.
+    for _turn in 0..reader.left() {
+        if !reader.is_word() {
+            return Ok(all);
+        }
+        all.push(declaration(alloc, reader)?)?;
+    }
+    if reader.is_word() {
+        return Err(reader.stop());
+    }
+    Ok(all)
+}
+
+/// Reads the declarations of a section of globals.
+fn global_declarations(alloc: Global, reader: &mut Reader) -> Result<Vec<Declaration>, Stop>
+    ensures { Gives (λ all. (map view_declaration all.items, reader.new)) result (all_at next_word global_at reader.old) }
+{
+    let mut all = Vec::new(alloc);
+    // Each takes a token at least.
+    for _turn in 0..reader.left() {
+        if !reader.is_word() {
+            return Ok(all);
+        }
+        all.push(global(alloc, reader)?)?;
+    }
+    if reader.is_word() {
+        return Err(reader.stop());
+    }
+    Ok(all)
+}
+
+/// Reads a section of globals.
+#[tactic(auto, unfolding(crate::specs::ReadingUnits::globals_at))]
+pub fn globals(alloc: Global, reader: &mut Reader) -> Result<Section, Stop>
+    ensures { Gives (λ s. (view_section s, reader.new)) result (globals_at reader.old) }
+{
+    reader.keyword(Keyword::VarGlobal)?;
+    let declarations = global_declarations(alloc, reader)?;
+    reader.keyword(Keyword::EndVar)?;
+    Ok(Section {
+        kind: SectionKind::Global,
+        declarations,
+    })
+}
+
+/// The section that the next token opens in a block or a program.
+fn next_section(pou: PouKind, reader: &Reader) -> Option<SectionKind>
+    ensures { result ≡ told_next (section_of pou) reader.now }
+{
+    match (pou, reader.peek()?) {
+        (_, TokenKind::Keyword(Keyword::Var)) => Some(SectionKind::Local),
+        (_, TokenKind::Keyword(Keyword::VarExternal)) => Some(SectionKind::External),
+        (PouKind::Block, TokenKind::Keyword(Keyword::VarInput)) => Some(SectionKind::Input),
+        (PouKind::Block, TokenKind::Keyword(Keyword::VarOutput)) => Some(SectionKind::Output),
+        _ => None,
+    }
+}
+
+/// Whether a section of a block or a program is next.
+pub fn is_section(pou: PouKind, reader: &Reader) -> bool
+    ensures { result ≡ next_section_of pou reader.now }
+{
+    next_section(pou, reader).is_some()
+}
+
+/// Reads a section of a block or a program.
+#[tactic(auto, unfolding(crate::specs::ReadingUnits::section_at))]
+pub fn section(alloc: Global, pou: PouKind, reader: &mut Reader) -> Result<Section, Stop>
+    ensures { Gives (λ s. (view_section s, reader.new)) result (section_at pou reader.old) }
+{
+    let Some(kind) = next_section(pou, reader) else {
+        return Err(reader.stop());
+    };
+    reader.advance();
+    let declarations = declarations(alloc, reader)?;
+    reader.keyword(Keyword::EndVar)?;
+    Ok(Section { kind, declarations })
+}

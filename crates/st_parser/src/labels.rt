@@ -1,0 +1,105 @@
+//! Labels of a CASE.
+
+ghost use Rattle.std.specs.Prelude.{◌≡◌, ◌∷◌, []};
+ghost use Rattle.st_parser.specs.Outcome.{Gives};
+ghost use Rattle.st_parser.specs.Reading.{behind, listed_at, others_at, perhaps_at, next_symbol, after_symbol};
+ghost use Rattle.st_parser.specs.ReadingStatements.{number_at, label_at, next_label, negative_at};
+
+use crate::fault::Stop;
+use crate::reader::Reader;
+use st_lexer::{Symbol, TokenKind};
+use st_tree::Label;
+use std::alloc::Global;
+
+/// Whether a label is next.
+pub fn is_label(reader: &Reader) -> bool
+    ensures { result ≡ next_label reader.now }
+{
+    match reader.peek() {
+        Some(TokenKind::Integer(_)) => true,
+        Some(TokenKind::Symbol(Symbol::Minus)) => true,
+        _ => false,
+    }
+}
+
+/// Reads an integer behind a minus.
+fn negative(reader: &mut Reader) -> Result<i64, Stop>
+    ensures { Gives (λ n. (n, reader.new)) result (negative_at reader.old) }
+{
+    match reader.peek() {
+        Some(TokenKind::Integer(n)) if n <= 2147483648 => {
+            reader.advance();
+            Ok(-i64::from(n))
+        }
+        _ => Err(reader.stop()),
+    }
+}
+
+/// Reads an integer with its minus.
+#[tactic(auto, unfolding(crate::specs::ReadingStatements::number_at))]
+fn number(reader: &mut Reader) -> Result<i64, Stop>
+    ensures { Gives (λ n. (n, reader.new)) result (number_at reader.old) }
+{
+    match reader.peek() {
+        Some(TokenKind::Integer(n)) if n <= 2147483647 => {
+            reader.advance();
+            Ok(i64::from(n))
+        }
+        Some(TokenKind::Symbol(Symbol::Minus)) => {
+            reader.advance();
+            negative(reader)
+        }
+        _ => Err(reader.stop()),
+    }
+}
+
+/// Reads two points and the end of a range, if they are next.
+fn range_end(reader: &mut Reader) -> Result<Option<i64>, Stop>
+    ensures { Gives (λ high. (high, reader.new)) result (perhaps_at (next_symbol Symbol.Range) (after_symbol Symbol.Range number_at) reader.old) }
+{
+    if reader.is_symbol(Symbol::Range) {
+        reader.symbol(Symbol::Range)?;
+        let high = number(reader)?;
+        Ok(Some(high))
+    } else {
+        Ok(None)
+    }
+}
+
+/// Reads a label.
+#[tactic(auto, unfolding(crate::specs::ReadingStatements::label_at))]
+fn label(reader: &mut Reader) -> Result<Label, Stop>
+    ensures { Gives (λ label. (label, reader.new)) result (label_at reader.old) }
+{
+    let low = number(reader)?;
+    let high = range_end(reader)?.unwrap_or(low);
+    Ok(Label { low, high })
+}
+
+/// Reads the labels behind a first one, each with its comma.
+fn more_labels(alloc: Global, first: Label, reader: &mut Reader) -> Result<Vec<Label>, Stop>
+    ensures { Gives (λ labels. (labels.items, reader.new)) result (behind (first ∷ []) (others_at label_at reader.old)) }
+{
+    let mut labels = Vec::new(alloc);
+    labels.push(first)?;
+    // Each takes a token at least.
+    for _turn in 0..reader.left() {
+        if !reader.is_symbol(Symbol::Comma) {
+            return Ok(labels);
+        }
+        reader.symbol(Symbol::Comma)?;
+        labels.push(label(reader)?)?;
+    }
+    if reader.is_symbol(Symbol::Comma) {
+        return Err(reader.stop());
+    }
+    Ok(labels)
+}
+
+/// Reads the labels of a branch.
+pub fn labels(alloc: Global, reader: &mut Reader) -> Result<Vec<Label>, Stop>
+    ensures { Gives (λ labels. (labels.items, reader.new)) result (listed_at label_at reader.old) }
+{
+    let first = label(reader)?;
+    more_labels(alloc, first, reader)
+}

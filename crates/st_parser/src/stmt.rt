@@ -1,0 +1,313 @@
+//! Statements.
+
+ghost use Rattle.std.specs.Prelude.{◌≡◌, ◌∷◌, [], map, ◌<◌};
+ghost use Rattle.st_parser.specs.Outcome.{Gives};
+ghost use Rattle.st_parser.specs.Reading.{all_at, behind, perhaps_at, next_keyword, after_keyword, expression_at};
+ghost use Rattle.st_parser.specs.ReadingStatements.{assigned_at, called_at, simple_at, branch_at, branches_at, choice_at, choices_at, otherwise_at, if_at, case_at, bounds_at, for_at, stmt_at, item_at, sequence_at, body_at, next_stmt, next_label};
+ghost use Rattle.st_tree.specs.View.{view_expr, view_option, view_stmt, view_body, view_branch, view_choice};
+
+use crate::calls::arguments;
+use crate::expr::expression;
+use crate::fault::Stop;
+use crate::labels::{is_label, labels};
+use crate::reader::Reader;
+use plant_types::Text;
+use st_lexer::{Keyword, Symbol, TokenKind};
+use st_tree::{Branch, Choice, Expr, Stmt};
+use std::alloc::Global;
+
+/// How deep a statement may be (this profile).
+const DEPTH: u32 = 64;
+
+/// Reads statements up to what begins none.
+pub fn statements(alloc: Global, reader: &mut Reader) -> Result<Vec<Stmt<Text>>, Stop>
+    ensures { Gives (λ b. (view_body b.items, reader.new)) result (body_at reader.old) }
+{
+    body(alloc, DEPTH, reader)
+}
+
+/// Whether a statement or a bare semicolon is next.
+fn is_statement(reader: &Reader) -> bool
+    ensures { result ≡ next_stmt reader.now }
+{
+    match reader.peek() {
+        Some(TokenKind::Word) => true,
+        Some(TokenKind::Keyword(Keyword::If)) => true,
+        Some(TokenKind::Keyword(Keyword::Case)) => true,
+        Some(TokenKind::Keyword(Keyword::For)) => true,
+        Some(TokenKind::Symbol(Symbol::Semicolon)) => true,
+        _ => false,
+    }
+}
+
+/// Reads what is behind a variable's name.
+#[tactic(auto, unfolding(crate::specs::ReadingStatements::assigned_at))]
+fn assignment(alloc: Global, word: Text, reader: &mut Reader) -> Result<Stmt<Text>, Stop>
+    ensures { Gives (λ s. (view_stmt s, reader.new)) result (assigned_at word reader.old) }
+{
+    reader.symbol(Symbol::Becomes)?;
+    let value = expression(alloc, reader)?;
+    Ok(Stmt::Assign(0, word, value))
+}
+
+/// Reads what is behind an instance's name and its parenthesis.
+#[tactic(auto, unfolding(crate::specs::ReadingStatements::called_at))]
+fn call(alloc: Global, word: Text, reader: &mut Reader) -> Result<Stmt<Text>, Stop>
+    ensures { Gives (λ s. (view_stmt s, reader.new)) result (called_at word reader.old) }
+{
+    let arguments = arguments(alloc, reader)?;
+    reader.symbol(Symbol::Close)?;
+    Ok(Stmt::Call(0, word, arguments))
+}
+
+/// Reads what is behind a word.
+#[tactic(auto, unfolding(crate::specs::ReadingStatements::simple_at))]
+fn simple(alloc: Global, word: Text, reader: &mut Reader) -> Result<Stmt<Text>, Stop>
+    ensures { Gives (λ s. (view_stmt s, reader.new)) result (simple_at word reader.old) }
+{
+    if reader.is_symbol(Symbol::Open) {
+        reader.advance();
+        call(alloc, word, reader)
+    } else {
+        assignment(alloc, word, reader)
+    }
+}
+
+/// Reads the step of a FOR, if one is given.
+fn step(alloc: Global, reader: &mut Reader) -> Result<Option<Expr<Text>>, Stop>
+    ensures { Gives (λ o. (view_option o, reader.new)) result (perhaps_at (next_keyword Keyword.By) (after_keyword Keyword.By expression_at) reader.old) }
+{
+    if reader.is_keyword(Keyword::By) {
+        reader.keyword(Keyword::By)?;
+        let step = expression(alloc, reader)?;
+        Ok(Some(step))
+    } else {
+        Ok(None)
+    }
+}
+
+/// Reads the first value, the bound and the step of a FOR.
+#[tactic(auto, unfolding(crate::specs::ReadingStatements::bounds_at))]
+fn bounds(
+    alloc: Global,
+    reader: &mut Reader,
+) -> Result<(Expr<Text>, Expr<Text>, Option<Expr<Text>>), Stop>
+    ensures { Gives (λ b. ((view_expr b.0, view_expr b.1, view_option b.2), reader.new)) result (bounds_at reader.old) }
+{
+    let from = expression(alloc, reader)?;
+    reader.keyword(Keyword::To)?;
+    let to = expression(alloc, reader)?;
+    let by = step(alloc, reader)?;
+    Ok((from, to, by))
+}
+
+/// Reads statements that are at most so deep.
+#[cycle(stmt)]
+fn body(alloc: Global, depth: u32, reader: &mut Reader) -> Result<Vec<Stmt<Text>>, Stop>
+    ensures { Gives (λ b. (view_body b.items, reader.new)) result (sequence_at depth reader.old) }
+{
+    let mut body = Vec::new(alloc);
+    // Each takes a token at least.
+    for _turn in 0..reader.left() {
+        if !is_statement(reader) {
+            return Ok(body);
+        }
+        body.push(item(alloc, depth, reader)?)?;
+    }
+    if is_statement(reader) {
+        return Err(reader.stop());
+    }
+    Ok(body)
+}
+
+/// Reads a statement with its semicolon, at most so deep.
+#[cycle(stmt)]
+#[tactic(auto, unfolding(crate::specs::ReadingStatements::ended_at))]
+fn item(alloc: Global, depth: u32, reader: &mut Reader) -> Result<Stmt<Text>, Stop>
+    ensures { Gives (λ s. (view_stmt s, reader.new)) result (item_at depth reader.old) }
+{
+    if depth == 0 {
+        return Err(reader.stop());
+    }
+    let stmt = statement(alloc, depth - 1, reader)?;
+    reader.symbol(Symbol::Semicolon)?;
+    Ok(stmt)
+}
+
+/// Reads a statement whose inner statements are at most so deep.
+#[cycle(stmt)]
+#[tactic(auto, unfolding(crate::specs::ReadingStatements::stmt_at))]
+fn statement(alloc: Global, deeper: u32, reader: &mut Reader) -> Result<Stmt<Text>, Stop>
+    ensures { Gives (λ s. (view_stmt s, reader.new)) result (stmt_at (sequence_at deeper) reader.old) }
+{
+    match reader.peek() {
+        Some(TokenKind::Word) => {
+            let word = reader.word(alloc)?;
+            simple(alloc, word, reader)
+        }
+        Some(TokenKind::Keyword(Keyword::If)) => {
+            reader.advance();
+            if_statement(alloc, deeper, reader)
+        }
+        Some(TokenKind::Keyword(Keyword::Case)) => {
+            reader.advance();
+            case_statement(alloc, deeper, reader)
+        }
+        Some(TokenKind::Keyword(Keyword::For)) => {
+            reader.advance();
+            for_statement(alloc, deeper, reader)
+        }
+        Some(TokenKind::Symbol(Symbol::Semicolon)) => Ok(Stmt::Empty(0)),
+        _ => Err(reader.stop()),
+    }
+}
+
+/// Reads what is behind `IF`.
+#[cycle(stmt)]
+#[tactic(auto, unfolding(crate::specs::ReadingStatements::if_at))]
+fn if_statement(alloc: Global, deeper: u32, reader: &mut Reader) -> Result<Stmt<Text>, Stop>
+    ensures { Gives (λ s. (view_stmt s, reader.new)) result (if_at (sequence_at deeper) reader.old) }
+{
+    let branches = branches(alloc, deeper, reader)?;
+    let last = otherwise(alloc, deeper, reader)?;
+    reader.keyword(Keyword::EndIf)?;
+    Ok(Stmt::If(0, branches, last))
+}
+
+/// Reads the branches of an `IF`.
+#[cycle(stmt)]
+#[tactic(auto, unfolding(crate::specs::ReadingStatements::branches_at))]
+fn branches(alloc: Global, deeper: u32, reader: &mut Reader) -> Result<Vec<Branch<Text>>, Stop>
+    ensures { Gives (λ b. (map view_branch b.items, reader.new)) result (branches_at (sequence_at deeper) reader.old) }
+{
+    let first = tested(alloc, deeper, reader)?;
+    more_branches(alloc, deeper, first, reader)
+}
+
+/// Reads the branches behind a first one, each with its `ELSIF`.
+#[cycle(stmt)]
+fn more_branches(
+    alloc: Global,
+    deeper: u32,
+    first: Branch<Text>,
+    reader: &mut Reader,
+) -> Result<Vec<Branch<Text>>, Stop>
+    ensures { Gives (λ b. (map view_branch b.items, reader.new)) result (behind (view_branch first ∷ []) (all_at (next_keyword Keyword.Elsif) (after_keyword Keyword.Elsif (branch_at (sequence_at deeper))) reader.old)) }
+{
+    let mut branches = Vec::new(alloc);
+    branches.push(first)?;
+    // Each takes a token at least.
+    for _turn in 0..reader.left() {
+        if !reader.is_keyword(Keyword::Elsif) {
+            return Ok(branches);
+        }
+        reader.keyword(Keyword::Elsif)?;
+        branches.push(tested(alloc, deeper, reader)?)?;
+    }
+    if reader.is_keyword(Keyword::Elsif) {
+        return Err(reader.stop());
+    }
+    Ok(branches)
+}
+
+/// Reads a test, `THEN` and statements.
+#[cycle(stmt)]
+#[tactic(auto, unfolding(crate::specs::ReadingStatements::branch_at))]
+fn tested(alloc: Global, deeper: u32, reader: &mut Reader) -> Result<Branch<Text>, Stop>
+    ensures { Gives (λ b. (view_branch b, reader.new)) result (branch_at (sequence_at deeper) reader.old) }
+{
+    let test = expression(alloc, reader)?;
+    reader.keyword(Keyword::Then)?;
+    let body = body(alloc, deeper, reader)?;
+    Ok(Branch { test, body })
+}
+
+/// Reads `ELSE` and statements, if it is next.
+#[cycle(stmt)]
+#[tactic(auto, unfolding(crate::specs::ReadingStatements::otherwise_at))]
+fn otherwise(alloc: Global, deeper: u32, reader: &mut Reader) -> Result<Vec<Stmt<Text>>, Stop>
+    ensures { Gives (λ b. (view_body b.items, reader.new)) result (otherwise_at (sequence_at deeper) reader.old) }
+{
+    if reader.is_keyword(Keyword::Else) {
+        reader.advance();
+        body(alloc, deeper, reader)
+    } else {
+        Ok(Vec::new(alloc))
+    }
+}
+
+/// Reads what is behind `CASE`.
+#[cycle(stmt)]
+#[tactic(auto, unfolding(crate::specs::ReadingStatements::case_at))]
+fn case_statement(alloc: Global, deeper: u32, reader: &mut Reader) -> Result<Stmt<Text>, Stop>
+    ensures { Gives (λ s. (view_stmt s, reader.new)) result (case_at (sequence_at deeper) reader.old) }
+{
+    let selector = expression(alloc, reader)?;
+    reader.keyword(Keyword::Of)?;
+    let choices = choices(alloc, deeper, reader)?;
+    let last = otherwise(alloc, deeper, reader)?;
+    reader.keyword(Keyword::EndCase)?;
+    Ok(Stmt::Case(0, selector, choices, last))
+}
+
+/// Reads the branches of a `CASE`.
+#[cycle(stmt)]
+#[tactic(auto, unfolding(crate::specs::ReadingStatements::choices_at))]
+fn choices(alloc: Global, deeper: u32, reader: &mut Reader) -> Result<Vec<Choice<Text>>, Stop>
+    ensures { Gives (λ c. (map view_choice c.items, reader.new)) result (choices_at (sequence_at deeper) reader.old) }
+{
+    let first = labelled(alloc, deeper, reader)?;
+    more_choices(alloc, deeper, first, reader)
+}
+
+/// Reads the branches behind a first one.
+#[cycle(stmt)]
+fn more_choices(
+    alloc: Global,
+    deeper: u32,
+    first: Choice<Text>,
+    reader: &mut Reader,
+) -> Result<Vec<Choice<Text>>, Stop>
+    ensures { Gives (λ c. (map view_choice c.items, reader.new)) result (behind (view_choice first ∷ []) (all_at next_label (choice_at (sequence_at deeper)) reader.old)) }
+{
+    let mut choices = Vec::new(alloc);
+    choices.push(first)?;
+    // Each takes a token at least.
+    for _turn in 0..reader.left() {
+        if !is_label(reader) {
+            return Ok(choices);
+        }
+        choices.push(labelled(alloc, deeper, reader)?)?;
+    }
+    if is_label(reader) {
+        return Err(reader.stop());
+    }
+    Ok(choices)
+}
+
+/// Reads labels, a colon and statements.
+#[cycle(stmt)]
+#[tactic(auto, unfolding(crate::specs::ReadingStatements::choice_at))]
+fn labelled(alloc: Global, deeper: u32, reader: &mut Reader) -> Result<Choice<Text>, Stop>
+    ensures { Gives (λ c. (view_choice c, reader.new)) result (choice_at (sequence_at deeper) reader.old) }
+{
+    let labels = labels(alloc, reader)?;
+    reader.symbol(Symbol::Colon)?;
+    let body = body(alloc, deeper, reader)?;
+    Ok(Choice { labels, body })
+}
+
+/// Reads what is behind `FOR`.
+#[cycle(stmt)]
+#[tactic(auto, unfolding(crate::specs::ReadingStatements::for_at))]
+fn for_statement(alloc: Global, deeper: u32, reader: &mut Reader) -> Result<Stmt<Text>, Stop>
+    ensures { Gives (λ s. (view_stmt s, reader.new)) result (for_at (sequence_at deeper) reader.old) }
+{
+    let word = reader.word(alloc)?;
+    reader.symbol(Symbol::Becomes)?;
+    let (from, to, by) = bounds(alloc, reader)?;
+    reader.keyword(Keyword::Do)?;
+    let body = body(alloc, deeper, reader)?;
+    reader.keyword(Keyword::EndFor)?;
+    Ok(Stmt::For(0, word, from, to, by, body))
+}

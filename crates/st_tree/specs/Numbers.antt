@@ -1,0 +1,48 @@
+-- The numbers of statements: in the order of their first tokens, a statement before those inside it.
+use Rattle.std.specs.Prelude.{ℕ, ◌+◌}
+use Rattle.st_tree.specs.Plain.{PlainStmt, empty, assign, call, choose, select, repeat, PlainBody, done, next, Branches, no_branch, branch, Choices, no_choice, choice}
+
+abbrev mutual
+  -- how many statements a statement is, with those inside it
+  pub count : {V : Type 0} → PlainStmt V → ℕ
+  count (empty number) = 1
+  count (assign number v e) = 1
+  count (call number instance arguments) = 1
+  count (choose number branches last) = 1 + count_branches branches + count_all last
+  count (select number e choices last) = 1 + count_choices choices + count_all last
+  count (repeat number v from to by body) = 1 + count_all body
+
+  pub count_all : {V : Type 0} → PlainBody V → ℕ
+  count_all done = 0
+  count_all (next s rest) = count s + count_all rest
+
+  pub count_branches : {V : Type 0} → Branches V → ℕ
+  count_branches no_branch = 0
+  count_branches (branch test body rest) = count_all body + count_branches rest
+
+  pub count_choices : {V : Type 0} → Choices V → ℕ
+  count_choices no_choice = 0
+  count_choices (choice labels body rest) = count_all body + count_choices rest
+
+abbrev mutual
+  -- a statement and those inside it, numbered from a number on
+  pub numbered_stmt : {V : Type 0} → ℕ → PlainStmt V → PlainStmt V
+  numbered_stmt n (empty number) = empty n
+  numbered_stmt n (assign number v e) = assign n v e
+  numbered_stmt n (call number instance arguments) = call n instance arguments
+  numbered_stmt n (choose number branches last) = choose n (numbered_branches (n + 1) branches) (numbered (n + 1 + count_branches branches) last)
+  numbered_stmt n (select number e choices last) = select n e (numbered_choices (n + 1) choices) (numbered (n + 1 + count_choices choices) last)
+  numbered_stmt n (repeat number v from to by body) = repeat n v from to by (numbered (n + 1) body)
+
+  -- a body whose statements are numbered from a number on
+  pub numbered : {V : Type 0} → ℕ → PlainBody V → PlainBody V
+  numbered n done = done
+  numbered n (next s rest) = next (numbered_stmt n s) (numbered (n + count s) rest)
+
+  pub numbered_branches : {V : Type 0} → ℕ → Branches V → Branches V
+  numbered_branches n no_branch = no_branch
+  numbered_branches n (branch test body rest) = branch test (numbered n body) (numbered_branches (n + count_all body) rest)
+
+  pub numbered_choices : {V : Type 0} → ℕ → Choices V → Choices V
+  numbered_choices n no_choice = no_choice
+  numbered_choices n (choice labels body rest) = choice labels (numbered n body) (numbered_choices (n + count_all body) rest)

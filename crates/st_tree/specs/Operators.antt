@@ -1,0 +1,69 @@
+-- What operators give of their operands' values, in whole numbers without a range: FALSE is 0 and TRUE is 1.
+use Rattle.std.specs.Prelude.{ℤ, pos, ◌+ℤ◌, ◌-ℤ◌, ◌*ℤ◌, neg_ℤ, int_div, int_lt, Bool, not, ◌&&◌, ◌||◌, if◌then◌else◌, Result, Ok, Err}
+use Rattle.std.specs.Ordering.{int_eq}
+use Rattle.plant_types.specs.declared.values.Kind.{Kind}
+use Rattle.plant_types.specs.declared.values.Kind.TheVariants as kind
+use Rattle.plant_types.specs.declared.values.Trap.{Trap}
+use Rattle.plant_types.specs.declared.values.Trap.TheVariants.{Overflow, DivZero}
+use Rattle.plant_types.specs.Values.{truth, is_true, is_in_range}
+use Rattle.st_tree.specs.declared.tree.Unary.{Unary}
+use Rattle.st_tree.specs.declared.tree.Unary.TheVariants.{Not, Negate, NegateTime}
+use Rattle.st_tree.specs.declared.tree.Binary.{Binary}
+use Rattle.st_tree.specs.declared.tree.Binary.TheVariants.{And, Xor, Or, Equal, Unequal, Less, Greater, AtMost, AtLeast, Add, AddTime, Subtract, SubtractTime, Multiply, Divide, Mod}
+
+-- what an expression gives: a value, or the kind of a trap
+abbrev pub Outcome : Type 0
+Outcome = Result ℤ Trap
+
+-- a result of a kind: one out of the kind's range is a trap
+abbrev pub ranged : Kind → ℤ → Outcome
+ranged kind n = if is_in_range kind n then Ok n else Err Overflow
+
+-- a DINT
+abbrev pub dint : ℤ → Outcome
+dint n = ranged kind.Dint n
+
+-- a TIME
+abbrev pub time : ℤ → Outcome
+time n = ranged kind.Time n
+
+-- a truth, as every comparison gives one
+abbrev pub verdict : Bool → Outcome
+verdict b = Ok (truth b)
+
+-- exactly one of two is true
+abbrev pub either : Bool → Bool → Bool
+either a b = (a || b) && not (a && b)
+
+-- a quotient is truncated toward zero; there is none by 0
+abbrev pub quotient : ℤ → ℤ → Outcome
+quotient x y = if int_eq y (pos 0) then Err DivZero else dint (int_div x y)
+
+-- a remainder, which is 0 by 0
+abbrev pub remainder : ℤ → ℤ → ℤ
+remainder x y = if int_eq y (pos 0) then pos 0 else x -ℤ (int_div x y *ℤ y)
+
+-- what an operator gives of its operand's value
+abbrev pub one_of : Unary → ℤ → Outcome
+one_of Not x = verdict (not (is_true x))
+one_of Negate x = dint (neg_ℤ x)
+one_of NegateTime x = time (neg_ℤ x)
+
+-- what an operator gives of its operands' values
+abbrev pub two_of : Binary → ℤ → ℤ → Outcome
+two_of And x y = verdict (is_true x && is_true y)
+two_of Xor x y = verdict (either (is_true x) (is_true y))
+two_of Or x y = verdict (is_true x || is_true y)
+two_of Equal x y = verdict (int_eq x y)
+two_of Unequal x y = verdict (not (int_eq x y))
+two_of Less x y = verdict (int_lt x y)
+two_of Greater x y = verdict (int_lt y x)
+two_of AtMost x y = verdict (not (int_lt y x))
+two_of AtLeast x y = verdict (not (int_lt x y))
+two_of Add x y = dint (x +ℤ y)
+two_of AddTime x y = time (x +ℤ y)
+two_of Subtract x y = dint (x -ℤ y)
+two_of SubtractTime x y = time (x -ℤ y)
+two_of Multiply x y = dint (x *ℤ y)
+two_of Divide x y = quotient x y
+two_of Mod x y = Ok (remainder x y)

@@ -1,0 +1,104 @@
+//! The kinds that operators take and give.
+
+ghost use Rattle.std.specs.Prelude.{◌≡◌};
+ghost use Rattle.st_tree.specs.Kinds.{one_kind, two_kind, one_told, two_told, literal_kind, literal_is_bit, is_bit};
+ghost use Rattle.st_tree.specs.View.{view_expr};
+
+use crate::tree::{Binary, Expr, Literal, Unary};
+use plant_types::Kind;
+
+impl Literal {
+    /// The kind of the literal: an integer is a DINT.
+    pub fn kind(self) -> Kind
+        ensures { result ≡ literal_kind self }
+    {
+        match self {
+            Literal::Integer(_) => Kind::Dint,
+            Literal::Value(value) => value.kind(),
+        }
+    }
+
+    /// Whether the literal is the integer 0 or 1.
+    fn is_bit(self) -> bool
+        ensures { result ≡ literal_is_bit self }
+    {
+        match self {
+            Literal::Integer(n) => n == 0 || n == 1,
+            Literal::Value(_) => false,
+        }
+    }
+}
+
+/// The kind of what an operator gives of an operand of a kind; None where it doesn't take it (IEC 61131-3).
+pub fn one_kind(op: Unary, a: Kind) -> Option<Kind>
+    ensures { result ≡ one_kind op a }
+{
+    match (op, a) {
+        (Unary::Not, Kind::Bool) => Some(Kind::Bool),
+        (Unary::Negate, Kind::Dint) => Some(Kind::Dint),
+        (Unary::Negate | Unary::NegateTime, Kind::Time) => Some(Kind::Time),
+        _ => None,
+    }
+}
+
+/// The kind of what an operator gives of operands of two kinds; None where it doesn't take them (IEC 61131-3). BOOL has no order (this profile).
+pub fn two_kind(op: Binary, a: Kind, b: Kind) -> Option<Kind>
+    ensures { result ≡ two_kind op a b }
+{
+    match (op, a, b) {
+        (Binary::And | Binary::Xor | Binary::Or, Kind::Bool, Kind::Bool) => Some(Kind::Bool),
+        (Binary::Equal | Binary::Unequal, _, _) if a == b => Some(Kind::Bool),
+        (
+            Binary::Less | Binary::Greater | Binary::AtMost | Binary::AtLeast,
+            Kind::Dint,
+            Kind::Dint,
+        ) => Some(Kind::Bool),
+        (
+            Binary::Less | Binary::Greater | Binary::AtMost | Binary::AtLeast,
+            Kind::Time,
+            Kind::Time,
+        ) => Some(Kind::Bool),
+        (
+            Binary::Add | Binary::Subtract | Binary::Multiply | Binary::Divide | Binary::Mod,
+            Kind::Dint,
+            Kind::Dint,
+        ) => Some(Kind::Dint),
+        (
+            Binary::Add | Binary::AddTime | Binary::Subtract | Binary::SubtractTime,
+            Kind::Time,
+            Kind::Time,
+        ) => Some(Kind::Time),
+        _ => None,
+    }
+}
+
+/// The operator that is meant where its operand is of a kind: a `-` of a TIME is that of TIME.
+pub fn one_told(op: Unary, a: Kind) -> Unary
+    ensures { result ≡ one_told op a }
+{
+    match (op, a) {
+        (Unary::Negate, Kind::Time) => Unary::NegateTime,
+        _ => op,
+    }
+}
+
+/// The operator that is meant where its left operand is of a kind: a `+` or `-` of TIMEs is that of TIME.
+pub fn two_told(op: Binary, a: Kind) -> Binary
+    ensures { result ≡ two_told op a }
+{
+    match (op, a) {
+        (Binary::Add, Kind::Time) => Binary::AddTime,
+        (Binary::Subtract, Kind::Time) => Binary::SubtractTime,
+        _ => op,
+    }
+}
+
+/// Whether an expression is the integer 0 or 1 as it stands, which may be given for a BOOL and is then FALSE or TRUE (this profile).
+pub fn is_bit<V>(expr: &Expr<V>) -> bool
+    ensures { result ≡ is_bit (view_expr expr.now) }
+{
+    match expr {
+        Expr::Literal(literal) => literal.is_bit(),
+        Expr::Read(_) | Expr::Output(_, _) | Expr::One(_, _) | Expr::Two(_, _, _) => false,
+    }
+}

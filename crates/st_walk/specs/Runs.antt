@@ -1,0 +1,28 @@
+-- Runs over cells, and runs in the worlds that they stand for.
+use Rattle.std.specs.Prelude.{◌≡◌, ℕ, ℤ, List, [], ◌∷◌, slice_index_or}
+use Rattle.plant_types.specs.declared.values.Place.{Place}
+use Rattle.st_tree.specs.Meaning.{Spot, Ran, Done, Trapped}
+use Rattle.st_walk.specs.declared.walker.Walked.{Walked}
+use Rattle.st_walk.specs.declared.walker.Walked.TheVariants as walked
+use Rattle.st_walk.specs.Source.{Source}
+use Rattle.st_walk.specs.Worlds.{Path, World, Stands}
+
+-- the paths of a source's bodies, by their numbers
+abbrev pub paths_of : Source → List Path
+paths_of source = (source.name ∷ []) ∷ []
+
+-- the spot of a place
+abbrev pub spot_of : Source → Place → Spot
+spot_of source place = record { path = slice_index_or (paths_of source) place.path []; statement = place.statement }
+
+-- how a walk ends, with the cells that it leaves
+abbrev pub ran : Source → Walked → List ℤ → Ran (List ℤ)
+ran source walked.Done cells = Done cells
+ran source (walked.Trapped place trap) cells = Trapped cells (spot_of source place) trap
+
+-- a run over cells ends as a run in a world does, at the same spot and with the same kind of trap, and the cells stand for the world
+abbrev pub Agree : Source → Ran World → Ran (List ℤ) → Type 0
+Agree source (Done w) (Done cells) = Stands source cells w
+Agree source (Done w) (Trapped cells spot trap) = ⊥
+Agree source (Trapped w spot trap) (Done cells) = ⊥
+Agree source (Trapped w spot trap) (Trapped cells other kind) = Stands source cells w × (spot ≡ other) × (trap ≡ kind)

@@ -1,0 +1,38 @@
+//! What is made ready to run: global variables, and a program with its own variables.
+
+use plant_types::{Kind, Text};
+use st_lexer::Region;
+use st_tree::Stmt;
+
+/// A program and the global variables.
+#[derive(Drop)]
+pub struct Logic {
+    /// In order of declaration.
+    pub globals: Vec<Variable>,
+    pub program: Program,
+}
+
+/// A global variable. Its name stands as it is spelled.
+#[derive(Drop)]
+pub struct Variable {
+    pub name: Text,
+    /// Where its address lies; a variable without an address has none.
+    pub region: Option<Region>,
+    pub kind: Kind,
+}
+
+/// A variable of a program's own.
+#[derive(Drop)]
+pub struct Local {
+    pub name: Text,
+    pub kind: Kind,
+}
+
+/// A program (IEC 61131-3).
+#[derive(Drop)]
+pub struct Program {
+    pub name: Text,
+    /// In order of declaration.
+    pub locals: Vec<Local>,
+    pub body: Vec<Stmt<Text>>,
+}
