@@ -4,3 +4,4 @@ pub mod Depth
 pub mod Counting
 pub mod Everywhere
 pub mod Judging
+pub mod CostExamples

@@ -6,4 +6,5 @@ pub mod Meaning
 pub mod Numbers
 pub mod Kinds
 pub mod Constants
+pub mod Costs
 pub mod Code
