@@ -101,7 +101,7 @@ fn push_report(text: &mut Vec<u8>, plant: &Plant, report: &Report) -> Result<(),
 }
 
 /// The number of a refusal.
-fn fault_number(fault: EngineFault) -> &'static str
+pub fn fault_number(fault: EngineFault) -> &'static str
     ensures { result.now ≡ fault_number fault }
 {
     match fault {

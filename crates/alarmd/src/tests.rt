@@ -3,11 +3,12 @@
 ghost use Rattle.std.specs.Prelude.{◌≡◌, false};
 
 use crate::SOURCE;
+use crate::answer::fault_number;
 use crate::fault::ServeFault;
 use crate::feed::{Failed, Feed, Reading, Sink, Writing};
 use crate::laws::lines_end_in_feeds;
 use crate::session::serve;
-use engine::Engine;
+use engine::{Engine, EngineFault};
 use plant_config::Plant;
 use std::alloc::{AllocError, Global};
 use std::sync::Wait;
@@ -290,6 +291,19 @@ fn inputs_have_a_range(rt: HostRuntime) {
             writes(&rt, rt.alloc(), source, input, want),
             "at {input:?}"
         );
+    }
+}
+
+#[test]
+fn refusals_have_numbers(rt: HostRuntime) {
+    for (fault, number) in [
+        (EngineFault::MomentBack, "E1"),
+        (EngineFault::MomentRange, "E2"),
+        (EngineFault::ImageName, "E3"),
+        (EngineFault::ImageKind, "E4"),
+        (EngineFault::HistoryFull, "E6"),
+    ] {
+        assert_eq!(rt; fault_number(fault), number);
     }
 }
 
