@@ -245,6 +245,16 @@ fn the_first_label_that_fits(rt: HostRuntime) -> Result<(), Fail> {
     Ok(())
 }
 
+/// 7 in `i`, then turns, and behind them the value of a variable in `y`.
+fn behind_turns(alloc: Global, turns: &str, told: &str) -> Result<String, AllocError> {
+    let mut body = String::from_str(alloc, "7 :i ")?;
+    body.push_str(turns)?;
+    body.push_str(" ")?;
+    body.push_str(told)?;
+    body.push_str(" :y")?;
+    Ok(body)
+}
+
 #[test]
 fn a_turn_for_each_value(rt: HostRuntime) -> Result<(), Fail> {
     for (turns, n, last) in [
@@ -278,11 +288,10 @@ fn a_turn_for_each_value(rt: HostRuntime) -> Result<(), Fail> {
         ("1 2 [ n 1 + :n ] FOR:i 5 6 [ n 1 + :n ] FOR:i", 4, 6),
     ] {
         for (told, want) in [("n", n), ("i", last)] {
-            let mut body = String::from_str(rt.alloc(), "7 :i ")?;
-            body.push_str(turns)?;
-            body.push_str(" ")?;
-            body.push_str(told)?;
-            body.push_str(" :y")?;
+            let body = match behind_turns(rt.alloc(), turns, told) {
+                Ok(body) => body,
+                Err(AllocError) => behind_turns(rt.alloc(), turns, told)?,
+            };
             let found = walked(rt.alloc(), body.as_str(), (0, 0), 1)?;
             assert_eq!(rt; found, (Walked::Done, want), "{told} after {turns}");
         }
