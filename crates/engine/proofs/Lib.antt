@@ -1,3 +1,4 @@
+mod AlarmExamples
 pub mod CellWorlds
 pub mod Images
 pub mod OrderLaws

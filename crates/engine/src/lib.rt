@@ -11,8 +11,6 @@ mod image;
 mod orders;
 mod scan;
 mod steps;
-#[cfg(test)]
-mod tests;
 
 pub use engine::Engine;
 pub use event::{EngineFault, Event, Order, Reply, Report};

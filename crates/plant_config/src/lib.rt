@@ -9,8 +9,6 @@ mod laws;
 mod logic;
 mod plant;
 mod rows;
-#[cfg(test)]
-mod tests;
 
 pub use fault::ConfigFault;
 pub use laws::one_plant;

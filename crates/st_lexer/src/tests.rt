@@ -110,6 +110,8 @@ fn what_is_no_token_has_a_place(rt: HostRuntime) {
         (b"T#1.s".as_slice(), 1, 1),
         (b"T#1.5m1s".as_slice(), 1, 1),
         (b"T#9223372036854775808ms".as_slice(), 1, 1),
+        (b"T#18446744073709551s_616ms".as_slice(), 1, 1),
+        (b"T#0.00000000001d".as_slice(), 1, 1),
         (b"TIME #5s".as_slice(), 1, 6),
         (b"a\n  2147483649".as_slice(), 2, 3),
         (b"1__0".as_slice(), 1, 1),

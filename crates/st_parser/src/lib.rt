@@ -8,12 +8,8 @@ mod declare;
 mod expr;
 mod fault;
 mod labels;
-#[cfg(test)]
-mod notation;
 mod reader;
 mod stmt;
-#[cfg(test)]
-mod tests;
 mod unit;
 mod units;
 

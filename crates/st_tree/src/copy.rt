@@ -92,8 +92,8 @@ fn copy_arguments<V: Duplicate>(
     Ok(copies)
 }
 
-/// The same labels in their order.
-fn copy_labels(alloc: Global, labels: &[Label]) -> Result<Vec<Label>, AllocError>
+/// The same labels in their order. The error is a refused growth.
+pub fn copy_labels(alloc: Global, labels: &[Label]) -> Result<Vec<Label>, AllocError>
     ensures { IfOk result (λ copy. copy.items ≡ labels.now) }
 {
     labels.iter().copied().collect(alloc)

@@ -17,7 +17,7 @@ mod tree;
 
 pub use constants::constant;
 pub use controls::{Span, count_turns, span_of};
-pub use copy::{Duplicate, copy_body, copy_expr};
+pub use copy::{Duplicate, copy_body, copy_expr, copy_labels};
 pub use kinds::{is_bit, one_kind, one_told, two_kind, two_told};
 pub use labels::fits;
 pub use operators::{one, two};

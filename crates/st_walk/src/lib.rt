@@ -24,10 +24,3 @@ pub use flat::Flat;
 pub use laws::{as_many_cells, cell_of_global, each_found, found_global, written_cell};
 pub use logic::{Local, Logic, Program, Variable};
 pub use walker::{Walked, walk};
-
-#[cfg(test)]
-mod notation;
-#[cfg(test)]
-mod refusals;
-#[cfg(test)]
-mod tests;

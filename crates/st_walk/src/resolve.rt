@@ -9,7 +9,9 @@ ghost use Rattle.st_walk.specs.Resolved.{renamed_argument, slot_of, kind_of, fla
 
 use crate::scope::{Entry, Scope};
 use plant_types::{Kind, Text};
-use st_tree::{Argument, Binary, Branch, Choice, Expr, Label, Stmt, Unary, one_told, two_told};
+use st_tree::{
+    Argument, Binary, Branch, Choice, Expr, Stmt, Unary, copy_labels, one_told, two_told,
+};
 use std::alloc::{AllocError, Global};
 
 /// The kind of a variable; BOOL stands for that of none.
@@ -136,13 +138,6 @@ fn resolve_arguments(
     Ok(resolved)
 }
 
-/// The same labels in their order.
-fn copy_labels(alloc: Global, labels: &[Label]) -> Result<Vec<Label>, AllocError>
-    ensures { IfOk result (λ copy. copy.items ≡ labels.now) }
-{
-    labels.iter().copied().collect(alloc)
-}
-
 /// The number behind a number. The error is that there is none, which no memory has room for.
 fn behind(number: u32) -> Result<u32, AllocError>
     ensures { IfOk result (λ n. n ≡ number + 1) }
@@ -183,26 +178,16 @@ fn resolve_stmt(
         Stmt::Case(_, selector, choices, last) => {
             let selector = resolve_expr(alloc, scope, selector)?;
             let choices = resolve_choices(alloc, scope, choices, number)?;
-            Ok(Stmt::Case(
-                own,
-                selector,
-                choices,
-                resolve_body(alloc, scope, last, number)?,
-            ))
+            let last = resolve_body(alloc, scope, last, number)?;
+            Ok(Stmt::Case(own, selector, choices, last))
         }
         Stmt::For(_, variable, from, to, by, body) => {
             let slot = scope.slot(alloc, variable.as_str())?;
             let from = resolve_expr(alloc, scope, from)?;
             let to = resolve_expr(alloc, scope, to)?;
             let by = resolve_option(alloc, scope, by)?;
-            Ok(Stmt::For(
-                own,
-                slot,
-                from,
-                to,
-                by,
-                resolve_body(alloc, scope, body, number)?,
-            ))
+            let body = resolve_body(alloc, scope, body, number)?;
+            Ok(Stmt::For(own, slot, from, to, by, body))
         }
     }
 }

@@ -1,0 +1,39 @@
+-- Worked examples: each alarm steps by globals of its own.
+use Rattle.std.proofs.Common.{◌≡◌, ℕ, ℤ, pos, List, [], ◌∷◌, map, None, Some, slice_index_or, refl}
+use Rattle.std.specs.Prelude.{Option, false}
+use Rattle.alarm_machine.specs.Codes.{Move}
+use Rattle.alarm_machine.specs.declared.states.Code.{Code}
+use Rattle.alarm_machine.specs.declared.states.Code.TheVariants.{Norm, Unack, Suppr}
+use Rattle.plant_config.specs.declared.rows.AlarmRow.{AlarmRow}
+use Rattle.engine.specs.System.{opening_alarm, alarms_after, changes_from}
+
+-- an alarm on a global, suppressed by another or by none
+abbrev row : ℕ → Option ℕ → AlarmRow
+row condition suppress = record { tag = []; area = 0; priority = 1; condition = condition; suppress = suppress; latching = false; max_shelve_ms = 0; text = [] }
+
+-- one on the first global, one on the second and suppressed by the third, one on the second
+abbrev rows : List AlarmRow
+rows = row 0 None ∷ row 1 (Some 2) ∷ row 1 None ∷ []
+
+-- a change of an alarm that was normal
+abbrev move : Code → Move
+move code = record { from = Norm; to = code }
+
+-- what is told of them in the first scan, after which the three globals have these values
+abbrev told : ℤ → ℤ → ℤ → List (ℕ × Move)
+told a b c = changes_from 0 (map opening_alarm rows) (alarms_after (λ n. slice_index_or (a ∷ b ∷ c ∷ []) n (pos 0)) 5 rows (map opening_alarm rows))
+
+no_condition : told (pos 0) (pos 0) (pos 0) ≡ []
+no_condition = refl
+
+first_condition : told (pos 1) (pos 0) (pos 0) ≡ (0, move Unack) ∷ []
+first_condition = refl
+
+one_condition_of_two_alarms : told (pos 0) (pos 1) (pos 0) ≡ (1, move Unack) ∷ (2, move Unack) ∷ []
+one_condition_of_two_alarms = refl
+
+one_of_two_suppressed : told (pos 0) (pos 1) (pos 1) ≡ (1, move Suppr) ∷ (2, move Unack) ∷ []
+one_of_two_suppressed = refl
+
+suppressed_without_condition : told (pos 1) (pos 0) (pos 1) ≡ (0, move Unack) ∷ (1, move Suppr) ∷ []
+suppressed_without_condition = refl
