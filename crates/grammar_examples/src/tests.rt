@@ -140,6 +140,7 @@ x := 127*-~ (b) ;                  | 129
 x := 127*( b + b 127*) ;           | 130
 x := 100000*(                      | 129
 x := 127*( t.Q 127*) ;             | none
+x := 126*( t.Q 126*) AND b ;       | none
 x := b AND 126*( b 126*) ;         | none
 x := b AND 126*( b 126*) AND b ;   | 257";
     assert_eq!(rt; first_wrong(rt.alloc(), Texts::Repeated, rows), None);

@@ -16,7 +16,7 @@ y := 9; y := -7 MOD -2;                      | | done       | y = -1
 y := 9; y := -7 / -2;                        | | done       | y = 3
 y := 9; y := -2147483648 MOD 0;              | | done       | y = 0
 y := 9; y := -2147483647 - 1;                | | done       | y = -2147483648
-y := 9; y := 1 / 0;                          | | DIV_ZERO 2 | y = 9
+y := 9; y := 1 / 0;                          | | DIVZERO 2  | y = 9
 y := 9; y := 2147483647 + 1;                 | | OVERFLOW 2 | y = 9
 y := 9; y := 2147483646 + 1;                 | | done       | y = 2147483647
 y := 9; y := -2147483648 - 1;                | | OVERFLOW 2 | y = 9
@@ -25,9 +25,9 @@ y := 9; y := 65536 * 65536;                  | | OVERFLOW 2 | y = 9
 y := 9; y := 65536 * -32768;                 | | done       | y = -2147483648
 y := 9; y := -(-2147483648);                 | | OVERFLOW 2 | y = 9
 y := 9; y := -DINT#5;                        | | done       | y = -5
-y := 9; y := 0 * (1 / 0);                    | | DIV_ZERO 2 | y = 9
+y := 9; y := 0 * (1 / 0);                    | | DIVZERO 2  | y = 9
 y := 9; y := 2147483647 + 1 + 1 / 0;         | | OVERFLOW 2 | y = 9
-y := 9; y := 1 / 0 + (2147483647 + 1);       | | DIV_ZERO 2 | y = 9";
+y := 9; y := 1 / 0 + (2147483647 + 1);       | | DIVZERO 2  | y = 9";
     assert_eq!(rt; first_wrong(rt.alloc(), "", rows), None);
 }
 
@@ -78,10 +78,10 @@ q := d <> u;                | | done | q = 0";
 #[test]
 fn both_operands_are_evaluated(rt: HostRuntime) {
     let rows = "\
-q := x <> 0 AND 100 / x > 1;                | x = 0  | DIV_ZERO 1 | q = 0
+q := x <> 0 AND 100 / x > 1;                | x = 0  | DIVZERO 1  | q = 0
 q := x <> 0 AND 100 / x > 1;                | x = 50 | done       | q = 1
-q := x = 0 OR 100 / x > 1;                  | x = 0  | DIV_ZERO 1 | q = 0
-q := (1 / x = 0) XOR (2147483647 + 1 = 0);  | x = 0  | DIV_ZERO 1 | q = 0
+q := x = 0 OR 100 / x > 1;                  | x = 0  | DIVZERO 1  | q = 0
+q := (1 / x = 0) XOR (2147483647 + 1 = 0);  | x = 0  | DIVZERO 1  | q = 0
 q := (1 / x = 0) XOR (2147483647 + 1 = 0);  | x = 1  | OVERFLOW 1 | q = 0";
     assert_eq!(rt; first_wrong(rt.alloc(), "", rows), None);
 }
@@ -94,7 +94,7 @@ fn the_first_test_that_is_true(rt: HostRuntime) {
 | x = 3  | done       | y = 2
 | x = 4  | done       | y = 3
 | x = -1 | done       | y = 3
-| x = 0  | DIV_ZERO 1 | y = 0
+| x = 0  | DIVZERO 1  | y = 0
 IF x < 1 THEN y := 1; ELSIF 6 / x > 1 THEN y := 2; END_IF; | x = 0 | done | y = 1
 IF x < 1 THEN y := 1; END_IF; | x = 5 | done | y = 0
 IF x < 1 THEN y := 1; ELSE y := 2; END_IF; IF NOT (x < 1) THEN y := y * 10; END_IF; | x = 5 | done | y = 20";
@@ -120,7 +120,7 @@ fn the_first_label_that_fits(rt: HostRuntime) {
 | x = -1 | done | y = 5
 CASE x OF 2147483647: y := 1; END_CASE; y := y + 1; | x = 2147483647 | done | y = 2
 CASE x OF 2147483647: y := 1; END_CASE; y := y + 1; | x = 2147483646 | done | y = 1
-; CASE 1 / x OF 0: y := 1; END_CASE; | x = 0 | DIV_ZERO 2 | y = 0
+; CASE 1 / x OF 0: y := 1; END_CASE; | x = 0 | DIVZERO 2  | y = 0
 ; CASE 1 / x OF 0: y := 1; END_CASE; | x = 7 | done | y = 1";
     assert_eq!(rt; first_wrong(rt.alloc(), labels, rows), None);
 }
@@ -150,15 +150,15 @@ FOR i := 1 TO 2 DO n := n + 1; END_FOR; FOR i := 5 TO 6 DO n := n + 1; END_FOR; 
 #[test]
 fn a_trap_has_its_statement_and_keeps_what_was_assigned(rt: HostRuntime) {
     let rows = "\
-IF x > 0 THEN y := 1; ; ELSE y := 1 / x; END_IF; y := 2;                      | x = 0 | DIV_ZERO 4 | y = 0
+IF x > 0 THEN y := 1; ; ELSE y := 1 / x; END_IF; y := 2;                      | x = 0 | DIVZERO 4  | y = 0
 IF x > 0 THEN y := 1; ; ELSE y := 1 / x; END_IF; y := 2;                      | x = 3 | done       | y = 2
-FOR i := 1 TO 5 DO y := y + 1; CASE i OF 1..2: ; ; ELSE IF TRUE THEN n := 1 / (3 - i); END_IF; END_CASE; END_FOR; | | DIV_ZERO 7 | y = 3, i = 3
-y := 5; n := 7; m := n / x; n := 8;                                           | | DIV_ZERO 3 | n = 7, y = 5, m = 0
+FOR i := 1 TO 5 DO y := y + 1; CASE i OF 1..2: ; ; ELSE IF TRUE THEN n := 1 / (3 - i); END_IF; END_CASE; END_FOR; | | DIVZERO 7  | y = 3, i = 3
+y := 5; n := 7; m := n / x; n := 8;                                           | | DIVZERO 3  | n = 7, y = 5, m = 0
 ; ; y := y + 2147483647 * 2;                                                  | | OVERFLOW 3 | y = 0
-; IF FALSE THEN ; ; ELSIF 1 / x > 0 THEN y := 1; END_IF;                      | | DIV_ZERO 2 | y = 0
-IF TRUE THEN ; ELSIF FALSE THEN ; ; ELSE ; END_IF; y := 1 / x;                | | DIV_ZERO 6 | y = 0
-CASE x OF 1: ; 2: ; ELSE y := 1 / x; END_CASE;                                | | DIV_ZERO 4 | y = 0
-FOR i := 1 TO 1 DO END_FOR; FOR i := 1 TO 1 DO ; ; END_FOR; y := 1 / x;       | | DIV_ZERO 5 | y = 0";
+; IF FALSE THEN ; ; ELSIF 1 / x > 0 THEN y := 1; END_IF;                      | | DIVZERO 2  | y = 0
+IF TRUE THEN ; ELSIF FALSE THEN ; ; ELSE ; END_IF; y := 1 / x;                | | DIVZERO 6  | y = 0
+CASE x OF 1: ; 2: ; ELSE y := 1 / x; END_CASE;                                | | DIVZERO 4  | y = 0
+FOR i := 1 TO 1 DO END_FOR; FOR i := 1 TO 1 DO ; ; END_FOR; y := 1 / x;       | | DIVZERO 5  | y = 0";
     assert_eq!(rt; first_wrong(rt.alloc(), "", rows), None);
 }
 
@@ -177,8 +177,8 @@ fn a_wrong_row_is_told(rt: HostRuntime) {
         "y := 1;     |       | done       | n = 1",
         "y := 1;     |       | OVERFLOW 1 | y = 1",
         "y := 1 / x; |       | OVERFLOW 1 | y = 0",
-        "y := 1 / x; |       | DIV_ZERO 2 | y = 0",
-        "y := 1 / x; | x = 1 | DIV_ZERO 1 | y = 0",
+        "y := 1 / x; |       | DIVZERO 2  | y = 0",
+        "y := 1 / x; | x = 1 | DIVZERO 1  | y = 0",
         "y := 1;     | x     | done       | y = 1",
         "y := 1;     |       | done       |",
         "y := 1;     |       | done",

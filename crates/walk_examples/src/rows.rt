@@ -60,7 +60,7 @@ fn told(alloc: Global, end: Walked) -> Result<String, AllocError> {
         Walked::Trapped(place, trap) => {
             let kind = match trap {
                 Trap::Overflow => "OVERFLOW",
-                Trap::DivZero => "DIV_ZERO",
+                Trap::DivZero => "DIVZERO",
             };
             let statement = place.statement;
             format!(in alloc; "{kind} {statement}")
