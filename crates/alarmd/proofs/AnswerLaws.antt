@@ -4,7 +4,7 @@ use Rattle.std.specs.Str.{IsUtf8, is_utf8}
 use Rattle.plant_types.specs.declared.values.Place.{Place}
 use Rattle.plant_types.specs.declared.values.Trap.{Trap}
 use Rattle.alarmd.specs.Answers.{spots_of}
-use Rattle.st_walk.specs.Source.{Source}
+use Rattle.st_resolve.specs.Source.{Source}
 use Rattle.std.proofs.lemmas.Str.{IsUtf8-from_is_utf8}
 
 not_text : (v : Bool) (bytes : List ℕ) → is_utf8 bytes ≡ v → (IsUtf8 bytes → ⊥) → v ≡ false

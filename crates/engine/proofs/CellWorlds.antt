@@ -7,10 +7,10 @@ use Rattle.std.proofs.lemmas.List.Elements.{All-head, All-tail}
 use Rattle.plant_types.specs.declared.values.Value.{Value}
 use Rattle.plant_types.specs.Values.{is_true, worth}
 use Rattle.alarm_machine.specs.Alarms.{Seen, after_scan}
-use Rattle.st_walk.specs.declared.logic.Variable.{Variable}
-use Rattle.st_walk.specs.Source.{Source}
+use Rattle.st_resolve.specs.declared.logic.Variable.{Variable}
+use Rattle.st_resolve.specs.Source.{Source}
+use Rattle.st_resolve.specs.Faults.{first_fault}
 use Rattle.st_walk.specs.Worlds.{World, Stands, assign, path_of}
-use Rattle.st_walk.specs.Faults.{first_fault}
 use Rattle.st_walk.specs.Slots.{cell}
 use Rattle.st_walk.proofs.Standing.{cell_holds, cell_written}
 use Rattle.plant_config.specs.declared.rows.AlarmRow.{AlarmRow}

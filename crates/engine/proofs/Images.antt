@@ -8,9 +8,9 @@ use Rattle.std.proofs.lemmas.List.Elements.{All-nil, All-cons, All-head, All-tai
 use Rattle.plant_types.specs.Named.{Named}
 use Rattle.plant_types.specs.Values.{fitted}
 use Rattle.plant_types.specs.declared.values.Value.{Value}
-use Rattle.st_walk.specs.declared.logic.Variable.{Variable}
-use Rattle.st_walk.specs.Names.{find_global}
-use Rattle.st_walk.specs.Faults.{is_input}
+use Rattle.st_resolve.specs.declared.logic.Variable.{Variable}
+use Rattle.st_resolve.specs.Names.{find_global}
+use Rattle.st_resolve.specs.Faults.{is_input}
 use Rattle.engine.specs.declared.event.Event.{Event}
 use Rattle.engine.specs.declared.event.Event.TheVariants as event
 use Rattle.engine.specs.declared.event.EngineFault.{EngineFault}

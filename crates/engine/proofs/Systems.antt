@@ -11,10 +11,10 @@ use Rattle.alarm_machine.specs.declared.states.OrderFault.{OrderFault}
 use Rattle.alarm_machine.specs.Codes.{Move, code_of, change_between}
 use Rattle.alarm_machine.specs.Alarms.{Seen}
 use Rattle.st_tree.specs.Meaning.{Ran, Done, Trapped}
-use Rattle.st_walk.specs.declared.logic.Variable.{Variable}
-use Rattle.st_walk.specs.Source.{Source}
+use Rattle.st_resolve.specs.declared.logic.Variable.{Variable}
+use Rattle.st_resolve.specs.Source.{Source}
+use Rattle.st_resolve.specs.Faults.{first_fault}
 use Rattle.st_walk.specs.Worlds.{World, Stands, opening}
-use Rattle.st_walk.specs.Faults.{first_fault}
 use Rattle.st_walk.specs.Slots.{cell}
 use Rattle.plant_config.specs.declared.rows.AlarmRow.{AlarmRow}
 use Rattle.plant_config.specs.Meaning.{Meaning, IsPlant}

@@ -3,8 +3,8 @@ use Rattle.std.specs.Prelude.{◌≡◌, ℕ, ◌<◌, ◌≤◌, ◌^◌, ℤ, 
 use Rattle.std.specs.Coded.{Coded, code_by, coded×, coded_list, coded_ℕ}
 use Rattle.plant_types.specs.Named.{Named}
 use Rattle.plant_types.specs.declared.values.Value.{Value}
+use Rattle.st_resolve.specs.Faults.{first_fault}
 use Rattle.st_walk.specs.Worlds.{Stands}
-use Rattle.st_walk.specs.Faults.{first_fault}
 use Rattle.st_walk.specs.Runs.{spot_of}
 use Rattle.alarm_machine.specs.Alarms.{Seen}
 use Rattle.alarm_machine.specs.declared.states.OrderFault.{OrderFault}

@@ -5,7 +5,7 @@ use Rattle.plant_types.specs.declared.values.Value.{Value}
 use Rattle.plant_types.specs.declared.values.Trap.{Trap}
 use Rattle.plant_types.specs.Values.{worth}
 use Rattle.st_tree.specs.Meaning.{Ran, Done, Trapped, Spot}
-use Rattle.st_walk.specs.Source.{Source}
+use Rattle.st_resolve.specs.Source.{Source}
 use Rattle.st_walk.specs.Worlds.{World, assign, path_of, run_program}
 
 -- what a scan's programs leave and meet: the world, for each program whether it is faulted, and the faults in program order

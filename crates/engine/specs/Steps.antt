@@ -6,7 +6,7 @@ use Rattle.plant_types.specs.declared.values.Place.{Place}
 use Rattle.plant_types.specs.Named.{Named}
 use Rattle.plant_types.specs.Values.{worth}
 use Rattle.st_tree.specs.Meaning.{Ran, Done, Trapped}
-use Rattle.st_walk.specs.Source.{Source}
+use Rattle.st_resolve.specs.Source.{Source}
 use Rattle.st_walk.specs.Worlds.{World, Stands}
 use Rattle.st_walk.specs.Slots.{cell}
 use Rattle.st_walk.specs.Runs.{spot_of}

@@ -10,7 +10,7 @@ use Rattle.plant_types.specs.declared.values.Trap.{Trap}
 use Rattle.st_lexer.specs.declared.token.Region.{Region}
 use Rattle.st_lexer.specs.declared.token.Region.TheVariants as region
 use Rattle.st_tree.specs.Meaning.{Spot}
-use Rattle.st_walk.specs.declared.logic.Variable.{Variable}
+use Rattle.st_resolve.specs.declared.logic.Variable.{Variable}
 use Rattle.st_walk.specs.Worlds.{World, opening}
 use Rattle.alarm_machine.specs.declared.states.OrderFault.{OrderFault}
 use Rattle.alarm_machine.specs.Codes.{Move, code_of, change_between}

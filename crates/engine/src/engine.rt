@@ -14,6 +14,7 @@ use crate::steps::{opening_alarms, outputs};
 use alarm_machine::{AlarmState, Verb};
 use plant_config::Plant;
 use plant_types::{Pair, Value};
+use st_walk::Cells;
 use std::alloc::{AllocError, Global};
 use std::marker::Model;
 
@@ -50,7 +51,7 @@ impl Engine {
         if globals.len() > u32::MAX as usize {
             return Err(AllocError);
         }
-        let cells = plant.flat().cells(alloc)?;
+        let cells = Cells::opening(alloc, plant.flat())?;
         let outputs = outputs(alloc, globals, &cells)?;
         let alarms = opening_alarms(alloc, plant.alarm_rows())?;
         let mut faulted = Vec::new(alloc);

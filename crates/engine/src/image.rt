@@ -8,7 +8,7 @@ ghost use Rattle.engine.specs.declared.event.Event.TheVariants.{Scan};
 use crate::event::{EngineFault, LAST_MOMENT, MOST_EVENTS};
 use plant_types::{Given, Items, Kind, Pair, Value, fitted};
 use st_lexer::Region;
-use st_walk::Flat;
+use st_resolve::Flat;
 use std::alloc::{AllocError, Global};
 
 /// What is given for an input, by the input's number and kind.

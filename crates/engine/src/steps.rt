@@ -13,7 +13,8 @@ use alarm_machine::{Alarm, Change};
 use plant_config::AlarmRow;
 use plant_types::{Given, Kind, Place, Trap, Value, fitted};
 use st_lexer::Region;
-use st_walk::{Cells, Flat, Variable, Walked, walk};
+use st_resolve::{Flat, Variable};
+use st_walk::{Cells, Walked, walk};
 use std::alloc::{AllocError, Global};
 
 /// The number that a global holds.

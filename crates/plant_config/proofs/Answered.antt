@@ -6,8 +6,8 @@ use Rattle.st_lexer.specs.Lexes.{Lexes}
 use Rattle.st_parser.specs.Lexemes.{lexemes}
 use Rattle.st_parser.specs.Units.{PlainUnit}
 use Rattle.st_parser.specs.Declarations.{Spells}
-use Rattle.st_walk.specs.Source.{Source}
-use Rattle.st_walk.specs.Faults.{first_fault}
+use Rattle.st_resolve.specs.Source.{Source}
+use Rattle.st_resolve.specs.Faults.{first_fault}
 use Rattle.plant_config.specs.declared.fault.ConfigFault.{ConfigFault}
 use Rattle.plant_config.specs.declared.fault.ConfigFault.TheVariants as fault
 use Rattle.plant_config.specs.Logic.{logic_of}

@@ -7,10 +7,10 @@ use Rattle.st_parser.specs.Lexemes.{lexemes}
 use Rattle.st_parser.specs.Units.{PlainUnit}
 use Rattle.st_parser.specs.Declarations.{Spells}
 use Rattle.st_parser.proofs.FoundUnits.{one_unit}
-use Rattle.st_walk.specs.Source.{Source}
-use Rattle.st_walk.specs.declared.faults.FirstFault.{FirstFault}
-use Rattle.st_walk.specs.declared.faults.FirstFault.TheVariants as first
-use Rattle.st_walk.specs.Faults.{first_fault}
+use Rattle.st_resolve.specs.Source.{Source}
+use Rattle.st_resolve.specs.declared.faults.FirstFault.{FirstFault}
+use Rattle.st_resolve.specs.declared.faults.FirstFault.TheVariants as first
+use Rattle.st_resolve.specs.Faults.{first_fault}
 use Rattle.plant_config.specs.declared.fault.ConfigFault.{ConfigFault}
 use Rattle.plant_config.specs.declared.fault.ConfigFault.TheVariants as fault
 use Rattle.plant_config.specs.Logic.{logic_of}

@@ -1,8 +1,8 @@
 -- A code of plants, by which they may stand in the values of types with a model.
 use Rattle.std.specs.Prelude.{ℕ, List, refl}
 use Rattle.std.specs.Coded.{Coded, code_by, coded×, coded_list, coded_ℕ}
-use Rattle.st_walk.specs.Source.{Source}
-use Rattle.st_walk.specs.Code.{source_code}
+use Rattle.st_resolve.specs.Source.{Source}
+use Rattle.st_resolve.specs.Code.{source_code}
 use Rattle.plant_config.specs.contracts.rows.AlarmRow as row
 use Rattle.plant_config.specs.contracts.rows.Console as console
 use Rattle.plant_config.specs.declared.rows.AlarmRow.{AlarmRow}

@@ -5,9 +5,9 @@ use Rattle.st_lexer.specs.declared.token.Region.{Region}
 use Rattle.st_parser.specs.declared.unit.Sort.{Sort}
 use Rattle.st_parser.specs.declared.unit.Sort.TheVariants as sort
 use Rattle.st_parser.specs.Units.{PlainDeclaration, PlainSection, PlainPou, PlainUnit}
-use Rattle.st_walk.specs.declared.logic.Variable.{Variable}
-use Rattle.st_walk.specs.declared.logic.Local.{Local}
-use Rattle.st_walk.specs.Source.{Source}
+use Rattle.st_resolve.specs.declared.logic.Variable.{Variable}
+use Rattle.st_resolve.specs.declared.logic.Local.{Local}
+use Rattle.st_resolve.specs.Source.{Source}
 use Rattle.plant_config.specs.Built.{section_built, program_built}
 
 -- names that are declared together: each is a variable of this region and kind; an instance is none

@@ -1,10 +1,10 @@
 -- A plant as contracts see it.
 use Rattle.std.specs.Prelude.{◌≡◌, ℕ, ◌<◌, ◌≤◌, List, length, slice_get, IfSome, All}
 use Rattle.plant_types.specs.declared.values.Kind.TheVariants as kind
-use Rattle.st_walk.specs.declared.logic.Variable.{Variable}
+use Rattle.st_resolve.specs.declared.logic.Variable.{Variable}
 use Rattle.plant_config.specs.declared.rows.AlarmRow.{AlarmRow}
 use Rattle.plant_config.specs.declared.rows.Console.{Console}
-use Rattle.st_walk.specs.Source.{Source}
+use Rattle.st_resolve.specs.Source.{Source}
 
 -- its logic, the names of its areas, its consoles and its alarms, in order; areas and globals are numbered from 0
 pub record Meaning : Type 0 where

@@ -5,7 +5,7 @@ ghost use Rattle.plant_config.specs.Example.{example_areas, example_consoles, ex
 
 use crate::rows::{AlarmRow, Console};
 use plant_types::{Items, Kind, Text, same_word};
-use st_walk::Variable;
+use st_resolve::Variable;
 use std::alloc::{AllocError, Global};
 
 /// The areas.

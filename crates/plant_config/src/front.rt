@@ -6,8 +6,8 @@ ghost use Rattle.st_lexer.specs.Places.{line_at, column_at};
 ghost use Rattle.st_parser.specs.Declarations.{Spells};
 ghost use Rattle.st_parser.specs.Lexemes.{lexemes};
 ghost use Rattle.st_parser.specs.Units.{view_unit};
-ghost use Rattle.st_walk.specs.Source.{source_of};
-ghost use Rattle.st_walk.specs.Faults.{first_fault, Refuses};
+ghost use Rattle.st_resolve.specs.Source.{source_of};
+ghost use Rattle.st_resolve.specs.Faults.{first_fault, Refuses};
 ghost use Rattle.plant_config.specs.Accepted.{Spelled, IsRefused, IsUnfit, start_of, unit_of};
 
 use crate::fault::ConfigFault;
@@ -15,7 +15,7 @@ use crate::logic;
 use plant_types::Text;
 use st_lexer::{LexFault, Token, lex};
 use st_parser::{ParseFault, Unit, parse};
-use st_walk::{FirstFault, Flat, Logic};
+use st_resolve::{FirstFault, Flat, Logic};
 use std::alloc::{AllocError, Global};
 
 /// The logic that a text spells, made ready to run, or why there is none.

@@ -2,13 +2,13 @@
 
 ghost use Rattle.std.specs.Prelude.{◌≡◌, ◌++◌, IfOk, map, option_map};
 ghost use Rattle.st_parser.specs.Units.{view_declaration, view_section, view_unit};
-ghost use Rattle.st_walk.specs.Source.{source_of};
+ghost use Rattle.st_resolve.specs.Source.{source_of};
 ghost use Rattle.plant_config.specs.Logic.{variables_of, section_variables, variables_in, own, logic_of};
 
 use crate::built::{globals_built, program_built};
 use st_parser::{Declaration, Section, Sort, Unit};
+use st_resolve::{Local, Logic, Program, Variable};
 use st_tree::copy_body;
-use st_walk::{Local, Logic, Program, Variable};
 use std::alloc::{AllocError, Global};
 
 /// Each name of a declaration becomes a variable, of the declaration's region and kind. Instances become none.

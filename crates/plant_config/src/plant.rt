@@ -5,7 +5,7 @@ ghost use Rattle.std.specs.Str.{bytes_eq};
 ghost use Rattle.plant_config.specs.Meaning.{Meaning, IsPlant};
 ghost use Rattle.plant_config.specs.Accepted.{Accepted, IsRefused, IsUnfit};
 ghost use Rattle.plant_config.specs.Example.{IsExample};
-ghost use Rattle.st_walk.specs.Faults.{first_fault};
+ghost use Rattle.st_resolve.specs.Faults.{first_fault};
 ghost use Rattle.plant_config.specs.declared.fault.ConfigFault.TheVariants as fault;
 ghost use Rattle.plant_config.specs.Names.{alarm_number, program_number, tag_of, area_of, global_of, priority_of};
 
@@ -13,7 +13,7 @@ use crate::fault::ConfigFault;
 use crate::rows::{AlarmRow, Console};
 use crate::{example, front};
 use plant_types::{Text, same_word};
-use st_walk::Flat;
+use st_resolve::Flat;
 use std::alloc::Global;
 use std::marker::Model;
 

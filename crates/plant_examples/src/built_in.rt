@@ -3,7 +3,7 @@
 use plant_config::{ConfigFault, Plant};
 use plant_types::Kind;
 use st_lexer::Region;
-use st_walk::Flat;
+use st_resolve::Flat;
 use std::alloc::Global;
 
 /// A source that is accepted. Its program's name and its condition's are spelled in two ways.

@@ -1,21 +1,20 @@
 -- A run over cells ends as the run in the world that they stand for.
-use Rattle.std.proofs.Common.{◌≡◌, ◌∙◌, ap, sym, subst, refl, ℕ, ℤ, pos, Bool, true, false, List, [], ◌∷◌, Option, inl, inr}
+use Rattle.std.proofs.Common.{◌≡◌, ap, subst, refl, ℕ, ℤ, pos, Bool, true, false, List, [], ◌∷◌, Option, inl, inr}
 use Rattle.std.specs.Prelude.{Result, Ok, Err, Some, None, map, if◌then◌else◌, ◌&&◌}
 use Rattle.std.proofs.lemmas.Bool.{and_parts}
 use Rattle.plant_types.specs.Values.{is_true}
 use Rattle.plant_types.specs.declared.values.Trap.{Trap}
-use Rattle.st_tree.specs.declared.tree.Label.{Label}
 use Rattle.st_tree.specs.Plain.{PlainExpr, literal, read, output_of, one, two, PlainArgument, input, output}
 use Rattle.st_tree.specs.Plain.{PlainStmt, empty, assign, call, choose, select, repeat, PlainBody, done, next, Branches, no_branch, branch, Choices, no_choice, choice}
 use Rattle.st_tree.specs.Operators.{Outcome, one_of, two_of}
 use Rattle.st_tree.specs.Controls.{control_values, span_of}
-use Rattle.st_tree.specs.Meaning.{worth, then_one, then_two, Spot, Ran, Done, Trapped, then_run, with_value, turns, fits_one, Chosen, Took, Passed, or_else, on_test, spot_of, outcome, step_of, take_inputs, give_outputs, run, run_all, first_true, first_fit}
-use Rattle.st_walk.specs.Source.{Source}
-use Rattle.st_walk.specs.Worlds.{World, Stands, names, path_in}
-use Rattle.st_walk.specs.Names.{words_of, own_words, repeats, reads_pass, option_passes, bounds_pass, arguments_pass, passes, all_pass, branches_pass, choices_pass}
-use Rattle.st_walk.specs.Faults.{is_known, number_of}
+use Rattle.st_tree.specs.Meaning.{then_one, then_two, Ran, Done, Trapped, then_run, with_value, turns, fits_one, Chosen, Took, Passed, or_else, on_test, spot_of, outcome, step_of, take_inputs, give_outputs, run, run_all, first_true, first_fit}
+use Rattle.st_resolve.specs.Source.{Source}
+use Rattle.st_resolve.specs.Names.{words_of, own_words, repeats, reads_pass, option_passes, bounds_pass, arguments_pass, passes, all_pass, branches_pass, choices_pass}
+use Rattle.st_resolve.specs.Faults.{is_known, number_of}
+use Rattle.st_resolve.specs.Resolved.{renamed_expr, renamed_option, renamed_argument, renamed_stmt, renamed, renamed_branches, renamed_choices}
+use Rattle.st_walk.specs.Worlds.{World, Stands, names}
 use Rattle.st_walk.specs.Slots.{slots}
-use Rattle.st_walk.specs.Resolved.{renamed_expr, renamed_option, renamed_argument, renamed_stmt, renamed, renamed_branches, renamed_choices}
 use Rattle.st_walk.proofs.Worlds.{located, read_own, read_global, write_own, write_global}
 
 module _ (source : Source) (globals_once : repeats (words_of source.globals) ≡ false) (own_once : repeats (own_words source.locals) ≡ false) where

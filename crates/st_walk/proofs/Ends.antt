@@ -1,20 +1,19 @@
 -- How a walk ends, from how the run of the body ends.
-use Rattle.std.proofs.Common.{◌≡◌, ◌∙◌, ap, sym, subst, refl, arith, ℕ, ◌<◌, zero, suc, ℤ, false, List, [], ◌∷◌, None}
+use Rattle.std.proofs.Common.{◌≡◌, ◌∙◌, ap, sym, subst, arith, ℕ, ◌<◌, zero, suc, ℤ, false, List, [], None}
 use Rattle.std.specs.List.{list_any}
 use Rattle.std.proofs.lemmas.Bool.{or_parts}
 use Rattle.plant_types.specs.declared.values.Trap.{Trap}
-use Rattle.plant_types.specs.declared.values.Place.{Place}
 use Rattle.st_tree.specs.Meaning.{Ran, Done, Trapped, run_all}
 use Rattle.st_tree.specs.Plain.{PlainBody}
-use Rattle.st_walk.specs.declared.logic.Variable.{Variable}
-use Rattle.st_walk.specs.Source.{Source}
+use Rattle.st_resolve.specs.declared.logic.Variable.{Variable}
+use Rattle.st_resolve.specs.Source.{Source}
+use Rattle.st_resolve.specs.Names.{words_of, own_words, repeats, is_standard}
+use Rattle.st_resolve.specs.Faults.{number_of, meant_of, first_fault}
+use Rattle.st_resolve.specs.Resolved.{renamed}
+use Rattle.st_resolve.proofs.Judged.{sound_parts}
 use Rattle.st_walk.specs.Worlds.{World, Stands, run_program}
-use Rattle.st_walk.specs.Names.{words_of, own_words, repeats, is_standard}
-use Rattle.st_walk.specs.Faults.{number_of, meant_of, first_fault}
-use Rattle.st_walk.specs.Resolved.{renamed}
 use Rattle.st_walk.specs.Slots.{slots}
 use Rattle.st_walk.specs.Runs.{Agree, spot_of}
-use Rattle.st_walk.proofs.Judged.{sound_parts}
 use Rattle.st_walk.proofs.Agreeing.{Alike, body_alike}
 
 module _ (source : Source) (globals_once : repeats (words_of source.globals) ≡ false) (own_once : repeats (own_words source.locals) ≡ false) where

@@ -2,7 +2,7 @@
 use Rattle.std.proofs.Common.{◌≡◌, ℕ, ℤ, pos, negsuc, subst, ◌≤ℤ◌, FitsSigned, to_z, of_z, w64, arith, List, ap, sym, ◌∙◌}
 use Rattle.std.proofs.lemmas.Int.{ints, to_z-of_z}
 use Rattle.st_tree.specs.Plain.{PlainBody}
-use Rattle.st_tree.specs.Meaning.{run_all, turns, Ran}
+use Rattle.st_tree.specs.Meaning.{run_all, turns}
 use Rattle.st_tree.specs.Controls.{up, down}
 use Rattle.st_walk.specs.declared.walker.Ended.{Ended}
 use Rattle.st_walk.specs.Slots.{slots, ended}

@@ -1,21 +1,21 @@
 -- Cells that stand for a world, after a value is read or written.
 use Rattle.std.proofs.Common.{◌≡◌, ◌∙◌, ap, sym, subst, refl, arith, ℕ, zero, suc, ◌+◌, ◌<◌, ℤ, pos, true, false, List, [], ◌∷◌, ◌++◌, Option, Some, None, map, length, get_or, inl, inr, ◌-◌, ◌⊎◌}
 use Rattle.std.proofs.Math.ListN.{set, get_or-append}
-use Rattle.std.proofs.lemmas.List.{get_or-map, length-map, map-append, length-append, get_or-append-add, set-append_left, set-append_right}
+use Rattle.std.proofs.lemmas.List.{get_or-map, length-map, length-append, get_or-append-add, set-append_left, set-append_right}
 use Rattle.std.proofs.lemmas.List.Folds.{list_any_at}
-use Rattle.std.proofs.lemmas.List.Quantifiers.{position-Some}
 use Rattle.std.proofs.lemmas.Bool.{cases_Bool, or_parts, both_ways}
 use Rattle.std.specs.Prelude.{is_some, unwrap_or, if◌then◌else◌, slice_set, ◌&&◌}
 use Rattle.std.specs.List.{list_any}
 use Rattle.std.specs.Str.{bytes_eq}
 use Rattle.std.specs.Cmp.Lexicographic.{bytes_decides}
 use Rattle.plant_types.specs.Words.{folded}
-use Rattle.st_walk.specs.declared.logic.Variable.{Variable}
-use Rattle.st_walk.specs.declared.logic.Local.{Local}
-use Rattle.st_walk.specs.Source.{Source}
+use Rattle.st_resolve.specs.declared.logic.Variable.{Variable}
+use Rattle.st_resolve.specs.declared.logic.Local.{Local}
+use Rattle.st_resolve.specs.Source.{Source}
+use Rattle.st_resolve.specs.Names.{words_of, own_words, find_word, behind, is_among, repeats}
+use Rattle.st_resolve.specs.Faults.{is_known, number_of}
+use Rattle.st_resolve.proofs.Places.{Found, found, word_is}
 use Rattle.st_walk.specs.Worlds.{World, Stands, opening, assign, path_of, own_path, path_in}
-use Rattle.st_walk.specs.Names.{words_of, own_words, find_word, behind, is_among, repeats}
-use Rattle.st_walk.specs.Faults.{entry_of, own_entry, entries_of, is_known, number_of}
 use Rattle.st_walk.specs.Slots.{cell}
 
 -- words of which none is x keep what they have
@@ -42,20 +42,6 @@ written x n f (y ∷ ys) (suc i) once within is =
       | inr no' ↦ no'
     ] in
     rw other (ap (λ l. f y ∷ l) (written x n f ys i parts.1 below is))
-
--- a name that stands among words, at its place
-pub record Found (words : List (List ℕ)) (name : List ℕ) (i : ℕ) : Type 0 where
-  pub within : i < length words
-  pub is : bytes_eq (folded name) (get_or words i (folded name)) ≡ true
-
-pub found : (words : List (List ℕ)) (name : List ℕ) (i : ℕ) → find_word words name ≡ Some i → Found words name i
-found words name i at =
-    let facts = position-Some (bytes_eq (folded name)) words i (folded name) at in
-    record { within = facts.0; is = facts.1 }
-
--- the word at the place of a name is the name in small letters
-pub word_is : (words : List (List ℕ)) (name : List ℕ) (i : ℕ) → Found words name i → folded name ≡ get_or words i (folded name)
-word_is words name i f = (bytes_decides (folded name) (get_or words i (folded name))).0 f.is
 
 -- what a name in the body names: a variable of the program's own, or a global
 pub record OwnAt (source : Source) (name : List ℕ) (slot : ℕ) : Type 0 where
@@ -163,11 +149,10 @@ stands-length source cells w stands =
     omega arith
 
 -- cells of 0 stand for the opening world
-zeros_map : {X Y Z : Type 0} (f : X → Y) (g : X → Z) (xs : List X) → map (λ _. pos 0) (map f xs) ≡ map (λ _. pos 0) (map g xs)
-zeros_map f g [] = refl
-zeros_map f g (x ∷ xs) = ap (λ l. pos 0 ∷ l) (zeros_map f g xs)
+zeros : {X : Type 0} (f : X → List ℕ) (xs : List X) → map (λ _. pos 0) xs ≡ map (λ _. pos 0) (map f xs)
+zeros f [] = refl
+zeros f (x ∷ xs) = ap (λ l. pos 0 ∷ l) (zeros f xs)
 
-pub zeros_stand : (source : Source) → Stands source (map (λ _. pos 0) (entries_of source.globals source.locals)) opening
-zeros_stand source =
-    map-append (λ _. pos 0) (map entry_of source.globals) (map own_entry source.locals)
-    ∙ (λ k. zeros_map entry_of (λ (g : Variable). folded g.name) source.globals k ++ zeros_map own_entry (λ (l : Local). folded l.name) source.locals k)
+pub zeros_stand : (source : Source) (globals : List Variable) (locals : List Local) (cells values : List ℤ) → globals ≡ source.globals → locals ≡ source.locals → values ≡ map (λ _. pos 0) globals ++ map (λ _. pos 0) locals → cells ≡ values → Stands source cells opening
+zeros_stand source globals locals cells values same sames are is =
+    is ∙ are ∙ (λ k. zeros (λ (g : Variable). folded g.name) (same k) k ++ zeros (λ (l : Local). folded l.name) (sames k) k)

@@ -1,11 +1,3 @@
-pub mod Source
-pub mod Names
-pub mod Loops
-pub mod Faults
-pub mod Taken
-pub mod Resolved
 pub mod Slots
 pub mod Worlds
 pub mod Runs
-pub mod Kept
-pub mod Code

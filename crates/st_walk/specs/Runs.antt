@@ -1,10 +1,10 @@
 -- Runs over cells, and runs in the worlds that they stand for.
-use Rattle.std.specs.Prelude.{◌≡◌, ℕ, ℤ, List, [], ◌∷◌, slice_index_or}
+use Rattle.std.specs.Prelude.{◌≡◌, ℤ, List, [], ◌∷◌, slice_index_or}
 use Rattle.plant_types.specs.declared.values.Place.{Place}
 use Rattle.st_tree.specs.Meaning.{Spot, Ran, Done, Trapped}
+use Rattle.st_resolve.specs.Source.{Source}
 use Rattle.st_walk.specs.declared.walker.Walked.{Walked}
 use Rattle.st_walk.specs.declared.walker.Walked.TheVariants as walked
-use Rattle.st_walk.specs.Source.{Source}
 use Rattle.st_walk.specs.Worlds.{Path, World, Stands}
 
 -- the paths of a source's bodies, by their numbers

@@ -1,5 +1,5 @@
 -- Bodies over numbers of cells in place of names.
-use Rattle.std.specs.Prelude.{◌≡◌, ℕ, ℤ, pos, List, [], Option, Some, None, slice_index_or, slice_set}
+use Rattle.std.specs.Prelude.{ℕ, ℤ, pos, List, [], Option, Some, None, slice_index_or, slice_set}
 use Rattle.st_tree.specs.Meaning.{Space, Ran, Done, Trapped, Chosen, Took, Passed}
 use Rattle.st_walk.specs.declared.walker.Ended.{Ended}
 use Rattle.st_walk.specs.declared.walker.Ended.TheVariants as end

@@ -3,9 +3,9 @@ use Rattle.std.specs.Prelude.{◌≡◌, ℕ, ℤ, pos, Bool, true, false, ◌&&
 use Rattle.std.specs.Str.{bytes_eq}
 use Rattle.plant_types.specs.Words.{folded}
 use Rattle.st_tree.specs.Meaning.{Space, Ran, Done, run_all}
-use Rattle.st_walk.specs.Source.{Source}
-use Rattle.st_walk.specs.Names.{words_of, own_words, find_word}
-use Rattle.st_walk.specs.Faults.{meant_of}
+use Rattle.st_resolve.specs.Source.{Source}
+use Rattle.st_resolve.specs.Names.{words_of, own_words, find_word}
+use Rattle.st_resolve.specs.Faults.{meant_of}
 
 -- a list of names in small letters, the innermost first
 abbrev pub Path : Type 0

@@ -1,7 +1,9 @@
 //! The values of variables.
 
-ghost use Rattle.std.specs.Prelude.{◌≡◌, ◌<◌, ◌==◌, pos, length, slice_index_or, slice_set, IfOk};
+ghost use Rattle.std.specs.Prelude.{◌≡◌, ◌<◌, ◌==◌, ◌++◌, map, pos, length, slice_index_or, slice_set, IfOk};
+ghost use Rattle.st_walk.specs.Worlds.{Stands, opening};
 
+use st_resolve::{Flat, Local, Variable};
 use std::alloc::{AllocError, Global};
 use std::marker::Model;
 
@@ -19,7 +21,24 @@ impl Model for Cells {
     ghost view = { λ cells. cells.values.items };
 }
 
+/// A value of 0 for each global, and then for each variable of the program's own.
+fn zeros(alloc: Global, globals: &[Variable], locals: &[Local]) -> Result<Vec<i64>, AllocError>
+    ensures { IfOk result (λ values. values.items ≡ map (λ _. pos 0) globals.now ++ map (λ _. pos 0) locals.now) }
+{
+    let of_globals = globals.iter().map(|_| 0);
+    of_globals.chain(locals.iter().map(|_| 0)).collect(alloc)
+}
+
 impl Cells {
+    /// The cells before a program's first run: each value is FALSE or 0. The error is a refused growth.
+    #[tactic(auto, using(crate::proofs::Worlds::zeros_stand))]
+    pub fn opening(alloc: Global, flat: &Flat) -> Result<Cells, AllocError>
+        ensures { IfOk result (λ cells. Stands flat.now cells opening) }
+    {
+        let values = zeros(alloc, flat.globals(), flat.locals())?;
+        Ok(Cells::new(values))
+    }
+
     /// The cells of a list of values.
     pub fn new(values: Vec<i64>) -> Cells
         ensures { result ≡ values.items }

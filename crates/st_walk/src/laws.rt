@@ -1,11 +1,11 @@
 //! Laws of cells that stand for worlds. These functions do nothing; each has a law as its contract, for the crates above.
 
 ghost use Rattle.std.specs.Prelude.{◌≡◌, ◌+◌, ℕ, ℤ, List, Some, None, pos, length, slice_get, slice_index_or, slice_set};
-ghost use Rattle.st_walk.specs.declared.logic.Variable.{Variable};
-ghost use Rattle.st_walk.specs.Source.{Source};
+ghost use Rattle.st_resolve.specs.declared.logic.Variable.{Variable};
+ghost use Rattle.st_resolve.specs.Source.{Source};
+ghost use Rattle.st_resolve.specs.Names.{find_global};
+ghost use Rattle.st_resolve.specs.Faults.{first_fault};
 ghost use Rattle.st_walk.specs.Worlds.{World, Stands, assign, path_of};
-ghost use Rattle.st_walk.specs.Names.{find_global};
-ghost use Rattle.st_walk.specs.Faults.{first_fault};
 
 /// There are as many cells as variables.
 pub fn as_many_cells()
@@ -25,9 +25,4 @@ pub fn written_cell()
 /// The number that a name has is that of a global at the path of the name.
 pub fn found_global()
     ensures { (globals : List Variable) (name : List ℕ) (i : ℕ) → find_global globals name ≡ Some i → (global : Variable) × (slice_get globals i ≡ Some global) × (path_of global.name ≡ path_of name) }
-{}
-
-/// Each global is found at its own number.
-pub fn each_found()
-    ensures { (source : Source) (i : ℕ) (global : Variable) → first_fault source ≡ None → slice_get source.globals i ≡ Some global → find_global source.globals global.name ≡ Some i }
 {}

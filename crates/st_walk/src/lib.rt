@@ -1,4 +1,5 @@
-//! Programs run over a plain list of cells, one for each variable: the globals in order of declaration, then the program's own.
+//! Programs without a fault run over a plain list of cells, one for each variable: the globals in order of declaration, then the
+//! program's own.
 //!
 //! A world gives each path a whole number: a path is a list of names in small letters, the innermost first. That of a global
 //! is its name alone, that of a program's own variable its name and then the program's. What a program does is defined over worlds
@@ -6,21 +7,9 @@
 #![tactic(auto)]
 
 mod cells;
-mod faults;
-mod flat;
-mod kinds;
-mod known;
 mod laws;
-mod logic;
-mod loops;
-mod names;
-mod resolve;
-mod scope;
 mod walker;
 
 pub use cells::Cells;
-pub use faults::FirstFault;
-pub use flat::Flat;
-pub use laws::{as_many_cells, cell_of_global, each_found, found_global, written_cell};
-pub use logic::{Local, Logic, Program, Variable};
+pub use laws::{as_many_cells, cell_of_global, found_global, written_cell};
 pub use walker::{Walked, walk};

@@ -9,8 +9,8 @@ ghost use Rattle.st_walk.specs.Worlds.{World, Stands, run_program};
 ghost use Rattle.st_walk.specs.Runs.{ran, Agree};
 
 use crate::cells::Cells;
-use crate::flat::Flat;
 use plant_types::{Place, Trap};
+use st_resolve::Flat;
 use st_tree::{Argument, Branch, Choice, Expr, Span, Stmt, fits, one, span_of, two};
 
 /// How a walk ends.

@@ -3,9 +3,8 @@
 use crate::source::flat_of;
 use plant_types::Kind;
 use st_lexer::Region;
-use st_walk::{
-    Cells, FirstFault, Flat, as_many_cells, cell_of_global, each_found, found_global, written_cell,
-};
+use st_resolve::{FirstFault, Flat, each_found};
+use st_walk::{Cells, as_many_cells, cell_of_global, found_global, written_cell};
 use std::alloc::{AllocError, Global};
 use std::test::Fail;
 
@@ -49,7 +48,7 @@ fn shown(alloc: Global) -> Result<bool, FirstFault> {
     let Some(flat) = flat_of(alloc, source)? else {
         return Ok(false);
     };
-    let cells = flat.cells(alloc)?;
+    let cells = Cells::opening(alloc, &flat)?;
     let finds = flat.slot(alloc, "fEED")? == Some(0)
         && flat.slot(alloc, "Q")? == Some(1)
         && flat.slot(alloc, "Main")? == None;

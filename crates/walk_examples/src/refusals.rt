@@ -1,7 +1,7 @@
 //! The first fault of programs.
 
 use crate::rows::first_other;
-use st_walk::FirstFault;
+use st_resolve::FirstFault;
 
 #[test]
 fn declared_names_differ(rt: HostRuntime) {

@@ -2,7 +2,8 @@
 
 use crate::source::flat_of;
 use plant_types::Trap;
-use st_walk::{Cells, FirstFault, Flat, Walked, walk};
+use st_resolve::{FirstFault, Flat};
+use st_walk::{Cells, Walked, walk};
 use std::alloc::{AllocError, Global};
 
 /// The number of the cell of a variable: of the program's own one spelled so, or else of the global.
@@ -75,7 +76,7 @@ fn does(alloc: Global, flat: &Flat, columns: &str) -> Result<bool, AllocError> {
     else {
         return Ok(false);
     };
-    let mut cells = flat.cells(alloc)?;
+    let mut cells = Cells::opening(alloc, flat)?;
     if !give(alloc, flat, &mut cells, given)? {
         return Ok(false);
     }

@@ -3,8 +3,8 @@
 use plant_types::Text;
 use st_lexer::{LexFault, lex};
 use st_parser::{Declaration, ParseFault, Pou, Section, Sort, Unit, parse};
+use st_resolve::{FirstFault, Flat, Local, Logic, Program, Variable};
 use st_tree::copy_body;
-use st_walk::{FirstFault, Flat, Local, Logic, Program, Variable};
 use std::alloc::{AllocError, Global};
 
 /// The unit of a source; none where it has none.

@@ -1,8 +1,8 @@
-use Rattle.std.proofs.Common.{◌≡◌, ℕ, List, pos, get_or, ℤ, neg_ℤ, ◌^◌, ◌+ℤ◌, ◌-ℤ◌, ◌≤ℤ◌, ◌<ℤ◌, to_z, of_z, w64, arith, ap, sym, refl, ◌∙◌}
+use Rattle.std.proofs.Common.{◌≡◌, pos, neg_ℤ, ◌^◌, ◌+ℤ◌, ◌≤ℤ◌, ◌<ℤ◌, to_z, of_z, w64, arith, refl, ◌∙◌}
 use Rattle.std.specs.Int.{w128}
 use Rattle.std.proofs.lemmas.Int.{ints}
 use Rattle.st_tree.specs.View.{view_body}
-use Rattle.st_tree.specs.Meaning.{run_all, turns}
+use Rattle.st_tree.specs.Meaning.{run_all}
 use Rattle.st_tree.proofs.Counting.{falls_up, falls_down, up_on, down_on}
 use Rattle.st_walk.specs.Slots.{slots}
 use Rattle.st_walk.proofs.Turns.{ran_body, between_fits, up_same, down_same}

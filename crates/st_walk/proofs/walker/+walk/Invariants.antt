@@ -1,4 +1,4 @@
-use Rattle.std.proofs.Common.{◌≡◌, drop, ℤ, pos, neg_ℤ, ◌^◌, ◌-ℤ◌, ◌≤ℤ◌}
+use Rattle.std.proofs.Common.{◌≡◌, drop, pos, neg_ℤ, ◌^◌, ◌-ℤ◌, ◌≤ℤ◌}
 use Rattle.st_tree.specs.View.{view_body, view_branches, view_choices}
 use Rattle.st_tree.specs.Meaning.{run_all, turns, first_true, first_fit}
 use Rattle.st_tree.specs.Controls.{up, down, count_in, size}

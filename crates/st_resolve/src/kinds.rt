@@ -1,0 +1,140 @@
+//! Whether each expression of a body is of the kind that its place asks for.
+
+ghost use Rattle.std.specs.Prelude.{◌≡◌, slice_get, option_copied};
+ghost use Rattle.st_tree.specs.View.{view_expr, view_option, view_stmt, view_body, view_branches, view_choices};
+ghost use Rattle.st_tree.specs.Kinds.{judged, is_kind};
+ghost use Rattle.st_resolve.specs.Faults.{kind_named, output_named, is_of, option_is_of, takes, fits, all_fit, branches_fit, choices_fit};
+
+use crate::scope::Entry;
+use plant_types::Kind;
+use st_tree::{Branch, Choice, Expr, Stmt, is_bit, one_kind, two_kind};
+
+fn entry_at(entries: &[Entry], slot: usize) -> Option<Entry>
+    ensures { result ≡ slice_get entries.now slot }
+{
+    entries.get(slot).copied()
+}
+
+/// The kind of an expression, if its operators take their operands.
+fn judge(entries: &[Entry], expr: &Expr<usize>) -> Option<Kind>
+    ensures { result ≡ judged (kind_named (slice_get entries.now)) (output_named (slice_get entries.now)) (view_expr expr.now) }
+{
+    match expr {
+        Expr::Literal(literal) => Some(literal.kind()),
+        Expr::Read(slot) => match entry_at(entries, *slot) {
+            Some(entry) => Some(entry.kind),
+            None => None,
+        },
+        Expr::Output(_, _) => None,
+        Expr::One(op, a) => {
+            let kind = judge(entries, a)?;
+            one_kind(*op, kind)
+        }
+        Expr::Two(op, a, b) => {
+            let left = judge(entries, a)?;
+            let right = judge(entries, b)?;
+            two_kind(*op, left, right)
+        }
+    }
+}
+
+fn is_kind(kind: Kind, found: Option<Kind>) -> bool
+    ensures { result ≡ is_kind kind found }
+{
+    match (kind, found) {
+        (Kind::Bool, Some(Kind::Bool)) => true,
+        (Kind::Dint, Some(Kind::Dint)) => true,
+        (Kind::Time, Some(Kind::Time)) => true,
+        _ => false,
+    }
+}
+
+/// Whether an expression is of a kind.
+fn is_of(entries: &[Entry], kind: Kind, expr: &Expr<usize>) -> bool
+    ensures { result ≡ is_of (slice_get entries.now) kind (view_expr expr.now) }
+{
+    is_kind(kind, judge(entries, expr))
+}
+
+fn option_is_of(entries: &[Entry], kind: Kind, expr: &Option<Expr<usize>>) -> bool
+    ensures { result ≡ option_is_of (slice_get entries.now) kind (view_option expr.now) }
+{
+    match expr {
+        Some(expr) => is_of(entries, kind, expr),
+        None => true,
+    }
+}
+
+/// Whether a variable takes a right side: one of its own kind, the integers 0 and 1 for a BOOL (this profile), and an input none.
+fn takes(entries: &[Entry], slot: usize, expr: &Expr<usize>) -> bool
+    ensures { result ≡ takes (slice_get entries.now) (slice_get entries.now slot) (view_expr expr.now) }
+{
+    match entry_at(entries, slot) {
+        Some(entry) => {
+            !entry.is_input
+                && (is_of(entries, entry.kind, expr)
+                    || (is_kind(entry.kind, Some(Kind::Bool)) && is_bit(expr)))
+        }
+        None => false,
+    }
+}
+
+#[cycle(fits)]
+fn stmt_fits(entries: &[Entry], stmt: &Stmt<usize>) -> bool
+    ensures { result ≡ fits (slice_get entries.now) (view_stmt stmt.now) }
+{
+    match stmt {
+        Stmt::Empty(_) => true,
+        Stmt::Assign(_, slot, expr) => takes(entries, *slot, expr),
+        Stmt::Call(_, _, _) => false,
+        Stmt::If(_, branches, last) => branches_fit(entries, branches) && all_fit(entries, last),
+        Stmt::Case(_, selector, choices, last) => {
+            is_of(entries, Kind::Dint, selector)
+                && choices_fit(entries, choices)
+                && all_fit(entries, last)
+        }
+        Stmt::For(_, _, from, to, by, body) => {
+            is_of(entries, Kind::Dint, from)
+                && is_of(entries, Kind::Dint, to)
+                && option_is_of(entries, Kind::Dint, by)
+                && all_fit(entries, body)
+        }
+    }
+}
+
+#[cycle(fits)]
+fn branches_fit(entries: &[Entry], branches: &[Branch<usize>]) -> bool
+    ensures { result ≡ branches_fit (slice_get entries.now) (view_branches branches.now) }
+{
+    for branch in branches {
+        if !is_of(entries, Kind::Bool, &branch.test) || !all_fit(entries, &branch.body) {
+            return false;
+        }
+    }
+    true
+}
+
+#[cycle(fits)]
+fn choices_fit(entries: &[Entry], choices: &[Choice<usize>]) -> bool
+    ensures { result ≡ choices_fit (slice_get entries.now) (view_choices choices.now) }
+{
+    for choice in choices {
+        if !all_fit(entries, &choice.body) {
+            return false;
+        }
+    }
+    true
+}
+
+/// Whether each right side, test, selector, bound and step of a body is of its kind, and nothing is called.
+#[cycle(fits)]
+pub fn all_fit(entries: &[Entry], body: &[Stmt<usize>]) -> bool
+    ensures { result ≡ all_fit (slice_get entries.now) (view_body body.now) }
+{
+    for stmt in body {
+        if !stmt_fits(entries, stmt) {
+            return false;
+        }
+    }
+    true
+}

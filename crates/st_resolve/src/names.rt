@@ -1,0 +1,132 @@
+//! The names of the globals, to be found without a look at each.
+
+ghost use Rattle.std.specs.Prelude.{◌≡◌, ◌++◌, ◌∷◌, [], IfOk, IfErr, not, if◌then◌else◌, Some, None, true, false, MatchResult, string_bytes, ◌||◌, ◌<◌, ◌^◌, length, IfSome};
+ghost use Rattle.std.specs.List.{list_any};
+ghost use Rattle.plant_types.specs.Words.{folded};
+ghost use Rattle.st_resolve.specs.Names.{find_word, is_standard, is_among, words_of, own_words, repeats};
+ghost use Rattle.st_resolve.specs.Faults.{globals_clash, Refuses};
+ghost use Rattle.st_resolve.specs.Taken.{is_taken};
+
+use crate::faults::FirstFault;
+use crate::logic::{Local, Variable};
+use indexmap::IndexSet;
+use plant_types::same_word;
+use std::alloc::{AllocError, Global};
+use std::marker::Model;
+
+/// Names, numbered in the order in which they were added. Contracts see them in small letters.
+#[derive(Drop)]
+pub struct Names {
+    words: IndexSet<String>,
+}
+
+impl Model for Names {
+    ghost use Rattle.std.specs.Prelude.{List, ℕ, map, string_bytes};
+
+    ghost Value = { List (List ℕ) };
+
+    ghost view = { λ a. map string_bytes a.words.keys };
+}
+
+impl Names {
+    /// No names.
+    pub fn new(alloc: Global) -> Names
+        ensures { result ≡ [] }
+    {
+        Names {
+            words: IndexSet::new(alloc),
+        }
+    }
+
+    /// The number of a name in any letter case.
+    pub fn find(&self, alloc: Global, name: &str) -> Result<Option<usize>, AllocError>
+        ensures slot { IfOk result (λ slot. slot ≡ find_word self.now name.now) }
+        ensures small { IfOk result (λ slot. IfSome slot (λ i. i < 2 ^ 63)) }
+    {
+        let word = small_letters(alloc, name)?;
+        let _small = self.words.len();
+        Ok(self.words.get_index_of(word.as_str()))
+    }
+
+    /// How many there are.
+    pub fn len(&self) -> usize
+        ensures count { result ≡ length self.now }
+        ensures small { result < 2 ^ 63 }
+    {
+        self.words.len()
+    }
+
+    /// Adds a name. False where it was there, whatever the letter case.
+    pub fn add(&mut self, alloc: Global, name: &str) -> Result<bool, FirstFault>
+        ensures added { IfOk result (λ added. added ≡ not (is_among self.old (folded name.now))) }
+        ensures names { IfOk result (λ added. self.new ≡ (if added then self.old ++ folded name.now ∷ [] else self.old)) }
+        ensures refused { IfErr result (λ fault. fault ≡ FirstFault.Memory) }
+    {
+        let word = small_letters(alloc, name)?;
+        let (_, added) = self.words.insert_full(word)?;
+        Ok(added)
+    }
+}
+
+/// A name in small letters.
+fn small_letters(alloc: Global, name: &str) -> Result<String, AllocError>
+    ensures { IfOk result (λ word. string_bytes word ≡ folded name.now) }
+{
+    let mut word = String::from_str(alloc, name)?;
+    word.make_ascii_lowercase();
+    Ok(word)
+}
+
+/// Whether a name is that of a standard block (IEC 61131-3's TON, TOF and R_TRIG).
+pub fn is_standard(name: &[u8]) -> bool
+    ensures { result ≡ is_standard name.now }
+{
+    same_word(name, b"TON") || same_word(name, b"TOF") || same_word(name, b"R_TRIG")
+}
+
+/// Adds the name of a global, where it isn't taken.
+fn add_global(alloc: Global, names: &mut Names, global: &Variable) -> Result<(), FirstFault>
+    ensures { MatchResult result (λ _. (is_taken names.old global.now.name ≡ false) × (names.new ≡ names.old ++ folded global.now.name ∷ [])) (Refuses (if is_taken names.old global.now.name then Some (FirstFault.Name true) else None)) }
+{
+    if is_standard(global.name.as_bytes()) {
+        return Err(FirstFault::Name { globals: true });
+    }
+    if names.add(alloc, global.name.as_str())? {
+        Ok(())
+    } else {
+        Err(FirstFault::Name { globals: true })
+    }
+}
+
+/// The names of the globals in order, where none is a standard block's and none stands twice.
+pub fn names_of(alloc: Global, globals: &[Variable]) -> Result<Names, FirstFault>
+    ensures { MatchResult result (λ names. (globals_clash globals.now ≡ false) × (names ≡ words_of globals.now)) (Refuses (if globals_clash globals.now then Some (FirstFault.Name true) else None)) }
+{
+    let mut names = Names::new(alloc);
+    for global in globals {
+        add_global(alloc, &mut names, global)?;
+    }
+    Ok(names)
+}
+
+/// Adds the name of a program's own variable, where none has it.
+fn add_own(alloc: Global, names: &mut Names, local: &Local) -> Result<(), FirstFault>
+    ensures { MatchResult result (λ _. (is_among names.old (folded local.now.name) ≡ false) × (names.new ≡ names.old ++ folded local.now.name ∷ [])) (Refuses (if is_among names.old (folded local.now.name) then Some (FirstFault.Name false) else None)) }
+{
+    if names.add(alloc, local.name.as_str())? {
+        Ok(())
+    } else {
+        Err(FirstFault::Name { globals: false })
+    }
+}
+
+/// The names of a program's own variables in order, where none stands twice.
+pub fn own_names_of(alloc: Global, locals: &[Local]) -> Result<Names, FirstFault>
+    ensures { MatchResult result (λ names. (repeats (own_words locals.now) ≡ false) × (names ≡ own_words locals.now)) (Refuses (if repeats (own_words locals.now) then Some (FirstFault.Name false) else None)) }
+{
+    let mut names = Names::new(alloc);
+    for local in locals {
+        add_own(alloc, &mut names, local)?;
+    }
+    Ok(names)
+}
