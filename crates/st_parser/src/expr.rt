@@ -2,6 +2,7 @@
 
 ghost use Rattle.std.specs.Prelude.{◌≡◌, IfOk, Some, None, drop, ◌+◌, ◌-◌, ◌≤◌, ◌<◌, pos};
 ghost use Rattle.std.proofs.Common.{neg_ℤ};
+ghost use Rattle.st_tree.specs.Plain.{literal};
 ghost use Rattle.st_tree.specs.View.{view_expr};
 ghost use Rattle.st_parser.specs.Grammar.{level_of, top, grouped};
 ghost use Rattle.st_parser.specs.Outcome.{Gives};
@@ -130,6 +131,16 @@ fn climb(
     chain(alloc, limit, level_wanted, left, depth, reader)
 }
 
+/// Reads the token that is a value, and tells its depth.
+fn leaf(value: Value, reader: &mut Reader) -> (Expr<Text>, u32)
+    ensures tree { view_expr result.0 ≡ literal (Literal.Value value) }
+    ensures deep { result.1 ≡ 1 }
+    ensures read { reader.new ≡ drop 1 reader.old }
+{
+    reader.advance();
+    (Expr::Literal(Literal::Value(value)), 1)
+}
+
 /// Reads an operand whose parts are at most so deep.
 #[cycle(expr)]
 #[tactic(auto, unfolding(crate::specs::Reading::operand))]
@@ -143,26 +154,11 @@ fn operand(alloc: Global, deeper: u32, reader: &mut Reader) -> Result<(Expr<Text
             let word = reader.word(alloc)?;
             named(alloc, word, reader)
         }
-        Some(TokenKind::Keyword(Keyword::True)) => {
-            reader.advance();
-            Ok((Expr::Literal(Literal::Value(Value::Bool(true))), 1))
-        }
-        Some(TokenKind::Keyword(Keyword::False)) => {
-            reader.advance();
-            Ok((Expr::Literal(Literal::Value(Value::Bool(false))), 1))
-        }
-        Some(TokenKind::Truth(truth)) => {
-            reader.advance();
-            Ok((Expr::Literal(Literal::Value(Value::Bool(truth))), 1))
-        }
-        Some(TokenKind::Dint(n)) => {
-            reader.advance();
-            Ok((Expr::Literal(Literal::Value(Value::Dint(n))), 1))
-        }
-        Some(TokenKind::Duration(n)) => {
-            reader.advance();
-            Ok((Expr::Literal(Literal::Value(Value::Time(n))), 1))
-        }
+        Some(TokenKind::Keyword(Keyword::True)) => Ok(leaf(Value::Bool(true), reader)),
+        Some(TokenKind::Keyword(Keyword::False)) => Ok(leaf(Value::Bool(false), reader)),
+        Some(TokenKind::Truth(truth)) => Ok(leaf(Value::Bool(truth), reader)),
+        Some(TokenKind::Dint(n)) => Ok(leaf(Value::Dint(n), reader)),
+        Some(TokenKind::Duration(n)) => Ok(leaf(Value::Time(n), reader)),
         Some(TokenKind::Integer(n)) if n <= GREATEST => {
             reader.advance();
             Ok((Expr::Literal(Literal::Integer(n as i32)), 1))
