@@ -13,7 +13,7 @@ ghost use Rattle.plant_config.specs.Accepted.{Spelled, IsRefused, IsUnfit, start
 use crate::fault::ConfigFault;
 use crate::logic;
 use plant_types::Text;
-use st_lexer::{LexFault, Token, lex};
+use st_lexer::{LexFault, Token, lex, place_behind};
 use st_parser::{ParseFault, Unit, parse};
 use st_resolve::{FirstFault, Flat, Logic};
 use std::alloc::{AllocError, Global};
@@ -152,19 +152,8 @@ fn place(text: &[u8], at: usize) -> (usize, usize)
     ensures line { result.0 ≡ line_at text.now at }
     ensures column { result.1 ≡ column_at text.now at }
 {
-    let before = match text.get(..at) {
-        Some(front) => front,
-        None => text,
-    };
-    let mut line = 1;
-    let mut column = 1;
-    for byte in before {
-        if *byte == b'\n' {
-            line += 1;
-            column = 1;
-        } else {
-            column += 1;
-        }
+    match text.get(..at) {
+        Some(before) => place_behind(before),
+        None => place_behind(text),
     }
-    (line, column)
 }

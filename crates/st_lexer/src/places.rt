@@ -3,7 +3,8 @@
 ghost use Rattle.std.specs.Prelude.{◌≡◌, ◌<◌, ◌+◌, ◌^◌, ◌==◌, not, length, count_by};
 ghost use Rattle.std.specs.List.{suffix_len};
 
-/// The line and the column, both from 1, of the place behind these bytes, which are all that stand before it.
+/// The line and the column, both from 1 and the column in bytes, of the place behind these bytes, which are all that stand before it.
+/// A line ends at LF alone.
 pub fn place_behind(before: &[u8]) -> (usize, usize)
     requires { length before.now + 1 < 2 ^ 64 }
     ensures line { result.0 ≡ count_by (λ b. b == 10) before.now + 1 }

@@ -178,16 +178,14 @@ fn resolve_stmt(
         Stmt::Case(_, selector, choices, last) => {
             let selector = resolve_expr(alloc, scope, selector)?;
             let choices = resolve_choices(alloc, scope, choices, number)?;
-            let last = resolve_body(alloc, scope, last, number)?;
-            Ok(Stmt::Case(own, selector, choices, last))
+            Ok(Stmt::Case(own, selector, choices, resolve_body(alloc, scope, last, number)?))
         }
         Stmt::For(_, variable, from, to, by, body) => {
             let slot = scope.slot(alloc, variable.as_str())?;
             let from = resolve_expr(alloc, scope, from)?;
             let to = resolve_expr(alloc, scope, to)?;
             let by = resolve_option(alloc, scope, by)?;
-            let body = resolve_body(alloc, scope, body, number)?;
-            Ok(Stmt::For(own, slot, from, to, by, body))
+            Ok(Stmt::For(own, slot, from, to, by, resolve_body(alloc, scope, body, number)?))
         }
     }
 }
