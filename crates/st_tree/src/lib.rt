@@ -10,6 +10,7 @@ mod controls;
 mod copy;
 mod kinds;
 mod labels;
+mod laws;
 mod operators;
 #[cfg(test)]
 mod tests;
@@ -20,5 +21,6 @@ pub use controls::{Span, count_turns, span_of};
 pub use copy::{Duplicate, copy_body, copy_expr, copy_labels};
 pub use kinds::{is_bit, one_kind, one_told, two_kind, two_told};
 pub use labels::fits;
+pub use laws::judged_kind;
 pub use operators::{one, two};
 pub use tree::{Argument, Binary, Branch, Choice, Expr, Label, Literal, Stmt, Unary};
