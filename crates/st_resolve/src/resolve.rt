@@ -138,12 +138,17 @@ fn resolve_arguments(
     Ok(resolved)
 }
 
-/// The number behind a number. The error is that there is none, which no memory has room for.
-fn behind(number: u32) -> Result<u32, AllocError>
-    ensures { IfOk result (λ n. n ≡ number + 1) }
+/// Takes a statement's number, and leaves the one behind it. The error is that there is none, which no memory has room for.
+fn take(number: &mut u32) -> Result<u32, AllocError>
+    ensures own { IfOk result (λ own. own ≡ number.old) }
+    ensures next { IfOk result (λ own. number.new ≡ number.old + 1) }
 {
-    match number.checked_add(1) {
-        Some(number) => Ok(number),
+    let own = *number;
+    match own.checked_add(1) {
+        Some(next) => {
+            *number = next;
+            Ok(own)
+        }
         None => Err(AllocError),
     }
 }
@@ -159,8 +164,7 @@ fn resolve_stmt(
     ensures stmt { IfOk result (λ s. view_stmt s ≡ flat_stmt scope.now number.old (view_stmt stmt.now)) }
     ensures count { IfOk result (λ s. number.new ≡ number.old + count (view_stmt stmt.now)) }
 {
-    let own = *number;
-    *number = behind(own)?;
+    let own = take(number)?;
     match stmt {
         Stmt::Empty(_) => Ok(Stmt::Empty(own)),
         Stmt::Assign(_, variable, expr) => {
@@ -178,14 +182,16 @@ fn resolve_stmt(
         Stmt::Case(_, selector, choices, last) => {
             let selector = resolve_expr(alloc, scope, selector)?;
             let choices = resolve_choices(alloc, scope, choices, number)?;
-            Ok(Stmt::Case(own, selector, choices, resolve_body(alloc, scope, last, number)?))
+            let last = resolve_body(alloc, scope, last, number)?;
+            Ok(Stmt::Case(own, selector, choices, last))
         }
         Stmt::For(_, variable, from, to, by, body) => {
             let slot = scope.slot(alloc, variable.as_str())?;
             let from = resolve_expr(alloc, scope, from)?;
             let to = resolve_expr(alloc, scope, to)?;
             let by = resolve_option(alloc, scope, by)?;
-            Ok(Stmt::For(own, slot, from, to, by, resolve_body(alloc, scope, body, number)?))
+            let body = resolve_body(alloc, scope, body, number)?;
+            Ok(Stmt::For(own, slot, from, to, by, body))
         }
     }
 }
