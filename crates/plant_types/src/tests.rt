@@ -42,6 +42,10 @@ fn words_have_a_form(rt: HostRuntime) {
         (b"a.b".as_slice(), false),
         (b"a b".as_slice(), false),
         (b"$a".as_slice(), false),
+        (b"a$".as_slice(), false),
+        (b".a".as_slice(), false),
+        (b" a".as_slice(), false),
+        (b"#a".as_slice(), false),
         (b"a#".as_slice(), false),
     ] {
         assert!(rt; is_name(word) == want);
