@@ -41,6 +41,7 @@ e := d - T#25h15m;     | d = 14700                | done       | e = -90885300
 e := -d;               | d = -9223372036854775808 | OVERFLOW 1 | e = 0
 e := -d;               | d = -2147483648          | done       | e = 2147483648
 e := -d - u;           | d = -2147483648          | done       | e = 2147483648
+e := u + u;            | u = 2147483647           | done       | e = 4294967294
 e := -(d + d);         | d = -2147483648          | done       | e = 4294967296
 e := d - d + d;        | d = 4611686018427387903  | done       | e = 4611686018427387903
 u := d + d - d; e := u; | d = 4611686018427387903 | done       | e = 4611686018427387903, u = 4611686018427387903";
@@ -104,11 +105,12 @@ IF x < 1 THEN y := 1; ELSE y := 2; END_IF; IF NOT (x < 1) THEN y := y * 10; END_
 #[test]
 fn the_first_label_that_fits(rt: HostRuntime) {
     let labels =
-        "CASE x OF 1, 3..5: y := 1; 4: y := 2; 9..8: y := 3; -3..-1: y := 5; ELSE y := 4; END_CASE;";
+        "CASE x OF 1, 3..5: y := 1; 4: y := 2; 9..7: y := 3; -3..-1: y := 5; ELSE y := 4; END_CASE;";
     let rows = "\
 | x = 4  | done | y = 1
 | x = 9  | done | y = 4
 | x = 8  | done | y = 4
+| x = 7  | done | y = 4
 | x = 1  | done | y = 1
 | x = 2  | done | y = 4
 | x = 3  | done | y = 1
@@ -156,6 +158,10 @@ FOR i := 1 TO 5 DO y := y + 1; CASE i OF 1..2: ; ; ELSE IF TRUE THEN n := 1 / (3
 y := 5; n := 7; m := n / x; n := 8;                                           | | DIVZERO 3  | n = 7, y = 5, m = 0
 ; ; y := y + 2147483647 * 2;                                                  | | OVERFLOW 3 | y = 0
 ; IF FALSE THEN ; ; ELSIF 1 / x > 0 THEN y := 1; END_IF;                      | | DIVZERO 2  | y = 0
+; IF 1 / x > 0 THEN y := 1; END_IF;                                           | | DIVZERO 2  | y = 0
+IF x = 0 THEN y := 1; n := 1 / x; END_IF;                                     | | DIVZERO 3  | y = 1
+CASE x OF 0: y := 1; n := 1 / x; END_CASE;                                    | | DIVZERO 3  | y = 1
+CASE x OF 1: ; ELSE ; ; END_CASE; y := 1 / x;                                 | | DIVZERO 5  | y = 0
 IF TRUE THEN ; ELSIF FALSE THEN ; ; ELSE ; END_IF; y := 1 / x;                | | DIVZERO 6  | y = 0
 CASE x OF 1: ; 2: ; ELSE y := 1 / x; END_CASE;                                | | DIVZERO 4  | y = 0
 FOR i := 1 TO 1 DO END_FOR; FOR i := 1 TO 1 DO ; ; END_FOR; y := 1 / x;       | | DIVZERO 5  | y = 0";
@@ -165,7 +171,8 @@ FOR i := 1 TO 1 DO END_FOR; FOR i := 1 TO 1 DO ; ; END_FOR; y := 1 / x;       | 
 #[test]
 fn an_own_variable_hides_a_global(rt: HostRuntime) {
     let rows =
-        "VAR_GLOBAL g : DINT; h AT %QD0 : DINT; END_VAR PROGRAM p VAR G : DINT; END_VAR g := 5; H := g + 1; END_PROGRAM | g = 3 | done | g = 3, h = 6, G = 5";
+        "VAR_GLOBAL g : DINT; h AT %QD0 : DINT; END_VAR PROGRAM p VAR G : DINT; END_VAR g := 5; H := g + 1; END_PROGRAM | g = 3 | done | g = 3, h = 6, G = 5
+VAR_GLOBAL g : DINT; END_VAR PROGRAM p VAR G : DINT; END_VAR FOR g := 1 TO 2 DO END_FOR; END_PROGRAM | g = 3 | done | g = 3, G = 2";
     assert_eq!(rt; first_wrong(rt.alloc(), "", rows), None);
 }
 

@@ -8,7 +8,7 @@ fn declared_names_differ(rt: HostRuntime) {
     let right = "\
 VAR_GLOBAL a : DINT; b : BOOL; END_VAR PROGRAM p VAR i : DINT; j : BOOL; END_VAR i := a; END_PROGRAM
 VAR_GLOBAL a : DINT; b : BOOL; END_VAR PROGRAM p VAR a : DINT; b : BOOL; END_VAR a := 1; b := 1; END_PROGRAM
-VAR_GLOBAL a : DINT; b : BOOL; END_VAR PROGRAM p VAR p : DINT; TON : BOOL; END_VAR P := 1; ton := 1; END_PROGRAM
+VAR_GLOBAL a : DINT; b : BOOL; END_VAR PROGRAM p VAR p : DINT; TON, Tof, R_TRIG : BOOL; END_VAR P := 1; ton := 1; END_PROGRAM
 VAR_GLOBAL p_ : DINT; _p : BOOL; END_VAR PROGRAM p VAR p__ : DINT; _ : BOOL; END_VAR END_PROGRAM";
     let in_globals = "\
 VAR_GLOBAL a : DINT; A : BOOL; END_VAR PROGRAM p END_PROGRAM
@@ -47,8 +47,10 @@ IF zz THEN END_IF;
 IF q THEN zz := 1; END_IF;
 IF q THEN ELSE zz := 1; END_IF;
 IF q THEN ELSIF k THEN zz := 1; END_IF;
+IF q THEN ELSIF zz THEN END_IF;
 CASE zz OF 1: ; END_CASE;
 CASE x OF 1: zz := 1; END_CASE;
+CASE x OF 1: ; 2: zz := 1; END_CASE;
 CASE x OF 1: ; ELSE zz := 1; END_CASE;
 FOR zz := 1 TO 2 DO END_FOR;
 FOR i := zz TO 2 DO END_FOR;
@@ -109,13 +111,17 @@ CASE q OF 1: ; END_CASE;
 CASE d OF 1: ; END_CASE;
 FOR i := T#1ms TO 2 DO END_FOR;
 FOR i := 1 TO TRUE DO END_FOR;
+FOR i := FALSE TO 2 DO END_FOR;
 FOR i := 1 TO 2 BY T#1ms DO END_FOR;
+FOR i := 1 TO 2 BY TRUE DO END_FOR;
 FOR i := d TO 2 DO END_FOR;
 FOR i := 1 TO 2 DO y := TRUE; END_FOR;
 CASE x OF 1: y := TRUE; END_CASE;
+CASE x OF 1: ; 2: y := TRUE; END_CASE;
 CASE x OF 1: ; ELSE y := TRUE; END_CASE;
 IF q THEN ELSE y := TRUE; END_IF;
 IF q THEN y := TRUE; END_IF;
+IF q THEN ELSIF k THEN y := TRUE; END_IF;
 y();
 i();
 y(zz := 1, zz => y);";
@@ -132,7 +138,8 @@ q := d < u;
 e := -d - u;
 CASE x OF 1: ; END_CASE;
 ;
-FOR i := 1 TO 2 DO y := i; END_FOR;";
+FOR i := 1 TO 2 DO y := i; END_FOR;
+FOR i := DINT#0 TO DINT#1 BY DINT#1 DO y := DINT#1; END_FOR;";
     assert_eq!(rt;
         first_other(rt.alloc(), wrong, Some(FirstFault::Kind)),
         None
@@ -158,16 +165,22 @@ FOR q := 1 TO 3 DO END_FOR;
 FOR k := 1 TO 3 DO END_FOR;
 FOR u := 1 TO 3 DO END_FOR;
 FOR i := 1 TO 3 DO i := 5; END_FOR;
+FOR i := 1 TO 3 DO ; i := 5; END_FOR;
+FOR i := 1 TO 3 DO i := 5; ; END_FOR;
 FOR i := 1 TO 3 DO IF q THEN I := 5; END_IF; END_FOR;
+FOR i := 1 TO 3 DO IF q THEN ELSIF k THEN i := 5; END_IF; END_FOR;
 FOR i := 1 TO 3 DO IF q THEN ELSE i := 5; END_IF; END_FOR;
 FOR i := 1 TO 3 DO CASE x OF 1: i := 5; END_CASE; END_FOR;
+FOR i := 1 TO 3 DO CASE x OF 1: ; 2: i := 5; END_CASE; END_FOR;
 FOR i := 1 TO 3 DO CASE x OF 1: ; ELSE i := 5; END_CASE; END_FOR;
 FOR i := 1 TO 3 DO FOR i := 1 TO 2 DO END_FOR; END_FOR;
 FOR i := 1 TO 3 DO FOR j := 1 TO 2 DO i := 5; END_FOR; END_FOR;
 FOR i := 1 TO 3 DO FOR j := 1 TO 2 DO j := 5; END_FOR; END_FOR;
 IF q THEN FOR y := 1 TO 3 DO END_FOR; END_IF;
+IF q THEN ELSIF k THEN FOR y := 1 TO 3 DO END_FOR; END_IF;
 IF q THEN ELSE FOR y := 1 TO 3 DO END_FOR; END_IF;
 CASE x OF 1: FOR y := 1 TO 3 DO END_FOR; END_CASE;
+CASE x OF 1: ; 2: FOR y := 1 TO 3 DO END_FOR; END_CASE;
 CASE x OF 1: ; ELSE FOR y := 1 TO 3 DO END_FOR; END_CASE;";
     let right = "\
 i := 2; FOR i := 1 TO 3 DO y := i; END_FOR; i := 5;
@@ -187,17 +200,21 @@ fn turns_are_at_most_ten_thousand(rt: HostRuntime) {
 FOR i := 1 TO 10000 DO END_FOR;
 FOR i := 1 TO 20000 BY 2 DO END_FOR;
 FOR i := 10000 TO 1 BY -1 DO END_FOR;
+FOR i := 20000 TO 1 BY -2 DO END_FOR;
 FOR i := 2147483647 TO -2147483648 DO END_FOR;
 FOR i := 1 TO 10000 DO FOR j := 1 TO 10000 DO END_FOR; END_FOR;";
     let wrong = "\
 FOR i := 1 TO 10001 DO END_FOR;
 FOR i := 1 TO 20001 BY 2 DO END_FOR;
 FOR i := 10001 TO 1 BY -1 DO END_FOR;
+FOR i := 20001 TO 1 BY -2 DO END_FOR;
 FOR i := -2147483648 TO 2147483647 DO END_FOR;
 FOR i := 1 TO 3 DO FOR j := 1 TO 10001 DO END_FOR; END_FOR;
 IF q THEN FOR i := 1 TO 10001 DO END_FOR; END_IF;
+IF q THEN ELSIF k THEN FOR i := 1 TO 10001 DO END_FOR; END_IF;
 IF q THEN ELSE FOR i := 1 TO 10001 DO END_FOR; END_IF;
 CASE x OF 1: FOR i := 1 TO 10001 DO END_FOR; END_CASE;
+CASE x OF 1: ; 2: FOR i := 1 TO 10001 DO END_FOR; END_CASE;
 CASE x OF 1: ; ELSE FOR i := 1 TO 10001 DO END_FOR; END_CASE;";
     assert_eq!(rt; first_other(rt.alloc(), right, None), None);
     assert_eq!(rt;
