@@ -240,6 +240,11 @@ fn lines_are_answered(rt: HostRuntime) {
             b"scan 3 b=1\nscan 4 b=0\nack 1 T1\nack 1 T1\n",
             b"ALARM 3 T1 NORM UNACK\nDONE 3 1\nALARM 4 T1 UNACK RTNUN\nDONE 4 1\nREPLY OK\nALARM 4 T1 RTNUN NORM\nREPLY O3\n",
         ),
+        // An order's moment is that of the last scan, whether it changed something or not; a refused scan isn't one.
+        (
+            b"scan 3 b=1\nscan 5\nscan 9 q=1\nack 1 T1\n",
+            b"ALARM 3 T1 NORM UNACK\nDONE 3 1\nDONE 5 0\nREFUSED E3\nREPLY OK\nALARM 5 T1 UNACK ACKED\n",
+        ),
     ] {
         assert!(rt;
             writes(&rt, rt.alloc(), FOLLOWS, input, want),
@@ -283,8 +288,8 @@ fn inputs_have_a_range(rt: HostRuntime) {
         ),
         (
             TIMES,
-            b"scan 0 d=9223372036854775808\nscan 0 d=-9223372036854775808\nscan 0 d=9223372036854775807\n",
-            b"REFUSED E4\nOUT 0 e -9223372036854775808\nDONE 0 1\nOUT 0 e 9223372036854775807\nDONE 0 1\n",
+            b"scan 0 d=-9223372036854775809\nscan 0 d=9223372036854775808\nscan 0 d=-9223372036854775808\nscan 0 d=9223372036854775807\n",
+            b"REFUSED E4\nREFUSED E4\nOUT 0 e -9223372036854775808\nDONE 0 1\nOUT 0 e 9223372036854775807\nDONE 0 1\n",
         ),
     ] {
         assert!(rt;
@@ -427,6 +432,41 @@ fn a_sink_may_fail_at_each_write(rt: HostRuntime) {
         let ends = Ends { writes, ..WHOLE };
         assert!(rt; stops(&rt, rt.alloc(), ends, ServeFault::Write), "{writes}");
     }
+}
+
+/// How a session of two scans ends whose first write fails, and how many events and which last moment it leaves.
+fn cut<H: Wait>(rt: &H, alloc: Global) -> (Result<(), ServeFault>, u64, u64) {
+    let Ok(plant) = Plant::first(alloc, FOLLOWS) else {
+        return (Err(ServeFault::Memory), 0, 0);
+    };
+    let Ok(mut engine) = Engine::new(alloc, plant) else {
+        return (Err(ServeFault::Memory), 0, 0);
+    };
+    let mut feed = Pieces {
+        bytes: b"scan 7\nscan 8\n",
+        most: NEVER,
+        reads_left: NEVER,
+        broken: false,
+    };
+    let mut sink = Taken {
+        bytes: Vec::new(alloc),
+        most: NEVER,
+        writes_left: 0,
+        broken: false,
+    };
+    let outcome = serve(rt, alloc, &mut engine, &mut feed, &mut sink);
+    (outcome, engine.events(), engine.moment())
+}
+
+#[test]
+fn a_failed_write_stops_behind_its_event(rt: HostRuntime) {
+    let (mut outcome, mut events, mut moment) = cut(&rt, rt.alloc());
+    if outcome == Err(ServeFault::Memory) {
+        (outcome, events, moment) = cut(&rt, rt.alloc());
+    }
+    assert!(rt; outcome == Err(ServeFault::Write));
+    assert_eq!(rt; events, 1);
+    assert_eq!(rt; moment, 7);
 }
 
 #[test]

@@ -306,6 +306,26 @@ fn refusals_in_their_order(rt: HostRuntime) {
             100,
             EngineFault::ImageName,
         ),
+        (
+            [("zz", set), ("b", wrong)].as_slice(),
+            100,
+            EngineFault::ImageName,
+        ),
+        (
+            [("b", set), ("B", set)].as_slice(),
+            99,
+            EngineFault::MomentBack,
+        ),
+        (
+            [("b", Given::Truth(false))].as_slice(),
+            99,
+            EngineFault::MomentBack,
+        ),
+        (
+            [("b", Given::Truth(false))].as_slice(),
+            4_000_000_000_001,
+            EngineFault::MomentRange,
+        ),
         ([("c", set)].as_slice(), 100, EngineFault::ImageName),
         ([("p", set)].as_slice(), 100, EngineFault::ImageName),
         ([("b", wrong)].as_slice(), 100, EngineFault::ImageKind),
@@ -357,6 +377,8 @@ fn outputs_stand_in_order_of_declaration(rt: HostRuntime) {
     let Some(mut engine) = engine(alloc, source.as_slice()) else {
         panic!(rt; "no engine");
     };
+    let plain = scan(alloc, &mut engine, &[("m", Given::Whole(1))], 0);
+    assert!(rt; is_refused(plain, EngineFault::ImageName));
     let outs = [(0, Value::Dint(1)), (2, Value::Dint(2))];
     assert!(rt; runs(scan(alloc, &mut engine, &[], 0), &[], &outs));
     assert!(rt; runs(scan(alloc, &mut engine, &[], 1), &[], &[]));
@@ -401,6 +423,9 @@ fn a_fault_and_a_restart(rt: HostRuntime) {
     );
     assert!(rt; is_plainly_done(restart(alloc, &mut engine, 1, Some(0))));
     assert!(rt; seen(&engine) == (8, 20, Some(AlarmState::Unack), 0));
+    let zero = scan(alloc, &mut engine, &[("a", Given::Whole(0))], 25);
+    assert!(rt; runs(zero, &[(1, Trap::DivZero)], &[]));
+    assert!(rt; is_plainly_done(restart(alloc, &mut engine, 1, Some(0))));
     let again = scan(alloc, &mut engine, &[("a", Given::Whole(50))], 30);
     assert!(rt; tells(again, 30, Code::Unack, Code::Rtnun));
 }
@@ -432,6 +457,21 @@ fn what_was_assigned_before_a_trap_stands(rt: HostRuntime) {
     let Some(mut engine) = engine(alloc, COUNT) else {
         panic!(rt; "no engine");
     };
+    let five = Given::Whole(5);
+    let set = Given::Truth(true);
+    for (given, fault) in [
+        (
+            [("a", five), ("c", set), ("A", five)].as_slice(),
+            EngineFault::ImageName,
+        ),
+        (
+            [("c", set), ("a", five), ("A", five)].as_slice(),
+            EngineFault::ImageName,
+        ),
+        ([("c", set), ("a", set)].as_slice(), EngineFault::ImageKind),
+    ] {
+        assert!(rt; is_refused(scan(alloc, &mut engine, given, 0), fault));
+    }
     let first = scan(alloc, &mut engine, &[("a", Given::Whole(0))], 0);
     assert!(rt; runs(first, &[(3, Trap::DivZero)], &[(2, Value::Dint(1))]));
     // The program is passed over, and the other parts of a scan go on.
@@ -552,10 +592,13 @@ fn a_full_history_takes_no_event(rt: HostRuntime) {
     let Some(mut engine) = engine(alloc, INPUT) else {
         panic!(rt; "no engine");
     };
-    for _ in 0..1_000_000 {
+    for _ in 0..999_999 {
         let taken = order(alloc, &mut engine, 1, Verb::Ack, None);
         assert!(rt; replies(taken, OrderFault::UnknownTarget));
     }
+    assert!(rt; ready(alloc, &mut engine, 0).is_some());
+    let last = order(alloc, &mut engine, 1, Verb::Ack, None);
+    assert!(rt; replies(last, OrderFault::UnknownTarget));
     assert!(rt; engine.events() == 1_000_000);
     assert!(rt; is_refused(scan(alloc, &mut engine, &[], 0), EngineFault::HistoryFull));
     assert!(rt;
