@@ -5,11 +5,11 @@ use Rattle.alarm_machine.specs.declared.states.AlarmState.TheVariants as state
 use Rattle.alarm_machine.specs.declared.states.Verb.{Verb}
 use Rattle.alarm_machine.specs.declared.states.Verb.TheVariants as verb
 use Rattle.alarm_machine.specs.declared.states.OrderFault.{OrderFault}
-use Rattle.alarm_machine.specs.Codes.{Move, code_of, change_between}
+use Rattle.alarm_machine.specs.Codes.{PlainChange, code_of, change_between}
 use Rattle.alarm_machine.specs.Transitions.{on_scan, on_ack, on_reset, on_shelve, on_unshelve, on_remove, on_return, wrong_state}
 
 -- what is fixed for an alarm, its state, and the condition and the suppression of the last scan
-pub record Seen : Type 0 where
+pub record PlainAlarm : Type 0 where
   pub latching : Bool
   pub max_shelve_ms : ℕ
   pub state : AlarmState
@@ -17,15 +17,15 @@ pub record Seen : Type 0 where
   pub suppressed : Bool
 
 -- an alarm before the first scan: it is normal, and the last condition and suppression are FALSE
-abbrev pub opening : Bool → ℕ → Seen
-opening latching max_shelve_ms = record { latching = latching; max_shelve_ms = max_shelve_ms; state = state.Norm; condition = false; suppressed = false }
+abbrev pub new_alarm : Bool → ℕ → PlainAlarm
+new_alarm latching max_shelve_ms = record { latching = latching; max_shelve_ms = max_shelve_ms; state = state.Norm; condition = false; suppressed = false }
 
 -- an alarm after a scan with condition c, suppression s and moment t
-abbrev pub after_scan : Bool → Bool → ℕ → Seen → Seen
+abbrev pub after_scan : Bool → Bool → ℕ → PlainAlarm → PlainAlarm
 after_scan c s t a = record a { state = on_scan a.latching a.state c s t; condition = c; suppressed = s }
 
 -- the state to which an order leads, last being the last scan's moment; a restart is for programs alone
-abbrev pub on_order : Verb → ℕ → Seen → Result AlarmState OrderFault
+abbrev pub on_order : Verb → ℕ → PlainAlarm → Result AlarmState OrderFault
 on_order verb.Ack last a = on_ack a.state
 on_order verb.Reset last a = on_reset a.state
 on_order (verb.Shelve d) last a = on_shelve d a.max_shelve_ms last a.state
@@ -35,11 +35,11 @@ on_order verb.PutBack last a = on_return a.condition a.suppressed a.state
 on_order verb.Restart last a = wrong_state
 
 -- an alarm after an order, or the refusal
-abbrev pub after_order : Verb → ℕ → Seen → Result Seen OrderFault
+abbrev pub after_order : Verb → ℕ → PlainAlarm → Result PlainAlarm OrderFault
 after_order v last a = elim (on_order v last a) [ Ok new ↦ Ok (record a { state = new }) | Err e ↦ Err e ]
 
 -- an order that is taken leaves the new alarm and tells the change of its code; a refused one leaves the old alarm
-abbrev pub Answers : Result Seen OrderFault → Seen → Seen → Result (Option Move) OrderFault → Type 0
+abbrev pub Answers : Result PlainAlarm OrderFault → PlainAlarm → PlainAlarm → Result (Option PlainChange) OrderFault → Type 0
 Answers (Ok a) old new r = (new ≡ a) × (r ≡ Ok (change_between (code_of old.state) (code_of a.state)))
 Answers (Err e) old new r = (new ≡ old) × (r ≡ Err e)
 
@@ -66,7 +66,7 @@ settled state.Suppr c s = s
 settled state.Oos c s = true
 
 -- what holds of every alarm
-pub record IsAlarm (a : Seen) : Type 0 where
+pub record IsAlarm (a : PlainAlarm) : Type 0 where
   pub most_in_range : a.max_shelve_ms ≤ 2592000000
   pub end_in_range : EndsInRange a.state
   pub is_settled : settled a.state a.condition a.suppressed ≡ true

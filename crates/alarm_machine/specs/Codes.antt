@@ -46,10 +46,10 @@ abbrev pub same_code : Code → Code → Bool
 same_code a b = rank a == rank b
 
 -- from one code to another
-pub record Move : Type 0 where
+pub record PlainChange : Type 0 where
   pub from : Code
   pub to : Code
 
 -- the move from one code to another, if they differ
-abbrev pub change_between : Code → Code → Option Move
+abbrev pub change_between : Code → Code → Option PlainChange
 change_between a b = if same_code a b then None else Some (record { from = a; to = b })

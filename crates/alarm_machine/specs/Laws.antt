@@ -5,7 +5,7 @@ use Rattle.alarm_machine.specs.declared.states.AlarmState.{AlarmState}
 use Rattle.alarm_machine.specs.declared.states.AlarmState.TheVariants as state
 use Rattle.alarm_machine.specs.Codes.{code_text, change_between}
 use Rattle.alarm_machine.specs.Transitions.{on_scan}
-use Rattle.alarm_machine.specs.Alarms.{Seen, after_scan, settled}
+use Rattle.alarm_machine.specs.Alarms.{PlainAlarm, after_scan, settled}
 
 -- what is printed tells the codes apart
 abbrev pub TextsTellApart : Type 0
@@ -22,7 +22,7 @@ shelf_ends t _ = false
 
 -- a second scan that sees the same changes nothing, unless a shelf ends
 abbrev pub ScansSettle : Type 0
-ScansSettle = (c s : Bool) (t u : ℕ) (a : Seen) → shelf_ends u (after_scan c s t a).state ≡ false → after_scan c s u (after_scan c s t a) ≡ after_scan c s t a
+ScansSettle = (c s : Bool) (t u : ℕ) (a : PlainAlarm) → shelf_ends u (after_scan c s t a).state ≡ false → after_scan c s u (after_scan c s t a) ≡ after_scan c s t a
 
 -- whether an alarm waits for an acknowledgement
 abbrev pub waits_for_ack : AlarmState → Bool

@@ -16,9 +16,9 @@ verb_text verb.PutBack = codes "return"
 verb_text verb.Restart = codes "restart"
 
 -- the number of a refusal, as it is printed
-abbrev pub fault_text : OrderFault → List ℕ
-fault_text fault.UnknownTarget = codes "O1"
-fault_text fault.NotYourArea = codes "O2"
-fault_text fault.WrongState = codes "O3"
-fault_text fault.ShelveTime = codes "O4"
-fault_text fault.NotFaulted = codes "O5"
+abbrev pub order_fault_text : OrderFault → List ℕ
+order_fault_text fault.UnknownTarget = codes "O1"
+order_fault_text fault.NotYourArea = codes "O2"
+order_fault_text fault.WrongState = codes "O3"
+order_fault_text fault.ShelveTime = codes "O4"
+order_fault_text fault.NotFaulted = codes "O5"

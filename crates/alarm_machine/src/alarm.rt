@@ -1,7 +1,7 @@
 ghost use Rattle.std.specs.Prelude.{◌≡◌, ◌≤◌, ◌↔◌, IsTrue, IfOk, true};
 ghost use Rattle.alarm_machine.specs.Codes.{code_of, change_between};
 ghost use Rattle.alarm_machine.specs.Transitions.{resume, on_scan};
-ghost use Rattle.alarm_machine.specs.Alarms.{opening, after_scan, after_order, on_order, end_of, settled, Answers, EndsInRange};
+ghost use Rattle.alarm_machine.specs.Alarms.{new_alarm, after_scan, after_order, on_order, end_of, settled, Answers, EndsInRange};
 
 use crate::change::Change;
 use crate::states::{AlarmState, OrderFault, Verb};
@@ -18,9 +18,9 @@ pub struct Alarm {
 }
 
 impl Model for Alarm {
-    ghost use Rattle.alarm_machine.specs.Alarms.{Seen, IsAlarm};
+    ghost use Rattle.alarm_machine.specs.Alarms.{PlainAlarm, IsAlarm};
 
-    ghost Value = { Seen };
+    ghost Value = { PlainAlarm };
 
     ghost view = { λ a. record { latching = a.latching; max_shelve_ms = a.max_shelve_ms; state = a.state; condition = a.condition; suppressed = a.suppressed } };
 
@@ -72,7 +72,7 @@ impl Alarm {
     /// `max_shelve_ms` is its longest shelving in milliseconds, at most 30 days.
     pub fn new(latching: bool, max_shelve_ms: u64) -> Alarm
         requires { max_shelve_ms ≤ 2592000000 }
-        ensures { result ≡ opening latching max_shelve_ms }
+        ensures { result ≡ new_alarm latching max_shelve_ms }
     {
         Alarm {
             latching,

@@ -13,9 +13,9 @@ pub struct Change {
 
 impl Model for Change {
     ghost use Rattle.std.specs.Prelude.{◌≡◌, false};
-    ghost use Rattle.alarm_machine.specs.Codes.{Move, same_code};
+    ghost use Rattle.alarm_machine.specs.Codes.{PlainChange, same_code};
 
-    ghost Value = { Move };
+    ghost Value = { PlainChange };
 
     ghost view = { λ c. record { from = c.from; to = c.to } };
 

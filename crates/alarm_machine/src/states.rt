@@ -1,7 +1,7 @@
 ghost use Rattle.std.specs.Prelude.{◌≡◌, [], ◌∷◌, map};
 ghost use Rattle.alarm_machine.specs.Alarms.{end_of};
 ghost use Rattle.alarm_machine.specs.Codes.{code_of, code_text, rank};
-ghost use Rattle.alarm_machine.specs.Orders.{fault_text, verb_text};
+ghost use Rattle.alarm_machine.specs.Orders.{order_fault_text, verb_text};
 
 /// The name of a state, as it is printed and counted (this profile's codes). Their order is the one in which they stand here.
 #[derive(Clone, Copy, Debug, PartialEq, Eq, Drop)]
@@ -123,7 +123,7 @@ pub enum OrderFault {
 impl OrderFault {
     /// How it is printed, as `O3`.
     pub fn text(self) -> &'static str
-        ensures { result.now ≡ fault_text self }
+        ensures { result.now ≡ order_fault_text self }
     {
         match self {
             OrderFault::UnknownTarget => "O1",

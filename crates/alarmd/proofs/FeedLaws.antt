@@ -3,24 +3,24 @@ use Rattle.std.proofs.Common.{◌≡◌, ℕ, suc, Bool, true, false, List, [], 
 use Rattle.std.proofs.lemmas.List.{take-append-drop, drop_more, drop-drop, get_or-take, length-take}
 use Rattle.std.proofs.lemmas.Bool.Decides.{nat_tests}
 use Rattle.memchr.specs.Find.{Nowhere, Passes, is_byte}
-use Rattle.alarmd.specs.Input.{is_feed, has_feed}
+use Rattle.alarmd.specs.Input.{is_lf, has_lf}
 
 other : (v : Bool) → (v ≡ true → ⊥) → v ≡ false
 other true n = absurd (n refl)
 other false n = refl
 
 -- no byte is LF
-no_feed_at : (xs : List ℕ) → ((k : ℕ) → k < length xs → eqb (get_or xs k 0) 10 ≡ true → ⊥) → has_feed xs ≡ false
+no_feed_at : (xs : List ℕ) → ((k : ℕ) → k < length xs → eqb (get_or xs k 0) 10 ≡ true → ⊥) → has_lf xs ≡ false
 no_feed_at [] n = refl
 no_feed_at (b ∷ bs) n =
-    let first : is_feed b ≡ false = other (is_feed b) (n 0 (omega arith)) in
-    let others : has_feed bs ≡ false = no_feed_at bs (λ k h. n (suc k) (omega arith)) in
+    let first : is_lf b ≡ false = other (is_lf b) (n 0 (omega arith)) in
+    let others : has_lf bs ≡ false = no_feed_at bs (λ k h. n (suc k) (omega arith)) in
     rw (first, others) refl
 
-pub nowhere_feed : (xs : List ℕ) → Nowhere (Passes (is_byte 10) xs) 0 (length xs) → has_feed xs ≡ false
+pub nowhere_feed : (xs : List ℕ) → Nowhere (Passes (is_byte 10) xs) 0 (length xs) → has_lf xs ≡ false
 nowhere_feed xs n = no_feed_at xs (λ k h. n k (omega arith) h)
 
-pub before_feed : (xs : List ℕ) (i : ℕ) → i ≤ length xs → Nowhere (Passes (is_byte 10) xs) 0 i → has_feed (take i xs) ≡ false
+pub before_feed : (xs : List ℕ) (i : ℕ) → i ≤ length xs → Nowhere (Passes (is_byte 10) xs) 0 i → has_lf (take i xs) ≡ false
 before_feed xs i within n =
     no_feed_at (take i xs) (λ k h e.
     let below : k < i = omega (arith, length-take i xs) in

@@ -6,12 +6,12 @@ use Rattle.std.proofs.lemmas.Result.{on_ok_weaker, on_err_weaker}
 use Rattle.std.proofs.lemmas.List.{take_all, take-take, length-append, length-take}
 use Rattle.std.proofs.lemmas.Bool.Decides.{nat_tests}
 use Rattle.engine.specs.declared.event.Event.{Event}
-use Rattle.plant_config.specs.Meaning.{Meaning}
+use Rattle.plant_config.specs.Plants.{PlainPlant}
 use Rattle.command_text.specs.Commands.{command_of}
 use Rattle.command_text.proofs.ShortLaws.{command_of-short}
-use Rattle.alarmd.specs.Input.{has_feed, behind, stripped, ended_lines, last_line, lines_of}
+use Rattle.alarmd.specs.Input.{has_lf, after_last_lf, stripped, ended_lines, last_line, lines_of}
 use Rattle.alarmd.specs.Session.{Answered, Stopped, IsHeld, Follows}
-use Rattle.alarmd.proofs.InputLaws.{behind-none, behind-feed, behind_no_feed, behind-more, ended_lines-more, ended_lines-none, ended_lines-feed, no_feed-append}
+use Rattle.alarmd.proofs.InputLaws.{after_last_lf-none, after_last_lf-feed, behind_no_feed, after_last_lf-more, ended_lines-more, ended_lines-none, ended_lines-feed, no_feed-append}
 use Rattle.alarmd.proofs.SessionLaws.{answered-none, answered-more, stopped-none, stopped-more, stopped-longer}
 
 -- ---- more bytes of a line
@@ -70,64 +70,64 @@ some_held (b ∷ bs) held k e = refl
 
 -- ---- an input that goes on
 
-pub held_behind : (plant : Meaning) (input held : List ℕ) (h₀ h₁ : List Event) (w₀ w₁ : Option (List ℕ)) → Follows plant input held h₀ h₁ w₀ w₁ → IsHeld (behind input) held
+pub held_behind : (plant : PlainPlant) (input held : List ℕ) (h₀ h₁ : List Event) (w₀ w₁ : Option (List ℕ)) → Follows plant input held h₀ h₁ w₀ w₁ → IsHeld (after_last_lf input) held
 held_behind plant input held h₀ h₁ w₀ w₁ f = record { no_feed = behind_no_feed input; held_is = f.held_is }
 
-pub follows-none : (plant : Meaning) (h : List Event) (w : Option (List ℕ)) → Follows plant [] [] h h w w
+pub follows-none : (plant : PlainPlant) (h : List Event) (w : Option (List ℕ)) → Follows plant [] [] h h w w
 follows-none plant h w = record { answered = answered-none plant h w; held_is = refl }
 
 -- bytes without LF
-pub follows-hold : (plant : Meaning) (raw held bytes held' : List ℕ) (h : List Event) (w : Option (List ℕ)) → IsHeld raw held → has_feed bytes ≡ false → held' ≡ take 1048578 (held ++ bytes) → Follows plant (raw ++ bytes) held' h h w w
+pub follows-hold : (plant : PlainPlant) (raw held bytes held' : List ℕ) (h : List Event) (w : Option (List ℕ)) → IsHeld raw held → has_lf bytes ≡ false → held' ≡ take 1048578 (held ++ bytes) → Follows plant (raw ++ bytes) held' h h w w
 follows-hold plant raw held bytes held' h w k n e =
-    let none : has_feed (raw ++ bytes) ≡ false = no_feed-append raw bytes k.no_feed n in
+    let none : has_lf (raw ++ bytes) ≡ false = no_feed-append raw bytes k.no_feed n in
     record {
       answered = subst (λ (ls : List (List ℕ)). Answered plant ls h h w w) (sym (ended_lines-none (raw ++ bytes) none)) (answered-none plant h w);
-      held_is = e ∙ held-more raw held bytes k ∙ ap (λ (xs : List ℕ). take 1048578 xs) (sym (behind-none (raw ++ bytes) none));
+      held_is = e ∙ held-more raw held bytes k ∙ ap (λ (xs : List ℕ). take 1048578 xs) (sym (after_last_lf-none (raw ++ bytes) none));
     }
 
-line_is : (raw held line : List ℕ) → IsHeld raw held → has_feed line ≡ false → stripped (raw ++ line) ∷ [] ≡ ended_lines (raw ++ (line ++ 10 ∷ []))
+line_is : (raw held line : List ℕ) → IsHeld raw held → has_lf line ≡ false → stripped (raw ++ line) ∷ [] ≡ ended_lines (raw ++ (line ++ 10 ∷ []))
 line_is raw held line k n = sym (ap ended_lines (sym (append_assoc raw line (10 ∷ []))) ∙ ended_lines-feed (raw ++ line) (no_feed-append raw line k.no_feed n))
 
 -- LF
-pub follows-line : (plant : Meaning) (raw held line held' : List ℕ) (h₀ h₁ : List Event) (w₀ w₁ : Option (List ℕ)) → IsHeld raw held → has_feed line ≡ false → held' ≡ []
+pub follows-line : (plant : PlainPlant) (raw held line held' : List ℕ) (h₀ h₁ : List Event) (w₀ w₁ : Option (List ℕ)) → IsHeld raw held → has_lf line ≡ false → held' ≡ []
     → Answered plant (stripped (raw ++ line) ∷ []) h₀ h₁ w₀ w₁ → Follows plant (raw ++ (line ++ 10 ∷ [])) held' h₀ h₁ w₀ w₁
 follows-line plant raw held line held' h₀ h₁ w₀ w₁ k n e a = record {
   answered = subst (λ (ls : List (List ℕ)). Answered plant ls h₀ h₁ w₀ w₁) (line_is raw held line k n) a;
-  held_is = e ∙ sym (ap (λ (xs : List ℕ). take 1048578 (behind xs)) (sym (append_assoc raw line (10 ∷ []))) ∙ ap (λ (xs : List ℕ). take 1048578 xs) (behind-feed (raw ++ line) []));
+  held_is = e ∙ sym (ap (λ (xs : List ℕ). take 1048578 (after_last_lf xs)) (sym (append_assoc raw line (10 ∷ []))) ∙ ap (λ (xs : List ℕ). take 1048578 xs) (after_last_lf-feed (raw ++ line) []));
 }
 
-pub stopped-feed : (plant : Meaning) (raw held line : List ℕ) (h₀ h₁ : List Event) (w₀ w₁ : Option (List ℕ)) → IsHeld raw held → has_feed line ≡ false
+pub stopped-feed : (plant : PlainPlant) (raw held line : List ℕ) (h₀ h₁ : List Event) (w₀ w₁ : Option (List ℕ)) → IsHeld raw held → has_lf line ≡ false
     → Stopped plant (stripped (raw ++ line) ∷ []) h₀ h₁ w₀ w₁ → Stopped plant (ended_lines (raw ++ (line ++ 10 ∷ []))) h₀ h₁ w₀ w₁
 stopped-feed plant raw held line h₀ h₁ w₀ w₁ k n q = subst (λ (ls : List (List ℕ)). Stopped plant ls h₀ h₁ w₀ w₁) (line_is raw held line k n) q
 
-module _ (plant plant' : Meaning) (input held piece : List ℕ) (h₀ h₁ h₂ : List Event) (w₀ w₁ w₂ : Option (List ℕ)) (same : plant' ≡ plant) (f : Follows plant input held h₀ h₁ w₀ w₁) where
+module _ (plant plant' : PlainPlant) (input held piece : List ℕ) (h₀ h₁ h₂ : List Event) (w₀ w₁ w₂ : Option (List ℕ)) (same : plant' ≡ plant) (f : Follows plant input held h₀ h₁ w₀ w₁) where
   pub follows-more : (held' : List ℕ) → ((raw : List ℕ) → IsHeld raw held → Follows plant' (raw ++ piece) held' h₁ h₂ w₁ w₂) → Follows plant (input ++ piece) held' h₀ h₂ w₀ w₂
   follows-more held' q =
-      let g : Follows plant (behind input ++ piece) held' h₁ h₂ w₁ w₂ = subst (λ (m : Meaning). Follows m (behind input ++ piece) held' h₁ h₂ w₁ w₂) same (q (behind input) (held_behind plant input held h₀ h₁ w₀ w₁ f)) in
+      let g : Follows plant (after_last_lf input ++ piece) held' h₁ h₂ w₁ w₂ = subst (λ (m : PlainPlant). Follows m (after_last_lf input ++ piece) held' h₁ h₂ w₁ w₂) same (q (after_last_lf input) (held_behind plant input held h₀ h₁ w₀ w₁ f)) in
       record {
         answered = subst (λ (ls : List (List ℕ)). Answered plant ls h₀ h₂ w₀ w₂) (sym (ended_lines-more input piece)) (answered-more plant _ _ h₀ h₁ h₂ w₀ w₁ w₂ f.answered g.answered);
-        held_is = g.held_is ∙ ap (λ (xs : List ℕ). take 1048578 xs) (sym (behind-more input piece));
+        held_is = g.held_is ∙ ap (λ (xs : List ℕ). take 1048578 xs) (sym (after_last_lf-more input piece));
       }
 
   pub follows-stopped : ((raw : List ℕ) → IsHeld raw held → Stopped plant' (ended_lines (raw ++ piece)) h₁ h₂ w₁ w₂) → Stopped plant (ended_lines (input ++ piece)) h₀ h₂ w₀ w₂
   follows-stopped q =
-      let g : Stopped plant (ended_lines (behind input ++ piece)) h₁ h₂ w₁ w₂ = subst (λ (m : Meaning). Stopped m (ended_lines (behind input ++ piece)) h₁ h₂ w₁ w₂) same (q (behind input) (held_behind plant input held h₀ h₁ w₀ w₁ f)) in
+      let g : Stopped plant (ended_lines (after_last_lf input ++ piece)) h₁ h₂ w₁ w₂ = subst (λ (m : PlainPlant). Stopped m (ended_lines (after_last_lf input ++ piece)) h₁ h₂ w₁ w₂) same (q (after_last_lf input) (held_behind plant input held h₀ h₁ w₀ w₁ f)) in
       subst (λ (ls : List (List ℕ)). Stopped plant ls h₀ h₂ w₀ w₂) (sym (ended_lines-more input piece)) (stopped-more plant _ _ h₀ h₁ h₂ w₀ w₁ w₂ f.answered g)
 
 -- more bytes than those within which it stopped
-pub stopped-further : (plant : Meaning) (xs ys : List ℕ) (h₀ h₁ : List Event) (w₀ w₁ : Option (List ℕ)) → Stopped plant (ended_lines xs) h₀ h₁ w₀ w₁ → Stopped plant (ended_lines (xs ++ ys)) h₀ h₁ w₀ w₁
-stopped-further plant xs ys h₀ h₁ w₀ w₁ q = subst (λ (ls : List (List ℕ)). Stopped plant ls h₀ h₁ w₀ w₁) (sym (ended_lines-more xs ys)) (stopped-longer plant (ended_lines xs) (ended_lines (behind xs ++ ys)) h₀ h₁ w₀ w₁ q)
+pub stopped-further : (plant : PlainPlant) (xs ys : List ℕ) (h₀ h₁ : List Event) (w₀ w₁ : Option (List ℕ)) → Stopped plant (ended_lines xs) h₀ h₁ w₀ w₁ → Stopped plant (ended_lines (xs ++ ys)) h₀ h₁ w₀ w₁
+stopped-further plant xs ys h₀ h₁ w₀ w₁ q = subst (λ (ls : List (List ℕ)). Stopped plant ls h₀ h₁ w₀ w₁) (sym (ended_lines-more xs ys)) (stopped-longer plant (ended_lines xs) (ended_lines (after_last_lf xs ++ ys)) h₀ h₁ w₀ w₁ q)
 
 -- the end of the input
-module _ (plant plant' : Meaning) (input held : List ℕ) (h₀ h₁ h₂ : List Event) (w₀ w₁ w₂ : Option (List ℕ)) (same : plant' ≡ plant) (f : Follows plant input held h₀ h₁ w₀ w₁) where
+module _ (plant plant' : PlainPlant) (input held : List ℕ) (h₀ h₁ h₂ : List Event) (w₀ w₁ w₂ : Option (List ℕ)) (same : plant' ≡ plant) (f : Follows plant input held h₀ h₁ w₀ w₁) where
   pub follows-end : ((raw : List ℕ) → IsHeld raw held → Answered plant' (last_line raw) h₁ h₂ w₁ w₂) → Answered plant (lines_of input) h₀ h₂ w₀ w₂
   follows-end q =
-      let g : Answered plant (last_line (behind input)) h₁ h₂ w₁ w₂ = subst (λ (m : Meaning). Answered m (last_line (behind input)) h₁ h₂ w₁ w₂) same (q (behind input) (held_behind plant input held h₀ h₁ w₀ w₁ f)) in
+      let g : Answered plant (last_line (after_last_lf input)) h₁ h₂ w₁ w₂ = subst (λ (m : PlainPlant). Answered m (last_line (after_last_lf input)) h₁ h₂ w₁ w₂) same (q (after_last_lf input) (held_behind plant input held h₀ h₁ w₀ w₁ f)) in
       answered-more plant _ _ h₀ h₁ h₂ w₀ w₁ w₂ f.answered g
 
   pub follows-end_stopped : ((raw : List ℕ) → IsHeld raw held → Stopped plant' (last_line raw) h₁ h₂ w₁ w₂) → Stopped plant (lines_of input) h₀ h₂ w₀ w₂
   follows-end_stopped q =
-      let g : Stopped plant (last_line (behind input)) h₁ h₂ w₁ w₂ = subst (λ (m : Meaning). Stopped m (last_line (behind input)) h₁ h₂ w₁ w₂) same (q (behind input) (held_behind plant input held h₀ h₁ w₀ w₁ f)) in
+      let g : Stopped plant (last_line (after_last_lf input)) h₁ h₂ w₁ w₂ = subst (λ (m : PlainPlant). Stopped m (last_line (after_last_lf input)) h₁ h₂ w₁ w₂) same (q (after_last_lf input) (held_behind plant input held h₀ h₁ w₀ w₁ f)) in
       stopped-more plant _ _ h₀ h₁ h₂ w₀ w₁ w₂ f.answered g
 
 -- ---- what a push leaves, and what an empty buffer says
@@ -151,7 +151,7 @@ empty_vec n xs e h = ap (λ (k : ℕ). eqb k 0) (sym e) ∙ h
 
 -- ---- what was said of a line, said of the bytes that came
 
-module _ {T E : Type 0} (r : Result T E) (plant : Meaning) (held line said : List ℕ) (h₀ h₁ : List Event) (w₀ w₁ : Option (List ℕ)) (n : has_feed line ≡ false)
+module _ {T E : Type 0} (r : Result T E) (plant : PlainPlant) (held line said : List ℕ) (h₀ h₁ : List Event) (w₀ w₁ : Option (List ℕ)) (n : has_lf line ≡ false)
     (same : (raw : List ℕ) → IsHeld raw held → command_of (stripped (raw ++ line)) ≡ command_of said) where
   pub on_ok_line : (held' : List ℕ) → held' ≡ [] → OnOk r ((whole : List ℕ) → command_of whole ≡ command_of said → Answered plant (whole ∷ []) h₀ h₁ w₀ w₁)
       → OnOk r ((raw : List ℕ) → IsHeld raw held → Follows plant (raw ++ (line ++ 10 ∷ [])) held' h₀ h₁ w₀ w₁)
@@ -163,11 +163,11 @@ module _ {T E : Type 0} (r : Result T E) (plant : Meaning) (held line said : Lis
 
 -- ---- one part of a piece after another
 
-pub follows-start : (plant : Meaning) (raw held : List ℕ) (h : List Event) (w : Option (List ℕ)) → IsHeld raw held → Follows plant (raw ++ []) held h h w w
+pub follows-start : (plant : PlainPlant) (raw held : List ℕ) (h : List Event) (w : Option (List ℕ)) → IsHeld raw held → Follows plant (raw ++ []) held h h w w
 follows-start plant raw held h w k =
     follows-hold plant raw held [] held h w k refl (k.held_is ∙ sym (take-take 1048578 1048578 raw (omega arith)) ∙ sym (ap (λ (xs : List ℕ). take 1048578 xs) (append-nil held ∙ k.held_is)))
 
-module _ (plant plant' : Meaning) (raw front held piece : List ℕ) (h₀ h₁ h₂ : List Event) (w₀ w₁ w₂ : Option (List ℕ)) (same : plant' ≡ plant) (f : Follows plant (raw ++ front) held h₀ h₁ w₀ w₁) where
+module _ (plant plant' : PlainPlant) (raw front held piece : List ℕ) (h₀ h₁ h₂ : List Event) (w₀ w₁ w₂ : Option (List ℕ)) (same : plant' ≡ plant) (f : Follows plant (raw ++ front) held h₀ h₁ w₀ w₁) where
   pub front-more : (held' : List ℕ) → ((raw : List ℕ) → IsHeld raw held → Follows plant' (raw ++ piece) held' h₁ h₂ w₁ w₂) → Follows plant (raw ++ (front ++ piece)) held' h₀ h₂ w₀ w₂
   front-more held' q =
       subst (λ (xs : List ℕ). Follows plant xs held' h₀ h₂ w₀ w₂) (append_assoc raw front piece)
@@ -186,14 +186,14 @@ piece_is piece front rest line after p q =
 
 -- ---- nothing more took effect
 
-pub follows-stays : (plant : Meaning) (input more held : List ℕ) (h₀ h₁ : List Event) (w₀ w₁ : Option (List ℕ)) → Follows plant input held h₀ h₁ w₀ w₁ → Stopped plant (ended_lines (input ++ more)) h₀ h₁ w₀ w₁
+pub follows-stays : (plant : PlainPlant) (input more held : List ℕ) (h₀ h₁ : List Event) (w₀ w₁ : Option (List ℕ)) → Follows plant input held h₀ h₁ w₀ w₁ → Stopped plant (ended_lines (input ++ more)) h₀ h₁ w₀ w₁
 follows-stays plant input more held h₀ h₁ w₀ w₁ f =
     subst (λ (ls : List (List ℕ)). Stopped plant ls h₀ h₁ w₀ w₁) (sym (ended_lines-more input more))
-    (stopped-more plant (ended_lines input) (ended_lines (behind input ++ more)) h₀ h₁ h₁ w₀ w₁ w₁ f.answered (stopped-none plant (ended_lines (behind input ++ more)) h₁ h₁ w₁ refl))
+    (stopped-more plant (ended_lines input) (ended_lines (after_last_lf input ++ more)) h₀ h₁ h₁ w₀ w₁ w₁ f.answered (stopped-none plant (ended_lines (after_last_lf input ++ more)) h₁ h₁ w₁ refl))
 
-pub front-stays : (plant : Meaning) (raw front more held : List ℕ) (h₀ h₁ : List Event) (w₀ w₁ : Option (List ℕ)) → Follows plant (raw ++ front) held h₀ h₁ w₀ w₁ → Stopped plant (ended_lines (raw ++ (front ++ more))) h₀ h₁ w₀ w₁
+pub front-stays : (plant : PlainPlant) (raw front more held : List ℕ) (h₀ h₁ : List Event) (w₀ w₁ : Option (List ℕ)) → Follows plant (raw ++ front) held h₀ h₁ w₀ w₁ → Stopped plant (ended_lines (raw ++ (front ++ more))) h₀ h₁ w₀ w₁
 front-stays plant raw front more held h₀ h₁ w₀ w₁ f =
     subst (λ (xs : List ℕ). Stopped plant (ended_lines xs) h₀ h₁ w₀ w₁) (append_assoc raw front more) (follows-stays plant (raw ++ front) more held h₀ h₁ w₀ w₁ f)
 
-pub follows-here : (plant : Meaning) (input held : List ℕ) (h₀ h₁ : List Event) (w₀ w₁ : Option (List ℕ)) → Follows plant input held h₀ h₁ w₀ w₁ → Stopped plant (ended_lines input) h₀ h₁ w₀ w₁
+pub follows-here : (plant : PlainPlant) (input held : List ℕ) (h₀ h₁ : List Event) (w₀ w₁ : Option (List ℕ)) → Follows plant input held h₀ h₁ w₀ w₁ → Stopped plant (ended_lines input) h₀ h₁ w₀ w₁
 follows-here plant input held h₀ h₁ w₀ w₁ f = subst (λ (xs : List ℕ). Stopped plant (ended_lines xs) h₀ h₁ w₀ w₁) (append-nil input) (follows-stays plant input [] held h₀ h₁ w₀ w₁ f)

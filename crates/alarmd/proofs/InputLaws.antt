@@ -5,7 +5,7 @@ use Rattle.std.proofs.lemmas.Grind.{common_steps}
 use Rattle.std.proofs.lemmas.Bool.Decides.{nat_tests}
 use Rattle.std.proofs.lemmas.List.Folds.{list_any-append}
 use Rattle.alarmd.specs.Laws.{LinesEndInFeeds}
-use Rattle.alarmd.specs.Input.{is_feed, has_feed, onto, ended, behind, stripped, ended_lines, last_line}
+use Rattle.alarmd.specs.Input.{is_lf, has_lf, onto, lf_lines, after_last_lf, stripped, ended_lines, last_line}
 
 or_left : (a b : Bool) → (a || b) ≡ false → a ≡ false
 or_left true b e = e
@@ -20,34 +20,34 @@ or_true true = refl
 or_true false = refl
 
 -- bytes without LF end no line
-pub ended-none : (xs : List ℕ) → has_feed xs ≡ false → ended xs ≡ []
-ended-none [] h = refl
-ended-none (b ∷ bs) h = rw (or_left (is_feed b) (has_feed bs) h, ended-none bs (or_right (is_feed b) (has_feed bs) h)) refl
+pub lf_lines-none : (xs : List ℕ) → has_lf xs ≡ false → lf_lines xs ≡ []
+lf_lines-none [] h = refl
+lf_lines-none (b ∷ bs) h = rw (or_left (is_lf b) (has_lf bs) h, lf_lines-none bs (or_right (is_lf b) (has_lf bs) h)) refl
 
-pub behind-none : (xs : List ℕ) → has_feed xs ≡ false → behind xs ≡ xs
-behind-none [] h = refl
-behind-none (b ∷ bs) h = rw h refl
+pub after_last_lf-none : (xs : List ℕ) → has_lf xs ≡ false → after_last_lf xs ≡ xs
+after_last_lf-none [] h = refl
+after_last_lf-none (b ∷ bs) h = rw h refl
 
 -- LF ends a line
-pub ended-feed : (xs ys : List ℕ) → has_feed xs ≡ false → ended (xs ++ 10 ∷ ys) ≡ xs ∷ ended ys
-ended-feed [] ys h = refl
-ended-feed (b ∷ bs) ys h = rw (or_left (is_feed b) (has_feed bs) h, ended-feed bs ys (or_right (is_feed b) (has_feed bs) h)) refl
+pub lf_lines-feed : (xs ys : List ℕ) → has_lf xs ≡ false → lf_lines (xs ++ 10 ∷ ys) ≡ xs ∷ lf_lines ys
+lf_lines-feed [] ys h = refl
+lf_lines-feed (b ∷ bs) ys h = rw (or_left (is_lf b) (has_lf bs) h, lf_lines-feed bs ys (or_right (is_lf b) (has_lf bs) h)) refl
 
-has_feed-feed : (xs ys : List ℕ) → has_feed (xs ++ 10 ∷ ys) ≡ true
-has_feed-feed [] ys = refl
-has_feed-feed (b ∷ bs) ys = rw (has_feed-feed bs ys) (or_true _)
+has_lf-feed : (xs ys : List ℕ) → has_lf (xs ++ 10 ∷ ys) ≡ true
+has_lf-feed [] ys = refl
+has_lf-feed (b ∷ bs) ys = rw (has_lf-feed bs ys) (or_true _)
 
-pub behind-feed : (xs ys : List ℕ) → behind (xs ++ 10 ∷ ys) ≡ behind ys
-behind-feed [] ys = refl
-behind-feed (b ∷ bs) ys = rw (has_feed-feed bs ys, or_true (is_feed b)) (behind-feed bs ys)
+pub after_last_lf-feed : (xs ys : List ℕ) → after_last_lf (xs ++ 10 ∷ ys) ≡ after_last_lf ys
+after_last_lf-feed [] ys = refl
+after_last_lf-feed (b ∷ bs) ys = rw (has_lf-feed bs ys, or_true (is_lf b)) (after_last_lf-feed bs ys)
 
-no_feed_cases : (b : ℕ) (bs : List ℕ) (v : Bool) → has_feed (b ∷ bs) ≡ v → has_feed (behind bs) ≡ false → has_feed (cond v (behind bs) (b ∷ bs)) ≡ false
+no_feed_cases : (b : ℕ) (bs : List ℕ) (v : Bool) → has_lf (b ∷ bs) ≡ v → has_lf (after_last_lf bs) ≡ false → has_lf (cond v (after_last_lf bs) (b ∷ bs)) ≡ false
 no_feed_cases b bs true e h = h
 no_feed_cases b bs false e h = e
 
-pub behind_no_feed : (xs : List ℕ) → has_feed (behind xs) ≡ false
+pub behind_no_feed : (xs : List ℕ) → has_lf (after_last_lf xs) ≡ false
 behind_no_feed [] = refl
-behind_no_feed (b ∷ bs) = no_feed_cases b bs (has_feed (b ∷ bs)) refl (behind_no_feed bs)
+behind_no_feed (b ∷ bs) = no_feed_cases b bs (has_lf (b ∷ bs)) refl (behind_no_feed bs)
 
 onto-append : (b : ℕ) (ls zs : List (List ℕ)) → (ls ≡ [] → ⊥) → onto b (ls ++ zs) ≡ onto b ls ++ zs
 onto-append b [] zs n = absurd (n refl)
@@ -57,44 +57,44 @@ onto_none : (b : ℕ) (ls : List (List ℕ)) → onto b ls ≡ [] → ls ≡ []
 onto_none b [] e = refl
 onto_none b (l ∷ ls) e = cc
 
-some_cases : (b : ℕ) (bs : List ℕ) (v : Bool) → (v || has_feed bs) ≡ true → cond v ([] ∷ ended bs) (onto b (ended bs)) ≡ [] → (has_feed bs ≡ true → ended bs ≡ [] → ⊥) → ⊥
+some_cases : (b : ℕ) (bs : List ℕ) (v : Bool) → (v || has_lf bs) ≡ true → cond v ([] ∷ lf_lines bs) (onto b (lf_lines bs)) ≡ [] → (has_lf bs ≡ true → lf_lines bs ≡ [] → ⊥) → ⊥
 some_cases b bs true h e n = cc
-some_cases b bs false h e n = n h (onto_none b (ended bs) e)
+some_cases b bs false h e n = n h (onto_none b (lf_lines bs) e)
 
-some_ended : (bs : List ℕ) → has_feed bs ≡ true → ended bs ≡ [] → ⊥
+some_ended : (bs : List ℕ) → has_lf bs ≡ true → lf_lines bs ≡ [] → ⊥
 some_ended [] h e = cc
-some_ended (b ∷ bs) h e = some_cases b bs (is_feed b) h e (some_ended bs)
+some_ended (b ∷ bs) h e = some_cases b bs (is_lf b) h e (some_ended bs)
 
-more_cases : (b : ℕ) (bs ys : List ℕ) (v w : Bool) → is_feed b ≡ v → has_feed bs ≡ w → ended (bs ++ ys) ≡ ended bs ++ ended (behind bs ++ ys)
-    → cond v ([] ∷ ended (bs ++ ys)) (onto b (ended (bs ++ ys))) ≡ cond v ([] ∷ ended bs) (onto b (ended bs)) ++ ended (cond (v || w) (behind bs) (b ∷ bs) ++ ys)
+more_cases : (b : ℕ) (bs ys : List ℕ) (v w : Bool) → is_lf b ≡ v → has_lf bs ≡ w → lf_lines (bs ++ ys) ≡ lf_lines bs ++ lf_lines (after_last_lf bs ++ ys)
+    → cond v ([] ∷ lf_lines (bs ++ ys)) (onto b (lf_lines (bs ++ ys))) ≡ cond v ([] ∷ lf_lines bs) (onto b (lf_lines bs)) ++ lf_lines (cond (v || w) (after_last_lf bs) (b ∷ bs) ++ ys)
 more_cases b bs ys true w p q h = ap (λ (ls : List (List ℕ)). [] ∷ ls) h
-more_cases b bs ys false true p q h = ap (onto b) h ∙ onto-append b (ended bs) (ended (behind bs ++ ys)) (some_ended bs q)
-more_cases b bs ys false false p q h = rw (ended-none bs q, p) refl
+more_cases b bs ys false true p q h = ap (onto b) h ∙ onto-append b (lf_lines bs) (lf_lines (after_last_lf bs ++ ys)) (some_ended bs q)
+more_cases b bs ys false false p q h = rw (lf_lines-none bs q, p) refl
 
 -- an input goes on: the lines that end then are those that ended before, and those of what came behind the last LF
-pub ended-more : (xs ys : List ℕ) → ended (xs ++ ys) ≡ ended xs ++ ended (behind xs ++ ys)
-ended-more [] ys = refl
-ended-more (b ∷ bs) ys = more_cases b bs ys (is_feed b) (has_feed bs) refl refl (ended-more bs ys)
+pub lf_lines-more : (xs ys : List ℕ) → lf_lines (xs ++ ys) ≡ lf_lines xs ++ lf_lines (after_last_lf xs ++ ys)
+lf_lines-more [] ys = refl
+lf_lines-more (b ∷ bs) ys = more_cases b bs ys (is_lf b) (has_lf bs) refl refl (lf_lines-more bs ys)
 
-behind_cases : (b : ℕ) (bs ys : List ℕ) (v : Bool) → has_feed (b ∷ bs) ≡ v → behind (bs ++ ys) ≡ behind (behind bs ++ ys) → behind (b ∷ (bs ++ ys)) ≡ behind (cond v (behind bs) (b ∷ bs) ++ ys)
-behind_cases b bs ys true e h = rw (list_any-append is_feed (b ∷ bs) ys, e) h
+behind_cases : (b : ℕ) (bs ys : List ℕ) (v : Bool) → has_lf (b ∷ bs) ≡ v → after_last_lf (bs ++ ys) ≡ after_last_lf (after_last_lf bs ++ ys) → after_last_lf (b ∷ (bs ++ ys)) ≡ after_last_lf (cond v (after_last_lf bs) (b ∷ bs) ++ ys)
+behind_cases b bs ys true e h = rw (list_any-append is_lf (b ∷ bs) ys, e) h
 behind_cases b bs ys false e h = refl
 
-pub behind-more : (xs ys : List ℕ) → behind (xs ++ ys) ≡ behind (behind xs ++ ys)
-behind-more [] ys = refl
-behind-more (b ∷ bs) ys = behind_cases b bs ys (has_feed (b ∷ bs)) refl (behind-more bs ys)
+pub after_last_lf-more : (xs ys : List ℕ) → after_last_lf (xs ++ ys) ≡ after_last_lf (after_last_lf xs ++ ys)
+after_last_lf-more [] ys = refl
+after_last_lf-more (b ∷ bs) ys = behind_cases b bs ys (has_lf (b ∷ bs)) refl (after_last_lf-more bs ys)
 
-pub ended_lines-more : (xs ys : List ℕ) → ended_lines (xs ++ ys) ≡ ended_lines xs ++ ended_lines (behind xs ++ ys)
-ended_lines-more xs ys = ap (map stripped) (ended-more xs ys) ∙ map-append stripped (ended xs) (ended (behind xs ++ ys))
+pub ended_lines-more : (xs ys : List ℕ) → ended_lines (xs ++ ys) ≡ ended_lines xs ++ ended_lines (after_last_lf xs ++ ys)
+ended_lines-more xs ys = ap (map stripped) (lf_lines-more xs ys) ∙ map-append stripped (lf_lines xs) (lf_lines (after_last_lf xs ++ ys))
 
-pub ended_lines-none : (xs : List ℕ) → has_feed xs ≡ false → ended_lines xs ≡ []
-ended_lines-none xs h = rw (ended-none xs h) refl
+pub ended_lines-none : (xs : List ℕ) → has_lf xs ≡ false → ended_lines xs ≡ []
+ended_lines-none xs h = rw (lf_lines-none xs h) refl
 
-pub ended_lines-feed : (xs : List ℕ) → has_feed xs ≡ false → ended_lines (xs ++ 10 ∷ []) ≡ stripped xs ∷ []
-ended_lines-feed xs h = rw (ended-feed xs [] h) refl
+pub ended_lines-feed : (xs : List ℕ) → has_lf xs ≡ false → ended_lines (xs ++ 10 ∷ []) ≡ stripped xs ∷ []
+ended_lines-feed xs h = rw (lf_lines-feed xs [] h) refl
 
-pub no_feed-append : (xs ys : List ℕ) → has_feed xs ≡ false → has_feed ys ≡ false → has_feed (xs ++ ys) ≡ false
-no_feed-append xs ys h k = list_any-append is_feed xs ys ∙ rw (h, k) refl
+pub no_feed-append : (xs ys : List ℕ) → has_lf xs ≡ false → has_lf ys ≡ false → has_lf (xs ++ ys) ≡ false
+no_feed-append xs ys h k = list_any-append is_lf xs ys ∙ rw (h, k) refl
 
 -- ---- the CR at the end of a line
 
@@ -130,7 +130,7 @@ stripped-other (x ∷ xs) n =
 
 pub lines_end : LinesEndInFeeds
 lines_end line rest h = (
-  ap (λ (ls : List (List ℕ)). map stripped ls ++ last_line (behind (line ++ 10 ∷ rest))) (ended-feed line rest h)
-      ∙ ap (λ (bs : List ℕ). stripped line ∷ (ended_lines rest ++ last_line bs)) (behind-feed line rest),
-  ap (λ (ls : List (List ℕ)). ls ++ last_line (behind line)) (ended_lines-none line h) ∙ ap last_line (behind-none line h),
+  ap (λ (ls : List (List ℕ)). map stripped ls ++ last_line (after_last_lf (line ++ 10 ∷ rest))) (lf_lines-feed line rest h)
+      ∙ ap (λ (bs : List ℕ). stripped line ∷ (ended_lines rest ++ last_line bs)) (after_last_lf-feed line rest),
+  ap (λ (ls : List (List ℕ)). ls ++ last_line (after_last_lf line)) (ended_lines-none line h) ∙ ap last_line (after_last_lf-none line h),
 )

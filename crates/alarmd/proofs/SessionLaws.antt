@@ -4,26 +4,26 @@ use Rattle.std.proofs.lemmas.List.Sums.{fold-append}
 use Rattle.std.specs.Io.KnownBytes.{Appends, Consumes, IsAtEnd}
 use Rattle.std.proofs.KnownBytes.{Appends-nil, Appends-trans, Consumes-trans}
 use Rattle.engine.specs.declared.event.Event.{Event}
-use Rattle.plant_config.specs.Meaning.{Meaning}
+use Rattle.plant_config.specs.Plants.{PlainPlant}
 use Rattle.engine.specs.System.{system}
-use Rattle.command_text.specs.Commands.{Asked, command_of}
+use Rattle.command_text.specs.Commands.{PlainCommand, command_of}
 use Rattle.alarmd.specs.Answers.{after_line, line_answer, after_lines, answers, asked_events, asked_text}
 use Rattle.alarmd.specs.Input.{lines_of}
 use Rattle.alarmd.specs.Session.{Answered, Stopped, out_text}
 
-after_lines-append : (plant : Meaning) (h : List Event) (xs ys : List (List ℕ)) → after_lines plant h (xs ++ ys) ≡ after_lines plant (after_lines plant h xs) ys
+after_lines-append : (plant : PlainPlant) (h : List Event) (xs ys : List (List ℕ)) → after_lines plant h (xs ++ ys) ≡ after_lines plant (after_lines plant h xs) ys
 after_lines-append plant h xs ys = fold-append (after_line plant) h xs ys
 
-answers-append : (plant : Meaning) (h : List Event) (xs ys : List (List ℕ)) → answers plant h (xs ++ ys) ≡ answers plant h xs ++ answers plant (after_lines plant h xs) ys
+answers-append : (plant : PlainPlant) (h : List Event) (xs ys : List (List ℕ)) → answers plant h (xs ++ ys) ≡ answers plant h xs ++ answers plant (after_lines plant h xs) ys
 answers-append plant h [] ys = refl
 answers-append plant h (x ∷ xs) ys = ap (λ (t : List ℕ). line_answer plant h x ++ t) (answers-append plant (after_line plant h x) xs ys) ∙ sym (append_assoc (line_answer plant h x) _ _)
 
 -- nothing was asked
-pub answered-none : (plant : Meaning) (h : List Event) (w : Option (List ℕ)) → Answered plant [] h h w w
+pub answered-none : (plant : PlainPlant) (h : List Event) (w : Option (List ℕ)) → Answered plant [] h h w w
 answered-none plant h w = record { history_is = refl; wrote = Appends-nil w }
 
 -- lines, and then more of them
-pub answered-more : (plant : Meaning) (xs ys : List (List ℕ)) (h₀ h₁ h₂ : List Event) (w₀ w₁ w₂ : Option (List ℕ)) → Answered plant xs h₀ h₁ w₀ w₁ → Answered plant ys h₁ h₂ w₁ w₂ → Answered plant (xs ++ ys) h₀ h₂ w₀ w₂
+pub answered-more : (plant : PlainPlant) (xs ys : List (List ℕ)) (h₀ h₁ h₂ : List Event) (w₀ w₁ w₂ : Option (List ℕ)) → Answered plant xs h₀ h₁ w₀ w₁ → Answered plant ys h₁ h₂ w₁ w₂ → Answered plant (xs ++ ys) h₀ h₂ w₀ w₂
 answered-more plant xs ys h₀ h₁ h₂ w₀ w₁ w₂ p q = record {
   history_is = q.history_is ∙ ap (λ (h : List Event). after_lines plant h ys) p.history_is ∙ sym (after_lines-append plant h₀ xs ys);
   wrote = subst (Appends w₀ w₂) (ap (λ (h : List Event). answers plant h₀ xs ++ answers plant h ys) p.history_is ∙ sym (answers-append plant h₀ xs ys))
@@ -31,7 +31,7 @@ answered-more plant xs ys h₀ h₁ h₂ w₀ w₁ w₂ p q = record {
 }
 
 -- lines, and then a stop within more of them
-pub stopped-more : (plant : Meaning) (xs ys : List (List ℕ)) (h₀ h₁ h₂ : List Event) (w₀ w₁ w₂ : Option (List ℕ)) → Answered plant xs h₀ h₁ w₀ w₁ → Stopped plant ys h₁ h₂ w₁ w₂ → Stopped plant (xs ++ ys) h₀ h₂ w₀ w₂
+pub stopped-more : (plant : PlainPlant) (xs ys : List (List ℕ)) (h₀ h₁ h₂ : List Event) (w₀ w₁ w₂ : Option (List ℕ)) → Answered plant xs h₀ h₁ w₀ w₁ → Stopped plant ys h₁ h₂ w₁ w₂ → Stopped plant (xs ++ ys) h₀ h₂ w₀ w₂
 stopped-more plant xs ys h₀ h₁ h₂ w₀ w₁ w₂ p q = record {
   done = xs ++ q.done;
   last = q.last;
@@ -49,7 +49,7 @@ stopped-more plant xs ys h₀ h₁ h₂ w₀ w₁ w₂ p q = record {
 }
 
 -- a stop, where more lines follow
-pub stopped-longer : (plant : Meaning) (xs ys : List (List ℕ)) (h₀ h₁ : List Event) (w₀ w₁ : Option (List ℕ)) → Stopped plant xs h₀ h₁ w₀ w₁ → Stopped plant (xs ++ ys) h₀ h₁ w₀ w₁
+pub stopped-longer : (plant : PlainPlant) (xs ys : List (List ℕ)) (h₀ h₁ : List Event) (w₀ w₁ : Option (List ℕ)) → Stopped plant xs h₀ h₁ w₀ w₁ → Stopped plant (xs ++ ys) h₀ h₁ w₀ w₁
 stopped-longer plant xs ys h₀ h₁ w₀ w₁ q = record {
   done = q.done;
   last = q.last;
@@ -64,7 +64,7 @@ stopped-longer plant xs ys h₀ h₁ w₀ w₁ q = record {
 }
 
 -- nothing of these lines took effect
-pub stopped-none : (plant : Meaning) (lines : List (List ℕ)) (h₀ h₁ : List Event) (w : Option (List ℕ)) → h₁ ≡ h₀ → Stopped plant lines h₀ h₁ w w
+pub stopped-none : (plant : PlainPlant) (lines : List (List ℕ)) (h₀ h₁ : List Event) (w : Option (List ℕ)) → h₁ ≡ h₀ → Stopped plant lines h₀ h₁ w w
 stopped-none plant lines h₀ h₁ w e = record {
   done = [];
   last = [];
@@ -80,16 +80,16 @@ stopped-none plant lines h₀ h₁ w e = record {
 
 -- ---- one line, or another that asks for the same
 
-after_same : (plant : Meaning) (h : List Event) (whole line : List ℕ) → command_of whole ≡ command_of line → after_line plant h whole ≡ after_line plant h line
+after_same : (plant : PlainPlant) (h : List Event) (whole line : List ℕ) → command_of whole ≡ command_of line → after_line plant h whole ≡ after_line plant h line
 unfolding after_line
-after_same plant h whole line e = ap (λ (c : Asked). h ++ asked_events plant (system plant h) c) e
+after_same plant h whole line e = ap (λ (c : PlainCommand). h ++ asked_events plant (system plant h) c) e
 
-answer_same : (plant : Meaning) (h : List Event) (whole line : List ℕ) → command_of whole ≡ command_of line → line_answer plant h whole ≡ line_answer plant h line
+answer_same : (plant : PlainPlant) (h : List Event) (whole line : List ℕ) → command_of whole ≡ command_of line → line_answer plant h whole ≡ line_answer plant h line
 unfolding line_answer
 answer_same plant h whole line e = ap (asked_text plant (system plant h)) e
 
 -- a line took effect, and its answer is written
-pub answered-line : (plant : Meaning) (whole line text : List ℕ) (h₀ h₁ : List Event) (w₀ w₁ : Option (List ℕ)) → command_of whole ≡ command_of line
+pub answered-line : (plant : PlainPlant) (whole line text : List ℕ) (h₀ h₁ : List Event) (w₀ w₁ : Option (List ℕ)) → command_of whole ≡ command_of line
     → h₁ ≡ after_line plant h₀ line → text ≡ line_answer plant h₀ line → Appends w₀ w₁ text → Answered plant (whole ∷ []) h₀ h₁ w₀ w₁
 answered-line plant whole line text h₀ h₁ w₀ w₁ e h t w = record {
   history_is = h ∙ sym (after_same plant h₀ whole line e);
@@ -97,7 +97,7 @@ answered-line plant whole line text h₀ h₁ w₀ w₁ e h t w = record {
 }
 
 -- a line took effect, and a part of its answer is written
-pub stopped-line : (plant : Meaning) (whole line part more : List ℕ) (h₀ h₁ : List Event) (w₀ w₁ : Option (List ℕ)) → command_of whole ≡ command_of line
+pub stopped-line : (plant : PlainPlant) (whole line part more : List ℕ) (h₀ h₁ : List Event) (w₀ w₁ : Option (List ℕ)) → command_of whole ≡ command_of line
     → h₁ ≡ after_line plant h₀ line → line_answer plant h₀ line ≡ part ++ more → Appends w₀ w₁ part → Stopped plant (whole ∷ []) h₀ h₁ w₀ w₁
 stopped-line plant whole line part more h₀ h₁ w₀ w₁ e h t w = record {
   done = [];
@@ -129,7 +129,7 @@ with_known : (a : Option (List ℕ)) (P : List ℕ → Type 0) (input : List ℕ
 with_known None P input e p = tt
 with_known (Some xs) P input e p = subst P e p
 
-pub text_is : (plant : Meaning) (a b : Option (List ℕ)) (input : List ℕ) (h₀ h₁ : List Event) (w₀ w₁ : Option (List ℕ)) → Consumes a b input → IsAtEnd b → Answered plant (lines_of input) h₀ h₁ w₀ w₁
+pub text_is : (plant : PlainPlant) (a b : Option (List ℕ)) (input : List ℕ) (h₀ h₁ : List Event) (w₀ w₁ : Option (List ℕ)) → Consumes a b input → IsAtEnd b → Answered plant (lines_of input) h₀ h₁ w₀ w₁
     → h₀ ≡ [] → IfSome a (λ bytes. Appends w₀ w₁ (out_text plant bytes))
 text_is plant a b input h₀ h₁ w₀ w₁ p q r e =
     with_known a (λ bytes. Appends w₀ w₁ (out_text plant bytes)) input (known a b input p q)

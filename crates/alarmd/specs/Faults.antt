@@ -15,7 +15,7 @@ is_write (Err fault.Write) = true
 is_write _ = false
 
 -- the word of a fault, as it is printed
-abbrev pub fault_text : ServeFault → List ℕ
-fault_text fault.Memory = codes "MEMORY"
-fault_text fault.Read = codes "READ"
-fault_text fault.Write = codes "WRITE"
+abbrev pub serve_fault_text : ServeFault → List ℕ
+serve_fault_text fault.Memory = codes "MEMORY"
+serve_fault_text fault.Read = codes "READ"
+serve_fault_text fault.Write = codes "WRITE"

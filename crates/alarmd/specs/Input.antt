@@ -3,12 +3,12 @@ use Rattle.std.specs.Prelude.{ℕ, ◌==◌, Bool, if◌then◌else◌, List, []
 use Rattle.std.specs.List.{list_any}
 
 -- whether a byte is LF
-abbrev pub is_feed : ℕ → Bool
-is_feed b = b == 10
+abbrev pub is_lf : ℕ → Bool
+is_lf b = b == 10
 
 -- whether there is a LF among the bytes
-abbrev pub has_feed : List ℕ → Bool
-has_feed bytes = list_any is_feed bytes
+abbrev pub has_lf : List ℕ → Bool
+has_lf bytes = list_any is_lf bytes
 
 -- a byte in front of the first of these, if there is one
 abbrev pub onto : ℕ → List (List ℕ) → List (List ℕ)
@@ -16,14 +16,14 @@ onto b [] = []
 onto b (l ∷ ls) = (b ∷ l) ∷ ls
 
 -- the bytes up to each LF, without it
-abbrev pub ended : List ℕ → List (List ℕ)
-ended [] = []
-ended (b ∷ bs) = if is_feed b then [] ∷ ended bs else onto b (ended bs)
+abbrev pub lf_lines : List ℕ → List (List ℕ)
+lf_lines [] = []
+lf_lines (b ∷ bs) = if is_lf b then [] ∷ lf_lines bs else onto b (lf_lines bs)
 
 -- the bytes behind the last LF
-abbrev pub behind : List ℕ → List ℕ
-behind [] = []
-behind (b ∷ bs) = if has_feed (b ∷ bs) then behind bs else b ∷ bs
+abbrev pub after_last_lf : List ℕ → List ℕ
+after_last_lf [] = []
+after_last_lf (b ∷ bs) = if has_lf (b ∷ bs) then after_last_lf bs else b ∷ bs
 
 -- a line less the CR at its end, if it has one
 abbrev pub stripped : List ℕ → List ℕ
@@ -33,7 +33,7 @@ stripped (b ∷ c ∷ bs) = b ∷ stripped (c ∷ bs)
 
 -- the lines that end in LF
 abbrev pub ended_lines : List ℕ → List (List ℕ)
-ended_lines input = map stripped (ended input)
+ended_lines input = map stripped (lf_lines input)
 
 -- a last line that doesn't, if it isn't empty
 abbrev pub last_line : List ℕ → List (List ℕ)
@@ -42,4 +42,4 @@ last_line (b ∷ bs) = (b ∷ bs) ∷ []
 
 -- all lines of an input
 abbrev pub lines_of : List ℕ → List (List ℕ)
-lines_of input = ended_lines input ++ last_line (behind input)
+lines_of input = ended_lines input ++ last_line (after_last_lf input)

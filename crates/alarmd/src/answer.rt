@@ -1,11 +1,11 @@
 ghost use Rattle.std.specs.Prelude.{◌≡◌, ◌++◌, ◌⊎◌, ◌<◌, ◌^◌, ◌+◌, OnOk, OnErr, IfSome, All, length, false};
 ghost use Rattle.command_text.specs.Lines.{path_text};
-ghost use Rattle.engine.specs.Held.{state_of};
+ghost use Rattle.engine.specs.Engines.{state_of};
 ghost use Rattle.plant_config.specs.Names.{tag_of, global_of};
-ghost use Rattle.st_walk.specs.Runs.{spot_of};
+ghost use Rattle.st_walk.specs.Runs.{place_spot};
 ghost use Rattle.engine.specs.Orders.{is_restart};
 ghost use Rattle.engine.specs.System.{system, scan_event, order_event};
-ghost use Rattle.alarmd.specs.Answers.{spots_of, named_by, target_of, tag_for, order_for, order_answer, fault_lines, alarm_lines, out_lines, report_text, order_text, fault_number, event_text, scan_text, added, after_line, line_answer};
+ghost use Rattle.alarmd.specs.Answers.{spots_of, named_by, target_of, tag_for, order_for, order_answer, fault_lines, alarm_lines, out_lines, report_text, order_text, fault_number, event_text, scan_text, event_added, after_line, line_answer};
 
 use alarm_machine::{Change, Verb};
 use command_text::{
@@ -47,7 +47,7 @@ fn push_changes(
 
 /// The path of a place: the names that lead to it, with points between them.
 fn path<'a>(plant: &'a Plant, place: &Place) -> &'a str
-    ensures { result.now ≡ path_text (spot_of plant.now.source place.now).path }
+    ensures { result.now ≡ path_text (place_spot plant.now.source place.now).path }
 {
     if place.path == 0 { plant.path(0) } else { "" }
 }
@@ -123,9 +123,9 @@ fn scan(
     pairs: &[Pair],
 ) -> Result<(), AllocError>
     ensures plant { engine.new.plant ≡ engine.old.plant }
-    ensures history { OnOk result (engine.new.history ≡ engine.old.history ++ added (scan_event engine.old.plant (state_of engine.old) pairs.now moment)) }
+    ensures history { OnOk result (engine.new.history ≡ engine.old.history ++ event_added (scan_event engine.old.plant (state_of engine.old) pairs.now moment)) }
     ensures text { OnOk result (text.new.items ≡ text.old.items ++ event_text (scan_event engine.old.plant (state_of engine.old) pairs.now moment) (scan_text engine.old.plant (state_of engine.old))) }
-    ensures err { OnErr result ((engine.new.history ≡ engine.old.history) ⊎ (engine.new.history ≡ engine.old.history ++ added (scan_event engine.old.plant (state_of engine.old) pairs.now moment))) }
+    ensures err { OnErr result ((engine.new.history ≡ engine.old.history) ⊎ (engine.new.history ≡ engine.old.history ++ event_added (scan_event engine.old.plant (state_of engine.old) pairs.now moment))) }
 {
     match engine.scan(alloc, pairs, moment) {
         Ok(report) => push_report(text, engine.plant(), &report),
@@ -181,10 +181,10 @@ fn order(
     word: &[u8],
 ) -> Result<(), AllocError>
     ensures plant { engine.new.plant ≡ engine.old.plant }
-    ensures history { OnOk result (engine.new.history ≡ engine.old.history ++ added (order_event (state_of engine.old) console (order_for engine.old.plant verb word.now))) }
+    ensures history { OnOk result (engine.new.history ≡ engine.old.history ++ event_added (order_event (state_of engine.old) console (order_for engine.old.plant verb word.now))) }
     ensures text { OnOk result (text.new.items ≡ text.old.items ++ order_answer engine.old.plant (state_of engine.old) console (order_for engine.old.plant verb word.now)) }
     ensures err { OnErr result ((engine.new.history ≡ engine.old.history)
-        ⊎ (engine.new.history ≡ engine.old.history ++ added (order_event (state_of engine.old) console (order_for engine.old.plant verb word.now)))) }
+        ⊎ (engine.new.history ≡ engine.old.history ++ event_added (order_event (state_of engine.old) console (order_for engine.old.plant verb word.now)))) }
 {
     let last = engine.moment();
     let order = Order {

@@ -1,5 +1,5 @@
 ghost use Rattle.std.specs.Prelude.{◌≡◌};
-ghost use Rattle.alarmd.specs.Faults.{fault_text};
+ghost use Rattle.alarmd.specs.Faults.{serve_fault_text};
 
 /// Why the server stops before its input ends.
 #[derive(Clone, Copy, Debug, PartialEq, Eq, Drop)]
@@ -15,7 +15,7 @@ pub enum ServeFault {
 impl ServeFault {
     /// Its word, as it is printed behind `RUN`.
     pub fn text(self) -> &'static str
-        ensures { result.now ≡ fault_text self }
+        ensures { result.now ≡ serve_fault_text self }
     {
         match self {
             ServeFault::Memory => "MEMORY",

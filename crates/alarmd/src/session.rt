@@ -1,7 +1,7 @@
 ghost use Rattle.std.specs.Prelude.{◌≡◌, ◌≤◌, ◌++◌, [], ◌∷◌, ◌||◌, is_err, vec_len, IfOk, OnOk, OnErr, IsErrOf, MatchOption, IfSome, List, ℕ, length, take, false, true, ◌<◌};
 ghost use Rattle.std.specs.Io.KnownBytes.{Appends, Consumes, ReadConsumes, IsAtEnd};
 ghost use Rattle.command_text.specs.Commands.{command_of};
-ghost use Rattle.alarmd.specs.Input.{has_feed, stripped, ended_lines, last_line, lines_of};
+ghost use Rattle.alarmd.specs.Input.{has_lf, stripped, ended_lines, last_line, lines_of};
 ghost use Rattle.alarmd.specs.Faults.{is_read, is_write};
 ghost use Rattle.alarmd.specs.Session.{Answered, Stopped, IsHeld, Follows, AreRead, out_text};
 
@@ -75,8 +75,8 @@ fn strip(line: &[u8]) -> &[u8]
 }
 
 /// The bytes up to the first LF, and those behind it.
-fn split_feed(bytes: &[u8]) -> Option<(&[u8], &[u8])>
-    ensures { MatchOption result (has_feed bytes.now ≡ false) (λ r. (bytes.now ≡ r.0.now ++ 10 ∷ r.1.now) × (has_feed r.0.now ≡ false) × (length r.1.now < length bytes.now)) }
+fn split_at_lf(bytes: &[u8]) -> Option<(&[u8], &[u8])>
+    ensures { MatchOption result (has_lf bytes.now ≡ false) (λ r. (bytes.now ≡ r.0.now ++ 10 ∷ r.1.now) × (has_lf r.0.now ≡ false) × (length r.1.now < length bytes.now)) }
 {
     let Some(n) = memchr(b'\n', bytes) else {
         return None;
@@ -108,7 +108,7 @@ fn take_line<S: Sink>(
     held: &mut Vec<u8>,
     line: &[u8],
 ) -> Result<(), ServeFault>
-    requires { has_feed line.now ≡ false }
+    requires { has_lf line.now ≡ false }
     ensures plant { engine.new.plant ≡ engine.old.plant }
     ensures ok { OnOk result ((raw : List ℕ) → IsHeld raw held.old.items
         → Follows engine.old.plant (raw ++ (line.now ++ 10 ∷ [])) held.new.items engine.old.history engine.new.history (S.written sink.old) (S.written sink.new)) }
@@ -147,7 +147,7 @@ fn take_piece<S: Sink>(
     ensures write { S.broken sink.new ≡ (S.broken sink.old || is_write result) }
 {
     let mut rest = piece;
-    while let Some((line, after)) = split_feed(rest) {
+    while let Some((line, after)) = split_at_lf(rest) {
         match take_line(alloc, engine, sink, text, held, line) {
             Ok(()) => {}
             Err(fault) => return Err(fault),

@@ -4,7 +4,7 @@ use Rattle.std.specs.Prelude.{nat_lt, if◌then◌else◌}
 use Rattle.std.proofs.lemmas.List.{take_all, length-take-le}
 use Rattle.std.proofs.lemmas.Bool.{lt-ltb, ltb-true, ltb-false}
 use Rattle.command_text.specs.Words.{words_of}
-use Rattle.command_text.specs.Commands.{Asked, Unknown, Nothing, command_of, command_in, is_remark}
+use Rattle.command_text.specs.Commands.{PlainCommand, Unknown, Nothing, command_of, command_in, is_remark}
 
 -- a test of the length, made of the first bytes
 tested : (A : Type 0) (n : ℕ) (line : List ℕ) (long : A) (f : List ℕ → A) →
@@ -24,4 +24,4 @@ tested A n line long f = cases (nat_lt n (length line)) refl
 
 pub command_of-short : (line : List ℕ) → command_of (take 1048577 line) ≡ command_of line
 unfolding command_of
-command_of-short line = tested Asked 1048576 line Unknown (λ l. if is_remark (words_of l) then Nothing else command_in (words_of l))
+command_of-short line = tested PlainCommand 1048576 line Unknown (λ l. if is_remark (words_of l) then Nothing else command_in (words_of l))

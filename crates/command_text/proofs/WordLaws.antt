@@ -1,22 +1,22 @@
 -- The first word of a line, and what follows it.
 use Rattle.std.proofs.Common.{◌≡◌, ℕ, zero, suc, true, false, List, [], ◌∷◌, ◌++◌, ap, refl, sym, ◌∙◌, arith, length, take, drop, get_or, ◌<◌, ◌≤◌, ◌+◌, subst}
 use Rattle.std.proofs.lemmas.List.{take_more, drop_more, take-append-drop}
-use Rattle.command_text.specs.Words.{is_blank, at_blank, onto_word, words_of}
+use Rattle.command_text.specs.Words.{is_gap, at_blank, onto_word, words_of}
 
 -- no byte parts words
 abbrev pub Solid : List ℕ → Type 0
 Solid [] = Unit {0}
-Solid (b ∷ bs) = (is_blank b ≡ false) × Solid bs
+Solid (b ∷ bs) = (is_gap b ≡ false) × Solid bs
 
-pub solid-append : (w : List ℕ) (b : ℕ) → Solid w → is_blank b ≡ false → Solid (w ++ b ∷ [])
+pub solid-append : (w : List ℕ) (b : ℕ) → Solid w → is_gap b ≡ false → Solid (w ++ b ∷ [])
 solid-append [] b h e = (e, tt)
 solid-append (c ∷ w) b h e = (h.0, solid-append w b h.1 e)
 
-pub solid-more : (line : List ℕ) (i : ℕ) → i < length line → Solid (take i line) → is_blank (get_or line i 0) ≡ false → Solid (take (i + 1) line)
+pub solid-more : (line : List ℕ) (i : ℕ) → i < length line → Solid (take i line) → is_gap (get_or line i 0) ≡ false → Solid (take (i + 1) line)
 solid-more line i h s e = subst Solid (sym (take_more line i 0 h)) (solid-append (take i line) (get_or line i 0) s e)
 
 -- a byte within a word
-pub words-onto : (b : ℕ) (bs : List ℕ) → is_blank b ≡ false → at_blank bs ≡ false → words_of (b ∷ bs) ≡ onto_word b (words_of bs)
+pub words-onto : (b : ℕ) (bs : List ℕ) → is_gap b ≡ false → at_blank bs ≡ false → words_of (b ∷ bs) ≡ onto_word b (words_of bs)
 words-onto b bs h e = rw (h, e) refl
 
 -- a word, and then a blank or the end
@@ -33,18 +33,18 @@ words-solid (b ∷ w) rest n h e = words-word b w rest h e
 pub words-cut : (line : List ℕ) (i : ℕ) → 0 < length (take i line) → Solid (take i line) → at_blank (drop i line) ≡ true → words_of line ≡ take i line ∷ words_of (drop i line)
 words-cut line i n h e = ap words_of (sym (take-append-drop i line)) ∙ words-solid (take i line) (drop i line) n h e
 
-pub at_blank-drop : (line : List ℕ) (i : ℕ) → i < length line → is_blank (get_or line i 0) ≡ true → at_blank (drop i line) ≡ true
+pub at_blank-drop : (line : List ℕ) (i : ℕ) → i < length line → is_gap (get_or line i 0) ≡ true → at_blank (drop i line) ≡ true
 at_blank-drop line i h e = ap at_blank (drop_more line i 0 h) ∙ e
 
-pub first_solid : (line : List ℕ) → at_blank line ≡ false → is_blank (get_or line 0 0) ≡ true → ⊥
+pub first_solid : (line : List ℕ) → at_blank line ≡ false → is_gap (get_or line 0 0) ≡ true → ⊥
 first_solid [] h e = cc
 first_solid (b ∷ bs) h e = let k : true ≡ false = sym e ∙ h in cc
 
 -- blanks at the start say nothing
-pub words-blank : (b : ℕ) (bs : List ℕ) → is_blank b ≡ true → words_of (b ∷ bs) ≡ words_of bs
+pub words-blank : (b : ℕ) (bs : List ℕ) → is_gap b ≡ true → words_of (b ∷ bs) ≡ words_of bs
 words-blank b bs e = rw e refl
 
-pub cut_some : (line : List ℕ) (i : ℕ) → at_blank line ≡ false → i < length line → is_blank (get_or line i 0) ≡ true → 0 < length (take i line)
+pub cut_some : (line : List ℕ) (i : ℕ) → at_blank line ≡ false → i < length line → is_gap (get_or line i 0) ≡ true → 0 < length (take i line)
 cut_some line zero h n e = absurd (first_solid line h e)
 cut_some [] (suc i) h n e = absurd (omega arith)
 cut_some (b ∷ bs) (suc i) h n e = omega arith

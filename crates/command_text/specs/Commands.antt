@@ -1,7 +1,7 @@
 -- What a line asks for. Each command is one case more of `command_in`, and has a definition of the words behind its name.
 use Rattle.std.specs.Prelude.{ℕ, ◌==◌, ◌∷◌, [], List, Bool, false, if◌then◌else◌, length, nat_lt, Some, None, codes}
 use Rattle.std.specs.Str.{bytes_eq}
-use Rattle.plant_types.specs.Named.{Named}
+use Rattle.plant_types.specs.Pairs.{PlainPair}
 use Rattle.alarm_machine.specs.declared.states.Verb.{Verb}
 use Rattle.alarm_machine.specs.declared.states.Verb.TheVariants as verb
 use Rattle.command_text.specs.declared.command.Command.{Command}
@@ -11,21 +11,21 @@ use Rattle.command_text.specs.Numbers.{number_of}
 use Rattle.command_text.specs.Given.{pairs_of}
 
 -- what can be asked for: nothing, something that is no command, a scan at a moment with what is given, an order from a console for a target
-pub data Asked : Type 0 where
-  Nothing : Asked
-  Unknown : Asked
-  Scan : ℕ → List Named → Asked
-  Order : Verb → ℕ → List ℕ → Asked
+pub data PlainCommand : Type 0 where
+  Nothing : PlainCommand
+  Unknown : PlainCommand
+  Scan : ℕ → List PlainPair → PlainCommand
+  Order : Verb → ℕ → List ℕ → PlainCommand
 
 -- what a command of the code asks for
-abbrev pub asked : Command → Asked
-asked command.Nothing = Nothing
-asked command.Unknown = Unknown
-asked (command.Scan moment pairs) = Scan moment pairs
-asked (command.Order v console target) = Order v console target.now
+abbrev pub plain_command : Command → PlainCommand
+plain_command command.Nothing = Nothing
+plain_command command.Unknown = Unknown
+plain_command (command.Scan moment pairs) = Scan moment pairs
+plain_command (command.Order v console target) = Order v console target.now
 
 -- scan MOMENT NAME=VALUE ..
-unfoldable pub scan_of : List (List ℕ) → Asked
+unfoldable pub scan_of : List (List ℕ) → PlainCommand
 scan_of [] = Unknown
 scan_of (m ∷ ws) = elim (number_of 19 m) [
   | None ↦ Unknown
@@ -33,14 +33,14 @@ scan_of (m ∷ ws) = elim (number_of 19 m) [
 ]
 
 -- ack CONSOLE TAG and restart CONSOLE PROGRAM: the verb is the command's, the target is any word
-unfoldable pub order_of : Verb → List (List ℕ) → Asked
+unfoldable pub order_of : Verb → List (List ℕ) → PlainCommand
 order_of v [] = Unknown
 order_of v (c ∷ []) = Unknown
 order_of v (c ∷ target ∷ []) = elim (number_of 9 c) [ None ↦ Unknown | Some console ↦ Order v console target ]
 order_of v (c ∷ target ∷ w ∷ ws) = Unknown
 
 -- what the words of a line ask for: the first word is the command, in small letters
-unfoldable pub command_in : List (List ℕ) → Asked
+unfoldable pub command_in : List (List ℕ) → PlainCommand
 command_in [] = Nothing
 command_in (w ∷ ws) =
     if bytes_eq w (codes "scan") then scan_of ws
@@ -55,6 +55,6 @@ is_remark ([] ∷ ws) = false
 is_remark ((b ∷ bs) ∷ ws) = b == 35
 
 -- what a line asks for: a line of more than 1,048,576 bytes is no command, and a remark asks for nothing
-unfoldable pub command_of : List ℕ → Asked
+unfoldable pub command_of : List ℕ → PlainCommand
 command_of line = if nat_lt 1048576 (length line) then Unknown
     else if is_remark (words_of line) then Nothing else command_in (words_of line)

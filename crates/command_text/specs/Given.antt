@@ -1,7 +1,7 @@
 -- What a word of a scan gives for an input.
 use Rattle.std.specs.Prelude.{ℕ, ◌==◌, ◌∷◌, [], List, true, false, if◌then◌else◌, Option, Some, None, codes}
 use Rattle.std.specs.Option.{option_map, option_and_then}
-use Rattle.plant_types.specs.Named.{Named}
+use Rattle.plant_types.specs.Pairs.{PlainPair}
 use Rattle.plant_types.specs.Words.{same_word, is_name}
 use Rattle.plant_types.specs.declared.values.Given.{Given}
 use Rattle.plant_types.specs.declared.values.Given.TheVariants as given
@@ -19,10 +19,10 @@ given_of word = if same_word word (codes "true") then Some (given.Truth true)
     else option_map given.Whole (whole_of word)
 
 -- NAME=VALUE
-unfoldable pub pair_of : List ℕ → Option Named
+unfoldable pub pair_of : List ℕ → Option PlainPair
 pair_of word = option_and_then (λ p. if is_name p.0 then option_map (λ g. record { name = p.0; given = g }) (given_of p.1) else None) (cut_at 61 word)
 
 -- such a pair for each word
-abbrev pub pairs_of : List (List ℕ) → Option (List Named)
+abbrev pub pairs_of : List (List ℕ) → Option (List PlainPair)
 pairs_of [] = Some []
 pairs_of (w ∷ ws) = option_and_then (λ p. option_map (λ ps. p ∷ ps) (pairs_of ws)) (pair_of w)

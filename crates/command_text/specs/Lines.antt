@@ -6,8 +6,8 @@ use Rattle.plant_types.specs.declared.values.Value.{Value}
 use Rattle.plant_types.specs.declared.values.Value.TheVariants as value
 use Rattle.plant_types.specs.declared.values.Trap.{Trap}
 use Rattle.plant_types.specs.declared.values.Trap.TheVariants as trap
-use Rattle.alarm_machine.specs.Codes.{Move, code_text}
-use Rattle.alarm_machine.specs.Orders.{fault_text}
+use Rattle.alarm_machine.specs.Codes.{PlainChange, code_text}
+use Rattle.alarm_machine.specs.Orders.{order_fault_text}
 use Rattle.alarm_machine.specs.declared.states.OrderFault.{OrderFault}
 
 -- a line: its name, each field behind one space, LF
@@ -36,7 +36,7 @@ unfoldable pub fault_line : ℕ → List ℕ → ℕ → Trap → List ℕ
 fault_line moment path statement trap = line_of (codes "FAULT") (decimal moment ∷ path ∷ decimal statement ∷ trap_text trap ∷ [])
 
 -- an alarm whose code changed
-unfoldable pub alarm_line : ℕ → List ℕ → Move → List ℕ
+unfoldable pub alarm_line : ℕ → List ℕ → PlainChange → List ℕ
 alarm_line moment tag change = line_of (codes "ALARM") (decimal moment ∷ tag ∷ code_text change.from ∷ code_text change.to ∷ [])
 
 -- an output whose value changed
@@ -50,7 +50,7 @@ done_line moment lines = line_of (codes "DONE") (decimal moment ∷ decimal line
 -- the reply to an order: OK, or the number of its refusal
 abbrev pub reply_text : Option OrderFault → List ℕ
 reply_text None = codes "OK"
-reply_text (Some fault) = fault_text fault
+reply_text (Some fault) = order_fault_text fault
 
 unfoldable pub reply_line : Option OrderFault → List ℕ
 reply_line refused = line_of (codes "REPLY") (reply_text refused ∷ [])

@@ -1,6 +1,6 @@
 ghost use Rattle.std.specs.Prelude.{◌≡◌, IfOk};
 ghost use Rattle.command_text.specs.Words.{words_of};
-ghost use Rattle.command_text.specs.Commands.{scan_of, order_of, command_in, command_of, is_remark, asked};
+ghost use Rattle.command_text.specs.Commands.{scan_of, order_of, command_in, command_of, is_remark, plain_command};
 
 use crate::command::Command;
 use crate::given::pairs;
@@ -15,7 +15,7 @@ const LONGEST: usize = 1_048_576;
 /// A scan, by the words behind its name.
 #[tactic(auto, unfolding(crate::specs::Commands::scan_of))]
 fn scan<'a>(alloc: Global, words: &'a [u8]) -> Result<Command<'a>, AllocError>
-    ensures { IfOk result (λ c. asked c ≡ scan_of (words_of words.now)) }
+    ensures { IfOk result (λ c. plain_command c ≡ scan_of (words_of words.now)) }
 {
     let Some((moment, image)) = next_word(words) else {
         return Ok(Command::Unknown);
@@ -32,7 +32,7 @@ fn scan<'a>(alloc: Global, words: &'a [u8]) -> Result<Command<'a>, AllocError>
 /// An order, by the words behind its name: a console and a target.
 #[tactic(auto, unfolding(crate::specs::Commands::order_of))]
 fn order<'a>(verb: Verb, words: &'a [u8]) -> Command<'a>
-    ensures { asked result ≡ order_of verb (words_of words.now) }
+    ensures { plain_command result ≡ order_of verb (words_of words.now) }
 {
     let Some((console, rest)) = next_word(words) else {
         return Command::Unknown;
@@ -52,7 +52,7 @@ fn order<'a>(verb: Verb, words: &'a [u8]) -> Command<'a>
 /// What the words of a line ask for.
 #[tactic(auto, unfolding(crate::specs::Commands::command_in))]
 fn command<'a>(alloc: Global, words: &'a [u8]) -> Result<Command<'a>, AllocError>
-    ensures { IfOk result (λ c. asked c ≡ command_in (words_of words.now)) }
+    ensures { IfOk result (λ c. plain_command c ≡ command_in (words_of words.now)) }
 {
     let Some((first, others)) = next_word(words) else {
         return Ok(Command::Nothing);
@@ -84,7 +84,7 @@ fn is_remark(line: &[u8]) -> bool
 /// What a line asks for, the line without its end. The error is a refused growth.
 #[tactic(auto, unfolding(crate::specs::Commands::command_of))]
 pub fn read_command<'a>(alloc: Global, line: &'a [u8]) -> Result<Command<'a>, AllocError>
-    ensures { IfOk result (λ c. asked c ≡ command_of line.now) }
+    ensures { IfOk result (λ c. plain_command c ≡ command_of line.now) }
 {
     if line.len() > LONGEST {
         return Ok(Command::Unknown);

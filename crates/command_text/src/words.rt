@@ -1,9 +1,9 @@
 ghost use Rattle.std.specs.Prelude.{◌≡◌, ◌<◌, ◌≤◌, [], ◌∷◌, length, MatchOption, take, drop, false};
-ghost use Rattle.command_text.specs.Words.{is_blank, at_blank, words_of};
+ghost use Rattle.command_text.specs.Words.{is_gap, at_blank, words_of};
 
 /// Whether a byte parts words: a space or a tab.
-fn is_blank(byte: u8) -> bool
-    ensures { result ≡ is_blank byte }
+fn is_gap(byte: u8) -> bool
+    ensures { result ≡ is_gap byte }
 {
     byte == b' ' || byte == b'\t'
 }
@@ -16,7 +16,7 @@ fn trimmed(line: &[u8]) -> &[u8]
 {
     let mut rest = line;
     while let Some((first, others)) = rest.split_first() {
-        if !is_blank(*first) {
+        if !is_gap(*first) {
             return rest;
         }
         rest = others;
@@ -32,7 +32,7 @@ fn word_len(line: &[u8]) -> usize
     ensures words { words_of line.now ≡ take result line.now ∷ words_of (drop result line.now) }
 {
     for (i, byte) in line.iter().enumerate() {
-        if is_blank(*byte) {
+        if is_gap(*byte) {
             return i;
         }
     }

@@ -1,7 +1,7 @@
 -- Worked examples: each alarm steps by globals of its own.
 use Rattle.std.proofs.Common.{◌≡◌, ℕ, ℤ, pos, List, [], ◌∷◌, map, None, Some, slice_index_or, refl}
 use Rattle.std.specs.Prelude.{Option, false}
-use Rattle.alarm_machine.specs.Codes.{Move}
+use Rattle.alarm_machine.specs.Codes.{PlainChange}
 use Rattle.alarm_machine.specs.declared.states.Code.{Code}
 use Rattle.alarm_machine.specs.declared.states.Code.TheVariants.{Norm, Unack, Suppr}
 use Rattle.plant_config.specs.declared.rows.AlarmRow.{AlarmRow}
@@ -16,11 +16,11 @@ abbrev rows : List AlarmRow
 rows = row 0 None ∷ row 1 (Some 2) ∷ row 1 None ∷ []
 
 -- a change of an alarm that was normal
-abbrev move : Code → Move
+abbrev move : Code → PlainChange
 move code = record { from = Norm; to = code }
 
 -- what is told of them in the first scan, after which the three globals have these values
-abbrev told : ℤ → ℤ → ℤ → List (ℕ × Move)
+abbrev told : ℤ → ℤ → ℤ → List (ℕ × PlainChange)
 told a b c = changes_from 0 (map opening_alarm rows) (alarms_after (λ n. slice_index_or (a ∷ b ∷ c ∷ []) n (pos 0)) 5 rows (map opening_alarm rows))
 
 no_condition : told (pos 0) (pos 0) (pos 0) ≡ []

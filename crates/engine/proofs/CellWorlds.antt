@@ -6,7 +6,7 @@ use Rattle.std.proofs.lemmas.Option.{slice_get_cases}
 use Rattle.std.proofs.lemmas.List.Elements.{All-head, All-tail}
 use Rattle.plant_types.specs.declared.values.Value.{Value}
 use Rattle.plant_types.specs.Values.{is_true, worth}
-use Rattle.alarm_machine.specs.Alarms.{Seen, after_scan}
+use Rattle.alarm_machine.specs.Alarms.{PlainAlarm, after_scan}
 use Rattle.st_resolve.specs.declared.logic.Variable.{Variable}
 use Rattle.st_resolve.specs.Source.{Source}
 use Rattle.st_resolve.specs.Faults.{first_fault}
@@ -14,7 +14,7 @@ use Rattle.st_walk.specs.Worlds.{World, Stands, assign, path_of}
 use Rattle.st_walk.specs.Slots.{cell}
 use Rattle.st_walk.proofs.Standing.{cell_holds, cell_written}
 use Rattle.plant_config.specs.declared.rows.AlarmRow.{AlarmRow}
-use Rattle.plant_config.specs.Meaning.{Meaning, IsAlarm, IsBoolGlobal}
+use Rattle.plant_config.specs.Plants.{PlainPlant, IsAlarmRow, IsBoolGlobal}
 use Rattle.engine.specs.Programs.{global_in, with_input, with_inputs}
 use Rattle.engine.specs.System.{suppression, alarms_after, is_output, shown, outputs_from, outs_from}
 use Rattle.engine.specs.Steps.{with_cell}
@@ -54,15 +54,15 @@ suppression_same source f g None same is = refl
 suppression_same source f g (Some n) same is = ap is_true (same n is.within)
 
 -- alarms look at globals alone
-pub alarms_same : (plant : Meaning) (f g : ℕ → ℤ) (t : ℕ) (rows : List AlarmRow) (alarms : List Seen) → SameGlobals plant.source f g → All (IsAlarm plant) rows → alarms_after f t rows alarms ≡ alarms_after g t rows alarms
+pub alarms_same : (plant : PlainPlant) (f g : ℕ → ℤ) (t : ℕ) (rows : List AlarmRow) (alarms : List PlainAlarm) → SameGlobals plant.source f g → All (IsAlarmRow plant) rows → alarms_after f t rows alarms ≡ alarms_after g t rows alarms
 alarms_same plant f g t [] alarms same all = refl
 alarms_same plant f g t (row ∷ rows) [] same all = refl
 alarms_same plant f g t (row ∷ rows) (a ∷ alarms) same all =
-    let is = All-head (IsAlarm plant) row rows all in
-    let step : ℤ → Bool → List Seen → List Seen = λ n s rest. after_scan (is_true n) s t a ∷ rest in
+    let is = All-head (IsAlarmRow plant) row rows all in
+    let step : ℤ → Bool → List PlainAlarm → List PlainAlarm = λ n s rest. after_scan (is_true n) s t a ∷ rest in
     ap (λ n. step n (suppression f row.suppress) (alarms_after f t rows alarms)) (same row.condition is.condition.within)
     ∙ ap (λ s. step (g row.condition) s (alarms_after f t rows alarms)) (suppression_same plant.source f g row.suppress same is.suppress)
-    ∙ ap (step (g row.condition) (suppression g row.suppress)) (alarms_same plant f g t rows alarms same (All-tail (IsAlarm plant) row rows all))
+    ∙ ap (step (g row.condition) (suppression g row.suppress)) (alarms_same plant f g t rows alarms same (All-tail (IsAlarmRow plant) row rows all))
 
 -- so do outputs
 outputs_same : (f g : ℕ → ℤ) (n : ℕ) (globals : List Variable) → ((k : ℕ) → k < n + length globals → f k ≡ g k) → outputs_from n globals f ≡ outputs_from n globals g

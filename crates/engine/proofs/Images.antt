@@ -5,7 +5,7 @@ use Rattle.std.specs.declared.result.Result.{Result}
 use Rattle.std.specs.Option.{option_map, option_and_then}
 use Rattle.std.proofs.lemmas.Option.{option_and_then_some, slice_get_within}
 use Rattle.std.proofs.lemmas.List.Elements.{All-nil, All-cons, All-head, All-tail}
-use Rattle.plant_types.specs.Named.{Named}
+use Rattle.plant_types.specs.Pairs.{PlainPair}
 use Rattle.plant_types.specs.Values.{fitted}
 use Rattle.plant_types.specs.declared.values.Value.{Value}
 use Rattle.st_resolve.specs.declared.logic.Variable.{Variable}
@@ -37,13 +37,13 @@ taken_input : (b : Bool) (x p : Placed) → (if b then Some x else None) ≡ Som
 taken_input true x p h = same_some x p h
 taken_input false x p h = absurd (cc)
 
-place_within : (globals : List Variable) (pair : Named) (p : Placed) → place_of globals pair ≡ Some p → p.number < length globals
+place_within : (globals : List Variable) (pair : PlainPair) (p : Placed) → place_of globals pair ≡ Some p → p.number < length globals
 place_within globals pair p h =
     option_and_then_some (λ n. option_and_then (at_input n pair) (slice_get globals n)) (find_global globals pair.name) p h
     (λ n found at. option_and_then_some (at_input n pair) (slice_get globals n) p at
     (λ g there is. subst (λ (q : Placed). q.number < length globals) (taken_input (is_input g.region) (record { number = n; kind = g.kind; given = pair.given }) p is) (slice_get_within globals n g there)))
 
-places_within : (globals : List Variable) (pairs : List Named) (places : List Placed) → places_of globals pairs ≡ Some places → All (is_below (length globals)) places
+places_within : (globals : List Variable) (pairs : List PlainPair) (places : List Placed) → places_of globals pairs ≡ Some places → All (is_below (length globals)) places
 places_within globals [] places h = subst (All (is_below (length globals))) (same_some [] places h) (All-nil (is_below (length globals)))
 places_within globals (pair ∷ pairs) places h =
     let P = is_below (length globals) in
@@ -81,7 +81,7 @@ placed_within : (n : ℕ) (o : Option (List Placed)) (image : List (ℕ × Value
 placed_within n None image below h = absurd (cc)
 placed_within n (Some places) image below h = values_within n places image (below places refl) (none_twice (has_twin places) (values_of places) image h)
 
-image_within : (globals : List Variable) (pairs : List Named) (image : List (ℕ × Value)) → image_of globals pairs ≡ Ok image → All (has_number (length globals)) image
+image_within : (globals : List Variable) (pairs : List PlainPair) (image : List (ℕ × Value)) → image_of globals pairs ≡ Ok image → All (has_number (length globals)) image
 unfolding image_of
 image_within globals pairs image h = placed_within (length globals) (places_of globals pairs) image (places_within globals pairs) h
 
@@ -96,7 +96,7 @@ in_time true early full r t u image h = absurd (cc)
 in_time false true full r t u image h = absurd (cc)
 in_time false false full r t u image h = made_image full r t u image h
 
-pub taken_within : (globals : List Variable) (last events : ℕ) (pairs : List Named) (t u : ℕ) (image : List (ℕ × Value)) → taken_scan globals last events pairs t ≡ Ok (event.Scan image u) → All (has_number (length globals)) image
+pub taken_within : (globals : List Variable) (last events : ℕ) (pairs : List PlainPair) (t u : ℕ) (image : List (ℕ × Value)) → taken_scan globals last events pairs t ≡ Ok (event.Scan image u) → All (has_number (length globals)) image
 unfolding taken_scan
 taken_within globals last events pairs t u image h =
     image_within globals pairs image (in_time (nat_lt 4000000000000 t) (nat_lt t last) (nat_le 1000000 events) (image_of globals pairs) t u image h)

@@ -8,13 +8,13 @@ use Rattle.plant_types.specs.declared.values.Trap.{Trap}
 use Rattle.st_tree.specs.Meaning.{Ran, Done, Trapped, Spot}
 use Rattle.st_resolve.specs.Source.{Source}
 use Rattle.st_walk.specs.Worlds.{World, Stands, run_program}
-use Rattle.st_walk.specs.Runs.{spot_of, Agree}
+use Rattle.st_walk.specs.Runs.{place_spot, Agree}
 use Rattle.engine.specs.Programs.{Scanned, with_flag, with_fault, after_run, programs_from}
-use Rattle.engine.specs.Steps.{Runs, run_by, met}
+use Rattle.engine.specs.Steps.{ProgramsRan, run_by, met}
 
 -- a fault with the names to its place
 abbrev pub located : Source → Place × Trap → Spot × Trap
-located source f = (spot_of source f.0, f.1)
+located source f = (place_spot source f.0, f.1)
 
 -- what some programs left and met, and what the others do
 abbrev pub joined : List Bool → List (Spot × Trap) → Scanned → Scanned
@@ -35,7 +35,7 @@ pub record Reached (source : Source) (t : ℕ) (whole : Scanned) (i : ℕ) (cell
 pub reached_none : (source : Source) (t : ℕ) (flags : List Bool) (cells : List ℤ) (w : World) → Stands source cells w → Reached source t (programs_from source t 0 flags w) 0 cells flags []
 reached_none source t flags cells w stands = record { world = w; stands = stands; so_far = refl }
 
-pub reached_all : (source : Source) (t : ℕ) (whole : Scanned) (i : ℕ) (cells : List ℤ) (flags : List Bool) (faults : List (Place × Trap)) → length flags ≤ i → Reached source t whole i cells flags faults → Runs source whole cells flags faults
+pub reached_all : (source : Source) (t : ℕ) (whole : Scanned) (i : ℕ) (cells : List ℤ) (flags : List Bool) (faults : List (Place × Trap)) → length flags ≤ i → Reached source t whole i cells flags faults → ProgramsRan source whole cells flags faults
 reached_all source t whole i cells flags faults over r =
     let rest : programs_from source t i (drop i flags) r.world ≡ record { world = r.world; faulted = []; faults = [] } = ap (λ l. programs_from source t i l r.world) (drop_all i flags over) in
     let is : whole ≡ joined (take i flags) (map (located source) faults) (record { world = r.world; faulted = []; faults = [] }) = r.so_far ∙ ap (joined (take i flags) (map (located source) faults)) rest in
@@ -115,11 +115,11 @@ reached_next source t whole i cells after flags faults false h unset walks r = r
 
 -- a program trapped: it is faulted from then on, and the fault is told
 trapped : (source : Source) (t : ℕ) (whole : Scanned) (i : ℕ) (cells after : List ℤ) (flags : List Bool) (faults : List (Place × Trap)) (place : Place) (trap : Trap) → i < length flags → get_or flags i false ≡ false
-    → ((w : World) → Stands source cells w → Agree source (run_program source w) (Trapped after (spot_of source place) trap))
+    → ((w : World) → Stands source cells w → Agree source (run_program source w) (Trapped after (place_spot source place) trap))
     → Reached source t whole i cells flags faults → Reached source t whole (i + 1) after (slice_set flags i true) (faults ++ (place, trap) ∷ [])
 trapped source t whole i cells after flags faults place trap h unset walks r =
     let others : World → Scanned = programs_from source t (i + 1) (drop (i + 1) flags) in
-    let s = stopped source (run_program source r.world) after (spot_of source place) trap others (walks r.world r.stands) in
+    let s = stopped source (run_program source r.world) after (place_spot source place) trap others (walks r.world r.stands) in
     let told = map (located source) faults in
     let within : i < length (slice_set flags i true) = omega (arith, length-set {A = Bool}) in
     let front : take (i + 1) (slice_set flags i true) ≡ take i flags ++ true ∷ [] =
@@ -131,8 +131,8 @@ trapped source t whole i cells after flags faults place trap h unset walks r =
       so_far = r.so_far
           ∙ ap (λ l. joined (take i flags) told (programs_from source t i l r.world)) (cut flags i false h unset)
           ∙ ap (joined (take i flags) told) s.is
-          ∙ joined-with_flag (take i flags) told true (with_fault (spot_of source place) trap (others s.world))
-          ∙ joined-with_fault (take i flags ++ true ∷ []) told (spot_of source place) trap (others s.world)
+          ∙ joined-with_flag (take i flags) told true (with_fault (place_spot source place) trap (others s.world))
+          ∙ joined-with_fault (take i flags ++ true ∷ []) told (place_spot source place) trap (others s.world)
           ∙ ap (λ l. joined (take i flags ++ true ∷ []) l (others s.world)) (sym (map-append (located source) faults ((place, trap) ∷ [])))
           ∙ ap (λ l. joined l (map (located source) (faults ++ (place, trap) ∷ [])) (others s.world)) (sym front)
           ∙ ap (λ l. joined (take (i + 1) (slice_set flags i true)) (map (located source) (faults ++ (place, trap) ∷ [])) (programs_from source t (i + 1) l s.world)) (sym back);

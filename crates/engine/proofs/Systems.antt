@@ -5,19 +5,19 @@ use Rattle.std.proofs.lemmas.List.{length-map, length-set}
 use Rattle.std.proofs.lemmas.List.Elements.{All-nil, All-cons, All-weaker}
 use Rattle.std.proofs.lemmas.List.Sums.{fold-append}
 use Rattle.std.proofs.lemmas.Bool.Decides.{nat_tests}
-use Rattle.plant_types.specs.Named.{Named}
+use Rattle.plant_types.specs.Pairs.{PlainPair}
 use Rattle.plant_types.specs.declared.values.Value.{Value}
 use Rattle.alarm_machine.specs.declared.states.OrderFault.{OrderFault}
-use Rattle.alarm_machine.specs.Codes.{Move, code_of, change_between}
-use Rattle.alarm_machine.specs.Alarms.{Seen}
+use Rattle.alarm_machine.specs.Codes.{PlainChange, code_of, change_between}
+use Rattle.alarm_machine.specs.Alarms.{PlainAlarm}
 use Rattle.st_tree.specs.Meaning.{Ran, Done, Trapped}
 use Rattle.st_resolve.specs.declared.logic.Variable.{Variable}
 use Rattle.st_resolve.specs.Source.{Source}
 use Rattle.st_resolve.specs.Faults.{first_fault}
-use Rattle.st_walk.specs.Worlds.{World, Stands, opening}
+use Rattle.st_walk.specs.Worlds.{World, Stands, opening_world}
 use Rattle.st_walk.specs.Slots.{cell}
 use Rattle.plant_config.specs.declared.rows.AlarmRow.{AlarmRow}
-use Rattle.plant_config.specs.Meaning.{Meaning, IsPlant}
+use Rattle.plant_config.specs.Plants.{PlainPlant, IsPlant}
 use Rattle.engine.specs.declared.event.Event.{Event}
 use Rattle.engine.specs.declared.event.Event.TheVariants as event
 use Rattle.engine.specs.declared.event.Order.{Order}
@@ -26,24 +26,24 @@ use Rattle.engine.specs.declared.event.EngineFault.TheVariants as refusal
 use Rattle.engine.specs.declared.orders.Effect.{Effect}
 use Rattle.engine.specs.declared.orders.Effect.TheVariants as effect
 use Rattle.engine.specs.Programs.{Scanned, after_run, run_of, programs_from, with_inputs, global_in, world_after}
-use Rattle.engine.specs.Orders.{outcome, alarms_by, faulted_by, reply_by}
+use Rattle.engine.specs.Orders.{order_outcome, alarms_by, faulted_by, reply_by}
 use Rattle.engine.specs.System.{System, system, step, taken_scan, scan_event, order_event, opening_system, opening_alarm, scanned_by, after_scan_event, ordered, alarms_after, changes_from, outputs_from, out_at, outs_from}
-use Rattle.engine.specs.Told.{Told}
-use Rattle.engine.specs.Held.{Held, Kept, Ready, ReadyOrder, Fits, FitsOrder, Agrees, IsEngine, Tells, state_of}
-use Rattle.engine.specs.Steps.{Runs, Steps, IsScan, IsOrder}
+use Rattle.engine.specs.Reports.{PlainReport}
+use Rattle.engine.specs.Engines.{PlainEngine, PlainState, PlainPrepared, PlainPreparedOrder, Fits, FitsOrder, Agrees, IsEngine, IsReport, state_of}
+use Rattle.engine.specs.Steps.{ProgramsRan, Steps, IsScan, IsOrder}
 use Rattle.engine.proofs.CellWorlds.{inputs_stand, values_stand, alarms_same, outputs_stand, outs_stand}
 use Rattle.engine.proofs.Images.{has_number, taken_within}
 
-pub system_next : (plant : Meaning) (history : List Event) (e : Event) → system plant (history ++ e ∷ []) ≡ step plant (system plant history) e
+pub system_next : (plant : PlainPlant) (history : List Event) (e : Event) → system plant (history ++ e ∷ []) ≡ step plant (system plant history) e
 unfolding system
 system_next plant history e = fold-append (step plant) (opening_system plant) history (e ∷ [])
 
-pub system_none : (plant : Meaning) → system plant [] ≡ opening_system plant
+pub system_none : (plant : PlainPlant) → system plant [] ≡ opening_system plant
 unfolding system
 system_none plant = refl
 
 -- what the opening system has and each step keeps, every system has
-module _ (plant : Meaning) (P : System → Type 0) (keeps : (s : System) (e : Event) → P s → P (step plant s e)) where
+module _ (plant : PlainPlant) (P : System → Type 0) (keeps : (s : System) (e : Event) → P s → P (step plant s e)) where
   kept_from : (s : System) (history : List Event) → P s → P (fold (step plant) s history)
   kept_from s [] p = p
   kept_from s (e ∷ history) p = kept_from (step plant s e) history (keeps s e p)
@@ -52,12 +52,12 @@ module _ (plant : Meaning) (P : System → Type 0) (keeps : (s : System) (e : Ev
   unfolding system
   system_keeps history p = kept_from (opening_system plant) history p
 
-length-alarms_after : (now : ℕ → ℤ) (t : ℕ) (rows : List AlarmRow) (alarms : List Seen) → length alarms ≡ length rows → length (alarms_after now t rows alarms) ≡ length rows
+length-alarms_after : (now : ℕ → ℤ) (t : ℕ) (rows : List AlarmRow) (alarms : List PlainAlarm) → length alarms ≡ length rows → length (alarms_after now t rows alarms) ≡ length rows
 length-alarms_after now t [] alarms h = refl
 length-alarms_after now t (row ∷ rows) [] h = h
 length-alarms_after now t (row ∷ rows) (a ∷ alarms) h = ap suc (length-alarms_after now t rows alarms (omega arith))
 
-length-alarms_by : (done : Result Effect OrderFault) (alarms : List Seen) → length (alarms_by done alarms) ≡ length alarms
+length-alarms_by : (done : Result Effect OrderFault) (alarms : List PlainAlarm) → length (alarms_by done alarms) ≡ length alarms
 length-alarms_by (Ok (effect.Changed n alarm)) alarms = length-set alarms n alarm
 length-alarms_by (Ok (effect.Restarted n)) alarms = refl
 length-alarms_by (Err e) alarms = refl
@@ -81,7 +81,7 @@ unfolding world_after
 length-world_after source image t flags w = length-programs_from source t 0 flags (with_inputs source image w)
 
 -- an alarm for each row of the database
-pub system_alarms : (plant : Meaning) (history : List Event) → length ((system plant history).alarms) ≡ length plant.alarms
+pub system_alarms : (plant : PlainPlant) (history : List Event) → length ((system plant history).alarms) ≡ length plant.alarms
 system_alarms plant history =
     system_keeps plant (λ s. length s.alarms ≡ length plant.alarms)
     (λ s. elim [
@@ -91,7 +91,7 @@ system_alarms plant history =
     history (length-map plant.alarms opening_alarm)
 
 -- a flag for each program
-pub system_faulted : (plant : Meaning) (history : List Event) → length ((system plant history).faulted) ≡ 1
+pub system_faulted : (plant : PlainPlant) (history : List Event) → length ((system plant history).faulted) ≡ 1
 system_faulted plant history =
     system_keeps plant (λ s. length s.faulted ≡ 1)
     (λ s. elim [
@@ -100,35 +100,35 @@ system_faulted plant history =
     ])
     history refl
 
-events_from : (plant : Meaning) (s : System) (history : List Event) → (fold (step plant) s history).events ≡ s.events + length history
+events_from : (plant : PlainPlant) (s : System) (history : List Event) → (fold (step plant) s history).events ≡ s.events + length history
 events_from plant s [] = omega arith
 events_from plant s (event.Scan image t ∷ history) = let h = events_from plant (step plant s (event.Scan image t)) history in omega (arith, h)
 events_from plant s (event.Order console order ∷ history) = let h = events_from plant (step plant s (event.Order console order)) history in omega (arith, h)
 
 -- as many events as the history has
-pub system_events : (plant : Meaning) (history : List Event) → (system plant history).events ≡ length history
+pub system_events : (plant : PlainPlant) (history : List Event) → (system plant history).events ≡ length history
 unfolding system
 system_events plant history = events_from plant (opening_system plant) history ∙ zero-add (length history)
 
 -- an engine has an alarm for each row of the database
-pub kept_alarms : (plant : Meaning) (history : List Event) (k : Kept) → Agrees plant (system plant history) k → length k.alarms ≡ length plant.alarms
+pub kept_alarms : (plant : PlainPlant) (history : List Event) (k : PlainState) → Agrees plant (system plant history) k → length k.alarms ≡ length plant.alarms
 kept_alarms plant history k held = ap length held.alarms_are ∙ system_alarms plant history
 
 -- and a flag for each program
-pub kept_faulted : (plant : Meaning) (history : List Event) (k : Kept) → Agrees plant (system plant history) k → length k.faulted ≡ 1
+pub kept_faulted : (plant : PlainPlant) (history : List Event) (k : PlainState) → Agrees plant (system plant history) k → length k.faulted ≡ 1
 kept_faulted plant history k held = ap length held.faulted_is ∙ system_faulted plant history
 
 -- what the programs leave in cells is what they leave in the system's world
-runs_world : (plant : Meaning) (sys : System) (old new : Kept) (image : List (ℕ × Value)) (t : ℕ) (r : Told) → first_fault plant.source ≡ None → All (has_number (length plant.source.globals)) image → Agrees plant sys old → Steps plant old image t new r
-    → Runs plant.source (scanned_by plant sys image t) new.cells new.faulted r.faults
+runs_world : (plant : PlainPlant) (sys : System) (old new : PlainState) (image : List (ℕ × Value)) (t : ℕ) (r : PlainReport) → first_fault plant.source ≡ None → All (has_number (length plant.source.globals)) image → Agrees plant sys old → Steps plant old image t new r
+    → ProgramsRan plant.source (scanned_by plant sys image t) new.cells new.faulted r.faults
 unfolding world_after
 runs_world plant sys old new image t r sound within held made =
     let w = with_inputs plant.source image sys.world in
-    subst (λ (flags : List Bool). Runs plant.source (programs_from plant.source t 0 flags w) new.cells new.faulted r.faults) held.faulted_is
+    subst (λ (flags : List Bool). ProgramsRan plant.source (programs_from plant.source t 0 flags w) new.cells new.faulted r.faults) held.faulted_is
     (made.runs w (inputs_stand plant.source image old.cells sys.world sound within held.world_stands))
 
 -- what a scan leaves is the next system
-scan_agrees : (plant : Meaning) (sys : System) (old new : Kept) (image : List (ℕ × Value)) (t : ℕ) (r : Told) → IsPlant plant → first_fault plant.source ≡ None → All (has_number (length plant.source.globals)) image → Agrees plant sys old → Steps plant old image t new r
+scan_agrees : (plant : PlainPlant) (sys : System) (old new : PlainState) (image : List (ℕ × Value)) (t : ℕ) (r : PlainReport) → IsPlant plant → first_fault plant.source ≡ None → All (has_number (length plant.source.globals)) image → Agrees plant sys old → Steps plant old image t new r
     → Agrees plant (after_scan_event plant sys image t) new
 scan_agrees plant sys old new image t r is sound within held made =
     let runs = runs_world plant sys old new image t r sound within held made in
@@ -147,16 +147,16 @@ scan_agrees plant sys old new image t r is sound within held made =
 numbers_more : {A : Type 0} (xs : List (ℕ × A)) (n m : ℕ) → n ≤ m → All (λ x. x.0 < n) xs → All (λ x. x.0 < m) xs
 numbers_more {A} xs n m h all = All-weaker (λ (x : ℕ × A). x.0 < n) (λ (x : ℕ × A). x.0 < m) (λ x below. omega arith) xs all
 
-changes_within : (n : ℕ) (old new : List Seen) → All (λ c. c.0 < n + length old) (changes_from n old new)
-changes_within n [] new = All-nil (λ (x : ℕ × Move). x.0 < n + 0)
-changes_within n (a ∷ old) [] = All-nil (λ (x : ℕ × Move). x.0 < n + suc (length old))
+changes_within : (n : ℕ) (old new : List PlainAlarm) → All (λ c. c.0 < n + length old) (changes_from n old new)
+changes_within n [] new = All-nil (λ (x : ℕ × PlainChange). x.0 < n + 0)
+changes_within n (a ∷ old) [] = All-nil (λ (x : ℕ × PlainChange). x.0 < n + suc (length old))
 changes_within n (a ∷ old) (b ∷ new) =
     let rest = numbers_more (changes_from (n + 1) old new) (n + 1 + length old) (n + suc (length old)) (omega arith) (changes_within (n + 1) old new) in
     told (change_between (code_of a.state) (code_of b.state)) rest
   where
-    told : (o : Option Move) → All (λ c. c.0 < n + suc (length old)) (changes_from (n + 1) old new) → All (λ c. c.0 < n + suc (length old)) (elim o [ None ↦ changes_from (n + 1) old new | Some move ↦ (n, move) ∷ changes_from (n + 1) old new ])
+    told : (o : Option PlainChange) → All (λ c. c.0 < n + suc (length old)) (changes_from (n + 1) old new) → All (λ c. c.0 < n + suc (length old)) (elim o [ None ↦ changes_from (n + 1) old new | Some move ↦ (n, move) ∷ changes_from (n + 1) old new ])
     told None rest = rest
-    told (Some move) rest = All-cons (λ (x : ℕ × Move). x.0 < n + suc (length old)) (n, move) (changes_from (n + 1) old new) (omega arith) rest
+    told (Some move) rest = All-cons (λ (x : ℕ × PlainChange). x.0 < n + suc (length old)) (n, move) (changes_from (n + 1) old new) (omega arith) rest
 
 outs_within : (n : ℕ) (globals : List Variable) (before now : ℕ → ℤ) → All (λ o. o.0 < n + length globals) (outs_from n globals before now)
 outs_within n [] before now = All-nil (λ (x : ℕ × Value). x.0 < n + 0)
@@ -169,8 +169,8 @@ outs_within n (global ∷ globals) before now =
     told (Some v) rest = All-cons (λ (x : ℕ × Value). x.0 < n + suc (length globals)) (n, v) (outs_from (n + 1) globals before now) (omega arith) rest
 
 -- what a scan tells is what its event did
-scan_tells : (plant : Meaning) (sys : System) (old new : Kept) (image : List (ℕ × Value)) (t : ℕ) (r : Told) → IsPlant plant → first_fault plant.source ≡ None → All (has_number (length plant.source.globals)) image → length old.alarms ≡ length plant.alarms → Agrees plant sys old → Steps plant old image t new r
-    → Tells plant sys (event.Scan image t) r
+scan_tells : (plant : PlainPlant) (sys : System) (old new : PlainState) (image : List (ℕ × Value)) (t : ℕ) (r : PlainReport) → IsPlant plant → first_fault plant.source ≡ None → All (has_number (length plant.source.globals)) image → length old.alarms ≡ length plant.alarms → Agrees plant sys old → Steps plant old image t new r
+    → IsReport plant sys (event.Scan image t) r
 scan_tells plant sys old new image t r is sound within each held made =
     let runs = runs_world plant sys old new image t r sound within held made in
     let after = scan_agrees plant sys old new image t r is sound within held made in
@@ -181,13 +181,13 @@ scan_tells plant sys old new image t r is sound within each held made =
       moment_is = made.told_at;
       faults_are = runs.faults_are;
       changes_are = made.changes_are ∙ ap (λ a. changes_from 0 a new.alarms) held.alarms_are ∙ ap (changes_from 0 sys.alarms) after.alarms_are;
-      changes_within = subst (λ (l : List (ℕ × Move)). All (λ c. c.0 < length plant.alarms) l) (sym made.changes_are) (numbers_more (changes_from 0 old.alarms new.alarms) (0 + length old.alarms) (length plant.alarms) (omega arith) (changes_within 0 old.alarms new.alarms));
+      changes_within = subst (λ (l : List (ℕ × PlainChange)). All (λ c. c.0 < length plant.alarms) l) (sym made.changes_are) (numbers_more (changes_from 0 old.alarms new.alarms) (0 + length old.alarms) (length plant.alarms) (omega arith) (changes_within 0 old.alarms new.alarms));
       outs_within = subst (λ (l : List (ℕ × Value)). All (λ o. o.0 < length plant.source.globals) l) (sym made.outs_are) (numbers_more (outs_from 0 plant.source.globals (cell old.cells) (cell new.cells)) (0 + length plant.source.globals) (length plant.source.globals) (omega arith) (outs_within 0 plant.source.globals (cell old.cells) (cell new.cells)));
       outs_are = made.outs_are ∙ outs_stand plant.source (cell old.cells) (global_in plant.source sys.world) (cell new.cells) look before now;
     }
 
 -- a scan that was made ready from what an engine holds fits that engine, where it has room
-pub scan_fits : (e : Held) (p : Ready) (old : Kept) (events : ℕ) (pairs : List Named) (t : ℕ) → IsPlant e.plant → first_fault e.plant.source ≡ None → Agrees e.plant (state_of e) old → IsScan e.plant old events pairs t p → 0 < e.room → Fits e p
+pub scan_fits : (e : PlainEngine) (p : PlainPrepared) (old : PlainState) (events : ℕ) (pairs : List PlainPair) (t : ℕ) → IsPlant e.plant → first_fault e.plant.source ≡ None → Agrees e.plant (state_of e) old → IsScan e.plant old events pairs t p → 0 < e.room → Fits e p
 scan_fits e p old events pairs t plant_is sound held scan there =
     let sys = state_of e in
     let image = scan.image in
@@ -198,11 +198,11 @@ scan_fits e p old events pairs t plant_is sound held scan there =
     record {
       room = there;
       agrees = subst (λ s. Agrees e.plant s p.kept) (sym next) (scan_agrees e.plant sys old p.kept image t p.report plant_is sound within held made);
-      tells = subst (λ x. Tells e.plant sys x p.report) (sym is) (scan_tells e.plant sys old p.kept image t p.report plant_is sound within (kept_alarms e.plant e.history old held) held made);
+      tells = subst (λ x. IsReport e.plant sys x p.report) (sym is) (scan_tells e.plant sys old p.kept image t p.report plant_is sound within (kept_alarms e.plant e.history old held) held made);
     }
 
 -- what an order that was made ready leaves is the next system
-pub order_agrees : (e : Held) (p : ReadyOrder) (old : Kept) → Agrees e.plant (state_of e) old → FitsOrder e p
+pub order_agrees : (e : PlainEngine) (p : PlainPreparedOrder) (old : PlainState) → Agrees e.plant (state_of e) old → FitsOrder e p
     → Agrees e.plant (system e.plant (e.history ++ event.Order p.console p.order ∷ [])) (record old { faulted = faulted_by p.done old.faulted; alarms = alarms_by p.done old.alarms })
 order_agrees e p old held fits =
     let sys = state_of e in
@@ -217,14 +217,14 @@ order_agrees e p old held fits =
     })
 
 -- before the first event
-pub opening_agrees : (plant : Meaning) (k : Kept) → IsPlant plant → first_fault plant.source ≡ None → length plant.source.globals < 2 ^ 32 → Stands plant.source k.cells opening → k.faulted ≡ false ∷ [] → k.alarms ≡ map opening_alarm plant.alarms → k.outputs ≡ outputs_from 0 plant.source.globals (cell k.cells) → k.moment ≡ 0 → IsEngine plant [] k
+pub opening_agrees : (plant : PlainPlant) (k : PlainState) → IsPlant plant → first_fault plant.source ≡ None → length plant.source.globals < 2 ^ 32 → Stands plant.source k.cells opening_world → k.faulted ≡ false ∷ [] → k.alarms ≡ map opening_alarm plant.alarms → k.outputs ≡ outputs_from 0 plant.source.globals (cell k.cells) → k.moment ≡ 0 → IsEngine plant [] k
 opening_agrees plant k is sound numbered stands faulted alarms outputs moment =
     record {
       agrees = subst (λ s. Agrees plant s k) (sym (system_none plant)) (record {
         world_stands = stands;
         faulted_is = faulted;
         alarms_are = alarms;
-        outputs_are = outputs ∙ outputs_stand plant.source (cell k.cells) (global_in plant.source opening) (values_stand plant.source k.cells opening stands);
+        outputs_are = outputs ∙ outputs_stand plant.source (cell k.cells) (global_in plant.source opening_world) (values_stand plant.source k.cells opening_world stands);
         moment_is = moment;
         in_range = rw moment (omega arith);
       });
@@ -234,20 +234,20 @@ opening_agrees plant k is sound numbered stands faulted alarms outputs moment =
     }
 
 -- the event of a scan, by what an engine keeps and how many events there were
-pub scan_event_is : (plant : Meaning) (history : List Event) (k : Kept) (n : ℕ) (pairs : List Named) (t : ℕ) → Agrees plant (system plant history) k → n ≡ length history → taken_scan plant.source.globals k.moment n pairs t ≡ scan_event plant (system plant history) pairs t
+pub scan_event_is : (plant : PlainPlant) (history : List Event) (k : PlainState) (n : ℕ) (pairs : List PlainPair) (t : ℕ) → Agrees plant (system plant history) k → n ≡ length history → taken_scan plant.source.globals k.moment n pairs t ≡ scan_event plant (system plant history) pairs t
 scan_event_is plant history k n pairs t held is =
     ap (λ m. taken_scan plant.source.globals m n pairs t) held.moment_is
     ∙ ap (λ m. taken_scan plant.source.globals (system plant history).moment m pairs t) (is ∙ sym (system_events plant history))
 
 -- an order that was made ready from what an engine holds fits that engine, where it has room
-pub order_fits : (e : Held) (k : Kept) (console : ℕ) (order : Order) (p : ReadyOrder) → Agrees e.plant (state_of e) k → IsOrder e.plant k console order p → 0 < e.room → FitsOrder e p
+pub order_fits : (e : PlainEngine) (k : PlainState) (console : ℕ) (order : Order) (p : PlainPreparedOrder) → Agrees e.plant (state_of e) k → IsOrder e.plant k console order p → 0 < e.room → FitsOrder e p
 order_fits e k console order p held made there =
     let sys = state_of e in
     let is : p.done ≡ ordered e.plant sys p.console p.order =
     made.done_is
-    ∙ ap (λ a. outcome e.plant a k.faulted k.moment console order) held.alarms_are
-    ∙ ap (λ f. outcome e.plant sys.alarms f k.moment console order) held.faulted_is
-    ∙ ap (λ m. outcome e.plant sys.alarms sys.faulted m console order) held.moment_is
+    ∙ ap (λ a. order_outcome e.plant a k.faulted k.moment console order) held.alarms_are
+    ∙ ap (λ f. order_outcome e.plant sys.alarms f k.moment console order) held.faulted_is
+    ∙ ap (λ m. order_outcome e.plant sys.alarms sys.faulted m console order) held.moment_is
     ∙ ap (λ n. ordered e.plant sys n order) (sym made.console_is)
     ∙ ap (ordered e.plant sys p.console) (sym made.order_is) in
     record {
@@ -257,20 +257,20 @@ order_fits e k console order p held made there =
     }
 
 -- an order where the history has room
-order_event_room : (plant : Meaning) (history : List Event) (console : ℕ) (order : Order) → length history < 1000000 → order_event (system plant history) console order ≡ Ok (event.Order console order)
+order_event_room : (plant : PlainPlant) (history : List Event) (console : ℕ) (order : Order) → length history < 1000000 → order_event (system plant history) console order ≡ Ok (event.Order console order)
 unfolding order_event
 order_event_room plant history console order few =
     let events = system_events plant history in
     grind (arith, nat_tests)
 
 -- the event of an order that was made ready
-pub order_event_ready : (plant : Meaning) (history : List Event) (console : ℕ) (order : Order) (p : ReadyOrder) → length history < 1000000 → p.console ≡ console → p.order ≡ order → order_event (system plant history) console order ≡ Ok (event.Order p.console p.order)
+pub order_event_ready : (plant : PlainPlant) (history : List Event) (console : ℕ) (order : Order) (p : PlainPreparedOrder) → length history < 1000000 → p.console ≡ console → p.order ≡ order → order_event (system plant history) console order ≡ Ok (event.Order p.console p.order)
 order_event_ready plant history console order p few console_is order_is =
     let made : ℕ → Order → Result Event EngineFault = λ n o. Ok (event.Order n o) in
     order_event_room plant history console order few ∙ ap (λ n. made n order) (sym console_is) ∙ ap (made p.console) (sym order_is)
 
 -- and where it is full
-pub order_event_full : (plant : Meaning) (history : List Event) (console : ℕ) (order : Order) → 1000000 ≤ length history → order_event (system plant history) console order ≡ Err refusal.HistoryFull
+pub order_event_full : (plant : PlainPlant) (history : List Event) (console : ℕ) (order : Order) → 1000000 ≤ length history → order_event (system plant history) console order ≡ Err refusal.HistoryFull
 unfolding order_event
 order_event_full plant history console order full =
     let events = system_events plant history in

@@ -2,7 +2,7 @@
 use Rattle.std.specs.Prelude.{◌≡◌, ℕ, ◌==◌, Bool, false, ◌||◌, List, [], ◌∷◌, if◌then◌else◌, Option, Some, None, Result, Ok, Err, slice_get}
 use Rattle.std.specs.List.{list_any}
 use Rattle.std.specs.Option.{option_map, option_and_then}
-use Rattle.plant_types.specs.Named.{Named}
+use Rattle.plant_types.specs.Pairs.{PlainPair}
 use Rattle.plant_types.specs.Values.{fitted}
 use Rattle.plant_types.specs.declared.values.Value.{Value}
 use Rattle.st_resolve.specs.declared.logic.Variable.{Variable}
@@ -13,15 +13,15 @@ use Rattle.engine.specs.declared.event.EngineFault.TheVariants as refusal
 use Rattle.engine.specs.declared.image.Placed.{Placed}
 
 -- what is given for a global, if that is an input
-abbrev pub at_input : ℕ → Named → Variable → Option Placed
+abbrev pub at_input : ℕ → PlainPair → Variable → Option Placed
 at_input n pair global = if is_input global.region then Some (record { number = n; kind = global.kind; given = pair.given }) else None
 
 -- what a pair is given for: the global of that name, in which letter case has no meaning
-abbrev pub place_of : List Variable → Named → Option Placed
+abbrev pub place_of : List Variable → PlainPair → Option Placed
 place_of globals pair = option_and_then (λ n. option_and_then (at_input n pair) (slice_get globals n)) (find_global globals pair.name)
 
 -- what each pair is given for, if each names an input
-abbrev pub places_of : List Variable → List Named → Option (List Placed)
+abbrev pub places_of : List Variable → List PlainPair → Option (List Placed)
 places_of globals [] = Some []
 places_of globals (p ∷ ps) = option_and_then (λ place. option_map (λ rest. place ∷ rest) (places_of globals ps)) (place_of globals p)
 
@@ -36,7 +36,7 @@ values_of [] = Some []
 values_of (p ∷ ps) = option_and_then (λ v. option_map (λ rest. (p.number, v) ∷ rest) (values_of ps)) (fitted p.kind p.given)
 
 -- the image that pairs give, or the refusal: E3 for a name that is no input or comes twice, then E4 for a value that doesn't fit
-unfoldable pub image_of : List Variable → List Named → Result (List (ℕ × Value)) EngineFault
+unfoldable pub image_of : List Variable → List PlainPair → Result (List (ℕ × Value)) EngineFault
 image_of globals pairs = elim (places_of globals pairs) [
   | None ↦ Err refusal.ImageName
   | Some places ↦ if has_twin places then Err refusal.ImageName else elim (values_of places) [ None ↦ Err refusal.ImageKind | Some values ↦ Ok values ]

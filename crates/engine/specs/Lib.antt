@@ -2,6 +2,6 @@ pub mod Programs
 pub mod Image
 pub mod Orders
 pub mod System
-pub mod Told
-pub mod Held
+pub mod Reports
+pub mod Engines
 pub mod Steps

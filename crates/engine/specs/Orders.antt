@@ -5,10 +5,10 @@ use Rattle.alarm_machine.specs.declared.states.Verb.{Verb}
 use Rattle.alarm_machine.specs.declared.states.Verb.TheVariants as verb
 use Rattle.alarm_machine.specs.declared.states.OrderFault.{OrderFault}
 use Rattle.alarm_machine.specs.declared.states.OrderFault.TheVariants as fault
-use Rattle.alarm_machine.specs.Codes.{Move, code_of, change_between}
-use Rattle.alarm_machine.specs.Alarms.{Seen, after_order}
+use Rattle.alarm_machine.specs.Codes.{PlainChange, code_of, change_between}
+use Rattle.alarm_machine.specs.Alarms.{PlainAlarm, after_order}
 use Rattle.plant_config.specs.declared.rows.Console.{Console}
-use Rattle.plant_config.specs.Meaning.{Meaning}
+use Rattle.plant_config.specs.Plants.{PlainPlant}
 use Rattle.engine.specs.declared.event.Order.{Order}
 use Rattle.engine.specs.declared.event.Reply.{Reply}
 use Rattle.engine.specs.declared.event.Reply.TheVariants as reply
@@ -24,24 +24,24 @@ abbrev pub has_area : ℕ → ℕ → Console → Bool
 has_area number area console = (console.number == number) && list_any (λ a. a == area) console.areas
 
 -- the effect of an order that the table takes, on the alarm of a number
-abbrev pub changed : ℕ → Result Seen OrderFault → Result Effect OrderFault
+abbrev pub changed : ℕ → Result PlainAlarm OrderFault → Result Effect OrderFault
 changed n (Ok alarm) = Ok (effect.Changed n alarm)
 changed n (Err e) = Err e
 
 -- what an order makes of an alarm that is there
-abbrev pub at_alarm : ℕ → Verb → ℕ → Option Seen → Result Effect OrderFault
+abbrev pub at_alarm : ℕ → Verb → ℕ → Option PlainAlarm → Result Effect OrderFault
 at_alarm n verb last None = Err fault.UnknownTarget
 at_alarm n verb last (Some alarm) = changed n (after_order verb last alarm)
 
 -- an order to an alarm: O1 where it isn't there, O2 where no console of this number has its area, then O3 and O4 by the table
-abbrev pub alarm_order : Meaning → List Seen → ℕ → ℕ → Verb → ℕ → Result Effect OrderFault
+abbrev pub alarm_order : PlainPlant → List PlainAlarm → ℕ → ℕ → Verb → ℕ → Result Effect OrderFault
 alarm_order plant alarms last console verb n = elim (slice_get plant.alarms n) [
   | None ↦ Err fault.UnknownTarget
   | Some row ↦ if list_any (has_area console row.area) plant.consoles then at_alarm n verb last (slice_get alarms n) else Err fault.NotYourArea
 ]
 
 -- a restart: O1 where the program isn't there, O2 where no console has this number, O5 where the program isn't faulted
-abbrev pub program_order : Meaning → List Bool → ℕ → ℕ → Result Effect OrderFault
+abbrev pub program_order : PlainPlant → List Bool → ℕ → ℕ → Result Effect OrderFault
 program_order plant faulted console n = elim (slice_get faulted n) [
   | None ↦ Err fault.UnknownTarget
   | Some flag ↦ if list_any (is_console console) plant.consoles then (if flag then Ok (effect.Restarted n) else Err fault.NotFaulted) else Err fault.NotYourArea
@@ -57,14 +57,14 @@ abbrev pub restart_of : Option ℕ → Order
 restart_of program = record { verb = verb.Restart; target = program }
 
 -- what an order does, or why it is refused
-abbrev pub outcome : Meaning → List Seen → List Bool → ℕ → ℕ → Order → Result Effect OrderFault
-outcome plant alarms faulted last console order = elim order.target [
+abbrev pub order_outcome : PlainPlant → List PlainAlarm → List Bool → ℕ → ℕ → Order → Result Effect OrderFault
+order_outcome plant alarms faulted last console order = elim order.target [
   | None ↦ Err fault.UnknownTarget
   | Some n ↦ if is_restart order.verb then program_order plant faulted console n else alarm_order plant alarms last console order.verb n
 ]
 
 -- the alarms after an order: one of them is changed, or none
-abbrev pub alarms_by : Result Effect OrderFault → List Seen → List Seen
+abbrev pub alarms_by : Result Effect OrderFault → List PlainAlarm → List PlainAlarm
 alarms_by (Ok (effect.Changed n alarm)) alarms = slice_set alarms n alarm
 alarms_by _ alarms = alarms
 
@@ -74,12 +74,12 @@ faulted_by (Ok (effect.Restarted n)) faulted = slice_set faulted n false
 faulted_by _ faulted = faulted
 
 -- the change from what an alarm was
-abbrev pub change_from : Option Seen → Seen → Option Move
+abbrev pub change_from : Option PlainAlarm → PlainAlarm → Option PlainChange
 change_from None new = None
 change_from (Some old) new = change_between (code_of old.state) (code_of new.state)
 
 -- the reply: the refusal, or the change of the alarm's code if there is one
-abbrev pub reply_by : Result Effect OrderFault → List Seen → Reply
+abbrev pub reply_by : Result Effect OrderFault → List PlainAlarm → Reply
 reply_by (Err e) alarms = reply.Refused e
 reply_by (Ok (effect.Restarted n)) alarms = reply.Done None
 reply_by (Ok (effect.Changed n alarm)) alarms = reply.Done (change_from (slice_get alarms n) alarm)

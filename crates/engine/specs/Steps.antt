@@ -3,21 +3,21 @@ use Rattle.std.specs.Prelude.{◌≡◌, ℕ, ◌≤◌, ℤ, Bool, true, false,
 use Rattle.plant_types.specs.declared.values.Value.{Value}
 use Rattle.plant_types.specs.declared.values.Trap.{Trap}
 use Rattle.plant_types.specs.declared.values.Place.{Place}
-use Rattle.plant_types.specs.Named.{Named}
+use Rattle.plant_types.specs.Pairs.{PlainPair}
 use Rattle.plant_types.specs.Values.{worth}
 use Rattle.st_tree.specs.Meaning.{Ran, Done, Trapped}
 use Rattle.st_resolve.specs.Source.{Source}
 use Rattle.st_walk.specs.Worlds.{World, Stands}
 use Rattle.st_walk.specs.Slots.{cell}
-use Rattle.st_walk.specs.Runs.{spot_of}
-use Rattle.plant_config.specs.Meaning.{Meaning}
+use Rattle.st_walk.specs.Runs.{place_spot}
+use Rattle.plant_config.specs.Plants.{PlainPlant}
 use Rattle.engine.specs.declared.event.Event.TheVariants as event
-use Rattle.engine.specs.Told.{Told}
+use Rattle.engine.specs.Reports.{PlainReport}
 use Rattle.engine.specs.Programs.{Scanned, run_of, programs_from}
 use Rattle.engine.specs.System.{taken_scan, alarms_after, changes_from, outputs_from, outs_from}
-use Rattle.engine.specs.Held.{Kept, Ready, ReadyOrder}
+use Rattle.engine.specs.Engines.{PlainState, PlainPrepared, PlainPreparedOrder}
 use Rattle.engine.specs.declared.event.Order.{Order}
-use Rattle.engine.specs.Orders.{outcome, reply_by}
+use Rattle.engine.specs.Orders.{order_outcome, reply_by}
 
 -- an input gets its value
 abbrev pub with_cell : List ℤ → ℕ × Value → List ℤ
@@ -31,17 +31,17 @@ run_by false source n t w = run_of source n t w
 -- how a program ended over cells, by the fault that it met
 abbrev pub met : Source → Option (Place × Trap) → List ℤ → Ran (List ℤ)
 met source None cells = Done cells
-met source (Some fault) cells = Trapped cells (spot_of source fault.0) fault.1
+met source (Some fault) cells = Trapped cells (place_spot source fault.0) fault.1
 
 -- cells, flags and faults by place are what the programs leave and meet in worlds
-pub record Runs (source : Source) (r : Scanned) (cells : List ℤ) (faulted : List Bool) (faults : List (Place × Trap)) : Type 0 where
+pub record ProgramsRan (source : Source) (r : Scanned) (cells : List ℤ) (faulted : List Bool) (faults : List (Place × Trap)) : Type 0 where
   pub world_stands : Stands source cells r.world
   pub faulted_is : faulted ≡ r.faulted
-  pub faults_are : map (λ f. (spot_of source f.0, f.1)) faults ≡ r.faults
+  pub faults_are : map (λ f. (place_spot source f.0, f.1)) faults ≡ r.faults
 
 -- what a scan with an image at moment t leaves and tells
-pub record Steps (plant : Meaning) (old : Kept) (image : List (ℕ × Value)) (t : ℕ) (new : Kept) (r : Told) : Type 0 where
-  pub runs : (w : World) → Stands plant.source (fold with_cell old.cells image) w → Runs plant.source (programs_from plant.source t 0 old.faulted w) new.cells new.faulted r.faults
+pub record Steps (plant : PlainPlant) (old : PlainState) (image : List (ℕ × Value)) (t : ℕ) (new : PlainState) (r : PlainReport) : Type 0 where
+  pub runs : (w : World) → Stands plant.source (fold with_cell old.cells image) w → ProgramsRan plant.source (programs_from plant.source t 0 old.faulted w) new.cells new.faulted r.faults
   pub alarms_are : new.alarms ≡ alarms_after (cell new.cells) t plant.alarms old.alarms
   pub changes_are : r.changes ≡ changes_from 0 old.alarms new.alarms
   pub outputs_are : new.outputs ≡ outputs_from 0 plant.source.globals (cell new.cells)
@@ -51,15 +51,15 @@ pub record Steps (plant : Meaning) (old : Kept) (image : List (ℕ × Value)) (t
   pub in_range : t ≤ 4000000000000
 
 -- a scan made ready from what an engine keeps after so many events: the event of the scan, and what it leaves and tells
-pub record IsScan (plant : Meaning) (old : Kept) (events : ℕ) (pairs : List Named) (t : ℕ) (p : Ready) : Type 0 where
+pub record IsScan (plant : PlainPlant) (old : PlainState) (events : ℕ) (pairs : List PlainPair) (t : ℕ) (p : PlainPrepared) : Type 0 where
   pub image : List (ℕ × Value)
   pub event_is : p.event ≡ event.Scan image t
   pub taken : taken_scan plant.source.globals old.moment events pairs t ≡ Ok p.event
   pub steps : Steps plant old image t p.kept p.report
 
 -- an order made ready from what an engine keeps: what it does, and its reply
-pub record IsOrder (plant : Meaning) (k : Kept) (console : ℕ) (order : Order) (p : ReadyOrder) : Type 0 where
+pub record IsOrder (plant : PlainPlant) (k : PlainState) (console : ℕ) (order : Order) (p : PlainPreparedOrder) : Type 0 where
   pub console_is : p.console ≡ console
   pub order_is : p.order ≡ order
-  pub done_is : p.done ≡ outcome plant k.alarms k.faulted k.moment console order
+  pub done_is : p.done ≡ order_outcome plant k.alarms k.faulted k.moment console order
   pub reply_is : p.reply ≡ reply_by p.done k.alarms

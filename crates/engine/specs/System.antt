@@ -1,22 +1,22 @@
 -- The system: a fold of the events over the plant.
 use Rattle.std.specs.Prelude.{ℕ, ◌+◌, ℤ, pos, nat_lt, nat_le, Bool, true, false, if◌then◌else◌, List, [], ◌∷◌, map, fold, Option, Some, None, unwrap_or, Result, Ok, Err}
 use Rattle.std.specs.Ordering.{int_eq}
-use Rattle.plant_types.specs.Named.{Named}
+use Rattle.plant_types.specs.Pairs.{PlainPair}
 use Rattle.plant_types.specs.Values.{is_true, value_of_kind, fitted}
 use Rattle.plant_types.specs.declared.values.Kind.{Kind}
 use Rattle.plant_types.specs.declared.values.Given.TheVariants as given
 use Rattle.plant_types.specs.declared.values.Value.{Value}
 use Rattle.plant_types.specs.declared.values.Trap.{Trap}
-use Rattle.st_lexer.specs.declared.token.Region.{Region}
-use Rattle.st_lexer.specs.declared.token.Region.TheVariants as region
+use Rattle.plant_types.specs.declared.values.Region.{Region}
+use Rattle.plant_types.specs.declared.values.Region.TheVariants as region
 use Rattle.st_tree.specs.Meaning.{Spot}
 use Rattle.st_resolve.specs.declared.logic.Variable.{Variable}
-use Rattle.st_walk.specs.Worlds.{World, opening}
+use Rattle.st_walk.specs.Worlds.{World, opening_world}
 use Rattle.alarm_machine.specs.declared.states.OrderFault.{OrderFault}
-use Rattle.alarm_machine.specs.Codes.{Move, code_of, change_between}
-use Rattle.alarm_machine.specs.Alarms.{Seen, opening as opening_seen, after_scan}
+use Rattle.alarm_machine.specs.Codes.{PlainChange, code_of, change_between}
+use Rattle.alarm_machine.specs.Alarms.{PlainAlarm, new_alarm as opening_seen, after_scan}
 use Rattle.plant_config.specs.declared.rows.AlarmRow.{AlarmRow}
-use Rattle.plant_config.specs.Meaning.{Meaning}
+use Rattle.plant_config.specs.Plants.{PlainPlant}
 use Rattle.engine.specs.declared.event.Event.{Event}
 use Rattle.engine.specs.declared.event.Event.TheVariants as event
 use Rattle.engine.specs.declared.event.EngineFault.{EngineFault}
@@ -26,24 +26,24 @@ use Rattle.engine.specs.declared.event.Reply.{Reply}
 use Rattle.engine.specs.declared.orders.Effect.{Effect}
 use Rattle.engine.specs.Programs.{Scanned, opening_faulted, global_in, world_after}
 use Rattle.engine.specs.Image.{image_of}
-use Rattle.engine.specs.Orders.{outcome, alarms_by, faulted_by, reply_by}
+use Rattle.engine.specs.Orders.{order_outcome, alarms_by, faulted_by, reply_by}
 
 -- all that the state is: the variables' values, for each program whether it is faulted, the alarms, the last scan's moment, how many events there were
 pub record System : Type 0 where
   pub world : World
   pub faulted : List Bool
-  pub alarms : List Seen
+  pub alarms : List PlainAlarm
   pub moment : ℕ
   pub events : ℕ
 
 -- an alarm before the first event
-abbrev pub opening_alarm : AlarmRow → Seen
+abbrev pub opening_alarm : AlarmRow → PlainAlarm
 opening_alarm row = opening_seen row.latching row.max_shelve_ms
 
 -- before the first event
-abbrev pub opening_system : Meaning → System
+abbrev pub opening_system : PlainPlant → System
 opening_system plant = record {
-  world = opening;
+  world = opening_world;
   faulted = opening_faulted plant.source;
   alarms = map opening_alarm plant.alarms;
   moment = 0;
@@ -56,42 +56,42 @@ suppression now None = false
 suppression now (Some n) = is_true (now n)
 
 -- each alarm takes its step by itself, by the values of its own two globals
-abbrev pub alarms_after : (ℕ → ℤ) → ℕ → List AlarmRow → List Seen → List Seen
+abbrev pub alarms_after : (ℕ → ℤ) → ℕ → List AlarmRow → List PlainAlarm → List PlainAlarm
 alarms_after now t [] alarms = []
 alarms_after now t (row ∷ rows) [] = []
 alarms_after now t (row ∷ rows) (a ∷ alarms) = after_scan (is_true (now row.condition)) (suppression now row.suppress) t a ∷ alarms_after now t rows alarms
 
 -- what the programs make of a state's world
-abbrev pub scanned_by : Meaning → System → List (ℕ × Value) → ℕ → Scanned
+abbrev pub scanned_by : PlainPlant → System → List (ℕ × Value) → ℕ → Scanned
 scanned_by plant sys image t = world_after plant.source image t sys.faulted sys.world
 
 -- a scan: the programs, then each alarm
-abbrev pub after_scan_event : Meaning → System → List (ℕ × Value) → ℕ → System
+abbrev pub after_scan_event : PlainPlant → System → List (ℕ × Value) → ℕ → System
 after_scan_event plant sys image t =
     let logic = scanned_by plant sys image t in
     record { world = logic.world; faulted = logic.faulted; alarms = alarms_after (global_in plant.source logic.world) t plant.alarms sys.alarms; moment = t; events = sys.events + 1 }
 
 -- what an order does in a state, or why it is refused
-abbrev pub ordered : Meaning → System → ℕ → Order → Result Effect OrderFault
-ordered plant sys console order = outcome plant sys.alarms sys.faulted sys.moment console order
+abbrev pub ordered : PlainPlant → System → ℕ → Order → Result Effect OrderFault
+ordered plant sys console order = order_outcome plant sys.alarms sys.faulted sys.moment console order
 
 -- an order: a refused one is an event too, and changes no alarm and no program
-abbrev pub after_order_event : Meaning → System → ℕ → Order → System
+abbrev pub after_order_event : PlainPlant → System → ℕ → Order → System
 after_order_event plant sys console order =
     let done = ordered plant sys console order in
     record sys { faulted = faulted_by done sys.faulted; alarms = alarms_by done sys.alarms; events = sys.events + 1 }
 
 -- one event is one step
-abbrev pub step : Meaning → System → Event → System
+abbrev pub step : PlainPlant → System → Event → System
 step plant sys (event.Scan image t) = after_scan_event plant sys image t
 step plant sys (event.Order console order) = after_order_event plant sys console order
 
 -- what the events make of the plant
-unfoldable pub system : Meaning → List Event → System
+unfoldable pub system : PlainPlant → List Event → System
 system plant events = fold (step plant) (opening_system plant) events
 
 -- the event that a scan is, or its refusal: E2 above the last moment of all, E1 before the last scan's, E3 and E4 by the image, E6 where the history is full
-unfoldable pub taken_scan : List Variable → ℕ → ℕ → List Named → ℕ → Result Event EngineFault
+unfoldable pub taken_scan : List Variable → ℕ → ℕ → List PlainPair → ℕ → Result Event EngineFault
 taken_scan globals last events pairs t =
     if nat_lt 4000000000000 t then Err refusal.MomentRange
     else if nat_lt t last then Err refusal.MomentBack
@@ -101,7 +101,7 @@ taken_scan globals last events pairs t =
     ]
 
 -- the event that a scan of these pairs is in a state, or its refusal
-abbrev pub scan_event : Meaning → System → List Named → ℕ → Result Event EngineFault
+abbrev pub scan_event : PlainPlant → System → List PlainPair → ℕ → Result Event EngineFault
 scan_event plant sys pairs t = taken_scan plant.source.globals sys.moment sys.events pairs t
 
 -- the event that an order is, or its refusal: E6 where the history is full
@@ -109,16 +109,16 @@ unfoldable pub order_event : System → ℕ → Order → Result Event EngineFau
 order_event sys console order = if nat_le 1000000 sys.events then Err refusal.HistoryFull else Ok (event.Order console order)
 
 -- the reply to an order
-abbrev pub reply_to : Meaning → System → ℕ → Order → Reply
+abbrev pub reply_to : PlainPlant → System → ℕ → Order → Reply
 reply_to plant sys console order = reply_by (ordered plant sys console order) sys.alarms
 
 -- the faults of an event, in program order
-abbrev pub faults_of : Meaning → System → Event → List (Spot × Trap)
+abbrev pub faults_of : PlainPlant → System → Event → List (Spot × Trap)
 faults_of plant sys (event.Scan image t) = (scanned_by plant sys image t).faults
 faults_of plant sys (event.Order console order) = []
 
 -- the alarms whose code changed, from a number on, in the order of the database
-abbrev pub changes_from : ℕ → List Seen → List Seen → List (ℕ × Move)
+abbrev pub changes_from : ℕ → List PlainAlarm → List PlainAlarm → List (ℕ × PlainChange)
 changes_from n [] new = []
 changes_from n (a ∷ old) [] = []
 changes_from n (a ∷ old) (b ∷ new) = elim (change_between (code_of a.state) (code_of b.state)) [
@@ -127,7 +127,7 @@ changes_from n (a ∷ old) (b ∷ new) = elim (change_between (code_of a.state) 
 ]
 
 -- the changes of an event
-abbrev pub changes_of : Meaning → System → Event → List (ℕ × Move)
+abbrev pub changes_of : PlainPlant → System → Event → List (ℕ × PlainChange)
 changes_of plant sys e = changes_from 0 sys.alarms (step plant sys e).alarms
 
 -- whether an address is that of an output
@@ -146,7 +146,7 @@ outputs_from n (global ∷ globals) now =
     if is_output global.region then (n, shown global.kind (now n)) ∷ outputs_from (n + 1) globals now else outputs_from (n + 1) globals now
 
 -- the outputs in a state
-abbrev pub outputs_of : Meaning → System → List (ℕ × Value)
+abbrev pub outputs_of : PlainPlant → System → List (ℕ × Value)
 outputs_of plant sys = outputs_from 0 plant.source.globals (global_in plant.source sys.world)
 
 -- the value of an output, if it isn't what it was before
@@ -162,5 +162,5 @@ outs_from n (global ∷ globals) before now = elim (out_at n global before now) 
 ]
 
 -- the outputs that an event changed
-abbrev pub outs_of : Meaning → System → Event → List (ℕ × Value)
+abbrev pub outs_of : PlainPlant → System → Event → List (ℕ × Value)
 outs_of plant sys e = outs_from 0 plant.source.globals (global_in plant.source sys.world) (global_in plant.source (step plant sys e).world)

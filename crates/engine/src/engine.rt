@@ -5,7 +5,7 @@ ghost use Rattle.std.specs.Option.{option_map};
 ghost use Rattle.engine.specs.Image.{IsDue};
 ghost use Rattle.engine.specs.Orders.{alarms_by, faulted_by, restart_of};
 ghost use Rattle.engine.specs.System.{scan_event, order_event, reply_to, outputs_of};
-ghost use Rattle.engine.specs.Held.{state_of, Fits, FitsOrder, Tells, TakesScan};
+ghost use Rattle.engine.specs.Engines.{state_of, Fits, FitsOrder, IsReport, TakesScan};
 
 use crate::event::{EngineFault, Event, MOST_EVENTS, Order, Reply, Report};
 use crate::orders::PreparedOrder;
@@ -28,13 +28,13 @@ pub struct Engine {
 
 impl Model for Engine {
     ghost use Rattle.std.specs.Prelude.{◌-◌, vec_len, vec_capacity};
-    ghost use Rattle.engine.specs.Held.{Held, held_code};
+    ghost use Rattle.engine.specs.Engines.{PlainEngine, engine_code};
 
-    ghost Value = { Held };
+    ghost Value = { PlainEngine };
 
-    ghost coded = { held_code };
+    ghost coded = { engine_code };
 
-    ghost use Rattle.engine.specs.Held.{IsEngine};
+    ghost use Rattle.engine.specs.Engines.{IsEngine};
 
     ghost view = { λ e. record { plant = e.plant; history = e.history.items; room = vec_capacity e.history - vec_len e.history } };
 
@@ -137,7 +137,7 @@ impl Engine {
         requires { Fits self.old prepared }
         ensures plant { self.new.plant ≡ self.old.plant }
         ensures history { self.new.history ≡ self.old.history ++ prepared.event ∷ [] }
-        ensures report { Tells self.old.plant (state_of self.old) prepared.event result }
+        ensures report { IsReport self.old.plant (state_of self.old) prepared.event result }
     {
         let Prepared {
             event,

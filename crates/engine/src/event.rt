@@ -49,9 +49,9 @@ pub struct Report {
 }
 
 impl Model for Report {
-    ghost use Rattle.engine.specs.Told.{Told};
+    ghost use Rattle.engine.specs.Reports.{PlainReport};
 
-    ghost Value = { Told };
+    ghost Value = { PlainReport };
 
     ghost view = { λ r. record { moment = r.moment; faults = r.faults.items; changes = r.changes.items; outs = r.outs.items } };
 }

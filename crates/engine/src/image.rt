@@ -6,8 +6,7 @@ ghost use Rattle.engine.specs.System.{taken_scan};
 ghost use Rattle.engine.specs.declared.event.Event.TheVariants.{Scan};
 
 use crate::event::{EngineFault, LAST_MOMENT, MOST_EVENTS};
-use plant_types::{Given, Items, Kind, Pair, Value, fitted};
-use st_lexer::Region;
+use plant_types::{Given, Items, Kind, Pair, Region, Value, fitted};
 use st_resolve::Flat;
 use std::alloc::{AllocError, Global};
 

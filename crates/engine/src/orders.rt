@@ -3,7 +3,7 @@
 ghost use Rattle.std.specs.Prelude.{◌≡◌, ◌==◌, ◌≤◌, length, Some};
 ghost use Rattle.std.specs.List.{list_any};
 ghost use Rattle.alarm_machine.specs.Alarms.{after_order};
-ghost use Rattle.engine.specs.Orders.{is_console, has_area, alarm_order, program_order, is_restart, outcome, reply_by, change_from};
+ghost use Rattle.engine.specs.Orders.{is_console, has_area, alarm_order, program_order, is_restart, order_outcome, reply_by, change_from};
 
 use crate::event::{Order, Reply};
 use alarm_machine::{Alarm, Change, OrderFault, Verb};
@@ -29,9 +29,9 @@ pub struct PreparedOrder {
 }
 
 impl Model for PreparedOrder {
-    ghost use Rattle.engine.specs.Held.{ReadyOrder};
+    ghost use Rattle.engine.specs.Engines.{PlainPreparedOrder};
 
-    ghost Value = { ReadyOrder };
+    ghost Value = { PlainPreparedOrder };
 
     ghost view = { λ p. record { console = p.console; order = p.order; done = p.done; reply = p.reply } };
 }
@@ -130,7 +130,7 @@ fn program_order(
 }
 
 /// What an order does, or why it is refused.
-pub fn outcome(
+pub fn order_outcome(
     plant: &Plant,
     alarms: &[Alarm],
     faulted: &[bool],
@@ -140,7 +140,7 @@ pub fn outcome(
 ) -> Result<Effect, OrderFault>
     requires each { length alarms.now ≡ length plant.now.alarms }
     requires range { last ≤ 4000000000000 }
-    ensures { result ≡ outcome plant.now alarms.now faulted.now last console order }
+    ensures { result ≡ order_outcome plant.now alarms.now faulted.now last console order }
 {
     match (order.target, order.verb) {
         (None, _) => Err(OrderFault::UnknownTarget),

@@ -9,7 +9,7 @@ ghost use Rattle.engine.specs.Steps.{Steps, IsScan, IsOrder};
 
 use crate::event::{EngineFault, Event, Order, Report};
 use crate::image::taken_scan;
-use crate::orders::{Effect, PreparedOrder, outcome, reply_by};
+use crate::orders::{Effect, PreparedOrder, order_outcome, reply_by};
 use crate::steps::{outputs, outs, run_programs, set_inputs, step_alarms};
 use alarm_machine::{Alarm, AlarmState, OrderFault};
 use plant_config::Plant;
@@ -34,9 +34,9 @@ pub struct State {
 }
 
 impl Model for State {
-    ghost use Rattle.engine.specs.Held.{Kept};
+    ghost use Rattle.engine.specs.Engines.{PlainState};
 
-    ghost Value = { Kept };
+    ghost Value = { PlainState };
 
     ghost view = { λ s. record { cells = s.cells; faulted = s.faulted.items; alarms = s.alarms.items; outputs = s.outputs.items; moment = s.moment } };
 }
@@ -50,9 +50,9 @@ pub struct Prepared {
 }
 
 impl Model for Prepared {
-    ghost use Rattle.engine.specs.Held.{Ready};
+    ghost use Rattle.engine.specs.Engines.{PlainPrepared};
 
-    ghost Value = { Ready };
+    ghost Value = { PlainPrepared };
 
     ghost view = { λ p. record { event = p.event; kept = p.state; report = p.report } };
 }
@@ -167,7 +167,7 @@ pub fn made_ready_order(plant: &Plant, state: &State, console: u32, order: Order
 {
     let alarms = state.alarms.as_slice();
     let faulted = state.faulted.as_slice();
-    let done = outcome(plant, alarms, faulted, state.moment, console, order);
+    let done = order_outcome(plant, alarms, faulted, state.moment, console, order);
     let reply = reply_by(&done, alarms);
     PreparedOrder {
         console,

@@ -7,12 +7,11 @@ ghost use Rattle.st_walk.specs.Slots.{cell};
 ghost use Rattle.st_walk.specs.Runs.{Agree};
 ghost use Rattle.engine.specs.Programs.{programs_from};
 ghost use Rattle.engine.specs.System.{shown, opening_alarm, suppression, alarms_after, changes_from, is_output, outputs_from, out_at, outs_from};
-ghost use Rattle.engine.specs.Steps.{with_cell, run_by, met, Runs};
+ghost use Rattle.engine.specs.Steps.{with_cell, run_by, met, ProgramsRan};
 
 use alarm_machine::{Alarm, Change};
 use plant_config::AlarmRow;
-use plant_types::{Given, Kind, Place, Trap, Value, fitted};
-use st_lexer::Region;
+use plant_types::{Given, Kind, Place, Region, Trap, Value, fitted};
 use st_resolve::{Flat, Variable};
 use st_walk::{Cells, Walked, walk};
 use std::alloc::{AllocError, Global};
@@ -70,7 +69,7 @@ pub fn run_programs(
     faulted: &mut Vec<bool>,
 ) -> Result<Vec<(Place, Trap)>, AllocError>
     requires { length faulted.old.items ≡ 1 }
-    ensures { IfOk result (λ faults. (w : World) → Stands flat.now cells.old w → Runs flat.now (programs_from flat.now moment 0 faulted.old.items w) cells.new faulted.new.items faults.items) }
+    ensures { IfOk result (λ faults. (w : World) → Stands flat.now cells.old w → ProgramsRan flat.now (programs_from flat.now moment 0 faulted.old.items w) cells.new faulted.new.items faults.items) }
 {
     let mut faults = Vec::new(alloc);
     for program in 0..faulted.len() {

@@ -2,7 +2,7 @@
 //! Each call is made again where a growth was refused, and nothing may have changed then.
 
 ghost use Rattle.std.specs.Prelude.{IfSome};
-ghost use Rattle.engine.specs.Held.{Fits, FitsOrder};
+ghost use Rattle.engine.specs.Engines.{Fits, FitsOrder};
 
 use alarm_machine::{AlarmState, Change, Code, OrderFault, Verb};
 use engine::{Engine, EngineFault, Order, Prepared, PreparedOrder, Reply, Report};

@@ -2,8 +2,7 @@
 //!
 //! Each operator with two operands stands in parentheses with them, and each literal with its kind; an integer without a kind stands in square brackets.
 
-use plant_types::{Kind, Text, Value};
-use st_lexer::Region;
+use plant_types::{Kind, Region, Text, Value};
 use st_parser::{Declaration, Pou, PouKind, Section, SectionKind, Sort, Unit};
 use st_tree::{Argument, Binary, Branch, Choice, Expr, Label, Literal, Stmt, Unary};
 use std::alloc::{AllocError, Global};
@@ -57,19 +56,19 @@ fn show(alloc: Global, expr: &Expr<Text>, out: &mut String) -> Result<(), AllocE
             out.push_str(".")?;
             out.push_str(name.as_str())
         }
-        Expr::One(Unary::Not, a) => {
+        Expr::Unary(Unary::Not, a) => {
             out.push_str("NOT ")?;
             show(alloc, a, out)
         }
-        Expr::One(Unary::Negate, a) => {
+        Expr::Unary(Unary::Negate, a) => {
             out.push_str("- ")?;
             show(alloc, a, out)
         }
-        Expr::One(Unary::NegateTime, a) => {
+        Expr::Unary(Unary::NegateTime, a) => {
             out.push_str("-TIME ")?;
             show(alloc, a, out)
         }
-        Expr::Two(op, a, b) => {
+        Expr::Binary(op, a, b) => {
             out.push_str("(")?;
             show(alloc, a, out)?;
             out.push_str(operator(*op))?;

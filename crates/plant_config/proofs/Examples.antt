@@ -7,7 +7,7 @@ use Rattle.plant_types.specs.declared.values.Kind.{Kind}
 use Rattle.plant_types.specs.declared.values.Kind.TheVariants as kind
 use Rattle.st_resolve.specs.declared.logic.Variable.{Variable}
 use Rattle.st_resolve.specs.Source.{Source}
-use Rattle.plant_config.specs.Meaning.{IsBoolGlobal, IsAlarm, IsPlant}
+use Rattle.plant_config.specs.Plants.{IsBoolGlobal, IsAlarmRow, IsPlant}
 use Rattle.plant_config.specs.Example.{is_bool, is_condition, condition_of, example, example_alarm}
 
 both_true : (a b : Bool) → (a && b) ≡ true → b ≡ true
@@ -45,7 +45,7 @@ example_is_plant source n found =
       few = lit≤ tt;
       areas = lit≤ tt;
       alarms =
-          one_of_one (IsAlarm (example source n)) (example_alarm n) (record {
+          one_of_one (IsAlarmRow (example source n)) (example_alarm n) (record {
             area = lit< tt;
             lowest = lit≤ tt;
             highest = lit≤ tt;

@@ -5,7 +5,7 @@ use Rattle.st_lexer.specs.Lexes.{Lexes, Stops}
 use Rattle.st_lexer.proofs.Cutting.{one_list, one_place, never_both}
 use Rattle.st_parser.specs.Lexemes.{lexemes}
 use Rattle.st_parser.specs.Units.{PlainUnit}
-use Rattle.st_parser.specs.Declarations.{Spells}
+use Rattle.st_parser.specs.Declarations.{SpellsUnit}
 use Rattle.st_parser.proofs.FoundUnits.{one_unit}
 use Rattle.st_resolve.specs.Source.{Source}
 use Rattle.st_resolve.specs.declared.faults.FirstFault.{FirstFault}
@@ -14,9 +14,9 @@ use Rattle.st_resolve.specs.Faults.{first_fault}
 use Rattle.plant_config.specs.declared.fault.ConfigFault.{ConfigFault}
 use Rattle.plant_config.specs.declared.fault.ConfigFault.TheVariants as fault
 use Rattle.plant_config.specs.Logic.{logic_of}
-use Rattle.plant_config.specs.Meaning.{Meaning}
+use Rattle.plant_config.specs.Plants.{PlainPlant}
 use Rattle.plant_config.specs.Example.{condition_of, example, IsExample}
-use Rattle.plant_config.specs.Accepted.{Tells, Spelled, Accepted, Unspelled, unit_of, IsUnfit, IsRefused, SameRefusal}
+use Rattle.plant_config.specs.Accepted.{HasUnit, Spelled, Accepted, Unspelled, unit_of, IsUnfit, IsRefused, SameRefusal}
 
 same_some : {A : Type 0} (x y : A) → Some x ≡ Some y → x ≡ y
 same_some x y e = cc
@@ -26,19 +26,19 @@ none_some x e = cc
 
 -- ---- one unit, one source
 -- a text tells one unit
-same_unit : (text : List ℕ) (a b : PlainUnit) → Tells text a → Tells text b → a ≡ b
-same_unit text a b x y = one_unit _ a b (subst (λ (tokens : List Token). Spells (lexemes text tokens) a) (one_list text _ _ x.lexed y.lexed) x.spelled) y.spelled
+same_unit : (text : List ℕ) (a b : PlainUnit) → HasUnit text a → HasUnit text b → a ≡ b
+same_unit text a b x y = one_unit _ a b (subst (λ (tokens : List Token). SpellsUnit (lexemes text tokens) a) (one_list text _ _ x.lexed y.lexed) x.spelled) y.spelled
 
 -- a text spells one source
 one_source : (text : List ℕ) (a b : Source) → Spelled text a → Spelled text b → a ≡ b
 one_source text a b x y = same_some a b (sym x.built ∙ ap logic_of (same_unit text x.unit y.unit x.told y.told) ∙ y.built)
 
 -- a text whose tokens spell no unit tells none
-told_or_not : (text : List ℕ) (unit : PlainUnit) (line column : ℕ) → Tells text unit → Unspelled text line column → ⊥
-told_or_not text unit line column a b = b.no_unit unit (subst (λ (tokens : List Token). Spells (lexemes text tokens) unit) (one_list text _ _ a.lexed b.lexed) a.spelled)
+told_or_not : (text : List ℕ) (unit : PlainUnit) (line column : ℕ) → HasUnit text unit → Unspelled text line column → ⊥
+told_or_not text unit line column a b = b.no_unit unit (subst (λ (tokens : List Token). SpellsUnit (lexemes text tokens) unit) (one_list text _ _ a.lexed b.lexed) a.spelled)
 
 -- a unit has a source or none
-built_or_not : (text : List ℕ) (source : Source) (unit : PlainUnit) → Spelled text source → Tells text unit → logic_of unit ≡ None → ⊥
+built_or_not : (text : List ℕ) (source : Source) (unit : PlainUnit) → Spelled text source → HasUnit text unit → logic_of unit ≡ None → ⊥
 built_or_not text source unit a told none = none_some source (sym none ∙ ap logic_of (same_unit text unit a.unit told a.told) ∙ a.built)
 
 -- ---- the refusal of a source
@@ -79,7 +79,7 @@ data Reason (text : List ℕ) (f : ConfigFault) : Type 0 where
   memory : f ≡ fault.Memory → Reason text f
   stopped : (line column : ℕ) → f ≡ fault.Spelling line column → Stops text line column → Reason text f
   unspelled : (line column : ℕ) → f ≡ fault.Grammar line column → Unspelled text line column → Reason text f
-  unbuilt : (unit : PlainUnit) → f ≡ fault.NotYet → Tells text unit → logic_of unit ≡ None → Reason text f
+  unbuilt : (unit : PlainUnit) → f ≡ fault.NotYet → HasUnit text unit → logic_of unit ≡ None → Reason text f
   unfit : (source : Source) → Spelled text source → refusal_of source ≡ Some f → Reason text f
 
 of_source : (text : List ℕ) (f : ConfigFault) → (source : Source) × Spelled text source × IsUnfit source f → Reason text f
@@ -98,7 +98,7 @@ reason text fault.Condition h = of_source text fault.Condition h
 
 -- ---- what is accepted
 -- what is accepted is refused by memory alone
-taken : (text : List ℕ) (plant : Meaning) (f : ConfigFault) → Accepted text plant → Reason text f → f ≡ fault.Memory
+taken : (text : List ℕ) (plant : PlainPlant) (f : ConfigFault) → Accepted text plant → Reason text f → f ≡ fault.Memory
 taken text plant f a (memory is) = is
 taken text plant f a (stopped line column is stops) = absurd (never_both text _ _ _ a.spelled.told.lexed stops)
 taken text plant f a (unspelled line column is none) = absurd (told_or_not text _ line column a.spelled.told none)
@@ -106,16 +106,16 @@ taken text plant f a (unbuilt unit is told none) = absurd (built_or_not text pla
 taken text plant f a (unfit source spelled is) =
     absurd (none_some f (sym (without_fault plant.source (Some a.example.number) a.sound a.example.condition) ∙ ap refusal_of (one_source text plant.source source a.spelled spelled) ∙ is))
 
-pub accepted_is_taken : (text : List ℕ) (plant : Meaning) (f : ConfigFault) → Accepted text plant → IsRefused text f → f ≡ fault.Memory
+pub accepted_is_taken : (text : List ℕ) (plant : PlainPlant) (f : ConfigFault) → Accepted text plant → IsRefused text f → f ≡ fault.Memory
 accepted_is_taken text plant f a r = taken text plant f a (reason text f r)
 
 -- where something is accepted, the refusal is memory
-pub refusal_is_memory : (text : List ℕ) (r : Result Meaning ConfigFault) → IfErr r (IsRefused text) → (plant : Meaning) → Accepted text plant → IfErr r (λ f. f ≡ fault.Memory)
+pub refusal_is_memory : (text : List ℕ) (r : Result PlainPlant ConfigFault) → IfErr r (IsRefused text) → (plant : PlainPlant) → Accepted text plant → IfErr r (λ f. f ≡ fault.Memory)
 refusal_is_memory text (Ok built) h plant accepted = tt
 refusal_is_memory text (Err f) h plant accepted = accepted_is_taken text plant f accepted h
 
 -- a text is one plant
-pub accepted_once : (text : List ℕ) (a b : Meaning) → Accepted text a → Accepted text b → a ≡ b
+pub accepted_once : (text : List ℕ) (a b : PlainPlant) → Accepted text a → Accepted text b → a ≡ b
 accepted_once text a b x y =
     let same = one_source text a.source b.source x.spelled y.spelled in
     let number : x.example.number ≡ y.example.number = same_some _ _ (sym x.example.condition ∙ (ap condition_of same ∙ y.example.condition)) in

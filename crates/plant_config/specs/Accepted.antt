@@ -6,30 +6,30 @@ use Rattle.st_lexer.specs.Lexes.{Lexes, Stops, mark_len, unmarked}
 use Rattle.st_lexer.specs.Places.{line_at, column_at}
 use Rattle.st_parser.specs.Lexemes.{lexemes}
 use Rattle.st_parser.specs.Units.{PlainUnit}
-use Rattle.st_parser.specs.Declarations.{Spells}
+use Rattle.st_parser.specs.Declarations.{SpellsUnit}
 use Rattle.st_resolve.specs.Source.{Source}
 use Rattle.st_resolve.specs.declared.faults.FirstFault.TheVariants as first
 use Rattle.st_resolve.specs.Faults.{first_fault}
 use Rattle.plant_config.specs.declared.fault.ConfigFault.{ConfigFault}
 use Rattle.plant_config.specs.declared.fault.ConfigFault.TheVariants as fault
 use Rattle.plant_config.specs.Logic.{logic_of}
-use Rattle.plant_config.specs.Meaning.{Meaning}
+use Rattle.plant_config.specs.Plants.{PlainPlant}
 use Rattle.plant_config.specs.Example.{condition_of, IsExample}
 
 -- a text has tokens, and these spell a unit
-pub record Tells (text : List ℕ) (unit : PlainUnit) : Type 0 where
+pub record HasUnit (text : List ℕ) (unit : PlainUnit) : Type 0 where
   pub tokens : List Token
   pub lexed : Lexes text tokens
-  pub spelled : Spells (lexemes text tokens) unit
+  pub spelled : SpellsUnit (lexemes text tokens) unit
 
 -- a text tells a unit, all of it is built, and this is the unit's source
 pub record Spelled (text : List ℕ) (source : Source) : Type 0 where
   pub unit : PlainUnit
-  pub told : Tells text unit
+  pub told : HasUnit text unit
   pub built : logic_of unit ≡ Some source
 
 -- a text spells a source without faults, and the plant is the one that is built in, around this source and its condition
-pub record Accepted (text : List ℕ) (plant : Meaning) : Type 0 where
+pub record Accepted (text : List ℕ) (plant : PlainPlant) : Type 0 where
   pub spelled : Spelled text plant.source
   pub sound : first_fault plant.source ≡ None
   pub example : IsExample plant
@@ -42,7 +42,7 @@ start_of text tokens token = option_map_or (λ t. t.from) (slice_get tokens toke
 pub record Unspelled (text : List ℕ) (line column : ℕ) : Type 0 where
   pub tokens : List Token
   pub lexed : Lexes text tokens
-  pub no_unit : (unit : PlainUnit) → Spells (lexemes text tokens) unit → ⊥
+  pub no_unit : (unit : PlainUnit) → SpellsUnit (lexemes text tokens) unit → ⊥
   pub token : ℕ
   pub within : token ≤ length tokens
   pub line_is : line ≡ line_at (unmarked text) (start_of text tokens token)
@@ -69,7 +69,7 @@ abbrev pub IsRefused : List ℕ → ConfigFault → Type 0
 IsRefused text fault.Memory = ⊤
 IsRefused text (fault.Spelling line column) = Stops text line column
 IsRefused text (fault.Grammar line column) = Unspelled text line column
-IsRefused text fault.NotYet = (unit : PlainUnit) × Tells text unit × (logic_of unit ≡ None)
+IsRefused text fault.NotYet = (unit : PlainUnit) × HasUnit text unit × (logic_of unit ≡ None)
 IsRefused text fault = (source : Source) × Spelled text source × IsUnfit source fault
 
 -- two refusals are the same, memory and the place of a C5 apart

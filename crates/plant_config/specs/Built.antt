@@ -8,7 +8,7 @@ use Rattle.st_parser.specs.declared.unit.SectionKind.TheVariants as section
 use Rattle.st_parser.specs.declared.unit.Sort.{Sort}
 use Rattle.st_parser.specs.declared.unit.Sort.TheVariants as sort
 use Rattle.st_parser.specs.Units.{PlainDeclaration, PlainSection, PlainPou}
-use Rattle.st_tree.specs.Plain.{PlainExpr, literal, read, output_of, one, two}
+use Rattle.st_tree.specs.Plain.{PlainExpr, literal, read, output_of, unary, binary}
 use Rattle.st_tree.specs.Plain.{PlainStmt, empty, assign, call, choose, select, repeat, PlainBody, done, next, Branches, no_branch, branch, Choices, no_choice, choice}
 
 -- an expression takes no output of an instance
@@ -16,8 +16,8 @@ abbrev pub expr_built : {V : Type 0} → PlainExpr V → Bool
 expr_built (literal n) = true
 expr_built (read v) = true
 expr_built (output_of instance name) = false
-expr_built (one op a) = expr_built a
-expr_built (two op a b) = expr_built a && expr_built b
+expr_built (unary op a) = expr_built a
+expr_built (binary op a b) = expr_built a && expr_built b
 
 -- nor does one that may be left out
 abbrev pub option_built : {V : Type 0} → Option (PlainExpr V) → Bool

@@ -7,11 +7,11 @@ use Rattle.plant_config.specs.contracts.rows.AlarmRow as row
 use Rattle.plant_config.specs.contracts.rows.Console as console
 use Rattle.plant_config.specs.declared.rows.AlarmRow.{AlarmRow}
 use Rattle.plant_config.specs.declared.rows.Console.{Console}
-use Rattle.plant_config.specs.Meaning.{Meaning}
+use Rattle.plant_config.specs.Plants.{PlainPlant}
 
 -- a plant is kept as its four parts
-abbrev pub meaning_code : Coded Meaning
-meaning_code =
+abbrev pub plant_code : Coded PlainPlant
+plant_code =
     code_by (Source × (List (List ℕ) × (List Console × List AlarmRow)))
     (coded× source_code (coded× (coded_list (coded_list coded_ℕ)) (coded× (coded_list console.the_row.coded) (coded_list row.the_row.coded))))
     (λ plant. (plant.source, (plant.areas, (plant.consoles, plant.alarms))))

@@ -7,7 +7,7 @@ use Rattle.st_resolve.specs.declared.logic.Variable.{Variable}
 use Rattle.st_resolve.specs.Source.{Source}
 use Rattle.plant_config.specs.declared.rows.AlarmRow.{AlarmRow}
 use Rattle.plant_config.specs.declared.rows.Console.{Console}
-use Rattle.plant_config.specs.Meaning.{Meaning}
+use Rattle.plant_config.specs.Plants.{PlainPlant}
 
 -- the areas
 abbrev pub example_areas : List (List ℕ)
@@ -32,7 +32,7 @@ example_alarm condition =
     }
 
 -- the plant of a source whose condition is the global of a number
-abbrev pub example : Source → ℕ → Meaning
+abbrev pub example : Source → ℕ → PlainPlant
 example source condition =
     record { source = source; areas = example_areas; consoles = example_consoles; alarms = example_alarm condition ∷ [] }
 
@@ -50,7 +50,7 @@ abbrev pub condition_of : Source → Option ℕ
 condition_of source = position is_condition source.globals
 
 -- a plant is the one that is built in, around its own source and the condition of this
-pub record IsExample (plant : Meaning) : Type 0 where
+pub record IsExample (plant : PlainPlant) : Type 0 where
   pub number : ℕ
   pub condition : condition_of plant.source ≡ Some number
   pub built : plant ≡ example plant.source number

@@ -9,13 +9,13 @@ abbrev pub place : ℕ → ℕ → List ℕ
 place line column = decimal line ++ codes " " ++ decimal column
 
 -- the number of the fault, the file, and where it is, or what is over its limit; what isn't built yet has no number, and Memory no line
-abbrev pub fault_line : ConfigFault → List ℕ
-fault_line fault.Memory = []
-fault_line (fault.Spelling line column) = codes "CONFIG C4 p.st " ++ place line column
-fault_line (fault.Grammar line column) = codes "CONFIG C5 p.st " ++ place line column
-fault_line fault.NotYet = codes "CONFIG NOTYET"
-fault_line (fault.Name unit) = codes "CONFIG C6 p.st " ++ unit
-fault_line (fault.Kind unit) = codes "CONFIG C7 p.st " ++ unit
-fault_line (fault.Constant unit) = codes "CONFIG C9 p.st " ++ unit
-fault_line fault.Turns = codes "CONFIG C10 TURNS"
-fault_line fault.Condition = codes "CONFIG C14 1 condition"
+abbrev pub config_line : ConfigFault → List ℕ
+config_line fault.Memory = []
+config_line (fault.Spelling line column) = codes "CONFIG C4 p.st " ++ place line column
+config_line (fault.Grammar line column) = codes "CONFIG C5 p.st " ++ place line column
+config_line fault.NotYet = codes "CONFIG NOTYET"
+config_line (fault.Name unit) = codes "CONFIG C6 p.st " ++ unit
+config_line (fault.Kind unit) = codes "CONFIG C7 p.st " ++ unit
+config_line (fault.Constant unit) = codes "CONFIG C9 p.st " ++ unit
+config_line fault.Turns = codes "CONFIG C10 TURNS"
+config_line fault.Condition = codes "CONFIG C14 1 condition"

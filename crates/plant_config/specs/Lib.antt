@@ -4,5 +4,5 @@ pub mod Code
 pub mod Example
 pub mod FaultLine
 pub mod Logic
-pub mod Meaning
+pub mod Plants
 pub mod Names

@@ -18,8 +18,8 @@ fn expr_built(expr: &Expr<Text>) -> bool
         Expr::Literal(_) => true,
         Expr::Read(_) => true,
         Expr::Output(_, _) => false,
-        Expr::One(_, a) => expr_built(a),
-        Expr::Two(_, a, b) => expr_built(a) && expr_built(b),
+        Expr::Unary(_, a) => expr_built(a),
+        Expr::Binary(_, a, b) => expr_built(a) && expr_built(b),
     }
 }
 

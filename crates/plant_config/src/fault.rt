@@ -2,7 +2,7 @@
 
 ghost use Rattle.std.specs.Prelude.{◌≡◌, ◌≢◌, ◌++◌, IfOk, string_bytes, codes};
 ghost use Rattle.std.specs.Fmt.{decimal};
-ghost use Rattle.plant_config.specs.FaultLine.{fault_line};
+ghost use Rattle.plant_config.specs.FaultLine.{config_line};
 ghost use Rattle.plant_config.specs.declared.fault.ConfigFault.TheVariants as fault;
 
 use plant_types::Text;
@@ -44,7 +44,7 @@ impl ConfigFault {
     /// The line that tells the fault, without its line feed. The error is a refused growth.
     pub fn line(&self, alloc: Global) -> Result<String, AllocError>
         requires { self.now ≢ fault.Memory }
-        ensures { IfOk result (λ text. string_bytes text ≡ fault_line self.now) }
+        ensures { IfOk result (λ text. string_bytes text ≡ config_line self.now) }
     {
         match self {
             ConfigFault::Memory => Ok(String::new(alloc)),

@@ -3,7 +3,7 @@
 ghost use Rattle.std.specs.Prelude.{◌≡◌, ◌≤◌, None, IfOk, IfErr, length};
 ghost use Rattle.st_lexer.specs.Lexes.{Lexes, mark_len, unmarked};
 ghost use Rattle.st_lexer.specs.Places.{line_at, column_at};
-ghost use Rattle.st_parser.specs.Declarations.{Spells};
+ghost use Rattle.st_parser.specs.Declarations.{SpellsUnit};
 ghost use Rattle.st_parser.specs.Lexemes.{lexemes};
 ghost use Rattle.st_parser.specs.Units.{view_unit};
 ghost use Rattle.st_resolve.specs.Source.{source_of};
@@ -60,7 +60,7 @@ fn tokens(alloc: Global, text: &[u8]) -> Result<Vec<Token>, ConfigFault>
 /// The unit that a text's tokens spell, or C5.
 fn unit(alloc: Global, text: &[u8], tokens: &[Token]) -> Result<Unit, ConfigFault>
     requires { Lexes text.now tokens.now }
-    ensures unit { IfOk result (λ unit. Spells (lexemes text.now tokens.now) (view_unit unit)) }
+    ensures unit { IfOk result (λ unit. SpellsUnit (lexemes text.now tokens.now) (view_unit unit)) }
     ensures refused { IfErr result (IsRefused text.now) }
 {
     match parse(alloc, text, tokens) {

@@ -3,12 +3,12 @@
 ghost use Rattle.std.specs.Prelude.{◌≡◌, ℕ, List};
 ghost use Rattle.plant_config.specs.declared.fault.ConfigFault.{ConfigFault};
 ghost use Rattle.plant_config.specs.declared.fault.ConfigFault.TheVariants as fault;
-ghost use Rattle.plant_config.specs.Meaning.{Meaning};
+ghost use Rattle.plant_config.specs.Plants.{PlainPlant};
 ghost use Rattle.plant_config.specs.Accepted.{Accepted, IsRefused, SameRefusal};
 
 /// A text is accepted as one plant or refused for one reason, memory apart, and never both.
 pub fn one_plant()
-    ensures plant { (text : List ℕ) (a b : Meaning) → Accepted text a → Accepted text b → a ≡ b }
+    ensures plant { (text : List ℕ) (a b : PlainPlant) → Accepted text a → Accepted text b → a ≡ b }
     ensures refusal { (text : List ℕ) (f g : ConfigFault) → IsRefused text f → IsRefused text g → SameRefusal f g }
-    ensures apart { (text : List ℕ) (plant : Meaning) (f : ConfigFault) → Accepted text plant → IsRefused text f → f ≡ fault.Memory }
+    ensures apart { (text : List ℕ) (plant : PlainPlant) (f : ConfigFault) → Accepted text plant → IsRefused text f → f ≡ fault.Memory }
 {}

@@ -2,7 +2,7 @@
 
 ghost use Rattle.std.specs.Prelude.{◌≡◌, ◌<◌, length, position, IfSome, IfOk, IfErr, None};
 ghost use Rattle.std.specs.Str.{bytes_eq};
-ghost use Rattle.plant_config.specs.Meaning.{Meaning, IsPlant};
+ghost use Rattle.plant_config.specs.Plants.{PlainPlant, IsPlant};
 ghost use Rattle.plant_config.specs.Accepted.{Accepted, IsRefused, IsUnfit};
 ghost use Rattle.plant_config.specs.Example.{IsExample};
 ghost use Rattle.st_resolve.specs.Faults.{first_fault};
@@ -27,14 +27,14 @@ pub struct Plant {
 }
 
 impl Model for Plant {
-    ghost use Rattle.plant_config.specs.Meaning.{Meaning};
-    ghost use Rattle.plant_config.specs.Code.{meaning_code};
+    ghost use Rattle.plant_config.specs.Plants.{PlainPlant};
+    ghost use Rattle.plant_config.specs.Code.{plant_code};
 
-    ghost Value = { Meaning };
+    ghost Value = { PlainPlant };
 
-    ghost coded = { meaning_code };
+    ghost coded = { plant_code };
 
-    ghost use Rattle.plant_config.specs.Meaning.{IsPlant};
+    ghost use Rattle.plant_config.specs.Plants.{IsPlant};
 
     ghost view = { λ p. record { source = p.flat; areas = p.areas.items; consoles = p.consoles.items; alarms = p.alarms.items } };
 
@@ -51,7 +51,7 @@ impl Plant {
         ensures plant { IfOk result (Accepted source.now) }
         ensures refused { IfErr result (IsRefused source.now) }
         // What is accepted is taken, memory apart.
-        ensures accepted { (plant : Meaning) → Accepted source.now plant → IfErr result (λ e. e ≡ fault.Memory) }
+        ensures accepted { (plant : PlainPlant) → Accepted source.now plant → IfErr result (λ e. e ≡ fault.Memory) }
     {
         match front::read(alloc, source) {
             Ok(flat) => Plant::around(alloc, flat),

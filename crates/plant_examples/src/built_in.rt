@@ -1,8 +1,7 @@
 //! The plant that is built in.
 
 use plant_config::{ConfigFault, Plant};
-use plant_types::Kind;
-use st_lexer::Region;
+use plant_types::{Kind, Region};
 use st_resolve::Flat;
 use std::alloc::Global;
 

@@ -1,3 +1,3 @@
-pub mod Named
+pub mod Pairs
 pub mod Values
 pub mod Words

@@ -14,5 +14,5 @@ mod words;
 pub use items::Items;
 pub use pair::Pair;
 pub use text::Text;
-pub use values::{Given, Kind, Place, Trap, Value, fitted};
+pub use values::{Given, Kind, Place, Region, Trap, Value, fitted};
 pub use words::{is_name, same_word};

@@ -9,10 +9,10 @@ pub struct Pair {
 }
 
 impl Model for Pair {
-    ghost use Rattle.plant_types.specs.Named.{Named};
+    ghost use Rattle.plant_types.specs.Pairs.{PlainPair};
     ghost use Rattle.std.specs.Prelude.{string_bytes};
 
-    ghost Value = { Named };
+    ghost Value = { PlainPair };
 
     ghost view = { λ p. record { name = string_bytes p.name; given = p.given } };
 }

@@ -21,6 +21,14 @@ pub enum Value {
     Time(i64),
 }
 
+/// Where a variable's address lies: `%I` is an input, `%Q` an output, `%M` plain memory (IEC 61131-3).
+#[derive(Clone, Copy, Debug, PartialEq, Eq, Drop)]
+pub enum Region {
+    Input,
+    Output,
+    Plain,
+}
+
 /// Why a program stops before its end (this profile).
 #[derive(Clone, Copy, Debug, PartialEq, Eq, Drop)]
 pub enum Trap {

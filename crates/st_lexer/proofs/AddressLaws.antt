@@ -7,9 +7,9 @@ use Rattle.std.proofs.lemmas.Bool.{and_parts, and_from, or_left, or_right, or_ca
 use Rattle.std.proofs.lemmas.Bool.Decides.{nat_tests}
 use Rattle.std.proofs.lemmas.Option.{same_Some, none-some, option_and_then_some}
 use Rattle.std.proofs.lemmas.Slice.Eq.{bytes_eq-Decides}
-use Rattle.st_lexer.specs.declared.token.Region.{Region}
-use Rattle.st_lexer.specs.declared.token.Region.TheVariants as r
-use Rattle.st_lexer.specs.Bytes.{begins_by, linked, grouped}
+use Rattle.plant_types.specs.declared.values.Region.{Region}
+use Rattle.plant_types.specs.declared.values.Region.TheVariants as r
+use Rattle.st_lexer.specs.Bytes.{begins_by, linked, is_grouped}
 use Rattle.st_lexer.specs.Addresses.{same_letter, letter_of, is_size, is_place, is_address}
 use Rattle.st_lexer.specs.ReadingLiterals.{linked_len, ◌>>=◌}
 use Rattle.st_lexer.specs.Reading.{place_len, region_by, placed, address_by}
@@ -75,8 +75,8 @@ digit_no_star : (b : ℕ) → digit b ≡ true → (b == 42) ≡ false
 digit_no_star b h = grind (arith, nat_tests)
 
 -- a place begins with `*` or a digit
-place_cases : (bs : List ℕ) → is_place bs ≡ true → (bs ≡ 42 ∷ []) ⊎ (grouped digit 46 bs ≡ true)
-place_cases bs h = elim (or_cases (bytes_eq bs (42 ∷ [])) (grouped digit 46 bs) h) [
+place_cases : (bs : List ℕ) → is_place bs ≡ true → (bs ≡ 42 ∷ []) ⊎ (is_grouped digit 46 bs ≡ true)
+place_cases bs h = elim (or_cases (bytes_eq bs (42 ∷ [])) (is_grouped digit 46 bs) h) [
   | inl star ↦ inl ((bytes_eq-Decides bs (42 ∷ [])).0 star)
   | inr digits ↦ inr digits
 ]
@@ -129,7 +129,7 @@ place_is (b ∷ bs) some = elim (place_next b bs) [
   | inl star ↦ subst (λ n. is_place (take n (b ∷ bs)) ≡ true) (sym (place_star b bs star)) (or_left (bytes_eq (b ∷ []) (42 ∷ [])) _ (and_from (b == 42) true star refl))
   | inr other ↦ elim other [
     | inl first ↦ subst (λ n. is_place (take n (b ∷ bs)) ≡ true) (sym (place_digits b bs first))
-        (or_right (bytes_eq (take (linked_len digit 46 (b ∷ bs)) (b ∷ bs)) (42 ∷ [])) (grouped digit 46 (take (linked_len digit 46 (b ∷ bs)) (b ∷ bs)))
+        (or_right (bytes_eq (take (linked_len digit 46 (b ∷ bs)) (b ∷ bs)) (42 ∷ [])) (is_grouped digit 46 (take (linked_len digit 46 (b ∷ bs)) (b ∷ bs)))
         (and_from (begins_by digit (take (linked_len digit 46 (b ∷ bs)) (b ∷ bs))) (linked digit 46 (take (linked_len digit 46 (b ∷ bs)) (b ∷ bs))) (begins_less digit (linked_len digit 46 (b ∷ bs)) (b ∷ bs) (linked_begins digit 46 (b ∷ bs) first) first) (linked_is digit 46 (b ∷ bs))))
     | inr none ↦ absurd (let n = none in omega arith)
   ]

@@ -13,7 +13,7 @@ use Rattle.st_lexer.specs.declared.token.Keyword.{Keyword}
 use Rattle.st_lexer.specs.declared.token.Keyword.TheVariants as k
 use Rattle.st_lexer.specs.declared.token.Symbol.{Symbol}
 use Rattle.st_lexer.specs.declared.token.Symbol.TheVariants as s
-use Rattle.st_lexer.specs.declared.token.Region.{Region}
+use Rattle.plant_types.specs.declared.values.Region.{Region}
 use Rattle.st_lexer.specs.declared.token.TokenKind.{TokenKind}
 use Rattle.st_lexer.specs.declared.token.TokenKind.TheVariants as t
 use Rattle.st_lexer.specs.declared.piece.Piece.{Piece}
@@ -25,8 +25,8 @@ use Rattle.st_lexer.specs.Addresses.{is_address, is_place, is_size, same_letter,
 use Rattle.st_lexer.specs.Comments.{is_comment, closed, one_line}
 use Rattle.st_lexer.specs.Literals.{begins_word, is_truth}
 use Rattle.st_lexer.specs.Durations.{IsDuration, short, long}
-use Rattle.st_lexer.specs.Spellings.{Spells}
-use Rattle.st_lexer.specs.Pieces.{Fits, one_blank}
+use Rattle.st_lexer.specs.Spellings.{SpellsToken}
+use Rattle.st_lexer.specs.Pieces.{IsPiece, one_blank}
 
 -- the class of first bytes that a kind of token has
 abbrev pub class_of_token : TokenKind → First
@@ -249,7 +249,7 @@ pub duration_first : (b : ℕ) (bs : List ℕ) (value : ℤ) → IsDuration (b �
 duration_first b bs value (short begins timed fits) = first_lower 84 (codes "#") b bs begins
 duration_first b bs value (long begins timed fits) = first_lower 84 (codes "IME#") b bs begins
 
-token_first : (kind : TokenKind) (b : ℕ) (bs : List ℕ) → Spells kind (b ∷ bs) → first_of b ≡ class_of_token kind
+token_first : (kind : TokenKind) (b : ℕ) (bs : List ℕ) → SpellsToken kind (b ∷ bs) → first_of b ≡ class_of_token kind
 token_first t.Word b bs h = name_first b bs h.form
 token_first (t.Keyword k) b bs h = name_first b bs (keyword_is_name (b ∷ bs) k h)
 token_first (t.Integer n) b bs h = integer_first b bs n h
@@ -260,7 +260,7 @@ token_first (t.Address region) b bs h = address_first b bs region h
 token_first (t.Symbol symbol) b bs h = symbol_first b bs symbol h
 
 -- the first byte of a piece is of its kind's class
-pub opens : (piece : Piece) (b : ℕ) (bs : List ℕ) → Fits piece (b ∷ bs) → first_of b ≡ class_of piece
+pub opens : (piece : Piece) (b : ℕ) (bs : List ℕ) → IsPiece piece (b ∷ bs) → first_of b ≡ class_of piece
 opens p.Blank b bs h = blank_is_first b bs h
 opens p.Comment b bs h = comment_first b bs h
 opens (p.Token kind) b bs h = token_first kind b bs h

@@ -5,7 +5,7 @@ use Rattle.st_lexer.specs.declared.piece.Piece.TheVariants as p
 use Rattle.std.proofs.lemmas.List.{drop-drop}
 use Rattle.st_lexer.specs.declared.token.TokenKind.{TokenKind}
 use Rattle.st_lexer.specs.declared.token.Token.{Token}
-use Rattle.st_lexer.specs.Spellings.{Spells}
+use Rattle.st_lexer.specs.Spellings.{SpellsToken}
 use Rattle.st_lexer.specs.Pieces.{IsNext, IsOver, Cut, total}
 use Rattle.st_lexer.specs.Lexes.{tokens_of, mark_len, unmarked, Lexes, Stops, IsTokenOf}
 use Rattle.st_lexer.specs.Places.{line_at, column_at}
@@ -65,7 +65,7 @@ first_token text at n kind w x =
     record {
       some = omega arith;
       within = omega arith;
-      spelled = subst (λ i. Spells kind (take i (drop at text))) back x.is;
+      spelled = subst (λ i. SpellsToken kind (take i (drop at text))) back x.is;
     }
 
 further : (text : List ℕ) (at n : ℕ) (piece : Piece) → at ≤ length text → IsNext (drop at text) piece n → at + n ≤ length text

@@ -13,7 +13,7 @@ use Rattle.st_lexer.specs.Bytes.{begins_by, linked}
 use Rattle.st_lexer.specs.Numbers.{is_number, number}
 use Rattle.st_lexer.specs.Literals.{signed}
 use Rattle.st_lexer.specs.Durations.{name_of, milliseconds_in, units, places, without, last, pointed, followed, Lasts, IsTimed, ahead, back}
-use Rattle.st_lexer.specs.ReadingLiterals.{number_by, linked_len, signed_by, digits_len, decimals_by, letters_len, whole_number, pointed_number, fraction_by, leading, part_by, added, behind_mark, parts_after, parts_by, timed_by, ◌>>=◌}
+use Rattle.st_lexer.specs.ReadingLiterals.{number_by, linked_len, signed_by, digits_len, decimals_by, letters_len, whole_number, pointed_number, fraction_by, leading, part_by, part_added, behind_mark, parts_after, parts_by, timed_by, ◌>>=◌}
 use Rattle.st_lexer.proofs.NumberLaws.{number_sound, number_complete}
 use Rattle.st_lexer.proofs.AddressLaws.{begins_more, begins_less, linked_begins, linked_is}
 use Rattle.st_lexer.proofs.LiteralLaws.{dot}
@@ -191,8 +191,8 @@ part_found bs name rest num h letters s =
 abbrev sum_of : ℕ → ℕ → ℕ → Option ℕ
 sum_of sum whole part = cond (nat_lt (sum + (whole + part)) (2 ^ 64)) (Some (sum + (whole + part))) None
 
-added_is : (sum : ℕ) (num : Number) (unit : TimeUnit) → added sum num unit ≡ cond ((num.decimals * milliseconds_in unit) % 10 ^ 10 == 0) (sum_of sum (num.whole * milliseconds_in unit) (num.decimals * milliseconds_in unit / 10 ^ 10)) None
-unfolding added
+added_is : (sum : ℕ) (num : Number) (unit : TimeUnit) → part_added sum num unit ≡ cond ((num.decimals * milliseconds_in unit) % 10 ^ 10 == 0) (sum_of sum (num.whole * milliseconds_in unit) (num.decimals * milliseconds_in unit / 10 ^ 10)) None
+unfolding part_added
 added_is sum num unit = refl
 
 pub record Adds (sum : ℕ) (num : Number) (unit : TimeUnit) (more : ℕ) : Type 0 where
@@ -200,7 +200,7 @@ pub record Adds (sum : ℕ) (num : Number) (unit : TimeUnit) (more : ℕ) : Type
   pub exact : num.decimals * milliseconds_in unit ≡ part * 10 ^ 10
   pub is : more ≡ sum + (num.whole * milliseconds_in unit + part)
 
-added_sound : (sum : ℕ) (num : Number) (unit : TimeUnit) (more : ℕ) → added sum num unit ≡ Some more → Adds sum num unit more
+added_sound : (sum : ℕ) (num : Number) (unit : TimeUnit) (more : ℕ) → part_added sum num unit ≡ Some more → Adds sum num unit more
 added_sound sum num unit more h = elim (cases_Bool ((num.decimals * milliseconds_in unit) % 10 ^ 10 == 0)) [
   | inl yes' ↦
       let found = sym (added_is sum num unit ∙ cond-true ((num.decimals * milliseconds_in unit) % 10 ^ 10 == 0) (sum_of sum (num.whole * milliseconds_in unit) (num.decimals * milliseconds_in unit / 10 ^ 10)) None yes') ∙ h in
@@ -218,7 +218,7 @@ added_sound sum num unit more h = elim (cases_Bool ((num.decimals * milliseconds
     divided : (n q r : ℕ) → q * 10 ^ 10 + r ≡ n → r ≡ 0 → n ≡ q * 10 ^ 10
     divided n q r e z = omega arith
 
-added_found : (sum : ℕ) (num : Number) (unit : TimeUnit) (part : ℕ) → num.decimals * milliseconds_in unit ≡ part * 10 ^ 10 → sum + (num.whole * milliseconds_in unit + part) < 2 ^ 64 → added sum num unit ≡ Some (sum + (num.whole * milliseconds_in unit + part))
+added_found : (sum : ℕ) (num : Number) (unit : TimeUnit) (part : ℕ) → num.decimals * milliseconds_in unit ≡ part * 10 ^ 10 → sum + (num.whole * milliseconds_in unit + part) < 2 ^ 64 → part_added sum num unit ≡ Some (sum + (num.whole * milliseconds_in unit + part))
 added_found sum num unit part exact fits =
     let padded : num.decimals * milliseconds_in unit ≡ part * 10 ^ 10 + 0 = omega arith in
     let none : (num.decimals * milliseconds_in unit) % 10 ^ 10 ≡ 0 = ap (λ n. n % 10 ^ 10) padded ∙ mod-mul-add part (10 ^ 10) 0 (omega arith) in
@@ -321,11 +321,11 @@ not_among unit (w ∷ us) v h a e =
 abbrev ending : List TimeUnit → Number → List ℕ → ℕ → Option ℕ
 ending us num rest more = cond (length rest == 0) (Some more) (cond num.is_pointed None (part_by (behind_mark rest) >>= λ next. parts_after us more next.0 next.1 next.2))
 
-take_unit : (unit : TimeUnit) (us : List TimeUnit) (sum : ℕ) (num : Number) (name rest : List ℕ) → same_word name (name_of unit) ≡ true → parts_after (unit ∷ us) sum num name rest ≡ (added sum num unit >>= ending us num rest)
-take_unit unit us sum num name rest h = cond-true (same_word name (name_of unit)) (added sum num unit >>= ending us num rest) (parts_after us sum num name rest) h
+take_unit : (unit : TimeUnit) (us : List TimeUnit) (sum : ℕ) (num : Number) (name rest : List ℕ) → same_word name (name_of unit) ≡ true → parts_after (unit ∷ us) sum num name rest ≡ (part_added sum num unit >>= ending us num rest)
+take_unit unit us sum num name rest h = cond-true (same_word name (name_of unit)) (part_added sum num unit >>= ending us num rest) (parts_after us sum num name rest) h
 
 pass_unit : (unit : TimeUnit) (us : List TimeUnit) (sum : ℕ) (num : Number) (name rest : List ℕ) → same_word name (name_of unit) ≡ false → parts_after (unit ∷ us) sum num name rest ≡ parts_after us sum num name rest
-pass_unit unit us sum num name rest h = cond-false (same_word name (name_of unit)) (added sum num unit >>= ending us num rest) (parts_after us sum num name rest) h
+pass_unit unit us sum num name rest h = cond-false (same_word name (name_of unit)) (part_added sum num unit >>= ending us num rest) (parts_after us sum num name rest) h
 
 record Read (us : List TimeUnit) (bs : List ℕ) (n : ℕ) : Type 0 where
   num : Number
@@ -514,7 +514,7 @@ next_parts us more next = parts_after us more next.0 next.1 next.2
 sum_parts : (us : List TimeUnit) (bs : List ℕ) (sum total : ℕ) (num : Number) (name rest : List ℕ) → part_by bs ≡ Some (num, name, rest) → parts_after us sum num name rest ≡ Some total → Sums us bs sum total
 sum_parts [] bs sum total num name rest read h = absurd (none-some total h)
 sum_parts (unit ∷ us) bs sum total num name rest read h = elim (cases_Bool (same_word name (name_of unit))) [
-  | inl named ↦ option_and_then_some (ending us num rest) (added sum num unit) total (sym (take_unit unit us sum num name rest named) ∙ h) (λ more is e.
+  | inl named ↦ option_and_then_some (ending us num rest) (part_added sum num unit) total (sym (take_unit unit us sum num name rest named) ∙ h) (λ more is e.
       let adds = added_sound sum num unit more is in
       let led = part_sound bs name rest num read in
       elim (cases_Bool (length rest == 0)) [

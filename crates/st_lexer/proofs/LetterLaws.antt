@@ -10,7 +10,7 @@ use Rattle.st_lexer.specs.declared.token.TokenKind.TheVariants as t
 use Rattle.st_lexer.specs.Bytes.{is_tied, stands_apart}
 use Rattle.st_lexer.specs.Literals.{begins_word, is_truth, IsDint}
 use Rattle.st_lexer.specs.Durations.{IsDuration, short, long}
-use Rattle.st_lexer.specs.Spellings.{Spells}
+use Rattle.st_lexer.specs.Spellings.{SpellsToken}
 use Rattle.st_lexer.specs.ReadingLiterals.{dint_by, truth_by, timed_by, lettered_len, literal_by}
 use Rattle.st_lexer.specs.Reading.{keyword_by, word_or, lettered}
 use Rattle.st_lexer.proofs.Classes.{class_of_token, keyword_is_name, truth_first}
@@ -58,25 +58,25 @@ literal_plain : (bs : List ℕ) → begins_word (codes "DINT#") bs ≡ false →
 unfolding literal_by
 literal_plain bs d s l = cond-false (begins_word (codes "DINT#") bs) (as_dint bs) (second bs) d ∙ cond-false (begins_word (codes "T#") bs) (as_short bs) (third bs) s ∙ cond-false (begins_word (codes "TIME#") bs) (as_long bs) (as_truth bs) l
 
-literal_sound : (bs : List ℕ) (kind : TokenKind) → literal_by bs ≡ Some kind → Spells kind bs
+literal_sound : (bs : List ℕ) (kind : TokenKind) → literal_by bs ≡ Some kind → SpellsToken kind bs
 literal_sound bs kind h = elim (cases_Bool (begins_word (codes "DINT#") bs)) [
   | inl d ↦
       let found = map_some (λ v. t.Dint v) (dint_by (drop 5 bs)) kind (sym (literal_dint bs d) ∙ h) in
       let s = dint_sound (drop 5 bs) found.0 found.1 in
-      subst (λ z. Spells z bs) found.2 record { prefix = d; number = s.0; range = s.1 }
+      subst (λ z. SpellsToken z bs) found.2 record { prefix = d; number = s.0; range = s.1 }
   | inr no_d ↦ elim (cases_Bool (begins_word (codes "T#") bs)) [
     | inl s ↦
         let found = map_some (λ v. t.Duration v) (timed_by (drop 2 bs)) kind (sym (literal_short bs s) ∙ h) in
         let timed = timed_sound (drop 2 bs) found.0 found.1 in
-        subst (λ z. Spells z bs) found.2 (short s timed.0 timed.1)
+        subst (λ z. SpellsToken z bs) found.2 (short s timed.0 timed.1)
     | inr no_s ↦ elim (cases_Bool (begins_word (codes "TIME#") bs)) [
       | inl l ↦
           let found = map_some (λ v. t.Duration v) (timed_by (drop 5 bs)) kind (sym (literal_long bs l) ∙ h) in
           let timed = timed_sound (drop 5 bs) found.0 found.1 in
-          subst (λ z. Spells z bs) found.2 (long l timed.0 timed.1)
+          subst (λ z. SpellsToken z bs) found.2 (long l timed.0 timed.1)
       | inr no_l ↦
           let found = map_some (λ v. t.Truth v) (truth_by bs) kind (sym (literal_plain bs no_d no_s no_l) ∙ h) in
-          subst (λ z. Spells z bs) found.2 (truth_sound bs found.0 found.1)
+          subst (λ z. SpellsToken z bs) found.2 (truth_sound bs found.0 found.1)
     ]
   ]
 ]
@@ -90,7 +90,7 @@ unnamed : (bs : List ℕ) → is_name bs ≡ false → lettered bs ≡ literal_b
 unfolding lettered
 unnamed bs h = cond-false (is_name bs) (Some (word_or (keyword_by bs))) (literal_by bs) h
 
-pub letter_sound : (bs : List ℕ) (kind : TokenKind) → lettered bs ≡ Some kind → Spells kind bs
+pub letter_sound : (bs : List ℕ) (kind : TokenKind) → lettered bs ≡ Some kind → SpellsToken kind bs
 letter_sound bs kind h = elim (cases_Bool (is_name bs)) [
   | inl word ↦ word_sound bs kind word (same_Some (word_or (keyword_by bs)) kind (sym (named bs word) ∙ h))
   | inr other ↦ literal_sound bs kind (sym (unnamed bs other) ∙ h)
@@ -111,7 +111,7 @@ truth_found (x ∷ xs) value h =
     let none = no_word x xs (truth_first value x xs h) in
     unnamed (x ∷ xs) (truth_no_name value (x ∷ xs) h) ∙ literal_plain (x ∷ xs) none.no_dint none.no_short none.no_long ∙ ap (λ o. option_map (λ z. t.Truth z) o) (truth_complete (x ∷ xs) value h)
 
-pub letter_complete : (bs : List ℕ) (kind : TokenKind) → class_of_token kind ≡ f.Letter → Spells kind bs → lettered bs ≡ Some kind
+pub letter_complete : (bs : List ℕ) (kind : TokenKind) → class_of_token kind ≡ f.Letter → SpellsToken kind bs → lettered bs ≡ Some kind
 letter_complete bs t.Word e h = lettered_word bs h
 letter_complete bs (t.Keyword k) e h = lettered_keyword bs k h
 letter_complete bs (t.Dint value) e h = dint_found bs value h
@@ -125,7 +125,7 @@ letter_complete bs (t.Symbol symbol) e h = absurd (cc)
 name_reach : (bs rest : List ℕ) → is_name bs ≡ true → length bs ≤ lettered_len (bs ++ rest)
 name_reach bs rest h = let over = tied_over bs rest (name_tied bs h) in let least = (lettered_end (bs ++ rest)).least in omega arith
 
-pub letter_reach : (kind : TokenKind) (bs rest : List ℕ) → class_of_token kind ≡ f.Letter → Spells kind bs → length bs ≤ lettered_len (bs ++ rest)
+pub letter_reach : (kind : TokenKind) (bs rest : List ℕ) → class_of_token kind ≡ f.Letter → SpellsToken kind bs → length bs ≤ lettered_len (bs ++ rest)
 letter_reach t.Word bs rest e h = name_reach bs rest h.form
 letter_reach (t.Keyword k) bs rest e h = name_reach bs rest (keyword_is_name bs k h)
 letter_reach (t.Dint value) bs rest e h = let g = dint_goes bs rest value h in omega arith
@@ -143,7 +143,7 @@ name_exact bs rest h apart =
     let plain = plain_len (bs ++ rest) (word_no_front (codes "DINT#") bs rest h apart refl refl) (word_no_front (codes "T#") bs rest h apart refl refl) (word_no_front (codes "TIME#") bs rest h apart refl refl) in
     omega arith
 
-pub letter_exact : (kind : TokenKind) (bs rest : List ℕ) → class_of_token kind ≡ f.Letter → Spells kind bs → stands_apart rest ≡ true → lettered_len (bs ++ rest) ≡ length bs
+pub letter_exact : (kind : TokenKind) (bs rest : List ℕ) → class_of_token kind ≡ f.Letter → SpellsToken kind bs → stands_apart rest ≡ true → lettered_len (bs ++ rest) ≡ length bs
 letter_exact t.Word bs rest e h apart = name_exact bs rest h.form apart
 letter_exact (t.Keyword k) bs rest e h apart = name_exact bs rest (keyword_is_name bs k h) apart
 letter_exact (t.Dint value) bs rest e h apart = let g = dint_goes bs rest value h in let none = apart_none rest apart in omega arith

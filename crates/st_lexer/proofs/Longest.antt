@@ -11,7 +11,7 @@ use Rattle.plant_types.specs.Words.{is_letter}
 use Rattle.st_lexer.specs.declared.bytes.First.{First}
 use Rattle.st_lexer.specs.declared.bytes.First.TheVariants as f
 use Rattle.st_lexer.specs.declared.token.Symbol.{Symbol}
-use Rattle.st_lexer.specs.declared.token.Region.{Region}
+use Rattle.plant_types.specs.declared.values.Region.{Region}
 use Rattle.st_lexer.specs.declared.token.TokenKind.{TokenKind}
 use Rattle.st_lexer.specs.declared.token.TokenKind.TheVariants as t
 use Rattle.st_lexer.specs.declared.piece.Piece.{Piece}
@@ -21,10 +21,10 @@ use Rattle.st_lexer.specs.Tables.{bytes_of}
 use Rattle.st_lexer.specs.Addresses.{is_address}
 use Rattle.st_lexer.specs.Comments.{closed, one_line, is_comment, begins_comment}
 use Rattle.st_lexer.specs.Durations.{IsDuration, short, long}
-use Rattle.st_lexer.specs.Spellings.{Spells}
-use Rattle.st_lexer.specs.Pieces.{one_blank, Fits, token_may_precede, may_precede, IsNext, IsOver}
+use Rattle.st_lexer.specs.Spellings.{SpellsToken}
+use Rattle.st_lexer.specs.Pieces.{one_blank, IsPiece, token_may_precede, may_precede, IsNext, IsOver}
 use Rattle.st_lexer.specs.ReadingLiterals.{integer_by, tied_len, lettered_len, ◌>>=◌}
-use Rattle.st_lexer.specs.Reading.{lettered, numbered, address_by, addressed, closing, line_len, single_by, double_by, symbol_by, as_symbol, as_comment, or_else, marked, spread, begun, next_of}
+use Rattle.st_lexer.specs.Reading.{lettered, integer_token, address_by, addressed, closing_len, line_len, single_by, double_by, symbol_by, as_symbol, as_comment, first_some, mark_piece, spread, begun, next_of}
 use Rattle.st_lexer.proofs.Classes.{class_of, class_of_token, opens, comment_cases, keyword_is_name}
 use Rattle.st_lexer.proofs.WordLaws.{tied_over, apart_none, tied_apart}
 use Rattle.st_lexer.proofs.NumberLaws.{integer_tied, integer_some, integer_sound, integer_complete}
@@ -49,7 +49,7 @@ duration_some : (value : ℤ) → IsDuration [] value → ⊥
 duration_some value (short begins timed fits) = no_truth begins
 duration_some value (long begins timed fits) = no_truth begins
 
-spells_none : (kind : TokenKind) → Spells kind [] → ⊥
+spells_none : (kind : TokenKind) → SpellsToken kind [] → ⊥
 spells_none t.Word h = no_truth h.form
 spells_none (t.Keyword k) h = no_truth (keyword_is_name [] k h)
 spells_none (t.Integer n) h = integer_some n h
@@ -59,17 +59,17 @@ spells_none (t.Duration value) h = duration_some value h
 spells_none (t.Address region) h = no_truth h
 spells_none (t.Symbol symbol) h = let l = ap length h in let some = (symbol_length symbol).0 in omega arith
 
-fits_none : (piece : Piece) → Fits piece [] → ⊥
+fits_none : (piece : Piece) → IsPiece piece [] → ⊥
 fits_none p.Blank h = no_truth h
 fits_none p.Comment h = no_truth h
 fits_none (p.Token kind) h = spells_none kind h
 
-pub fits_some : (piece : Piece) (n : ℕ) (text : List ℕ) → Fits piece (take n text) → 0 < n
+pub fits_some : (piece : Piece) (n : ℕ) (text : List ℕ) → IsPiece piece (take n text) → 0 < n
 fits_some piece zero text h = absurd (fits_none piece h)
 fits_some piece (suc n) text h = omega arith
 
 -- its first byte is of its class
-opens_at : (piece : Piece) (b : ℕ) (bs : List ℕ) (m : ℕ) → Fits piece (take m (b ∷ bs)) → first_of b ≡ class_of piece
+opens_at : (piece : Piece) (b : ℕ) (bs : List ℕ) (m : ℕ) → IsPiece piece (take m (b ∷ bs)) → first_of b ≡ class_of piece
 opens_at piece b bs zero h = absurd (fits_none piece h)
 opens_at piece b bs (suc m) h = opens piece b (take m bs) h
 
@@ -117,15 +117,15 @@ blank_next : (b : ℕ) (bs : List ℕ) → first_of b ≡ f.Blank → IsNext (b 
 blank_next b bs is = record {
   within = omega arith;
   is = blank_of b is;
-  longest = λ other m more w h. (let same = blank_class other (sym (opens_at other b bs m h) ∙ is) in let one = one_at b bs m (subst (λ z. Fits z (take m (b ∷ bs))) same h) w in omega arith);
+  longest = λ other m more w h. (let same = blank_class other (sym (opens_at other b bs m h) ∙ is) in let one = one_at b bs m (subst (λ z. IsPiece z (take m (b ∷ bs))) same h) w in omega arith);
   follows = refl;
-  marked = λ h. absurd (let e : f.Mark ≡ f.Blank = sym (comment_mark b bs h) ∙ is in cc);
+  mark_piece = λ h. absurd (let e : f.Mark ≡ f.Blank = sym (comment_mark b bs h) ∙ is in cc);
 }
 
 blank_only : (b : ℕ) (bs : List ℕ) (piece : Piece) (n : ℕ) → first_of b ≡ f.Blank → IsNext (b ∷ bs) piece n → (let s : Option Found = Some (p.Blank, 1) in s) ≡ Some (piece, n)
 blank_only b bs piece n is x =
     let same = blank_class piece (sym (opens_at piece b bs n x.is) ∙ is) in
-    let one = one_at b bs n (subst (λ z. Fits z (take n (b ∷ bs))) same x.is) x.within in
+    let one = one_at b bs n (subst (λ z. IsPiece z (take n (b ∷ bs))) same x.is) x.within in
     ap (λ z. Some (z, 1)) (sym same) ∙ ap (λ i. Some (piece, i)) (sym one)
 
 -- ---- words and literals
@@ -162,26 +162,26 @@ digit_solid = record { token = digit_token; apart = digit_apart; no_mark = λ e.
 -- how far the tokens of a class go, and which they are
 pub record IsReader (class : First) (extent : List ℕ → ℕ) (classify : List ℕ → Option TokenKind) : Type 0 where
   pub solid : IsSolid class
-  pub sound : (bs : List ℕ) (kind : TokenKind) → classify bs ≡ Some kind → Spells kind bs
-  pub complete : (bs : List ℕ) (kind : TokenKind) → class_of_token kind ≡ class → Spells kind bs → classify bs ≡ Some kind
-  pub reach : (kind : TokenKind) (bs rest : List ℕ) → class_of_token kind ≡ class → Spells kind bs → length bs ≤ extent (bs ++ rest)
-  pub exact : (kind : TokenKind) (bs rest : List ℕ) → class_of_token kind ≡ class → Spells kind bs → stands_apart rest ≡ true → extent (bs ++ rest) ≡ length bs
+  pub sound : (bs : List ℕ) (kind : TokenKind) → classify bs ≡ Some kind → SpellsToken kind bs
+  pub complete : (bs : List ℕ) (kind : TokenKind) → class_of_token kind ≡ class → SpellsToken kind bs → classify bs ≡ Some kind
+  pub reach : (kind : TokenKind) (bs rest : List ℕ) → class_of_token kind ≡ class → SpellsToken kind bs → length bs ≤ extent (bs ++ rest)
+  pub exact : (kind : TokenKind) (bs rest : List ℕ) → class_of_token kind ≡ class → SpellsToken kind bs → stands_apart rest ≡ true → extent (bs ++ rest) ≡ length bs
   pub ends : (text : List ℕ) → stands_apart (drop (extent text) text) ≡ true
   pub within : (text : List ℕ) → extent text ≤ length text
 
 module _ (class : First) (extent : List ℕ → ℕ) (classify : List ℕ → Option TokenKind) (reader : IsReader class extent classify) where
   -- a piece of the class is a token of the class
-  token_at : (b : ℕ) (bs : List ℕ) (piece : Piece) (m : ℕ) → first_of b ≡ class → Fits piece (take m (b ∷ bs)) → (kind : TokenKind) × (piece ≡ p.Token kind) × (class_of_token kind ≡ class)
+  token_at : (b : ℕ) (bs : List ℕ) (piece : Piece) (m : ℕ) → first_of b ≡ class → IsPiece piece (take m (b ∷ bs)) → (kind : TokenKind) × (piece ≡ p.Token kind) × (class_of_token kind ≡ class)
   token_at b bs piece m is h =
       let same = sym (opens_at piece b bs m h) ∙ is in
       let token = reader.solid.token piece same in
       (token.0, token.1, sym (ap class_of token.1) ∙ same)
 
-  reached : (b : ℕ) (bs : List ℕ) (piece : Piece) (m : ℕ) → first_of b ≡ class → m ≤ length (b ∷ bs) → Fits piece (take m (b ∷ bs)) → m ≤ extent (b ∷ bs)
+  reached : (b : ℕ) (bs : List ℕ) (piece : Piece) (m : ℕ) → first_of b ≡ class → m ≤ length (b ∷ bs) → IsPiece piece (take m (b ∷ bs)) → m ≤ extent (b ∷ bs)
   reached b bs piece m is w h =
       let token = token_at b bs piece m is h in
       let text = b ∷ bs in
-      let spells : Spells token.0 (take m text) = subst (λ z. Fits z (take m text)) token.1 h in
+      let spells : SpellsToken token.0 (take m text) = subst (λ z. IsPiece z (take m text)) token.1 h in
       let far : length (take m text) ≤ extent (take m text ++ drop m text) = reader.reach token.0 (take m text) (drop m text) token.2 spells in
       let size = length-take-le m text w in
       let near : length (take m text) ≤ extent text = subst (λ x. length (take m text) ≤ extent x) (take-append-drop m text) far in
@@ -196,7 +196,7 @@ module _ (class : First) (extent : List ℕ → ℕ) (classify : List ℕ → Op
         is = spells;
         longest = λ other m more w fits. (let near = reached b bs other m is w fits in omega arith);
         follows = reader.solid.apart kind same (drop (extent (b ∷ bs)) (b ∷ bs)) ∙ reader.ends (b ∷ bs);
-        marked = λ c. absurd (reader.solid.no_mark (sym (comment_mark b bs c) ∙ is));
+        mark_piece = λ c. absurd (reader.solid.no_mark (sym (comment_mark b bs c) ∙ is));
       }
 
   pub spread_sound : (b : ℕ) (bs : List ℕ) (piece : Piece) (n : ℕ) → first_of b ≡ class → spread extent classify (b ∷ bs) ≡ Some (piece, n) → IsNext (b ∷ bs) piece n
@@ -210,7 +210,7 @@ module _ (class : First) (extent : List ℕ → ℕ) (classify : List ℕ → Op
   spread_complete b bs piece n is x =
       let text = b ∷ bs in
       let token = token_at b bs piece n is x.is in
-      let spells : Spells token.0 (take n text) = subst (λ z. Fits z (take n text)) token.1 x.is in
+      let spells : SpellsToken token.0 (take n text) = subst (λ z. IsPiece z (take n text)) token.1 x.is in
       let apart : stands_apart (drop n text) ≡ true = sym (reader.solid.apart token.0 token.2 (drop n text)) ∙ subst (λ z. may_precede z (drop n text) ≡ true) token.1 x.follows in
       let size = length-take-le n text x.within in
       let end : extent text ≡ n = sym (ap extent (take-append-drop n text)) ∙ reader.exact token.0 (take n text) (drop n text) token.2 spells apart ∙ size in
@@ -225,18 +225,18 @@ module _ (kind : TokenKind) (bs rest : List ℕ) (whole : list_all is_tied bs �
   tied_exact : stands_apart rest ≡ true → tied_len (bs ++ rest) ≡ length bs
   tied_exact h = let e = tied_over bs rest whole in let z = apart_none rest h in omega arith
 
-digit_tied : (kind : TokenKind) (bs : List ℕ) → class_of_token kind ≡ f.Digit → Spells kind bs → list_all is_tied bs ≡ true
+digit_tied : (kind : TokenKind) (bs : List ℕ) → class_of_token kind ≡ f.Digit → SpellsToken kind bs → list_all is_tied bs ≡ true
 digit_tied (t.Integer n) bs e h = integer_tied bs n h
 digit_tied (t.Address region) bs e h = absurd (cc)
 digit_tied (t.Symbol symbol) bs e h = absurd (cc)
 digit_tied _ bs e h = absurd (cc)
 
-digit_sound : (bs : List ℕ) (kind : TokenKind) → numbered bs ≡ Some kind → Spells kind bs
+digit_sound : (bs : List ℕ) (kind : TokenKind) → integer_token bs ≡ Some kind → SpellsToken kind bs
 digit_sound bs kind h =
     let found = map_some (λ n. t.Integer n) (integer_by bs) kind h in
-    subst (λ z. Spells z bs) found.2 (integer_sound bs found.0 found.1)
+    subst (λ z. SpellsToken z bs) found.2 (integer_sound bs found.0 found.1)
 
-digit_complete : (bs : List ℕ) (kind : TokenKind) → class_of_token kind ≡ f.Digit → Spells kind bs → numbered bs ≡ Some kind
+digit_complete : (bs : List ℕ) (kind : TokenKind) → class_of_token kind ≡ f.Digit → SpellsToken kind bs → integer_token bs ≡ Some kind
 digit_complete bs (t.Integer n) e h = ap (λ o. option_map (λ i. t.Integer i) o) (integer_complete bs n h)
 digit_complete bs (t.Address region) e h = absurd (cc)
 digit_complete bs (t.Symbol symbol) e h = absurd (cc)
@@ -253,7 +253,7 @@ letters = record {
   within = λ text. (lettered_end text).within;
 }
 
-digits : IsReader f.Digit tied_len numbered
+digits : IsReader f.Digit tied_len integer_token
 digits = record {
   solid = digit_solid;
   sound = digit_sound;
@@ -297,11 +297,11 @@ record AddressAt (bs : List ℕ) (piece : Piece) (m : ℕ) : Type 0 where
   size : m ≡ suc behind
   reaches : Reaches region behind bs
 
-address_at : (b : ℕ) (bs : List ℕ) (piece : Piece) (m : ℕ) → first_of b ≡ f.Percent → m ≤ length (b ∷ bs) → Fits piece (take m (b ∷ bs)) → AddressAt bs piece m
+address_at : (b : ℕ) (bs : List ℕ) (piece : Piece) (m : ℕ) → first_of b ≡ f.Percent → m ≤ length (b ∷ bs) → IsPiece piece (take m (b ∷ bs)) → AddressAt bs piece m
 address_at b bs piece zero is w h = absurd (fits_none piece h)
 address_at b bs piece (suc j) is w h =
     let token = percent_token piece (sym (opens_at piece b bs (suc j) h) ∙ is) in
-    let address : is_address token.0 (b ∷ take j bs) ≡ true = subst (λ z. Fits z (take (suc j) (b ∷ bs))) token.1 h in
+    let address : is_address token.0 (b ∷ take j bs) ≡ true = subst (λ z. IsPiece z (take (suc j) (b ∷ bs))) token.1 h in
     let size = length-take-le j bs (omega arith) in
     record {
       region = token.0;
@@ -328,7 +328,7 @@ address_next b bs region k is read apart =
           let size = at.size in
           omega arith);
       follows = apart;
-      marked = λ c. absurd (let e : f.Mark ≡ f.Percent = sym (comment_mark b bs c) ∙ is in cc);
+      mark_piece = λ c. absurd (let e : f.Mark ≡ f.Percent = sym (comment_mark b bs c) ∙ is in cc);
     }
 
 one_more : (k : ℕ) → k + 1 ≡ suc k
@@ -416,16 +416,16 @@ module _ (a b : ℕ) (form : List ℕ → Bool) (read : List ℕ → Option ℕ)
         is = subst (λ i. is_comment (take i (a ∷ b ∷ inner)) ≡ true) size (is.comment_of (take n inner) s.1);
         longest = λ other m more w fits. elim (mark_piece other (sym (opens_at other a (b ∷ inner) m fits) ∙ is.mark)) [
           | inl comment ↦
-              let c = comment_inner a b inner m (subst (λ z. Fits z (take m (a ∷ b ∷ inner))) comment fits) in
+              let c = comment_inner a b inner m (subst (λ z. IsPiece z (take m (a ∷ b ∷ inner))) comment fits) in
               let same = c.1 in
               let far = form_reach inner c.0 (omega arith) (is.form_of (take c.0 inner) c.2) in
               let one = same_Some n far.0 (sym found ∙ far.1) in
               let most = far.2 in
               omega arith
-          | inr symbol ↦ (let short = symbol_short symbol.0 (a ∷ b ∷ inner) m w (subst (λ z. Fits z (take m (a ∷ b ∷ inner))) symbol.1 fits) in omega arith)
+          | inr symbol ↦ (let short = symbol_short symbol.0 (a ∷ b ∷ inner) m w (subst (λ z. IsPiece z (take m (a ∷ b ∷ inner))) symbol.1 fits) in omega arith)
         ];
         follows = refl;
-        marked = λ h. refl;
+        mark_piece = λ h. refl;
       }
 
   pub form_sound : (inner : List ℕ) (piece : Piece) (n : ℕ) → option_map as_comment (read inner) ≡ Some (piece, n) → IsNext (a ∷ b ∷ inner) piece n
@@ -436,7 +436,7 @@ module _ (a b : ℕ) (form : List ℕ → Bool) (read : List ℕ → Option ℕ)
   pub form_complete : (inner : List ℕ) (piece : Piece) (n : ℕ) → IsNext (a ∷ b ∷ inner) piece n → option_map as_comment (read inner) ≡ Some (piece, n)
   form_complete inner piece n x =
       let comment : piece ≡ p.Comment = x.marked is.begins in
-      let c = comment_inner a b inner n (subst (λ z. Fits z (take n (a ∷ b ∷ inner))) comment x.is) in
+      let c = comment_inner a b inner n (subst (λ z. IsPiece z (take n (a ∷ b ∷ inner))) comment x.is) in
       let same = c.1 in
       let w = x.within in
       let far = form_reach inner c.0 (omega arith) (is.form_of (take c.0 inner) c.2) in
@@ -449,16 +449,16 @@ module _ (a b : ℕ) (form : List ℕ → Bool) (read : List ℕ → Option ℕ)
       ap (λ o. option_map as_comment o) far.1 ∙ ap (λ z. Some (z, far.0 + 2)) (sym comment) ∙ ap (λ i. Some (piece, i)) size
 
 -- the three forms
-block_sound : (mark : ℕ) (text : List ℕ) (n : ℕ) → closing 0 mark text ≡ Some n → (n ≤ length text) × (closed mark (take n text) ≡ true)
+block_sound : (mark : ℕ) (text : List ℕ) (n : ℕ) → closing_len 0 mark text ≡ Some n → (n ≤ length text) × (closed mark (take n text) ≡ true)
 block_sound mark text n h =
     let c = closing_is mark 0 text n h in
     let same : c.0 ≡ n = (let e = c.1 in omega arith) in
     (subst (λ i. i ≤ length text) same c.2.within, subst (λ i. closed mark (take i text) ≡ true) same c.2.is)
 
-block_reach : (mark : ℕ) (bs rest : List ℕ) → closed mark bs ≡ true → (n : ℕ) × (closing 0 mark (bs ++ rest) ≡ Some n) × (length bs ≤ n)
+block_reach : (mark : ℕ) (bs rest : List ℕ) → closed mark bs ≡ true → (n : ℕ) × (closing_len 0 mark (bs ++ rest) ≡ Some n) × (length bs ≤ n)
 block_reach mark bs rest h = (0 + length bs, closing_found mark 0 bs rest h, omega arith)
 
-round_form : IsForm 40 42 (closed 41) (closing 0 41)
+round_form : IsForm 40 42 (closed 41) (closing_len 0 41)
 unfolding first_of is_blank
 round_form = record {
   mark = refl;
@@ -472,7 +472,7 @@ round_form = record {
   reach = block_reach 41;
 }
 
-slashed_form : IsForm 47 42 (closed 47) (closing 0 47)
+slashed_form : IsForm 47 42 (closed 47) (closing_len 0 47)
 unfolding first_of is_blank
 slashed_form = record {
   mark = refl;
@@ -516,13 +516,13 @@ record SymbolAt (text : List ℕ) (piece : Piece) (m : ℕ) : Type 0 where
   some : 0 < m
 
 -- where no comment begins, what begins with a mark is a symbol
-symbol_at : (a b : ℕ) (inner : List ℕ) (piece : Piece) (m : ℕ) → first_of a ≡ f.Mark → begins_comment (a ∷ b ∷ inner) ≡ false → m ≤ length (a ∷ b ∷ inner) → Fits piece (take m (a ∷ b ∷ inner)) → SymbolAt (a ∷ b ∷ inner) piece m
+symbol_at : (a b : ℕ) (inner : List ℕ) (piece : Piece) (m : ℕ) → first_of a ≡ f.Mark → begins_comment (a ∷ b ∷ inner) ≡ false → m ≤ length (a ∷ b ∷ inner) → IsPiece piece (take m (a ∷ b ∷ inner)) → SymbolAt (a ∷ b ∷ inner) piece m
 symbol_at a b inner piece m is none w h = elim (mark_piece piece (sym (opens_at piece a (b ∷ inner) m h) ∙ is)) [
   | inl comment ↦
-      let c = comment_inner a b inner m (subst (λ z. Fits z (take m (a ∷ b ∷ inner))) comment h) in
+      let c = comment_inner a b inner m (subst (λ z. IsPiece z (take m (a ∷ b ∷ inner))) comment h) in
       no_truth (sym none ∙ comment_begins a b (take c.0 inner) c.2)
   | inr symbol ↦
-      let bytes : take m (a ∷ b ∷ inner) ≡ bytes_of symbol.0 = subst (λ z. Fits z (take m (a ∷ b ∷ inner))) symbol.1 h in
+      let bytes : take m (a ∷ b ∷ inner) ≡ bytes_of symbol.0 = subst (λ z. IsPiece z (take m (a ∷ b ∷ inner))) symbol.1 h in
       record { symbol = symbol.0; same = symbol.1; bytes = bytes; short = symbol_short symbol.0 (a ∷ b ∷ inner) m w bytes; some = fits_some piece m (a ∷ b ∷ inner) h }
 ]
 
@@ -546,7 +546,7 @@ double_next a b inner symbol is none h = record {
   is = sym (double_is a b symbol h);
   longest = λ other m more w fits. (let at = symbol_at a b inner other m is none w fits in let short = at.short in omega arith);
   follows = refl;
-  marked = no_mark_comment a b inner none symbol;
+  mark_piece = no_mark_comment a b inner none symbol;
 }
 
 single_next : (a b : ℕ) (inner : List ℕ) (symbol : Symbol) → first_of a ≡ f.Mark → begins_comment (a ∷ b ∷ inner) ≡ false → double_by a b ≡ None → single_by a ≡ Some symbol → IsNext (a ∷ b ∷ inner) (p.Token (t.Symbol symbol)) 1
@@ -555,10 +555,10 @@ single_next a b inner symbol is none no_double h = record {
   is = sym (single_is a symbol h);
   longest = λ other m more w fits. (let at = symbol_at a b inner other m is none w fits in none-some at.symbol (sym no_double ∙ (two_bytes a b inner other m at more).1));
   follows = refl;
-  marked = no_mark_comment a b inner none symbol;
+  mark_piece = no_mark_comment a b inner none symbol;
 }
 
-symbol_sound_by : (a b : ℕ) (inner : List ℕ) (piece : Piece) (n : ℕ) (o : Option Symbol) → first_of a ≡ f.Mark → begins_comment (a ∷ b ∷ inner) ≡ false → double_by a b ≡ o → or_else (option_map (as_symbol 2) o) (option_map (as_symbol 1) (single_by a)) ≡ Some (piece, n) → IsNext (a ∷ b ∷ inner) piece n
+symbol_sound_by : (a b : ℕ) (inner : List ℕ) (piece : Piece) (n : ℕ) (o : Option Symbol) → first_of a ≡ f.Mark → begins_comment (a ∷ b ∷ inner) ≡ false → double_by a b ≡ o → first_some (option_map (as_symbol 2) o) (option_map (as_symbol 1) (single_by a)) ≡ Some (piece, n) → IsNext (a ∷ b ∷ inner) piece n
 symbol_sound_by a b inner piece n (Some symbol) is none double h = subst (λ (q : Found). IsNext (a ∷ b ∷ inner) q.0 q.1) (same_Some (as_symbol 2 symbol) (piece, n) h) (double_next a b inner symbol is none double)
 symbol_sound_by a b inner piece n None is none double h =
     let found = map_some (as_symbol 1) (single_by a) (piece, n) h in
@@ -580,17 +580,17 @@ symbol_complete a b inner piece n is none x =
     elim (one_or_two a b inner piece n at) [
       | inl one ↦
           let alone = no_double a b inner piece (double_by a b) (subst (λ i. IsNext (a ∷ b ∷ inner) piece i) one.0 x) refl in
-          ap (λ o. or_else (option_map (as_symbol 2) o) (option_map (as_symbol 1) (single_by a))) alone ∙ ap (λ o. option_map (as_symbol 1) o) one.1 ∙ ap (λ z. Some (z, 1)) (sym at.same) ∙ ap (λ i. Some (piece, i)) (sym one.0)
-      | inr two ↦ ap (λ o. or_else (option_map (as_symbol 2) o) (option_map (as_symbol 1) (single_by a))) two.1 ∙ ap (λ z. Some (z, 2)) (sym at.same) ∙ ap (λ i. Some (piece, i)) (sym two.0)
+          ap (λ o. first_some (option_map (as_symbol 2) o) (option_map (as_symbol 1) (single_by a))) alone ∙ ap (λ o. option_map (as_symbol 1) o) one.1 ∙ ap (λ z. Some (z, 1)) (sym at.same) ∙ ap (λ i. Some (piece, i)) (sym one.0)
+      | inr two ↦ ap (λ o. first_some (option_map (as_symbol 2) o) (option_map (as_symbol 1) (single_by a))) two.1 ∙ ap (λ z. Some (z, 2)) (sym at.same) ∙ ap (λ i. Some (piece, i)) (sym two.0)
     ]
 
 -- one byte alone
-alone_symbol : (a : ℕ) (piece : Piece) (m : ℕ) → first_of a ≡ f.Mark → m ≤ 1 → Fits piece (take m (a ∷ [])) → (symbol : Symbol) × (piece ≡ p.Token (t.Symbol symbol)) × (m ≡ 1) × (single_by a ≡ Some symbol)
+alone_symbol : (a : ℕ) (piece : Piece) (m : ℕ) → first_of a ≡ f.Mark → m ≤ 1 → IsPiece piece (take m (a ∷ [])) → (symbol : Symbol) × (piece ≡ p.Token (t.Symbol symbol)) × (m ≡ 1) × (single_by a ≡ Some symbol)
 alone_symbol a piece zero is w h = absurd (fits_none piece h)
 alone_symbol a piece (suc (suc m)) is w h = absurd (omega arith)
 alone_symbol a piece (suc zero) is w h = elim (mark_piece piece (sym (opens_at piece a [] 1 h) ∙ is)) [
-  | inl comment ↦ no_truth (subst (λ z. Fits z (a ∷ [])) comment h)
-  | inr symbol ↦ (symbol.0, symbol.1, refl, single_found a symbol.0 (subst (λ z. Fits z (a ∷ [])) symbol.1 h))
+  | inl comment ↦ no_truth (subst (λ z. IsPiece z (a ∷ [])) comment h)
+  | inr symbol ↦ (symbol.0, symbol.1, refl, single_found a symbol.0 (subst (λ z. IsPiece z (a ∷ [])) symbol.1 h))
 ]
 
 alone_sound : (a : ℕ) (piece : Piece) (n : ℕ) → option_map (as_symbol 1) (single_by a) ≡ Some (piece, n) → IsNext (a ∷ []) piece n
@@ -601,7 +601,7 @@ alone_sound a piece n h =
       is = sym (single_is a found.0 found.1);
       longest = λ other m more w fits. omega arith;
       follows = refl;
-      marked = λ c. no_truth c;
+      mark_piece = λ c. no_truth c;
     }
 
 alone_complete : (a : ℕ) (piece : Piece) (n : ℕ) → first_of a ≡ f.Mark → IsNext (a ∷ []) piece n → option_map (as_symbol 1) (single_by a) ≡ Some (piece, n)
@@ -614,14 +614,14 @@ abbrev third : ℕ → ℕ → List ℕ → Option Found
 third a b inner = cond (a == 47 && b == 47) (Some (as_comment (line_len inner))) (symbol_by a b)
 
 abbrev second : ℕ → ℕ → List ℕ → Option Found
-second a b inner = cond (a == 47 && b == 42) (option_map as_comment (closing 0 47 inner)) (third a b inner)
+second a b inner = cond (a == 47 && b == 42) (option_map as_comment (closing_len 0 47 inner)) (third a b inner)
 
 -- the four ways in which a mark goes on
 pub data Marked (a b : ℕ) (inner : List ℕ) : Type 0 where
-  round : a ≡ 40 → b ≡ 42 → marked a (b ∷ inner) ≡ option_map as_comment (closing 0 41 inner) → Marked a b inner
-  slashed : a ≡ 47 → b ≡ 42 → marked a (b ∷ inner) ≡ option_map as_comment (closing 0 47 inner) → Marked a b inner
-  line : a ≡ 47 → b ≡ 47 → marked a (b ∷ inner) ≡ option_map as_comment (line_read inner) → Marked a b inner
-  plain : begins_comment (a ∷ b ∷ inner) ≡ false → marked a (b ∷ inner) ≡ symbol_by a b → Marked a b inner
+  round : a ≡ 40 → b ≡ 42 → mark_piece a (b ∷ inner) ≡ option_map as_comment (closing_len 0 41 inner) → Marked a b inner
+  slashed : a ≡ 47 → b ≡ 42 → mark_piece a (b ∷ inner) ≡ option_map as_comment (closing_len 0 47 inner) → Marked a b inner
+  line : a ≡ 47 → b ≡ 47 → mark_piece a (b ∷ inner) ≡ option_map as_comment (line_read inner) → Marked a b inner
+  plain : begins_comment (a ∷ b ∷ inner) ≡ false → mark_piece a (b ∷ inner) ≡ symbol_by a b → Marked a b inner
 
 begins_none : (a b : ℕ) (inner : List ℕ) → (a == 40 && b == 42) ≡ false → (a == 47 && b == 42) ≡ false → (a == 47 && b == 47) ≡ false → begins_comment (a ∷ b ∷ inner) ≡ false
 begins_none a b inner one two three = false_from_ne_true (begins_comment (a ∷ b ∷ inner)) (λ h. elim (or_cases (a == 40 && b == 42) (a == 47 && (b == 42 || b == 47)) h) [
@@ -633,12 +633,12 @@ begins_none a b inner one two three = false_from_ne_true (begins_comment (a ∷ 
 
 mark_cases : (a b : ℕ) (inner : List ℕ) → Marked a b inner
 mark_cases a b inner = elim (cases_Bool (a == 40 && b == 42)) [
-  | inl one ↦ (let parts = and_parts (a == 40) (b == 42) one in round (eqb-true a 40 parts.0) (eqb-true b 42 parts.1) (cond-true (a == 40 && b == 42) (option_map as_comment (closing 0 41 inner)) (second a b inner) one))
+  | inl one ↦ (let parts = and_parts (a == 40) (b == 42) one in round (eqb-true a 40 parts.0) (eqb-true b 42 parts.1) (cond-true (a == 40 && b == 42) (option_map as_comment (closing_len 0 41 inner)) (second a b inner) one))
   | inr no_one ↦ elim (cases_Bool (a == 47 && b == 42)) [
-    | inl two ↦ (let parts = and_parts (a == 47) (b == 42) two in slashed (eqb-true a 47 parts.0) (eqb-true b 42 parts.1) (cond-false (a == 40 && b == 42) (option_map as_comment (closing 0 41 inner)) (second a b inner) no_one ∙ cond-true (a == 47 && b == 42) (option_map as_comment (closing 0 47 inner)) (third a b inner) two))
+    | inl two ↦ (let parts = and_parts (a == 47) (b == 42) two in slashed (eqb-true a 47 parts.0) (eqb-true b 42 parts.1) (cond-false (a == 40 && b == 42) (option_map as_comment (closing_len 0 41 inner)) (second a b inner) no_one ∙ cond-true (a == 47 && b == 42) (option_map as_comment (closing_len 0 47 inner)) (third a b inner) two))
     | inr no_two ↦ elim (cases_Bool (a == 47 && b == 47)) [
-      | inl three ↦ (let parts = and_parts (a == 47) (b == 47) three in line (eqb-true a 47 parts.0) (eqb-true b 47 parts.1) (cond-false (a == 40 && b == 42) (option_map as_comment (closing 0 41 inner)) (second a b inner) no_one ∙ cond-false (a == 47 && b == 42) (option_map as_comment (closing 0 47 inner)) (third a b inner) no_two ∙ cond-true (a == 47 && b == 47) (Some (as_comment (line_len inner))) (symbol_by a b) three))
-      | inr no_three ↦ plain (begins_none a b inner no_one no_two no_three) (cond-false (a == 40 && b == 42) (option_map as_comment (closing 0 41 inner)) (second a b inner) no_one ∙ cond-false (a == 47 && b == 42) (option_map as_comment (closing 0 47 inner)) (third a b inner) no_two ∙ cond-false (a == 47 && b == 47) (Some (as_comment (line_len inner))) (symbol_by a b) no_three)
+      | inl three ↦ (let parts = and_parts (a == 47) (b == 47) three in line (eqb-true a 47 parts.0) (eqb-true b 47 parts.1) (cond-false (a == 40 && b == 42) (option_map as_comment (closing_len 0 41 inner)) (second a b inner) no_one ∙ cond-false (a == 47 && b == 42) (option_map as_comment (closing_len 0 47 inner)) (third a b inner) no_two ∙ cond-true (a == 47 && b == 47) (Some (as_comment (line_len inner))) (symbol_by a b) three))
+      | inr no_three ↦ plain (begins_none a b inner no_one no_two no_three) (cond-false (a == 40 && b == 42) (option_map as_comment (closing_len 0 41 inner)) (second a b inner) no_one ∙ cond-false (a == 47 && b == 42) (option_map as_comment (closing_len 0 47 inner)) (third a b inner) no_two ∙ cond-false (a == 47 && b == 47) (Some (as_comment (line_len inner))) (symbol_by a b) no_three)
     ]
   ]
 ]
@@ -646,20 +646,20 @@ mark_cases a b inner = elim (cases_Bool (a == 40 && b == 42)) [
 both_same : (P : ℕ → ℕ → Type 0) (a b c d : ℕ) → a ≡ c → b ≡ d → P c d → P a b
 both_same P a b c d e g h = subst (λ x. P x b) (sym e) (subst (λ y. P c y) (sym g) h)
 
-pub mark_sound : (a : ℕ) (bs : List ℕ) (piece : Piece) (n : ℕ) → first_of a ≡ f.Mark → marked a bs ≡ Some (piece, n) → IsNext (a ∷ bs) piece n
+pub mark_sound : (a : ℕ) (bs : List ℕ) (piece : Piece) (n : ℕ) → first_of a ≡ f.Mark → mark_piece a bs ≡ Some (piece, n) → IsNext (a ∷ bs) piece n
 mark_sound a [] piece n is h = alone_sound a piece n h
 mark_sound a (b ∷ inner) piece n is h = elim (mark_cases a b inner) [
-  | round e g eq ↦ both_same (λ x y. IsNext (x ∷ y ∷ inner) piece n) a b 40 42 e g (form_sound 40 42 (closed 41) (closing 0 41) round_form inner piece n (sym eq ∙ h))
-  | slashed e g eq ↦ both_same (λ x y. IsNext (x ∷ y ∷ inner) piece n) a b 47 42 e g (form_sound 47 42 (closed 47) (closing 0 47) slashed_form inner piece n (sym eq ∙ h))
+  | round e g eq ↦ both_same (λ x y. IsNext (x ∷ y ∷ inner) piece n) a b 40 42 e g (form_sound 40 42 (closed 41) (closing_len 0 41) round_form inner piece n (sym eq ∙ h))
+  | slashed e g eq ↦ both_same (λ x y. IsNext (x ∷ y ∷ inner) piece n) a b 47 42 e g (form_sound 47 42 (closed 47) (closing_len 0 47) slashed_form inner piece n (sym eq ∙ h))
   | line e g eq ↦ both_same (λ x y. IsNext (x ∷ y ∷ inner) piece n) a b 47 47 e g (form_sound 47 47 one_line line_read line_form inner piece n (sym eq ∙ h))
   | plain none eq ↦ symbol_sound a b inner piece n is none (sym eq ∙ h)
 ]
 
-pub mark_complete : (a : ℕ) (bs : List ℕ) (piece : Piece) (n : ℕ) → first_of a ≡ f.Mark → IsNext (a ∷ bs) piece n → marked a bs ≡ Some (piece, n)
+pub mark_complete : (a : ℕ) (bs : List ℕ) (piece : Piece) (n : ℕ) → first_of a ≡ f.Mark → IsNext (a ∷ bs) piece n → mark_piece a bs ≡ Some (piece, n)
 mark_complete a [] piece n is x = alone_complete a piece n is x
 mark_complete a (b ∷ inner) piece n is x = elim (mark_cases a b inner) [
-  | round e g eq ↦ eq ∙ form_complete 40 42 (closed 41) (closing 0 41) round_form inner piece n (both_same (λ y z. IsNext (y ∷ z ∷ inner) piece n) 40 42 a b (sym e) (sym g) x)
-  | slashed e g eq ↦ eq ∙ form_complete 47 42 (closed 47) (closing 0 47) slashed_form inner piece n (both_same (λ y z. IsNext (y ∷ z ∷ inner) piece n) 47 42 a b (sym e) (sym g) x)
+  | round e g eq ↦ eq ∙ form_complete 40 42 (closed 41) (closing_len 0 41) round_form inner piece n (both_same (λ y z. IsNext (y ∷ z ∷ inner) piece n) 40 42 a b (sym e) (sym g) x)
+  | slashed e g eq ↦ eq ∙ form_complete 47 42 (closed 47) (closing_len 0 47) slashed_form inner piece n (both_same (λ y z. IsNext (y ∷ z ∷ inner) piece n) 47 42 a b (sym e) (sym g) x)
   | line e g eq ↦ eq ∙ form_complete 47 47 one_line line_read line_form inner piece n (both_same (λ y z. IsNext (y ∷ z ∷ inner) piece n) 47 47 a b (sym e) (sym g) x)
   | plain none eq ↦ eq ∙ symbol_complete a b inner piece n is none x
 ]
@@ -668,14 +668,14 @@ mark_complete a (b ∷ inner) piece n is x = elim (mark_cases a b inner) [
 sound_by : (b : ℕ) (bs : List ℕ) (class : First) (piece : Piece) (n : ℕ) → first_of b ≡ class → begun class b bs ≡ Some (piece, n) → IsNext (b ∷ bs) piece n
 sound_by b bs f.Blank piece n is h = subst (λ (q : Found). IsNext (b ∷ bs) q.0 q.1) (same_Some (p.Blank, 1) (piece, n) h) (blank_next b bs is)
 sound_by b bs f.Letter piece n is h = spread_sound f.Letter lettered_len lettered letters b bs piece n is h
-sound_by b bs f.Digit piece n is h = spread_sound f.Digit tied_len numbered digits b bs piece n is h
+sound_by b bs f.Digit piece n is h = spread_sound f.Digit tied_len integer_token digits b bs piece n is h
 sound_by b bs f.Percent piece n is h = address_sound b bs piece n is h
 sound_by b bs f.Mark piece n is h = mark_sound b bs piece n is h
 
 complete_by : (b : ℕ) (bs : List ℕ) (class : First) (piece : Piece) (n : ℕ) → first_of b ≡ class → IsNext (b ∷ bs) piece n → begun class b bs ≡ Some (piece, n)
 complete_by b bs f.Blank piece n is x = blank_only b bs piece n is x
 complete_by b bs f.Letter piece n is x = spread_complete f.Letter lettered_len lettered letters b bs piece n is x
-complete_by b bs f.Digit piece n is x = spread_complete f.Digit tied_len numbered digits b bs piece n is x
+complete_by b bs f.Digit piece n is x = spread_complete f.Digit tied_len integer_token digits b bs piece n is x
 complete_by b bs f.Percent piece n is x = address_complete b bs piece n is x
 complete_by b bs f.Mark piece n is x = mark_complete b bs piece n is x
 

@@ -8,13 +8,13 @@ use Rattle.st_lexer.specs.declared.token.Symbol.TheVariants as s
 use Rattle.st_lexer.specs.Bytes.{begins_by}
 use Rattle.st_lexer.specs.Tables.{bytes_of}
 use Rattle.st_lexer.specs.Comments.{closed, one_line, is_comment, begins_comment}
-use Rattle.st_lexer.specs.Reading.{closing, line_len, look, singles, single_by, double_by}
+use Rattle.st_lexer.specs.Reading.{closing_len, line_len, look, singles, single_by, double_by}
 use Rattle.st_lexer.proofs.Classes.{comment_cases}
 use Rattle.st_lexer.proofs.WordLaws.{one_and}
 
 -- ---- comments
 -- what is closed is closed there
-pub closing_found : (mark n : ℕ) (bs rest : List ℕ) → closed mark bs ≡ true → closing n mark (bs ++ rest) ≡ Some (n + length bs)
+pub closing_found : (mark n : ℕ) (bs rest : List ℕ) → closed mark bs ≡ true → closing_len n mark (bs ++ rest) ≡ Some (n + length bs)
 closing_found mark n [] rest h = absurd (let e : false ≡ true = h in cc)
 closing_found mark n (b ∷ []) rest h = absurd (last b h)
   where
@@ -49,12 +49,12 @@ closes_here : (mark b : ℕ) (bs : List ℕ) → (b == 42 && begins_by (λ c. c 
 closes_here mark b [] h = absurd (let e : false ≡ true = (and_parts (b == 42) false h).1 in cc)
 closes_here mark b (c ∷ bs) h = record { within = omega arith; is = rw h refl }
 
-pub closing_is : (mark n : ℕ) (text : List ℕ) (m : ℕ) → closing n mark text ≡ Some m → (k : ℕ) × (m ≡ n + k) × Closes mark text k
+pub closing_is : (mark n : ℕ) (text : List ℕ) (m : ℕ) → closing_len n mark text ≡ Some m → (k : ℕ) × (m ≡ n + k) × Closes mark text k
 closing_is mark n [] m h = absurd (none-some m h)
 closing_is mark n (b ∷ bs) m h = elim (cases_Bool (b == 42 && begins_by (λ c. c == mark) bs)) [
   | inl yes' ↦ (let e : Some (n + 2) ≡ Some m = sym (rw yes' refl) ∙ h in (2, sym (same_Some (n + 2) m e), closes_here mark b bs yes'))
   | inr no' ↦
-      let e : closing (n + 1) mark bs ≡ Some m = sym (rw no' refl) ∙ h in
+      let e : closing_len (n + 1) mark bs ≡ Some m = sym (rw no' refl) ∙ h in
       let rest = closing_is mark (n + 1) bs m e in
       let same = rest.1 in
       (suc rest.0, omega arith, closes_more mark b bs rest.0 no' rest.2)

@@ -12,7 +12,7 @@ use Rattle.st_lexer.specs.declared.token.TokenKind.TheVariants as t
 use Rattle.st_lexer.specs.declared.tables.TheConstants.{KEYWORDS}
 use Rattle.st_lexer.specs.Bytes.{is_tied, stands_apart}
 use Rattle.st_lexer.specs.Tables.{spelling}
-use Rattle.st_lexer.specs.Spellings.{IsWord, Spells}
+use Rattle.st_lexer.specs.Spellings.{IsWord, SpellsToken}
 use Rattle.st_lexer.specs.Reading.{keyword_by, word_or, lettered}
 use Rattle.st_lexer.proofs.Classes.{same_folded, keyword_is_name}
 
@@ -109,11 +109,11 @@ keyword_is bs k h = find_passes (λ j. same_word bs (spelling j)) KEYWORDS k h
 none_free : (bs : List ℕ) → keyword_by bs ≡ None → (k : Keyword) → same_word bs (spelling k) ≡ false
 none_free bs none k = false_from_ne_true (same_word bs (spelling k)) (λ yes'. none-some k (sym none ∙ keyword_found bs k yes'))
 
-sound_by : (bs : List ℕ) (kind : TokenKind) (o : Option Keyword) → is_name bs ≡ true → keyword_by bs ≡ o → word_or o ≡ kind → Spells kind bs
-sound_by bs kind None form is same = subst (λ z. Spells z bs) same record { form = form; free = none_free bs is }
-sound_by bs kind (Some k) form is same = subst (λ z. Spells z bs) same (keyword_is bs k is)
+sound_by : (bs : List ℕ) (kind : TokenKind) (o : Option Keyword) → is_name bs ≡ true → keyword_by bs ≡ o → word_or o ≡ kind → SpellsToken kind bs
+sound_by bs kind None form is same = subst (λ z. SpellsToken z bs) same record { form = form; free = none_free bs is }
+sound_by bs kind (Some k) form is same = subst (λ z. SpellsToken z bs) same (keyword_is bs k is)
 
-pub word_sound : (bs : List ℕ) (kind : TokenKind) → is_name bs ≡ true → word_or (keyword_by bs) ≡ kind → Spells kind bs
+pub word_sound : (bs : List ℕ) (kind : TokenKind) → is_name bs ≡ true → word_or (keyword_by bs) ≡ kind → SpellsToken kind bs
 word_sound bs kind form same = sound_by bs kind (keyword_by bs) form refl same
 
 free_none : (bs : List ℕ) (o : Option Keyword) → keyword_by bs ≡ o → ((k : Keyword) → same_word bs (spelling k) ≡ false) → word_or o ≡ t.Word

@@ -3,9 +3,9 @@ use Rattle.std.specs.Prelude.{ℕ, Bool, false, ◌==◌, ◌&&◌, ◌||◌, Li
 use Rattle.std.specs.List.{list_any}
 use Rattle.std.specs.Char.{is_ascii_digit, to_ascii_lowercase}
 use Rattle.std.specs.Str.{bytes_eq}
-use Rattle.st_lexer.specs.declared.token.Region.{Region}
-use Rattle.st_lexer.specs.declared.token.Region.TheVariants as r
-use Rattle.st_lexer.specs.Bytes.{begins_by, grouped}
+use Rattle.plant_types.specs.declared.values.Region.{Region}
+use Rattle.plant_types.specs.declared.values.Region.TheVariants as r
+use Rattle.st_lexer.specs.Bytes.{begins_by, is_grouped}
 
 -- two letters are one, whatever their case
 abbrev pub same_letter : ℕ → ℕ → Bool
@@ -23,7 +23,7 @@ is_size b = list_any (same_letter b) (codes "XBWDL")
 
 -- a place: `*`, or digits with points between groups of them
 abbrev pub is_place : List ℕ → Bool
-is_place bs = bytes_eq bs (codes "*") || grouped is_ascii_digit 46 bs
+is_place bs = bytes_eq bs (codes "*") || is_grouped is_ascii_digit 46 bs
 
 -- an address: `%`, the letter of its region, an optional size and a place
 abbrev pub is_address : Region → List ℕ → Bool

@@ -28,8 +28,8 @@ linked test mark [] = true
 linked test mark (b ∷ bs) = (test b || (b == mark && begins_by test bs)) && linked test mark bs
 
 -- bytes that pass, with single marks between them
-abbrev pub grouped : (ℕ → Bool) → ℕ → List ℕ → Bool
-grouped test mark bs = begins_by test bs && linked test mark bs
+abbrev pub is_grouped : (ℕ → Bool) → ℕ → List ℕ → Bool
+is_grouped test mark bs = begins_by test bs && linked test mark bs
 
 -- what the first byte of a piece tells of it
 unfoldable pub first_of : ℕ → First

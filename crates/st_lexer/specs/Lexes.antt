@@ -8,7 +8,7 @@ use Rattle.st_lexer.specs.declared.piece.Piece.{Piece}
 use Rattle.st_lexer.specs.declared.piece.Piece.TheVariants as p
 use Rattle.st_lexer.specs.declared.lexer.LexFault.{LexFault}
 use Rattle.st_lexer.specs.declared.lexer.LexFault.TheVariants as f
-use Rattle.st_lexer.specs.Spellings.{Spells}
+use Rattle.st_lexer.specs.Spellings.{SpellsToken}
 use Rattle.st_lexer.specs.Pieces.{Cut, IsOver, total}
 use Rattle.st_lexer.specs.Places.{line_at, column_at}
 
@@ -47,7 +47,7 @@ pub record Stops (text : List ℕ) (line column : ℕ) : Type 0 where
 pub record IsTokenOf (text : List ℕ) (token : Token) : Type 0 where
   pub some : token.from < token.until
   pub within : token.until ≤ length text
-  pub spelled : Spells token.kind (slice_range text token.from token.until)
+  pub spelled : SpellsToken token.kind (slice_range text token.from token.until)
 
 -- a place is answered, and it is so
 abbrev pub IfBad : Result (Vec Token Global) LexFault → (ℕ → ℕ → Type 0) → Type 0

@@ -3,11 +3,11 @@ use Rattle.std.specs.Prelude.{ℕ, Bool, not, ◌==◌, ◌≡◌, ◌≤◌, na
 use Rattle.std.specs.List.{starts_with}
 use Rattle.std.specs.Char.{is_digit}
 use Rattle.std.specs.Str.Parse.{digits_value}
-use Rattle.st_lexer.specs.Bytes.{grouped}
+use Rattle.st_lexer.specs.Bytes.{is_grouped}
 
 -- digits of the base, with single underscores between digits
 abbrev pub is_number : ℕ → List ℕ → Bool
-is_number base bs = grouped (λ b. is_digit b base) 95 bs
+is_number base bs = is_grouped (λ b. is_digit b base) 95 bs
 
 -- what they are worth, the underscores left out
 abbrev pub number : ℕ → List ℕ → ℕ

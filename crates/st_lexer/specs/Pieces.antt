@@ -6,7 +6,7 @@ use Rattle.st_lexer.specs.declared.piece.Piece.{Piece}
 use Rattle.st_lexer.specs.declared.piece.Piece.TheVariants as p
 use Rattle.st_lexer.specs.Bytes.{is_blank, stands_apart}
 use Rattle.st_lexer.specs.Comments.{is_comment, begins_comment}
-use Rattle.st_lexer.specs.Spellings.{Spells}
+use Rattle.st_lexer.specs.Spellings.{SpellsToken}
 
 -- one space, tab, line feed, form feed or carriage return
 abbrev pub one_blank : List ℕ → Bool
@@ -15,10 +15,10 @@ one_blank (b ∷ []) = is_blank b
 one_blank (b ∷ c ∷ bs) = false
 
 -- the bytes are a piece of this kind: a separator or a token
-abbrev pub Fits : Piece → List ℕ → Type 0
-Fits p.Blank bs = IsTrue (one_blank bs)
-Fits p.Comment bs = IsTrue (is_comment bs)
-Fits (p.Token kind) bs = Spells kind bs
+abbrev pub IsPiece : Piece → List ℕ → Type 0
+IsPiece p.Blank bs = IsTrue (one_blank bs)
+IsPiece p.Comment bs = IsTrue (is_comment bs)
+IsPiece (p.Token kind) bs = SpellsToken kind bs
 
 -- no word, literal or address is directly followed by a letter, digit, underscore or `#`
 abbrev pub token_may_precede : TokenKind → List ℕ → Bool
@@ -33,8 +33,8 @@ may_precede (p.Token kind) rest = token_may_precede kind rest
 -- the next piece of a text, and its length: the longest beginning that is one, where a comment begins a comment
 pub record IsNext (text : List ℕ) (piece : Piece) (n : ℕ) : Type 0 where
   pub within : n ≤ length text
-  pub is : Fits piece (take n text)
-  pub longest : (other : Piece) (m : ℕ) → n < m → m ≤ length text → Fits other (take m text) → ⊥
+  pub is : IsPiece piece (take n text)
+  pub longest : (other : Piece) (m : ℕ) → n < m → m ≤ length text → IsPiece other (take m text) → ⊥
   pub follows : IsTrue (may_precede piece (drop n text))
   pub marked : IsTrue (begins_comment text) → piece ≡ p.Comment
 

@@ -8,8 +8,8 @@ use Rattle.st_lexer.specs.declared.bytes.First.TheVariants as f
 use Rattle.st_lexer.specs.declared.token.Keyword.{Keyword}
 use Rattle.st_lexer.specs.declared.token.Symbol.{Symbol}
 use Rattle.st_lexer.specs.declared.token.Symbol.TheVariants as s
-use Rattle.st_lexer.specs.declared.token.Region.{Region}
-use Rattle.st_lexer.specs.declared.token.Region.TheVariants as r
+use Rattle.plant_types.specs.declared.values.Region.{Region}
+use Rattle.plant_types.specs.declared.values.Region.TheVariants as r
 use Rattle.st_lexer.specs.declared.token.TokenKind.{TokenKind}
 use Rattle.st_lexer.specs.declared.token.TokenKind.TheVariants as t
 use Rattle.st_lexer.specs.declared.piece.Piece.{Piece}
@@ -54,9 +54,9 @@ addressed bs = address_by bs >>= λ a. if stands_apart (drop a.1 bs) then Some (
 
 -- ---- comments and symbols
 -- how many bytes to the end of the first `*` that the mark follows
-abbrev pub closing : ℕ → ℕ → List ℕ → Option ℕ
-closing n mark [] = None
-closing n mark (b ∷ bs) = if b == 42 && begins_by (λ c. c == mark) bs then Some (n + 2) else closing (n + 1) mark bs
+abbrev pub closing_len : ℕ → ℕ → List ℕ → Option ℕ
+closing_len n mark [] = None
+closing_len n mark (b ∷ bs) = if b == 42 && begins_by (λ c. c == mark) bs then Some (n + 2) else closing_len (n + 1) mark bs
 
 unfoldable pub line_len : List ℕ → ℕ
 line_len bs = prefix_len (λ b. not (b == 10)) bs
@@ -86,21 +86,21 @@ double_by a b =
 abbrev pub as_symbol : ℕ → Symbol → Piece × ℕ
 as_symbol n symbol = (p.Token (t.Symbol symbol), n)
 
-abbrev pub or_else : {A : Type 0} → Option A → Option A → Option A
-or_else (Some x) other = Some x
-or_else None other = other
+abbrev pub first_some : {A : Type 0} → Option A → Option A → Option A
+first_some (Some x) other = Some x
+first_some None other = other
 
 unfoldable pub symbol_by : ℕ → ℕ → Option (Piece × ℕ)
-symbol_by a b = or_else (option_map (as_symbol 2) (double_by a b)) (option_map (as_symbol 1) (single_by a))
+symbol_by a b = first_some (option_map (as_symbol 2) (double_by a b)) (option_map (as_symbol 1) (single_by a))
 
 abbrev pub as_comment : ℕ → Piece × ℕ
 as_comment n = (p.Comment, n + 2)
 
-abbrev pub marked : ℕ → List ℕ → Option (Piece × ℕ)
-marked a [] = option_map (as_symbol 1) (single_by a)
-marked a (b ∷ inner) =
-    if a == 40 && b == 42 then option_map as_comment (closing 0 41 inner)
-    else if a == 47 && b == 42 then option_map as_comment (closing 0 47 inner)
+abbrev pub mark_piece : ℕ → List ℕ → Option (Piece × ℕ)
+mark_piece a [] = option_map (as_symbol 1) (single_by a)
+mark_piece a (b ∷ inner) =
+    if a == 40 && b == 42 then option_map as_comment (closing_len 0 41 inner)
+    else if a == 47 && b == 42 then option_map as_comment (closing_len 0 47 inner)
     else if a == 47 && b == 47 then Some (as_comment (line_len inner))
     else symbol_by a b
 
@@ -109,15 +109,15 @@ marked a (b ∷ inner) =
 unfoldable pub spread : (List ℕ → ℕ) → (List ℕ → Option TokenKind) → List ℕ → Option (Piece × ℕ)
 spread extent classify text = option_map (λ kind. (p.Token kind, extent text)) (classify (take (extent text) text))
 
-abbrev pub numbered : List ℕ → Option TokenKind
-numbered bs = option_map (λ n. t.Integer n) (integer_by bs)
+abbrev pub integer_token : List ℕ → Option TokenKind
+integer_token bs = option_map (λ n. t.Integer n) (integer_by bs)
 
 abbrev pub begun : First → ℕ → List ℕ → Option (Piece × ℕ)
 begun f.Blank b bs = Some (p.Blank, 1)
 begun f.Letter b bs = spread lettered_len lettered (b ∷ bs)
-begun f.Digit b bs = spread tied_len numbered (b ∷ bs)
+begun f.Digit b bs = spread tied_len integer_token (b ∷ bs)
 begun f.Percent b bs = addressed bs
-begun f.Mark b bs = marked b bs
+begun f.Mark b bs = mark_piece b bs
 
 abbrev pub next_of : List ℕ → Option (Piece × ℕ)
 next_of [] = None

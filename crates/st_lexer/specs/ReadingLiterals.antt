@@ -105,8 +105,8 @@ unfoldable pub part_by : List ℕ → Option (Number × List ℕ × List ℕ)
 part_by bs = leading bs >>= λ r. Some (r.0, take (letters_len r.1) r.1, drop (letters_len r.1) r.1)
 
 -- the sum and what a number is worth in a unit, if that is whole
-unfoldable pub added : ℕ → Number → TimeUnit → Option ℕ
-added sum number unit =
+unfoldable pub part_added : ℕ → Number → TimeUnit → Option ℕ
+part_added sum number unit =
     if (number.decimals * milliseconds_in unit) % 10 ^ 10 == 0
     then (if nat_lt (sum + (number.whole * milliseconds_in unit + number.decimals * milliseconds_in unit / 10 ^ 10)) (2 ^ 64) then Some (sum + (number.whole * milliseconds_in unit + number.decimals * milliseconds_in unit / 10 ^ 10)) else None)
     else None
@@ -119,7 +119,7 @@ behind_mark bs = if begins_by (λ b. b == 95) bs then drop 1 bs else bs
 abbrev pub parts_after : List TimeUnit → ℕ → Number → List ℕ → List ℕ → Option ℕ
 parts_after [] sum number name rest = None
 parts_after (unit ∷ later) sum number name rest =
-    if same_word name (name_of unit) then (added sum number unit >>= λ more.
+    if same_word name (name_of unit) then (part_added sum number unit >>= λ more.
     if length rest == 0 then Some more
     else if number.is_pointed then None
     else (part_by (behind_mark rest) >>= λ next. parts_after later more next.0 next.1 next.2))

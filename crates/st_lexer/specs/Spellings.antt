@@ -16,12 +16,12 @@ pub record IsWord (bs : List ℕ) : Type 0 where
   pub free : (keyword : Keyword) → same_word bs (spelling keyword) ≡ false
 
 -- the bytes spell a token of this kind
-abbrev pub Spells : TokenKind → List ℕ → Type 0
-Spells t.Word bs = IsWord bs
-Spells (t.Keyword keyword) bs = IsTrue (same_word bs (spelling keyword))
-Spells (t.Integer n) bs = IsInteger bs n
-Spells (t.Dint value) bs = IsDint bs value
-Spells (t.Truth value) bs = IsTrue (is_truth value bs)
-Spells (t.Duration milliseconds) bs = IsDuration bs milliseconds
-Spells (t.Address region) bs = IsTrue (is_address region bs)
-Spells (t.Symbol symbol) bs = bs ≡ bytes_of symbol
+abbrev pub SpellsToken : TokenKind → List ℕ → Type 0
+SpellsToken t.Word bs = IsWord bs
+SpellsToken (t.Keyword keyword) bs = IsTrue (same_word bs (spelling keyword))
+SpellsToken (t.Integer n) bs = IsInteger bs n
+SpellsToken (t.Dint value) bs = IsDint bs value
+SpellsToken (t.Truth value) bs = IsTrue (is_truth value bs)
+SpellsToken (t.Duration milliseconds) bs = IsDuration bs milliseconds
+SpellsToken (t.Address region) bs = IsTrue (is_address region bs)
+SpellsToken (t.Symbol symbol) bs = bs ≡ bytes_of symbol

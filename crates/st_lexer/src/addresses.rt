@@ -7,7 +7,7 @@ ghost use Rattle.st_lexer.specs.Bytes.{begins_by};
 ghost use Rattle.st_lexer.specs.Reading.{region_by, place_len, placed, address_by};
 ghost use Rattle.st_lexer.specs.ReadingLiterals.{linked_len};
 
-use crate::token::Region;
+use plant_types::Region;
 
 #[tactic(auto, unfolding(crate::specs::Reading::region_by))]
 fn region(letter: u8) -> Option<Region>

@@ -1,13 +1,13 @@
 //! Where a comment ends.
 
 ghost use Rattle.std.specs.Prelude.{◌≡◌, ◌≤◌, length, IfSome};
-ghost use Rattle.st_lexer.specs.Reading.{closing, line_len};
+ghost use Rattle.st_lexer.specs.Reading.{closing_len, line_len};
 
 use crate::bytes::begins_with;
 
 /// How many bytes a comment has behind its opening mark, where `*` and this byte close it.
-pub fn closing(mark: u8, inner: &[u8]) -> Option<usize>
-    ensures found { result ≡ closing 0 mark inner.now }
+pub fn closing_len(mark: u8, inner: &[u8]) -> Option<usize>
+    ensures found { result ≡ closing_len 0 mark inner.now }
     ensures within { IfSome result (λ n. n ≤ length inner.now) }
 {
     for (i, byte) in inner.iter().enumerate() {

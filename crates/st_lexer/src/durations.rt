@@ -3,7 +3,7 @@
 ghost use Rattle.std.specs.Prelude.{◌≡◌, ◌≤◌, ◌<◌, ◌+◌, ◌*◌, ◌^◌, ◌==◌, ℕ, Some, None, IfSome, IfNone, length};
 ghost use Rattle.std.specs.Char.{is_digit, is_ascii_alphabetic};
 ghost use Rattle.st_lexer.specs.Durations.{name_of, milliseconds_in};
-ghost use Rattle.st_lexer.specs.ReadingLiterals.{digits_len, linked_len, decimal_step, decimals_by, letters_len, fraction_by, leading, part_by, added, behind_mark, parts_after, parts_by};
+ghost use Rattle.st_lexer.specs.ReadingLiterals.{digits_len, linked_len, decimal_step, decimals_by, letters_len, fraction_by, leading, part_by, part_added, behind_mark, parts_after, parts_by};
 
 use crate::bytes::begins_with;
 use crate::numbers::{begins_by_digit, number};
@@ -201,10 +201,10 @@ fn part(text: &[u8]) -> Option<(Number, &[u8], &[u8])>
 }
 
 // The sum and what a number is worth in a unit; None where that isn't whole, or the sum is above 64 bits.
-#[tactic(auto, unfolding(crate::specs::ReadingLiterals::added))]
+#[tactic(auto, unfolding(crate::specs::ReadingLiterals::part_added))]
 fn added(sum: u64, number: Number, unit: TimeUnit) -> Option<u64>
     requires { number.decimals ≤ 10 ^ 10 }
-    ensures { result ≡ added sum number unit }
+    ensures { result ≡ part_added sum number unit }
 {
     let length = milliseconds(unit);
     let parts = number.decimals * length;

@@ -21,4 +21,4 @@ pub use laws::{one_answer, one_cut};
 pub use lexer::{LexFault, lex};
 pub use piece::Piece;
 pub use places::place_behind;
-pub use token::{Keyword, Region, Symbol, Token, TokenKind};
+pub use token::{Keyword, Symbol, Token, TokenKind};

@@ -3,11 +3,11 @@
 ghost use Rattle.std.specs.Prelude.{◌≡◌, ◌<◌, ◌≤◌, ◌^◌, ◌+◌, length, IfSome, IfNone, option_map};
 ghost use Rattle.st_lexer.specs.Pieces.{IsNext, IsOver};
 ghost use Rattle.st_lexer.specs.ReadingLiterals.{tied_len, lettered_len};
-ghost use Rattle.st_lexer.specs.Reading.{lettered, spread, numbered, addressed, marked, symbol_by, as_symbol, as_comment, single_by, next_of};
+ghost use Rattle.st_lexer.specs.Reading.{lettered, spread, integer_token, addressed, mark_piece, symbol_by, as_symbol, as_comment, single_by, next_of};
 
 use crate::addresses::address;
 use crate::bytes::{First, first_of, stands_apart, tied_len};
-use crate::comments::{closing, line_len};
+use crate::comments::{closing_len, line_len};
 use crate::literals::{lettered_len, literal};
 use crate::numbers::integer;
 use crate::piece::Piece;
@@ -41,7 +41,7 @@ fn next_word(text: &[u8]) -> Option<(Piece, usize)>
 
 #[tactic(auto, unfolding(crate::specs::Reading::spread))]
 fn next_integer(text: &[u8]) -> Option<(Piece, usize)>
-    ensures { result ≡ spread tied_len numbered text.now }
+    ensures { result ≡ spread tied_len integer_token text.now }
 {
     let n = tied_len(text);
     let (piece, _) = text.split_at(n);
@@ -89,14 +89,14 @@ fn symbol(first: u8, second: u8) -> Option<(Piece, usize)>
 // A comment or a symbol.
 fn next_mark(first: u8, rest: &[u8]) -> Option<(Piece, usize)>
     requires { length rest.now + 1 < 2 ^ 64 }
-    ensures { result ≡ marked first rest.now }
+    ensures { result ≡ mark_piece first rest.now }
 {
     let Some((second, inner)) = rest.split_first() else {
         return one_byte(first);
     };
     match (first, *second) {
-        (b'(', b'*') => comment(closing(b')', inner)),
-        (b'/', b'*') => comment(closing(b'/', inner)),
+        (b'(', b'*') => comment(closing_len(b')', inner)),
+        (b'/', b'*') => comment(closing_len(b'/', inner)),
         (b'/', b'/') => comment(Some(line_len(inner))),
         (first, second) => symbol(first, second),
     }

@@ -1,6 +1,7 @@
 //! Worked examples, each call with ample memory, and where a growth was refused once again.
 
-use crate::{Keyword, LexFault, Region, Symbol, Token, TokenKind, lex};
+use crate::{Keyword, LexFault, Symbol, Token, TokenKind, lex};
+use plant_types::Region;
 use std::alloc::Global;
 
 /// The answer with ample memory: where a growth was refused, that of a second call.

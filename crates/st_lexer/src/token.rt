@@ -1,5 +1,7 @@
 //! What a token is.
 
+use plant_types::Region;
+
 /// A word with a meaning of its own; letter case has none (IEC 61131-3).
 #[derive(Clone, Copy, Debug, PartialEq, Eq, Drop)]
 pub enum Keyword {
@@ -82,14 +84,6 @@ pub enum Symbol {
     Less,
     /// `>`
     Greater,
-}
-
-/// Where a variable's address lies: `%I` is an input, `%Q` an output, `%M` plain memory (IEC 61131-3).
-#[derive(Clone, Copy, Debug, PartialEq, Eq, Drop)]
-pub enum Region {
-    Input,
-    Output,
-    Plain,
 }
 
 /// The kind of a token; that of a literal has its value.

@@ -9,9 +9,9 @@ use Rattle.st_tree.specs.declared.tree.Unary.{Unary}
 use Rattle.st_tree.specs.declared.tree.Unary.TheVariants as u
 use Rattle.st_tree.specs.declared.tree.Binary.{Binary}
 use Rattle.st_tree.specs.declared.tree.Binary.TheVariants as b
-use Rattle.st_tree.specs.Plain.{PlainExpr, literal, read, output_of, one}
+use Rattle.st_tree.specs.Plain.{PlainExpr, literal, read, output_of, unary}
 use Rattle.st_parser.specs.Lexemes.{Lexeme, word, keyword, integer, symbol}
-use Rattle.st_parser.specs.Grammar.{literal_of, prefix_of, operator_of, level_of, top, is_signed, grouped, constant, negative, variable, output, parens, unary, binary, SpellsExpr, IsExpression}
+use Rattle.st_parser.specs.Grammar.{literal_of, prefix_of, operator_of, level_of, top, is_signed, in_parentheses, constant, negative, variable, output, parens, unary, binary, SpellsExpr, IsExpression}
 use Rattle.st_parser.specs.Reading.{Answer, ◌>>=◌, operator_at, if_allowed, next_symbol, minus_at, constant_at, operand, prefixed, chain, climb, tree_of, expression_at}
 use Rattle.st_parser.proofs.Chain.{stops, goes}
 use Rattle.st_parser.proofs.Steps.{both_ways, same_some}
@@ -106,7 +106,7 @@ prefix_read inner (keyword k.Not) op x rest h alone some = ap (λ o. prefixed o 
 prefix_read inner (symbol s.Minus) op x rest h alone some = minus_read inner x rest alone some ∙ ap (λ o. prefixed o (inner top (x ++ rest))) (same_some _ _ h)
 prefix_read inner _ op x rest h alone some = absurd (cc)
 
-parens_read : (inner : ℕ → List Lexeme → Answer) (e : PlainExpr (List ℕ)) (n : ℕ) (ts rest : List Lexeme) → inner 0 ts ≡ Some (e, n, symbol s.Close ∷ rest) → operand inner (symbol s.Open ∷ ts) ≡ Some (grouped e, n + 1, rest)
+parens_read : (inner : ℕ → List Lexeme → Answer) (e : PlainExpr (List ℕ)) (n : ℕ) (ts rest : List Lexeme) → inner 0 ts ≡ Some (e, n, symbol s.Close ∷ rest) → operand inner (symbol s.Open ∷ ts) ≡ Some (in_parentheses e, n + 1, rest)
 unfolding operand
 parens_read inner e n ts rest h = rw h refl
 
@@ -158,14 +158,14 @@ complete (suc d) (suc limit) m l ts e rest le lm (parens a x is tree inside) sto
     let h : Reached limit 0 (x ++ symbol s.Close ∷ rest) a (symbol s.Close ∷ rest) d = complete d limit 0 0 x a (symbol s.Close ∷ rest) (omega arith) (omega arith) inside refl refl in
     let w = whole limit 0 (x ++ symbol s.Close ∷ rest) a (symbol s.Close ∷ rest) d (omega arith) refl h in
     let small = w.shallow in
-    rw (is, append_assoc x (symbol s.Close ∷ []) rest, tree) (begun limit l (symbol s.Open ∷ (x ++ symbol s.Close ∷ rest)) (grouped a) rest (w.seen + 1) (suc d) (parens_read (climb limit) a w.seen _ rest w.is) (omega arith) (omega arith))
+    rw (is, append_assoc x (symbol s.Close ∷ []) rest, tree) (begun limit l (symbol s.Open ∷ (x ++ symbol s.Close ∷ rest)) (in_parentheses a) rest (w.seen + 1) (suc d) (parens_read (climb limit) a w.seen _ rest w.is) (omega arith) (omega arith))
 complete (suc d) (suc limit) m l ts e rest le lm (unary t op a x kind signs is tree part) stop alone =
     let h = complete d limit top top x a rest (omega arith) (omega arith) part (stops_at_top (top + 1) rest (omega arith)) alone in
     let w = whole limit top (x ++ rest) a rest d (omega arith) (stops_at_top top rest (omega arith)) h in
     let small = w.shallow in
     let some = some_lexeme d top x a part in
     let unsigned : is_signed (t ∷ x) ≡ false = sym (ap is_signed is) ∙ signs in
-    rw (is, tree) (begun limit l (t ∷ (x ++ rest)) (one op a) rest (w.seen + 1) (suc d) (prefix_read (climb limit) t op x rest kind unsigned some ∙ ap (prefixed op) w.is) (omega arith) (omega arith))
+    rw (is, tree) (begun limit l (t ∷ (x ++ rest)) (unary op a) rest (w.seen + 1) (suc d) (prefix_read (climb limit) t op x rest kind unsigned some ∙ ap (prefixed op) w.is) (omega arith) (omega arith))
 complete (suc d) (suc limit) m l ts e rest le lm (binary t op a c x y kind tight is tree left right) stop alone =
     let behind = t ∷ (y ++ rest) in
     let first = complete d (suc limit) (level_of op) l x a behind (omega arith) (omega arith) left (stops_above (level_of op + 1) t op (y ++ rest) kind (omega arith)) (operator_no_point t op (y ++ rest) kind) in

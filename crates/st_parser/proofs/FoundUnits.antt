@@ -1,14 +1,14 @@
 -- Declarations, blocks, programs and units that are read are spelled.
 use Rattle.std.proofs.Common.{◌≡◌, ℕ, ◌<◌, Bool, true, List, [], ◌∷◌, ◌++◌, append_assoc, append-nil, drop, length, Option, Some, None, refl, sym, ap, ◌∙◌, subst, arith, inl, inr}
 use Rattle.st_lexer.specs.declared.token.Keyword.TheVariants as k
-use Rattle.st_lexer.specs.declared.token.Region.{Region}
+use Rattle.plant_types.specs.declared.values.Region.{Region}
 use Rattle.st_lexer.specs.declared.token.Symbol.TheVariants as s
 use Rattle.st_tree.specs.Plain.{PlainExpr}
 use Rattle.st_parser.specs.Lexemes.{Lexeme, word, keyword, address, symbol}
 use Rattle.st_parser.specs.Phrases.{Perhaps, After, listed}
 use Rattle.st_parser.specs.Grammar.{IsExpression}
-use Rattle.st_parser.specs.Declarations.{IsWord, kind_of_word, sort_of, Declares, declaration, DeclaresGlobal, placed, anywhere, Globals, globals, section_of, IsSection, variables, opening, closing, IsPou, organised, Spells, unit}
-use Rattle.st_parser.specs.Reading.{word_at, next_symbol, next_keyword, next_word, symbol_at, keyword_at, behind, all_at, perhaps_at, after_symbol, others_at, told_at, expression_at}
+use Rattle.st_parser.specs.Declarations.{IsName, kind_of_word, sort_of, Declares, declaration, DeclaresGlobal, placed, anywhere, Globals, globals, section_of, IsSection, variables, opening_keyword, closing_keyword, IsPou, organised, SpellsUnit, unit}
+use Rattle.st_parser.specs.Reading.{word_at, next_symbol, next_keyword, next_word, symbol_at, keyword_at, with_first, all_at, perhaps_at, after_symbol, others_at, table_at, expression_at}
 use Rattle.st_parser.specs.ReadingStatements.{body_at}
 use Rattle.st_parser.specs.ReadingUnits.{address_at, initial_at, declared_at, placed_at, declaration_at, global_at, globals_at, next_section, section_at, pou_of, next_pou, pou_at, unit_at}
 use Rattle.st_parser.specs.Units.{PlainDeclaration, PlainUnit}
@@ -31,7 +31,7 @@ record Told {A : Type 0} (table : Lexeme → Option A) (ts : List Lexeme) (a : A
   pub whole : ts ≡ t ∷ rest
   pub is : table t ≡ Some a
 
-told_found : {A : Type 0} (table : Lexeme → Option A) (ts : List Lexeme) (a : A) (rest : List Lexeme) → told_at table ts ≡ Some (a, rest) → Told table ts a rest
+told_found : {A : Type 0} (table : Lexeme → Option A) (ts : List Lexeme) (a : A) (rest : List Lexeme) → table_at table ts ≡ Some (a, rest) → Told table ts a rest
 told_found table [] a rest h = absurd (cc)
 told_found {A} table (t ∷ ts) a rest h =
     let on : A → Option (A × List Lexeme) = λ a. Some (a, ts) in
@@ -69,7 +69,7 @@ initial_found names region what ts d rest h =
     } in
     subst (λ (r : PlainDeclaration × List Lexeme). Tail names region what ts r.0 r.1) (same_some _ _ is) here
 
-word_finds : Finds IsWord word_at
+word_finds : Finds IsName word_at
 word_finds ts name rest h = record { front = word name ∷ []; whole = word_found ts (name, rest) h; spelled = refl }
 
 declared_whole : (name : List ℕ) (x y ts r colon rest v : List Lexeme) (t : Lexeme) → ts ≡ x ++ r → r ≡ symbol s.Colon ∷ colon → colon ≡ t ∷ v → v ≡ y ++ symbol s.Semicolon ∷ rest
@@ -80,11 +80,11 @@ declared_whole name x y ts r colon rest v t e0 e1 e2 e3 =
 declared_found : (name : List ℕ) (ts : List Lexeme) (d : PlainDeclaration) (rest : List Lexeme) → declared_at name ts ≡ Some (d, rest) → Front Declares (word name ∷ ts) d rest
 unfolding declared_at
 declared_found name ts d rest h =
-    let (names, was_names, h1) = bind_some (behind (name ∷ []) (others_at word_at ts)) _ (d, rest) h in
+    let (names, was_names, h1) = bind_some (with_first (name ∷ []) (others_at word_at ts)) _ (d, rest) h in
     let (others, was_others, same) = behind_some (name ∷ []) (others_at word_at ts) names was_names in
     let (colon, was_colon, h2) = bind_some (symbol_at s.Colon names.1) _ (d, rest) h1 in
-    let (what, was_what, h3) = bind_some (told_at sort_of colon) _ (d, rest) h2 in
-    let f = others_found IsWord anything word_at word_finds ts others.0 others.1 was_others in
+    let (what, was_what, h3) = bind_some (table_at sort_of colon) _ (d, rest) h2 in
+    let f = others_found IsName anything word_at word_finds ts others.0 others.1 was_others in
     let e1 = ap (λ (r : List (List ℕ) × List Lexeme). r.1) same ∙ symbol_found s.Colon names.1 colon was_colon in
     let t = told_found sort_of colon what.0 what.1 was_what in
     let i = initial_found (name ∷ others.0) None what.0 what.1 d rest (ap (λ (r : List (List ℕ) × List Lexeme). initial_at r.0 None what.0 what.1) same ∙ h3) in
@@ -105,7 +105,7 @@ unfolding placed_at
 placed_found name ts d rest h =
     let (region, was_region, h1) = bind_some (address_at ts) _ (d, rest) h in
     let (colon, was_colon, h2) = bind_some (symbol_at s.Colon region.1) _ (d, rest) h1 in
-    let (what, was_what, h3) = bind_some (told_at kind_of_word colon) _ (d, rest) h2 in
+    let (what, was_what, h3) = bind_some (table_at kind_of_word colon) _ (d, rest) h2 in
     let e0 = address_found ts region.0 region.1 was_region in
     let e1 = symbol_found s.Colon region.1 colon was_colon in
     let t = told_found kind_of_word colon what.0 what.1 was_what in
@@ -153,7 +153,7 @@ globals_found ts sec rest h =
 section_found : (kind : PouKind) → Finds (IsSection kind) (section_at kind)
 unfolding section_at
 section_found kind ts sec rest h =
-    let (what, was_what, h1) = bind_some (told_at (section_of kind) ts) _ (sec, rest) h in
+    let (what, was_what, h1) = bind_some (table_at (section_of kind) ts) _ (sec, rest) h in
     let (all, was_all, h2) = bind_some (all_at next_word declaration_at what.1) _ (sec, rest) h1 in
     let (left, was_left, is) = bind_some (keyword_at k.EndVar all.1) _ (sec, rest) h2 in
     let t = told_found (section_of kind) ts what.0 what.1 was_what in
@@ -166,9 +166,9 @@ section_found kind ts sec rest h =
     }
 
 -- ---- blocks and programs
-opened : (t : Lexeme) (kind : PouKind) → pou_of t ≡ Some kind → t ≡ keyword (opening kind)
-opened (keyword k.FunctionBlock) kind h = ap (λ x. keyword (opening x)) (same_some _ _ h)
-opened (keyword k.Program) kind h = ap (λ x. keyword (opening x)) (same_some _ _ h)
+opened : (t : Lexeme) (kind : PouKind) → pou_of t ≡ Some kind → t ≡ keyword (opening_keyword kind)
+opened (keyword k.FunctionBlock) kind h = ap (λ x. keyword (opening_keyword x)) (same_some _ _ h)
+opened (keyword k.Program) kind h = ap (λ x. keyword (opening_keyword x)) (same_some _ _ h)
 opened _ kind h = absurd (cc)
 
 pou_whole : (o c t : Lexeme) (name : List ℕ) (f g ts w v u r left : List Lexeme) → t ≡ o → ts ≡ t ∷ w → w ≡ word name ∷ v → v ≡ f ++ u → u ≡ g ++ r → r ≡ c ∷ left → ts ≡ (o ∷ word name ∷ (f ++ (g ++ c ∷ []))) ++ left
@@ -177,31 +177,31 @@ pou_whole o c t name f g ts w v u r left e e0 e1 e2 e3 e4 = rw (e0, e, e1, e2, e
 pou_found : Finds IsPou pou_at
 unfolding pou_at
 pou_found ts p rest h =
-    let (kind, was_kind, h0) = bind_some (told_at pou_of ts) _ (p, rest) h in
+    let (kind, was_kind, h0) = bind_some (table_at pou_of ts) _ (p, rest) h in
     let (name, was_name, h1) = bind_some (word_at kind.1) _ (p, rest) h0 in
     let (sections, was_sections, h2) = bind_some (all_at (next_section kind.0) (section_at kind.0) name.1) _ (p, rest) h1 in
     let (body, was_body, h3) = bind_some (body_at sections.1) _ (p, rest) h2 in
-    let (left, was_left, is) = bind_some (keyword_at (closing kind.0) body.1) _ (p, rest) h3 in
+    let (left, was_left, is) = bind_some (keyword_at (closing_keyword kind.0) body.1) _ (p, rest) h3 in
     let t = told_found pou_of ts kind.0 kind.1 was_kind in
     let e1 = word_found kind.1 name was_name in
     let f = all_found (IsSection kind.0) (next_section kind.0) anything (section_at kind.0) (section_found kind.0) name.1 sections.0 sections.1 was_sections in
     let g = body_found sections.1 body.0 body.1 was_body in
-    let e2 = keyword_found (closing kind.0) body.1 left was_left in
+    let e2 = keyword_found (closing_keyword kind.0) body.1 left was_left in
     turned IsPou ts (record { kind = kind.0; name = name.0; sections = sections.0; body = body.0 }, left) (p, rest) is record {
-      front = keyword (opening kind.0) ∷ word name.0 ∷ (f.front ++ (g.front ++ keyword (closing kind.0) ∷ []));
-      whole = pou_whole (keyword (opening kind.0)) (keyword (closing kind.0)) t.t name.0 f.front g.front ts kind.1 name.1 sections.1 body.1 left (opened t.t kind.0 t.is) t.whole e1 f.whole g.whole e2;
+      front = keyword (opening_keyword kind.0) ∷ word name.0 ∷ (f.front ++ (g.front ++ keyword (closing_keyword kind.0) ∷ []));
+      whole = pou_whole (keyword (opening_keyword kind.0)) (keyword (closing_keyword kind.0)) t.t name.0 f.front g.front ts kind.1 name.1 sections.1 body.1 left (opened t.t kind.0 t.is) t.whole e1 f.whole g.whole e2;
       spelled = organised kind.0 name.0 sections.0 body.0 f.front g.front f.spelled g.spelled refl refl;
     }
 
 -- ---- units
-unit_found : (ts : List Lexeme) (u : PlainUnit) (rest : List Lexeme) → unit_at ts ≡ Some (u, rest) → Front Spells ts u rest
+unit_found : (ts : List Lexeme) (u : PlainUnit) (rest : List Lexeme) → unit_at ts ≡ Some (u, rest) → Front SpellsUnit ts u rest
 unfolding unit_at
 unit_found ts u rest h =
     let (gs, was_gs, h1) = bind_some (all_at (next_keyword k.VarGlobal) globals_at ts) _ (u, rest) h in
     let (ps, was_ps, is) = bind_some (all_at next_pou pou_at gs.1) _ (u, rest) h1 in
     let f = all_found Globals (next_keyword k.VarGlobal) anything globals_at globals_found ts gs.0 gs.1 was_gs in
     let g = all_found IsPou next_pou anything pou_at pou_found gs.1 ps.0 ps.1 was_ps in
-    turned Spells ts (record { globals = gs.0; pous = ps.0 }, ps.1) (u, rest) is record {
+    turned SpellsUnit ts (record { globals = gs.0; pous = ps.0 }, ps.1) (u, rest) is record {
       front = f.front ++ g.front;
       whole = f.whole ∙ ap (λ l. f.front ++ l) g.whole ∙ sym (append_assoc f.front g.front ps.1);
       spelled = unit gs.0 ps.0 f.front g.front f.spelled g.spelled refl refl;
@@ -212,20 +212,20 @@ nothing [] h = refl
 nothing (x ∷ l) h = absurd (omega arith)
 
 -- what a whole text says
-pub unit_spelled : (ts rest : List Lexeme) (u : PlainUnit) → unit_at ts ≡ Some (u, rest) → length rest ≡ 0 → Spells ts u
+pub unit_spelled : (ts rest : List Lexeme) (u : PlainUnit) → unit_at ts ≡ Some (u, rest) → length rest ≡ 0 → SpellsUnit ts u
 unit_spelled ts rest u h none =
     let f = unit_found ts u rest h in
     let all : f.front ≡ ts = sym (append-nil f.front) ∙ ap (λ l. f.front ++ l) (sym (nothing rest none)) ∙ sym f.whole in
-    subst (λ l. Spells l u) all f.spelled
+    subst (λ l. SpellsUnit l u) all f.spelled
 
-pub some_left : (ts rest : List Lexeme) (u other : PlainUnit) → unit_at ts ≡ Some (u, rest) → 0 < length rest → Spells ts other → ⊥
+pub some_left : (ts rest : List Lexeme) (u other : PlainUnit) → unit_at ts ≡ Some (u, rest) → 0 < length rest → SpellsUnit ts other → ⊥
 some_left ts rest u other h some p =
     let last : rest ≡ [] = ap (λ (r : PlainUnit × List Lexeme). r.1) (same_some _ _ (sym h ∙ unit_read ts other p)) in
     let none = ap length last in
     omega arith
 
-pub none_read : (ts : List Lexeme) (u : PlainUnit) → unit_at ts ≡ None → Spells ts u → ⊥
+pub none_read : (ts : List Lexeme) (u : PlainUnit) → unit_at ts ≡ None → SpellsUnit ts u → ⊥
 none_read ts u h p = let is = unit_read ts u p in cc
 
-pub one_unit : (ts : List Lexeme) (a b : PlainUnit) → Spells ts a → Spells ts b → a ≡ b
+pub one_unit : (ts : List Lexeme) (a b : PlainUnit) → SpellsUnit ts a → SpellsUnit ts b → a ≡ b
 one_unit ts a b p q = ap (λ (r : PlainUnit × List Lexeme). r.0) (same_some _ _ (sym (unit_read ts a p) ∙ unit_read ts b q))

@@ -9,7 +9,7 @@ use Rattle.st_lexer.specs.declared.token.Symbol.{Symbol}
 use Rattle.st_lexer.specs.declared.token.Symbol.TheVariants as s
 use Rattle.st_parser.specs.Lexemes.{Lexeme, keyword, symbol}
 use Rattle.st_parser.specs.Phrases.{Each, Perhaps, absent, present, After, after, Listed, listed}
-use Rattle.st_parser.specs.Reading.{◌>>=◌, next_symbol, next_keyword, symbol_at, keyword_at, ahead, behind, many, all_at, perhaps_at, after_symbol, after_keyword, others_at, listed_at}
+use Rattle.st_parser.specs.Reading.{◌>>=◌, next_symbol, next_keyword, symbol_at, keyword_at, ahead, with_first, many, all_at, perhaps_at, after_symbol, after_keyword, others_at, listed_at}
 use Rattle.st_parser.proofs.Steps.{true_or_false, bind_some, same_some, symbol_found, keyword_found}
 
 -- a phrase at the front
@@ -114,7 +114,7 @@ module _ {A : Type 0} (Q : List Lexeme → A → Type 0) (starts may : List Lexe
             again (Perhaps Q) ts None o ts rest (ap (λ b. cond b (one_at ts >>= on) (Some (None, ts))) (sym no') ∙ h) nothing
       ]
 
-pub behind_some : {A : Type 0} (before : List A) (o : Option (List A × List Lexeme)) (r : List A × List Lexeme) → behind before o ≡ Some r → (m : List A × List Lexeme) × (o ≡ Some m) × ((before ++ m.0, m.1) ≡ r)
+pub behind_some : {A : Type 0} (before : List A) (o : Option (List A × List Lexeme)) (r : List A × List Lexeme) → with_first before o ≡ Some r → (m : List A × List Lexeme) × (o ≡ Some m) × ((before ++ m.0, m.1) ≡ r)
 behind_some before None r h = absurd (cc)
 behind_some before (Some m) r h = (m, refl, same_some _ _ h)
 
@@ -167,7 +167,7 @@ module _ {A : Type 0} (Q : List Lexeme → A → Type 0) (may : List Lexeme → 
 
   pub listed_found : Finds Q one_at → Finds (Listed Q) (listed_at one_at)
   listed_found finds ts items rest h =
-      let (a, was, then') = bind_some (one_at ts) (λ (a : A × List Lexeme). behind (a.0 ∷ []) (others_at one_at a.1)) (items, rest) h in
+      let (a, was, then') = bind_some (one_at ts) (λ (a : A × List Lexeme). with_first (a.0 ∷ []) (others_at one_at a.1)) (items, rest) h in
       let (m, was_more, is) = behind_some (a.0 ∷ []) (others_at one_at a.1) (items, rest) then' in
       let f = finds ts a.0 a.1 was in
       let g = others_found finds a.1 m.0 m.1 was_more in
@@ -185,25 +185,25 @@ two_parts x y t rest = append_assoc x (y ++ t ∷ []) rest ∙ ap (λ l. x ++ l)
 pub three_parts : (x y z : List Lexeme) (t : Lexeme) (rest : List Lexeme) → (x ++ (y ++ (z ++ t ∷ []))) ++ rest ≡ x ++ (y ++ (z ++ t ∷ rest))
 three_parts x y z t rest = append_assoc x (y ++ (z ++ t ∷ [])) rest ∙ ap (λ l. x ++ l) (two_parts y z t rest)
 
-behind_ahead : {A : Type 0} (before : List A) (a : A) (o : Option (List A × List Lexeme)) → behind (before ++ a ∷ []) o ≡ behind before (o >>= ahead a)
+behind_ahead : {A : Type 0} (before : List A) (a : A) (o : Option (List A × List Lexeme)) → with_first (before ++ a ∷ []) o ≡ with_first before (o >>= ahead a)
 behind_ahead before a None = refl
 behind_ahead before a (Some more) = ap (λ l. Some (l, more.1)) (append_assoc before (a ∷ []) more.0)
 
 -- one phrase more, seen by view
-pub many_goes : {X A : Type 0} (view : X → A) (starts : List Lexeme → Bool) (one_at : List Lexeme → Option (A × List Lexeme)) (before after' : List X) (x : X) (fuel left : ℕ) (ts rest : List Lexeme) → after' ≡ before ++ x ∷ [] → fuel ≡ left + 1 → starts ts ≡ true → one_at ts ≡ Some (view x, rest) → behind (map view after') (many starts one_at left rest) ≡ behind (map view before) (many starts one_at fuel ts)
+pub many_goes : {X A : Type 0} (view : X → A) (starts : List Lexeme → Bool) (one_at : List Lexeme → Option (A × List Lexeme)) (before after' : List X) (x : X) (fuel left : ℕ) (ts rest : List Lexeme) → after' ≡ before ++ x ∷ [] → fuel ≡ left + 1 → starts ts ≡ true → one_at ts ≡ Some (view x, rest) → with_first (map view after') (many starts one_at left rest) ≡ with_first (map view before) (many starts one_at fuel ts)
 many_goes view starts one_at before after' x zero left ts rest pushed more yes' is = absurd (omega arith)
 many_goes view starts one_at before after' x (suc fuel) left ts rest pushed more yes' is =
     let same : left ≡ fuel = omega arith in
     rw (yes', is, same, pushed, map_push view before x) (behind_ahead (map view before) (view x) (many starts one_at fuel rest))
 
 -- the same of phrases as they are
-pub many_more : {A : Type 0} (starts : List Lexeme → Bool) (one_at : List Lexeme → Option (A × List Lexeme)) (before after' : List A) (a : A) (fuel left : ℕ) (ts rest : List Lexeme) → after' ≡ before ++ a ∷ [] → fuel ≡ left + 1 → starts ts ≡ true → one_at ts ≡ Some (a, rest) → behind after' (many starts one_at left rest) ≡ behind before (many starts one_at fuel ts)
+pub many_more : {A : Type 0} (starts : List Lexeme → Bool) (one_at : List Lexeme → Option (A × List Lexeme)) (before after' : List A) (a : A) (fuel left : ℕ) (ts rest : List Lexeme) → after' ≡ before ++ a ∷ [] → fuel ≡ left + 1 → starts ts ≡ true → one_at ts ≡ Some (a, rest) → with_first after' (many starts one_at left rest) ≡ with_first before (many starts one_at fuel ts)
 many_more starts one_at before after' a zero left ts rest pushed more yes' is = absurd (omega arith)
 many_more starts one_at before after' a (suc fuel) left ts rest pushed more yes' is =
     let same : left ≡ fuel = omega arith in
     rw (yes', is, same, pushed) (behind_ahead before a (many starts one_at fuel rest))
 
 -- no phrase more
-pub many_ends : {A : Type 0} (starts : List Lexeme → Bool) (one_at : List Lexeme → Option (A × List Lexeme)) (before : List A) (fuel : ℕ) (ts : List Lexeme) → starts ts ≡ false → behind before (many starts one_at fuel ts) ≡ Some (before, ts)
+pub many_ends : {A : Type 0} (starts : List Lexeme → Bool) (one_at : List Lexeme → Option (A × List Lexeme)) (before : List A) (fuel : ℕ) (ts : List Lexeme) → starts ts ≡ false → with_first before (many starts one_at fuel ts) ≡ Some (before, ts)
 many_ends starts one_at before zero ts stop = rw stop (ap (λ l. Some (l, ts)) (append-nil before))
 many_ends starts one_at before (suc fuel) ts stop = rw stop (ap (λ l. Some (l, ts)) (append-nil before))

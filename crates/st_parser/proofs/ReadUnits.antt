@@ -1,14 +1,14 @@
 -- Declarations, blocks, programs and units that are spelled are read.
 use Rattle.std.proofs.Common.{◌≡◌, ℕ, ◌<◌, Bool, true, false, List, [], ◌∷◌, ◌++◌, append_assoc, append-nil, length, length-append, Option, Some, None, is_some, refl, sym, ap, ◌∙◌, arith, inl, inr}
 use Rattle.st_lexer.specs.declared.token.Keyword.TheVariants as k
-use Rattle.st_lexer.specs.declared.token.Region.{Region}
+use Rattle.plant_types.specs.declared.values.Region.{Region}
 use Rattle.st_lexer.specs.declared.token.Symbol.TheVariants as s
 use Rattle.st_tree.specs.Plain.{PlainExpr, PlainBody}
 use Rattle.st_parser.specs.Lexemes.{Lexeme, word, keyword, symbol}
 use Rattle.st_parser.specs.Phrases.{Each, Perhaps, After, after, listed}
 use Rattle.st_parser.specs.Grammar.{IsExpression}
 use Rattle.st_parser.specs.Statements.{IsBody}
-use Rattle.st_parser.specs.Declarations.{IsWord, sort_of, Declares, declaration, DeclaresGlobal, placed, anywhere, Globals, globals, section_of, IsSection, variables, opening, closing, IsPou, organised, Spells, unit}
+use Rattle.st_parser.specs.Declarations.{IsName, sort_of, Declares, declaration, DeclaresGlobal, placed, anywhere, Globals, globals, section_of, IsSection, variables, opening_keyword, closing_keyword, IsPou, organised, SpellsUnit, unit}
 use Rattle.st_parser.specs.Reading.{word_at, next_symbol, next_keyword, next_word, keyword_at, all_at, after_symbol, expression_at}
 use Rattle.st_parser.specs.ReadingStatements.{next_stmt, body_at}
 use Rattle.st_parser.specs.ReadingUnits.{initial_at, declared_at, placed_at, declaration_at, global_at, globals_at, next_section, section_at, pou_of, next_pou, pou_at, unit_at}
@@ -32,18 +32,18 @@ initial_read names region what initial y rest p =
     let read = perhaps_read (After (symbol s.Becomes) IsExpression) (next_symbol s.Becomes) ends (after_symbol s.Becomes expression_at) (after_symbol_read IsExpression ends expression_at s.Becomes (λ x rest e p h. expression_read x rest e p h)) (symbol_next IsExpression ends expression_at s.Becomes) initial y (symbol s.Semicolon ∷ rest) p refl refl in
     rw read refl
 
-word_read : Reads IsWord word_at anything
+word_read : Reads IsName word_at anything
 word_read x rest name is h = rw is refl
 
 -- behind the first name of a declaration
-declared_read : (name : List ℕ) (others : List (List ℕ)) (t : Lexeme) (what : Sort) (initial : Option (PlainExpr (List ℕ))) (x y rest : List Lexeme) → Each (After (symbol s.Comma) IsWord) x others → sort_of t ≡ Some what → Perhaps (After (symbol s.Becomes) IsExpression) y initial
+declared_read : (name : List ℕ) (others : List (List ℕ)) (t : Lexeme) (what : Sort) (initial : Option (PlainExpr (List ℕ))) (x y rest : List Lexeme) → Each (After (symbol s.Comma) IsName) x others → sort_of t ≡ Some what → Perhaps (After (symbol s.Becomes) IsExpression) y initial
     → declared_at name (x ++ symbol s.Colon ∷ t ∷ (y ++ symbol s.Semicolon ∷ rest)) ≡ Some (record { names = name ∷ others; region = None; sort = what; initial = initial }, rest)
 unfolding declared_at
 declared_read name others t what initial x y rest each is p =
-    rw (others_read IsWord anything word_at word_read (λ ts. refl) others x (symbol s.Colon ∷ t ∷ (y ++ symbol s.Semicolon ∷ rest)) each refl refl, is) (initial_read (name ∷ others) None what initial y rest p)
+    rw (others_read IsName anything word_at word_read (λ ts. refl) others x (symbol s.Colon ∷ t ∷ (y ++ symbol s.Semicolon ∷ rest)) each refl refl, is) (initial_read (name ∷ others) None what initial y rest p)
 
 -- the names of a declaration begin with a word, and no AT is behind it
-no_at : (others : List (List ℕ)) (x rest : List Lexeme) → Each (After (symbol s.Comma) IsWord) x others → next_keyword k.At (x ++ symbol s.Colon ∷ rest) ≡ false
+no_at : (others : List (List ℕ)) (x rest : List Lexeme) → Each (After (symbol s.Comma) IsName) x others → next_keyword k.At (x ++ symbol s.Colon ∷ rest) ≡ false
 no_at [] x rest each = rw each refl
 no_at (n ∷ others) x rest (y, z, is, after w is_y more, each) = rw (is, is_y) refl
 
@@ -129,35 +129,35 @@ no_section pou.Program (symbol s.Semicolon ∷ ts) h = refl
 no_section _ [] h = absurd (cc)
 no_section _ (_ ∷ ts) h = absurd (cc)
 
-closing_is_no_section : (kind : PouKind) (ts : List Lexeme) → next_section kind (keyword (closing kind) ∷ ts) ≡ false
+closing_is_no_section : (kind : PouKind) (ts : List Lexeme) → next_section kind (keyword (closing_keyword kind) ∷ ts) ≡ false
 closing_is_no_section pou.Block ts = refl
 closing_is_no_section pou.Program ts = refl
 
-closing_stops : (kind : PouKind) (ts : List Lexeme) → stops (keyword (closing kind) ∷ ts) ≡ true
+closing_stops : (kind : PouKind) (ts : List Lexeme) → stops (keyword (closing_keyword kind) ∷ ts) ≡ true
 closing_stops pou.Block ts = refl
 closing_stops pou.Program ts = refl
 
-closing_read : (kind : PouKind) (ts : List Lexeme) → keyword_at (closing kind) (keyword (closing kind) ∷ ts) ≡ Some ts
+closing_read : (kind : PouKind) (ts : List Lexeme) → keyword_at (closing_keyword kind) (keyword (closing_keyword kind) ∷ ts) ≡ Some ts
 closing_read pou.Block ts = refl
 closing_read pou.Program ts = refl
 
-opened : (kind : PouKind) → pou_of (keyword (opening kind)) ≡ Some kind
+opened : (kind : PouKind) → pou_of (keyword (opening_keyword kind)) ≡ Some kind
 opened pou.Block = refl
 opened pou.Program = refl
 
-body_is_no_section : (kind : PouKind) (y rest : List Lexeme) (body : PlainBody (List ℕ)) → IsBody y body → next_section kind (y ++ keyword (closing kind) ∷ rest) ≡ false
+body_is_no_section : (kind : PouKind) (y rest : List Lexeme) (body : PlainBody (List ℕ)) → IsBody y body → next_section kind (y ++ keyword (closing_keyword kind) ∷ rest) ≡ false
 body_is_no_section kind y rest body p =
-    elim (body_begins y (keyword (closing kind) ∷ rest) body p) as (λ _. next_section kind (y ++ keyword (closing kind) ∷ rest) ≡ false) [
+    elim (body_begins y (keyword (closing_keyword kind) ∷ rest) body p) as (λ _. next_section kind (y ++ keyword (closing_keyword kind) ∷ rest) ≡ false) [
       | inl none ↦ rw none (closing_is_no_section kind rest)
-      | inr some ↦ no_section kind (y ++ keyword (closing kind) ∷ rest) some
+      | inr some ↦ no_section kind (y ++ keyword (closing_keyword kind) ∷ rest) some
     ]
 
 inside_read : (kind : PouKind) (name : List ℕ) (sections : List PlainSection) (body : PlainBody (List ℕ)) (y z rest : List Lexeme) → Each (IsSection kind) y sections → IsBody z body
-    → (all_at (next_section kind) (section_at kind) (y ++ (z ++ keyword (closing kind) ∷ rest)) ≡ Some (sections, z ++ keyword (closing kind) ∷ rest)) × (body_at (z ++ keyword (closing kind) ∷ rest) ≡ Some (body, keyword (closing kind) ∷ rest))
+    → (all_at (next_section kind) (section_at kind) (y ++ (z ++ keyword (closing_keyword kind) ∷ rest)) ≡ Some (sections, z ++ keyword (closing_keyword kind) ∷ rest)) × (body_at (z ++ keyword (closing_keyword kind) ∷ rest) ≡ Some (body, keyword (closing_keyword kind) ∷ rest))
 inside_read kind name sections body y z rest each is_body =
-    let behind = z ++ keyword (closing kind) ∷ rest in (
+    let behind = z ++ keyword (closing_keyword kind) ∷ rest in (
       all_read (IsSection kind) (next_section kind) anything (section_at kind) (section_read kind) (section_begins kind) sections y behind each refl (body_is_no_section kind z rest body is_body),
-      body_read z (keyword (closing kind) ∷ rest) body is_body (closing_stops kind rest),
+      body_read z (keyword (closing_keyword kind) ∷ rest) body is_body (closing_stops kind rest),
     )
 
 pou_read : Reads IsPou pou_at anything
@@ -179,7 +179,7 @@ no_globals [] y each = rw each refl
 no_globals (p ∷ pous) y (v, w, is, organised pou.Block name sections body x z eachs is_body is_v is_p, each) = rw (is, is_v) refl
 no_globals (p ∷ pous) y (v, w, is, organised pou.Program name sections body x z eachs is_body is_v is_p, each) = rw (is, is_v) refl
 
-pub unit_read : (ts : List Lexeme) (u : PlainUnit) → Spells ts u → unit_at ts ≡ Some (u, [])
+pub unit_read : (ts : List Lexeme) (u : PlainUnit) → SpellsUnit ts u → unit_at ts ≡ Some (u, [])
 unfolding unit_at
 unit_read ts u (unit gs ps x y each_global each_pou is what) =
     let first = all_read Globals (next_keyword k.VarGlobal) anything globals_at globals_read globals_begin gs x y each_global refl (no_globals ps y each_pou) in

@@ -8,9 +8,9 @@ use Rattle.st_tree.specs.declared.tree.Literal.TheVariants.{Value}
 use Rattle.st_tree.specs.declared.tree.Unary.{Unary}
 use Rattle.st_tree.specs.declared.tree.Unary.TheVariants as u
 use Rattle.st_tree.specs.declared.tree.Binary.{Binary}
-use Rattle.st_tree.specs.Plain.{PlainExpr, literal, read, output_of, one, two}
+use Rattle.st_tree.specs.Plain.{PlainExpr, literal, read, output_of, unary, binary}
 use Rattle.st_parser.specs.Lexemes.{Lexeme, word, keyword, integer, symbol}
-use Rattle.st_parser.specs.Grammar.{literal_of, prefix_of, operator_of, level_of, top, is_signed, grouped, Production, constant, negative, variable, output, parens, unary, binary, SpellsExpr, IsExpression}
+use Rattle.st_parser.specs.Grammar.{literal_of, prefix_of, operator_of, level_of, top, is_signed, in_parentheses, Production, constant, negative, variable, output, parens, unary, binary, SpellsExpr, IsExpression}
 use Rattle.st_parser.specs.Reading.{Answer, word_at, operator_at, if_allowed, next_symbol, part_at, named_at, minus_at, constant_at, operand, prefixed, closed, symbol_at, chain, climb, tree_of, expression_at}
 use Rattle.st_parser.proofs.Chain.{stops, too_deep, goes, fails}
 use Rattle.st_parser.proofs.Complete.{starts_with, stops_at_top, some_lexeme}
@@ -37,11 +37,11 @@ weaken (suc d) (suc n) m l x e le lm (binary t op a c y z kind tight is tree lef
 one_more : (d m : ℕ) (x : List Lexeme) (e : PlainExpr (List ℕ)) → Production (SpellsExpr d) m x e → SpellsExpr (d + 1) m x e
 one_more d m x e p = let same : suc d ≡ d + 1 = omega arith in subst (λ n. SpellsExpr n m x e) same p
 
-closed_some : (e : PlainExpr (List ℕ)) (n : ℕ) (o : Option (List Lexeme)) (r : Read) → closed e n o ≡ Some r → (rest : List Lexeme) × (o ≡ Some rest) × ((grouped e, n + 1, rest) ≡ r)
+closed_some : (e : PlainExpr (List ℕ)) (n : ℕ) (o : Option (List Lexeme)) (r : Read) → closed e n o ≡ Some r → (rest : List Lexeme) × (o ≡ Some rest) × ((in_parentheses e, n + 1, rest) ≡ r)
 closed_some e n None r h = absurd (cc)
 closed_some e n (Some ts) r h = (ts, refl, same_some _ _ h)
 
-prefixed_some : (op : Unary) (o : Answer) (r : Read) → prefixed op o ≡ Some r → (q : Read) × (o ≡ Some q) × ((one op q.0, q.1 + 1, q.2) ≡ r)
+prefixed_some : (op : Unary) (o : Answer) (r : Read) → prefixed op o ≡ Some r → (q : Read) × (o ≡ Some q) × ((unary op q.0, q.1 + 1, q.2) ≡ r)
 prefixed_some op None r h = absurd (cc)
 prefixed_some op (Some q) r h = (q, refl, same_some _ _ h)
 
@@ -78,11 +78,11 @@ unsigned_front : (t : Lexeme) (x rest : List Lexeme) → 0 < length x → is_sig
 unsigned_front t [] rest some h = absurd (omega arith)
 unsigned_front t (v ∷ x) rest some h = same_sign t v x (x ++ rest) ∙ h
 
-prefix_started : (d : ℕ) (t : Lexeme) (op : Unary) (ts : List Lexeme) (q r : Read) → prefix_of t ≡ Some op → is_signed (t ∷ ts) ≡ false → Parsed d top ts q → (one op q.0, q.1 + 1, q.2) ≡ r → Started (d + 1) (t ∷ ts) r
+prefix_started : (d : ℕ) (t : Lexeme) (op : Unary) (ts : List Lexeme) (q r : Read) → prefix_of t ≡ Some op → is_signed (t ∷ ts) ≡ false → Parsed d top ts q → (unary op q.0, q.1 + 1, q.2) ≡ r → Started (d + 1) (t ∷ ts) r
 prefix_started d t op ts q r kind signs p is =
     let le = p.small in
     let unsigned : is_signed (t ∷ p.front) ≡ false = unsigned_front t p.front q.2 (some_lexeme q.1 top p.front q.0 p.spelled) (ap (λ l. is_signed (t ∷ l)) (sym p.whole) ∙ signs) in
-    let one_on : Started (d + 1) (t ∷ ts) (one op q.0, q.1 + 1, q.2) = record {
+    let one_on : Started (d + 1) (t ∷ ts) (unary op q.0, q.1 + 1, q.2) = record {
       front = t ∷ p.front;
       whole = ap (λ l. t ∷ l) p.whole;
       spelled = λ m. one_more q.1 m _ _ (unary t op q.0 p.front kind unsigned refl refl p.spelled);
@@ -133,7 +133,7 @@ operand_sound d inner sound (symbol s.Open ∷ ts) r h =
     let c = closed_some q.0.0 q.0.1 (symbol_at s.Close q.0.2) r q.2 in
     let behind = symbol_found s.Close q.0.2 c.0 c.1 in
     let le = p.small in
-    let one_on : Started (d + 1) (symbol s.Open ∷ ts) (grouped q.0.0, q.0.1 + 1, c.0) = record {
+    let one_on : Started (d + 1) (symbol s.Open ∷ ts) (in_parentheses q.0.0, q.0.1 + 1, c.0) = record {
       front = symbol s.Open ∷ (p.front ++ symbol s.Close ∷ []);
       whole = ap (λ l. symbol s.Open ∷ l) (p.whole ∙ ap (λ l. p.front ++ l) behind ∙ sym (append_assoc p.front (symbol s.Close ∷ []) c.0));
       spelled = λ m. one_more q.0.1 m _ _ (parens q.0.0 p.front refl refl p.spelled);
@@ -186,7 +186,7 @@ module _ (deeper : ℕ) (inner : ℕ → List Lexeme → Answer) (sound : IsSoun
                     let within = p.small in
                     let here = fits.1 in
                     let more = goes inner deeper level (suc fuel) fuel e n ts op q (omega arith) found.1 fits.1 some.1 in
-                    chain_sound fuel (two op e q.0) (max n q.1 + 1) (level_of op) (x ++ t ∷ p.front) q.2 all r
+                    chain_sound fuel (binary op e q.0) (max n q.1 + 1) (level_of op) (x ++ t ∷ p.front) q.2 all r
                     (is ∙ ap (λ l. x ++ l) (begins ∙ ap (λ l. t ∷ l) p.whole) ∙ sym (append_assoc x (t ∷ p.front) q.2))
                     (one_more (max n q.1) (level_of op) _ _ (binary t op e q.0 x p.front kind (omega arith) refl refl (weaken n (max n q.1) m (level_of op) x e (omega arith) tight left) (weaken q.1 (max n q.1) (level_of op + 1) (level_of op + 1) p.front q.0 (omega arith) (omega arith) p.spelled)))
                     (omega arith) above p.stop (sym more ∙ h)

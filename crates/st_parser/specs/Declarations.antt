@@ -4,7 +4,7 @@ use Rattle.plant_types.specs.declared.values.Kind.{Kind}
 use Rattle.plant_types.specs.declared.values.Kind.TheVariants as kind
 use Rattle.st_lexer.specs.declared.token.Keyword.{Keyword}
 use Rattle.st_lexer.specs.declared.token.Keyword.TheVariants as k
-use Rattle.st_lexer.specs.declared.token.Region.{Region}
+use Rattle.plant_types.specs.declared.values.Region.{Region}
 use Rattle.st_lexer.specs.declared.token.Symbol.TheVariants as s
 use Rattle.st_tree.specs.Plain.{PlainExpr, PlainBody}
 use Rattle.st_parser.specs.Lexemes.{Lexeme, word, keyword, address, symbol}
@@ -20,8 +20,8 @@ use Rattle.st_parser.specs.declared.unit.Sort.{Sort}
 use Rattle.st_parser.specs.declared.unit.Sort.TheVariants as sort
 
 -- a word by itself
-abbrev pub IsWord : List Lexeme → List ℕ → Type 0
-IsWord ts name = ts ≡ word name ∷ []
+abbrev pub IsName : List Lexeme → List ℕ → Type 0
+IsName ts name = ts ≡ word name ∷ []
 
 -- the kind that a keyword names
 abbrev pub kind_of_word : Lexeme → Option Kind
@@ -40,7 +40,7 @@ sort_of _ = None
 
 -- a declaration of names
 pub data Declares (ts : List Lexeme) (d : PlainDeclaration) : Type 0 where
-  declaration : (names : List (List ℕ)) (t : Lexeme) (what : Sort) (initial : Option (PlainExpr (List ℕ))) (x y : List Lexeme) → Listed IsWord x names → sort_of t ≡ Some what → Perhaps (After (symbol s.Becomes) IsExpression) y initial
+  declaration : (names : List (List ℕ)) (t : Lexeme) (what : Sort) (initial : Option (PlainExpr (List ℕ))) (x y : List Lexeme) → Listed IsName x names → sort_of t ≡ Some what → Perhaps (After (symbol s.Becomes) IsExpression) y initial
       → ts ≡ x ++ symbol s.Colon ∷ t ∷ (y ++ symbol s.Semicolon ∷ []) → d ≡ record { names = names; region = None; sort = what; initial = initial } → Declares ts d
 
 -- a declaration of globals, one of which may have an address
@@ -66,20 +66,20 @@ pub data IsSection (kind : PouKind) (ts : List Lexeme) (sec : PlainSection) : Ty
   variables : (t : Lexeme) (what : SectionKind) (all : List PlainDeclaration) (x : List Lexeme) → section_of kind t ≡ Some what → Each Declares x all → ts ≡ t ∷ (x ++ keyword k.EndVar ∷ []) → sec ≡ record { kind = what; declarations = all } → IsSection kind ts sec
 
 -- the keyword that opens a block or a program
-abbrev pub opening : PouKind → Keyword
-opening pou.Block = k.FunctionBlock
-opening pou.Program = k.Program
+abbrev pub opening_keyword : PouKind → Keyword
+opening_keyword pou.Block = k.FunctionBlock
+opening_keyword pou.Program = k.Program
 
 -- the keyword that closes it
-abbrev pub closing : PouKind → Keyword
-closing pou.Block = k.EndFunctionBlock
-closing pou.Program = k.EndProgram
+abbrev pub closing_keyword : PouKind → Keyword
+closing_keyword pou.Block = k.EndFunctionBlock
+closing_keyword pou.Program = k.EndProgram
 
 -- a block or a program
 pub data IsPou (ts : List Lexeme) (p : PlainPou) : Type 0 where
   organised : (kind : PouKind) (name : List ℕ) (sections : List PlainSection) (body : PlainBody (List ℕ)) (x y : List Lexeme) → Each (IsSection kind) x sections → IsBody y body
-      → ts ≡ keyword (opening kind) ∷ word name ∷ (x ++ (y ++ keyword (closing kind) ∷ [])) → p ≡ record { kind = kind; name = name; sections = sections; body = body } → IsPou ts p
+      → ts ≡ keyword (opening_keyword kind) ∷ word name ∷ (x ++ (y ++ keyword (closing_keyword kind) ∷ [])) → p ≡ record { kind = kind; name = name; sections = sections; body = body } → IsPou ts p
 
 -- a unit: sections of globals, then blocks and programs
-pub data Spells (ts : List Lexeme) (u : PlainUnit) : Type 0 where
-  unit : (globals : List PlainSection) (pous : List PlainPou) (x y : List Lexeme) → Each Globals x globals → Each IsPou y pous → ts ≡ x ++ y → u ≡ record { globals = globals; pous = pous } → Spells ts u
+pub data SpellsUnit (ts : List Lexeme) (u : PlainUnit) : Type 0 where
+  unit : (globals : List PlainSection) (pous : List PlainPou) (x y : List Lexeme) → Each Globals x globals → Each IsPou y pous → ts ≡ x ++ y → u ≡ record { globals = globals; pous = pous } → SpellsUnit ts u

@@ -9,7 +9,7 @@ use Rattle.st_tree.specs.declared.tree.Binary.TheVariants as b
 use Rattle.st_tree.specs.declared.tree.Unary.{Unary}
 use Rattle.st_tree.specs.declared.tree.Literal.TheVariants.{Integer, Value}
 use Rattle.st_tree.specs.declared.tree.Unary.TheVariants as u
-use Rattle.st_tree.specs.Plain.{PlainExpr, literal, read, output_of, one, two}
+use Rattle.st_tree.specs.Plain.{PlainExpr, literal, read, output_of, unary, binary}
 use Rattle.st_parser.specs.Lexemes.{Lexeme, word, keyword, integer, typed, symbol}
 
 -- the literal that a lexeme is by itself
@@ -74,9 +74,9 @@ is_signed (symbol s.Minus ∷ integer n ∷ ts) = true
 is_signed _ = false
 
 -- an integer in parentheses is a DINT, and no longer an integer without a kind
-abbrev pub grouped : PlainExpr (List ℕ) → PlainExpr (List ℕ)
-grouped (literal (Integer n)) = literal (Value (value.Dint n))
-grouped e = e
+abbrev pub in_parentheses : PlainExpr (List ℕ) → PlainExpr (List ℕ)
+in_parentheses (literal (Integer n)) = literal (Value (value.Dint n))
+in_parentheses e = e
 
 -- an expression: P says which lexemes spell its parts, at which level
 pub data Production (P : ℕ → List Lexeme → PlainExpr (List ℕ) → Type 0) (level : ℕ) (ts : List Lexeme) (e : PlainExpr (List ℕ)) : Type 0 where
@@ -84,9 +84,9 @@ pub data Production (P : ℕ → List Lexeme → PlainExpr (List ℕ) → Type 0
   negative : (n : ℕ) → n ≤ 2147483648 → ts ≡ symbol s.Minus ∷ integer n ∷ [] → e ≡ literal (Value (value.Dint (neg_ℤ (pos n)))) → Production P level ts e
   variable : (name : List ℕ) → ts ≡ word name ∷ [] → e ≡ read name → Production P level ts e
   output : (name part : List ℕ) → ts ≡ word name ∷ symbol s.Point ∷ word part ∷ [] → e ≡ output_of name part → Production P level ts e
-  parens : (a : PlainExpr (List ℕ)) (x : List Lexeme) → ts ≡ symbol s.Open ∷ (x ++ symbol s.Close ∷ []) → e ≡ grouped a → P 0 x a → Production P level ts e
-  unary : (t : Lexeme) (op : Unary) (a : PlainExpr (List ℕ)) (x : List Lexeme) → prefix_of t ≡ Some op → is_signed ts ≡ false → ts ≡ t ∷ x → e ≡ one op a → P top x a → Production P level ts e
-  binary : (t : Lexeme) (op : Binary) (a c : PlainExpr (List ℕ)) (x y : List Lexeme) → operator_of t ≡ Some op → level ≤ level_of op → ts ≡ x ++ t ∷ y → e ≡ two op a c → P (level_of op) x a → P (level_of op + 1) y c → Production P level ts e
+  parens : (a : PlainExpr (List ℕ)) (x : List Lexeme) → ts ≡ symbol s.Open ∷ (x ++ symbol s.Close ∷ []) → e ≡ in_parentheses a → P 0 x a → Production P level ts e
+  unary : (t : Lexeme) (op : Unary) (a : PlainExpr (List ℕ)) (x : List Lexeme) → prefix_of t ≡ Some op → is_signed ts ≡ false → ts ≡ t ∷ x → e ≡ unary op a → P top x a → Production P level ts e
+  binary : (t : Lexeme) (op : Binary) (a c : PlainExpr (List ℕ)) (x y : List Lexeme) → operator_of t ≡ Some op → level ≤ level_of op → ts ≡ x ++ t ∷ y → e ≡ binary op a c → P (level_of op) x a → P (level_of op + 1) y c → Production P level ts e
 
 -- within a depth: each parenthesis and each operator is one deeper than its parts
 abbrev pub SpellsExpr : ℕ → ℕ → List Lexeme → PlainExpr (List ℕ) → Type 0

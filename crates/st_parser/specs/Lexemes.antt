@@ -4,7 +4,7 @@ use Rattle.std.specs.Str.Lossy.{utf8_lossy}
 use Rattle.plant_types.specs.declared.values.Value.{Value}
 use Rattle.plant_types.specs.declared.values.Value.TheVariants as value
 use Rattle.st_lexer.specs.declared.token.Keyword.{Keyword}
-use Rattle.st_lexer.specs.declared.token.Region.{Region}
+use Rattle.plant_types.specs.declared.values.Region.{Region}
 use Rattle.st_lexer.specs.declared.token.Symbol.{Symbol}
 use Rattle.st_lexer.specs.declared.token.Token.{Token}
 use Rattle.st_lexer.specs.declared.token.TokenKind.{TokenKind}
@@ -20,8 +20,8 @@ pub data Lexeme : Type 0 where
   symbol : Symbol → Lexeme
 
 -- the text from one byte until another; a span outside the text has none
-abbrev pub span_of : List ℕ → ℕ → ℕ → List ℕ
-span_of text from until = if nat_le from until && nat_le until (length text) then slice_range text from until else []
+abbrev pub slice_of : List ℕ → ℕ → ℕ → List ℕ
+slice_of text from until = if nat_le from until && nat_le until (length text) then slice_range text from until else []
 
 -- a token's lexeme, by its kind and its spelling
 abbrev pub lexeme_of : TokenKind → List ℕ → Lexeme
@@ -36,7 +36,7 @@ lexeme_of (kind.Symbol s) spelling = symbol s
 
 -- the lexemes of a text's tokens; a spelling is the token's bytes, as long as they are text
 abbrev pub lexemes : List ℕ → List Token → List Lexeme
-lexemes text tokens = map (λ t. lexeme_of t.kind (utf8_lossy (span_of text t.from t.until))) tokens
+lexemes text tokens = map (λ t. lexeme_of t.kind (utf8_lossy (slice_of text t.from t.until))) tokens
 
 -- the spelling of the first lexeme, where it is a word
 abbrev pub first_name : List Lexeme → List ℕ

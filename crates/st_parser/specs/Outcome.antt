@@ -4,7 +4,7 @@ use Rattle.st_parser.specs.declared.fault.ParseFault.{ParseFault}
 use Rattle.st_parser.specs.declared.fault.ParseFault.TheVariants as fault
 use Rattle.st_parser.specs.declared.fault.Stop.{Stop}
 use Rattle.st_parser.specs.declared.fault.Stop.TheVariants as stop
-use Rattle.st_parser.specs.Declarations.{Spells}
+use Rattle.st_parser.specs.Declarations.{SpellsUnit}
 use Rattle.st_parser.specs.Lexemes.{Lexeme}
 use Rattle.st_parser.specs.Units.{PlainUnit}
 
@@ -20,7 +20,7 @@ Gives view (Err e) answer = Fails e answer
 -- the lexemes spell no unit, or memory ran out
 abbrev pub SpellNone : List Lexeme → ParseFault → Type 0
 SpellNone ts fault.Memory = Unit {0}
-SpellNone ts (fault.At token) = (u : PlainUnit) → Spells ts u → ⊥
+SpellNone ts (fault.At token) = (u : PlainUnit) → SpellsUnit ts u → ⊥
 
 -- a fault names one of so many tokens, or their end
 abbrev pub NamesOneOf : ℕ → ParseFault → Type 0

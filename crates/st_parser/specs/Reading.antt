@@ -13,9 +13,9 @@ use Rattle.st_tree.specs.declared.tree.Binary.{Binary}
 use Rattle.st_tree.specs.declared.tree.Literal.TheVariants.{Value}
 use Rattle.st_tree.specs.declared.tree.Unary.{Unary}
 use Rattle.st_tree.specs.declared.tree.Unary.TheVariants as u
-use Rattle.st_tree.specs.Plain.{PlainExpr, literal, read, output_of, one, two}
+use Rattle.st_tree.specs.Plain.{PlainExpr, literal, read, output_of, unary, binary}
 use Rattle.st_parser.specs.Lexemes.{Lexeme, word, keyword, integer, symbol}
-use Rattle.st_parser.specs.Grammar.{literal_of, operator_of, level_of, top, grouped}
+use Rattle.st_parser.specs.Grammar.{literal_of, operator_of, level_of, top, in_parentheses}
 
 infixl 10 ◌>>=◌
 abbrev pub ◌>>=◌ : {A B : Type 0} → Option A → (A → Option B) → Option B
@@ -51,9 +51,9 @@ abbrev pub ahead : {A : Type 0} → A → List A × List Lexeme → Option (List
 ahead a more = Some (a ∷ more.0, more.1)
 
 -- what was read before, and what is read behind it
-abbrev pub behind : {A : Type 0} → List A → Option (List A × List Lexeme) → Option (List A × List Lexeme)
-behind before None = None
-behind before (Some more) = Some (before ++ more.0, more.1)
+abbrev pub with_first : {A : Type 0} → List A → Option (List A × List Lexeme) → Option (List A × List Lexeme)
+with_first before None = None
+with_first before (Some more) = Some (before ++ more.0, more.1)
 
 module _ {A : Type 0} (starts : List Lexeme → Bool) (one_at : List Lexeme → Option (A × List Lexeme)) where
   -- one after another; each takes a lexeme at least
@@ -78,15 +78,15 @@ abbrev pub others_at : {A : Type 0} → (List Lexeme → Option (A × List Lexem
 others_at one_at ts = all_at (next_symbol s.Comma) (after_symbol s.Comma one_at) ts
 
 abbrev pub listed_at : {A : Type 0} → (List Lexeme → Option (A × List Lexeme)) → List Lexeme → Option (List A × List Lexeme)
-listed_at one_at ts = one_at ts >>= λ a. behind (a.0 ∷ []) (others_at one_at a.1)
+listed_at one_at ts = one_at ts >>= λ a. with_first (a.0 ∷ []) (others_at one_at a.1)
 
 -- what a table says of the next lexeme
-abbrev pub told_next : {A : Type 0} → (Lexeme → Option A) → List Lexeme → Option A
-told_next table [] = None
-told_next table (t ∷ ts) = table t
+abbrev pub table_next : {A : Type 0} → (Lexeme → Option A) → List Lexeme → Option A
+table_next table [] = None
+table_next table (t ∷ ts) = table t
 
-abbrev pub told_at : {A : Type 0} → (Lexeme → Option A) → List Lexeme → Option (A × List Lexeme)
-told_at table ts = told_next table ts >>= λ a. Some (a, drop 1 ts)
+abbrev pub table_at : {A : Type 0} → (Lexeme → Option A) → List Lexeme → Option (A × List Lexeme)
+table_at table ts = table_next table ts >>= λ a. Some (a, drop 1 ts)
 
 -- ---- expressions: the tree, its depth, and what is behind it
 abbrev pub Answer : Type 0
@@ -104,11 +104,11 @@ operator_at level (t ∷ ts) = if_allowed level (operator_of t)
 
 abbrev pub prefixed : Unary → Answer → Answer
 prefixed op None = None
-prefixed op (Some r) = Some (one op r.0, r.1 + 1, r.2)
+prefixed op (Some r) = Some (unary op r.0, r.1 + 1, r.2)
 
 abbrev pub closed : PlainExpr (List ℕ) → ℕ → Option (List Lexeme) → Answer
 closed e n None = None
-closed e n (Some ts) = Some (grouped e, n + 1, ts)
+closed e n (Some ts) = Some (in_parentheses e, n + 1, ts)
 
 -- a literal that a lexeme is by itself
 abbrev pub constant_at : Option (PlainExpr (List ℕ)) → List Lexeme → Answer
@@ -146,7 +146,7 @@ module _ (inner : ℕ → List Lexeme → Answer) (deeper level : ℕ) where
   abbrev pub chain : ℕ → PlainExpr (List ℕ) → ℕ → List Lexeme → Answer
   chain zero e n ts = None
   chain (suc fuel) e n ts = go_on (Some (e, n, ts)) (operator_at level ts) (λ op.
-      if nat_le n deeper then (inner (level_of op + 1) (drop 1 ts) >>= λ r. chain fuel (two op e r.0) (max n r.1 + 1) r.2) else None)
+      if nat_le n deeper then (inner (level_of op + 1) (drop 1 ts) >>= λ r. chain fuel (binary op e r.0) (max n r.1 + 1) r.2) else None)
 
 -- within the depth
 abbrev pub climb : ℕ → ℕ → List Lexeme → Answer

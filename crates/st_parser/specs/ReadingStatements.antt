@@ -7,7 +7,7 @@ use Rattle.st_tree.specs.declared.tree.Label.{Label}
 use Rattle.st_tree.specs.Plain.{PlainExpr, PlainArgument, input, output, PlainStmt, empty, assign, call, choose, select, repeat, PlainBody, done}
 use Rattle.st_tree.specs.View.{body_of, branches_of, choices_of}
 use Rattle.st_parser.specs.Lexemes.{Lexeme, word, keyword, integer, symbol}
-use Rattle.st_parser.specs.Reading.{◌>>=◌, word_at, next_symbol, next_keyword, symbol_at, keyword_at, behind, all_at, perhaps_at, after_symbol, after_keyword, listed_at, expression_at}
+use Rattle.st_parser.specs.Reading.{◌>>=◌, word_at, next_symbol, next_keyword, symbol_at, keyword_at, with_first, all_at, perhaps_at, after_symbol, after_keyword, listed_at, expression_at}
 
 -- ---- calls
 -- behind an output's name and its arrow
@@ -86,11 +86,11 @@ module _ (inner : List Lexeme → Option (PlainBody (List ℕ) × List Lexeme)) 
 
   -- the branches of an IF
   unfoldable pub branches_at : List Lexeme → Option (List (PlainExpr (List ℕ) × PlainBody (List ℕ)) × List Lexeme)
-  branches_at ts = branch_at ts >>= λ first. behind (first.0 ∷ []) (all_at (next_keyword k.Elsif) (after_keyword k.Elsif branch_at) first.1)
+  branches_at ts = branch_at ts >>= λ first. with_first (first.0 ∷ []) (all_at (next_keyword k.Elsif) (after_keyword k.Elsif branch_at) first.1)
 
   -- the branches of a CASE
   unfoldable pub choices_at : List Lexeme → Option (List (List Label × PlainBody (List ℕ)) × List Lexeme)
-  choices_at ts = choice_at ts >>= λ first. behind (first.0 ∷ []) (all_at next_label choice_at first.1)
+  choices_at ts = choice_at ts >>= λ first. with_first (first.0 ∷ []) (all_at next_label choice_at first.1)
 
   -- behind IF
   unfoldable pub if_at : List Lexeme → Option (PlainStmt (List ℕ) × List Lexeme)

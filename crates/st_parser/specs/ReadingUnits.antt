@@ -1,11 +1,11 @@
 -- The declarations, blocks, programs and units at the front of lexemes, and the lexemes behind them.
 use Rattle.std.specs.Prelude.{ℕ, Bool, List, [], ◌∷◌, drop, Option, Some, None, is_some, if◌then◌else◌}
 use Rattle.st_lexer.specs.declared.token.Keyword.TheVariants as k
-use Rattle.st_lexer.specs.declared.token.Region.{Region}
+use Rattle.plant_types.specs.declared.values.Region.{Region}
 use Rattle.st_lexer.specs.declared.token.Symbol.TheVariants as s
 use Rattle.st_parser.specs.Lexemes.{Lexeme, keyword, address}
-use Rattle.st_parser.specs.Declarations.{kind_of_word, sort_of, section_of, closing}
-use Rattle.st_parser.specs.Reading.{◌>>=◌, word_at, next_symbol, next_keyword, next_word, symbol_at, keyword_at, behind, all_at, perhaps_at, after_symbol, others_at, told_next, told_at, expression_at}
+use Rattle.st_parser.specs.Declarations.{kind_of_word, sort_of, section_of, closing_keyword}
+use Rattle.st_parser.specs.Reading.{◌>>=◌, word_at, next_symbol, next_keyword, next_word, symbol_at, keyword_at, with_first, all_at, perhaps_at, after_symbol, others_at, table_next, table_at, expression_at}
 use Rattle.st_parser.specs.ReadingStatements.{body_at}
 use Rattle.st_parser.specs.Units.{PlainDeclaration, PlainSection, PlainPou, PlainUnit}
 use Rattle.st_parser.specs.declared.unit.PouKind.{PouKind}
@@ -26,11 +26,11 @@ initial_at names region what ts =
 
 -- behind the first name
 unfoldable pub declared_at : List ℕ → List Lexeme → Option (PlainDeclaration × List Lexeme)
-declared_at name ts = behind (name ∷ []) (others_at word_at ts) >>= λ names. symbol_at s.Colon names.1 >>= λ colon. told_at sort_of colon >>= λ what. initial_at names.0 None what.0 what.1
+declared_at name ts = with_first (name ∷ []) (others_at word_at ts) >>= λ names. symbol_at s.Colon names.1 >>= λ colon. table_at sort_of colon >>= λ what. initial_at names.0 None what.0 what.1
 
 -- behind the name and AT
 unfoldable pub placed_at : List ℕ → List Lexeme → Option (PlainDeclaration × List Lexeme)
-placed_at name ts = address_at ts >>= λ region. symbol_at s.Colon region.1 >>= λ colon. told_at kind_of_word colon >>= λ what. initial_at (name ∷ []) (Some region.0) (sort.Kind what.0) what.1
+placed_at name ts = address_at ts >>= λ region. symbol_at s.Colon region.1 >>= λ colon. table_at kind_of_word colon >>= λ what. initial_at (name ∷ []) (Some region.0) (sort.Kind what.0) what.1
 
 unfoldable pub declaration_at : List Lexeme → Option (PlainDeclaration × List Lexeme)
 declaration_at ts = word_at ts >>= λ name. declared_at name.0 name.1
@@ -43,10 +43,10 @@ globals_at ts = keyword_at k.VarGlobal ts >>= λ inside. all_at next_word global
 
 -- whether a section is next that a block or a program may have
 abbrev pub next_section : PouKind → List Lexeme → Bool
-next_section kind ts = is_some (told_next (section_of kind) ts)
+next_section kind ts = is_some (table_next (section_of kind) ts)
 
 unfoldable pub section_at : PouKind → List Lexeme → Option (PlainSection × List Lexeme)
-section_at kind ts = told_at (section_of kind) ts >>= λ what. all_at next_word declaration_at what.1 >>= λ all. keyword_at k.EndVar all.1 >>= λ rest. Some (record { kind = what.0; declarations = all.0 }, rest)
+section_at kind ts = table_at (section_of kind) ts >>= λ what. all_at next_word declaration_at what.1 >>= λ all. keyword_at k.EndVar all.1 >>= λ rest. Some (record { kind = what.0; declarations = all.0 }, rest)
 
 -- the kind of unit that a keyword opens
 abbrev pub pou_of : Lexeme → Option PouKind
@@ -55,11 +55,11 @@ pou_of (keyword k.Program) = Some pou.Program
 pou_of _ = None
 
 abbrev pub next_pou : List Lexeme → Bool
-next_pou ts = is_some (told_next pou_of ts)
+next_pou ts = is_some (table_next pou_of ts)
 
 unfoldable pub pou_at : List Lexeme → Option (PlainPou × List Lexeme)
 pou_at ts =
-    told_at pou_of ts >>= λ kind. word_at kind.1 >>= λ name. all_at (next_section kind.0) (section_at kind.0) name.1 >>= λ sections. body_at sections.1 >>= λ body. keyword_at (closing kind.0) body.1 >>= λ rest.
+    table_at pou_of ts >>= λ kind. word_at kind.1 >>= λ name. all_at (next_section kind.0) (section_at kind.0) name.1 >>= λ sections. body_at sections.1 >>= λ body. keyword_at (closing_keyword kind.0) body.1 >>= λ rest.
     Some (record { kind = kind.0; name = name.0; sections = sections.0; body = body.0 }, rest)
 
 unfoldable pub unit_at : List Lexeme → Option (PlainUnit × List Lexeme)

@@ -1,6 +1,6 @@
 -- A unit as contracts see it.
 use Rattle.std.specs.Prelude.{ℕ, List, map, Option, option_map}
-use Rattle.st_lexer.specs.declared.token.Region.{Region}
+use Rattle.plant_types.specs.declared.values.Region.{Region}
 use Rattle.st_parser.specs.declared.unit.Declaration.{Declaration}
 use Rattle.st_parser.specs.declared.unit.Pou.{Pou}
 use Rattle.st_parser.specs.declared.unit.PouKind.{PouKind}

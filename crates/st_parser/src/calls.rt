@@ -2,7 +2,7 @@
 
 ghost use Rattle.std.specs.Prelude.{◌≡◌, ◌∷◌, [], map};
 ghost use Rattle.st_parser.specs.Outcome.{Gives};
-ghost use Rattle.st_parser.specs.Reading.{behind, others_at};
+ghost use Rattle.st_parser.specs.Reading.{with_first, others_at};
 ghost use Rattle.st_parser.specs.ReadingStatements.{argument_at, arguments_at};
 ghost use Rattle.st_tree.specs.View.{view_argument};
 
@@ -36,7 +36,7 @@ fn more_arguments(
     first: Argument<Text>,
     reader: &mut Reader,
 ) -> Result<Vec<Argument<Text>>, Stop>
-    ensures { Gives (λ a. (map view_argument a.items, reader.new)) result (behind (view_argument first ∷ []) (others_at argument_at reader.old)) }
+    ensures { Gives (λ a. (map view_argument a.items, reader.new)) result (with_first (view_argument first ∷ []) (others_at argument_at reader.old)) }
 {
     let mut arguments = Vec::new(alloc);
     arguments.push(first)?;

@@ -3,7 +3,7 @@
 ghost use Rattle.std.specs.Prelude.{◌≡◌, ◌∷◌, [], map, option_map};
 ghost use Rattle.st_parser.specs.Declarations.{kind_of_word, sort_of, section_of};
 ghost use Rattle.st_parser.specs.Outcome.{Gives};
-ghost use Rattle.st_parser.specs.Reading.{behind, others_at, word_at, perhaps_at, next_symbol, after_symbol, expression_at, told_next, told_at, all_at, next_word};
+ghost use Rattle.st_parser.specs.Reading.{with_first, others_at, word_at, perhaps_at, next_symbol, after_symbol, expression_at, table_next, table_at, all_at, next_word};
 ghost use Rattle.st_parser.specs.ReadingUnits.{address_at, initial_at, declared_at, placed_at, declaration_at, global_at, globals_at, next_section as next_section_of, section_at};
 ghost use Rattle.st_parser.specs.Units.{view_declaration, view_section};
 ghost use Rattle.st_tree.specs.View.{view_expr};
@@ -12,14 +12,14 @@ use crate::expr::expression;
 use crate::fault::Stop;
 use crate::reader::Reader;
 use crate::unit::{Declaration, PouKind, Section, SectionKind, Sort};
-use plant_types::{Kind, Text};
-use st_lexer::{Keyword, Region, Symbol, TokenKind};
+use plant_types::{Kind, Region, Text};
+use st_lexer::{Keyword, Symbol, TokenKind};
 use st_tree::Expr;
 use std::alloc::Global;
 
 /// The kind that the next token names.
 fn next_kind(reader: &Reader) -> Option<Kind>
-    ensures { result ≡ told_next kind_of_word reader.now }
+    ensures { result ≡ table_next kind_of_word reader.now }
 {
     match reader.peek()? {
         TokenKind::Keyword(Keyword::Bool) => Some(Kind::Bool),
@@ -31,7 +31,7 @@ fn next_kind(reader: &Reader) -> Option<Kind>
 
 /// Reads a kind.
 fn kind(reader: &mut Reader) -> Result<Kind, Stop>
-    ensures { Gives (λ kind. (kind, reader.new)) result (told_at kind_of_word reader.old) }
+    ensures { Gives (λ kind. (kind, reader.new)) result (table_at kind_of_word reader.old) }
 {
     match next_kind(reader) {
         Some(kind) => {
@@ -44,7 +44,7 @@ fn kind(reader: &mut Reader) -> Result<Kind, Stop>
 
 /// Reads a kind or the name of a block type.
 fn sort(alloc: Global, reader: &mut Reader) -> Result<Sort, Stop>
-    ensures { Gives (λ sort. (sort, reader.new)) result (told_at sort_of reader.old) }
+    ensures { Gives (λ sort. (sort, reader.new)) result (table_at sort_of reader.old) }
 {
     match reader.peek() {
         Some(TokenKind::Word) => {
@@ -116,7 +116,7 @@ fn end_of_declaration(
 
 /// Reads the names behind a first one, each with its comma.
 fn more_names(alloc: Global, first: Text, reader: &mut Reader) -> Result<Vec<Text>, Stop>
-    ensures { Gives (λ names. (names.items, reader.new)) result (behind (first ∷ []) (others_at word_at reader.old)) }
+    ensures { Gives (λ names. (names.items, reader.new)) result (with_first (first ∷ []) (others_at word_at reader.old)) }
 {
     let mut names = Vec::new(alloc);
     names.push(first)?;
@@ -233,7 +233,7 @@ pub fn globals(alloc: Global, reader: &mut Reader) -> Result<Section, Stop>
 
 /// The section that the next token opens in a block or a program.
 fn next_section(pou: PouKind, reader: &Reader) -> Option<SectionKind>
-    ensures { result ≡ told_next (section_of pou) reader.now }
+    ensures { result ≡ table_next (section_of pou) reader.now }
 {
     match (pou, reader.peek()?) {
         (_, TokenKind::Keyword(Keyword::Var)) => Some(SectionKind::Local),

@@ -4,7 +4,7 @@ ghost use Rattle.std.specs.Prelude.{◌≡◌, IfOk, Some, None, drop, ◌+◌, 
 ghost use Rattle.std.proofs.Common.{neg_ℤ};
 ghost use Rattle.st_tree.specs.Plain.{literal};
 ghost use Rattle.st_tree.specs.View.{view_expr};
-ghost use Rattle.st_parser.specs.Grammar.{level_of, top, grouped};
+ghost use Rattle.st_parser.specs.Grammar.{level_of, top, in_parentheses};
 ghost use Rattle.st_parser.specs.Outcome.{Gives};
 ghost use Rattle.st_parser.specs.Reading.{operator_at, named_at, minus_at, operand as operand_at, prefixed as prefixed_at, chain as chain_at, climb, expression_at};
 
@@ -83,15 +83,15 @@ fn next_operator(level_wanted: u32, reader: &Reader) -> Option<Binary>
 
 /// An expression in parentheses, in which an integer is a DINT and no longer an integer without a kind.
 fn group(expr: Expr<Text>) -> Expr<Text>
-    ensures { view_expr result ≡ grouped (view_expr expr) }
+    ensures { view_expr result ≡ in_parentheses (view_expr expr) }
 {
     match expr {
         Expr::Literal(Literal::Integer(n)) => Expr::Literal(Literal::Value(Value::Dint(n))),
         Expr::Literal(Literal::Value(value)) => Expr::Literal(Literal::Value(value)),
         Expr::Read(name) => Expr::Read(name),
         Expr::Output(instance, name) => Expr::Output(instance, name),
-        Expr::One(op, a) => Expr::One(op, a),
-        Expr::Two(op, a, b) => Expr::Two(op, a, b),
+        Expr::Unary(op, a) => Expr::Unary(op, a),
+        Expr::Binary(op, a, b) => Expr::Binary(op, a, b),
     }
 }
 
@@ -227,7 +227,7 @@ fn prefixed(
     ensures deep { IfOk result (λ x. x.1 ≤ deeper + 1) }
 {
     let (inner, depth) = climb(alloc, deeper, TOP, reader)?;
-    Ok((Expr::One(op, Box::new(alloc, inner)?), depth + 1))
+    Ok((Expr::Unary(op, Box::new(alloc, inner)?), depth + 1))
 }
 
 /// Reads the operators behind an expression and their right operands, and groups them from the left.
@@ -257,7 +257,7 @@ fn chain(
         }
         reader.advance();
         let (right, right_depth) = climb(alloc, limit - 1, level(op) + 1, reader)?;
-        left = Expr::Two(op, Box::new(alloc, left)?, Box::new(alloc, right)?);
+        left = Expr::Binary(op, Box::new(alloc, left)?, Box::new(alloc, right)?);
         depth = depth.max(right_depth) + 1;
     }
     Err(reader.stop())

@@ -2,7 +2,7 @@
 
 ghost use Rattle.std.specs.Prelude.{◌≡◌, ◌∷◌, []};
 ghost use Rattle.st_parser.specs.Outcome.{Gives};
-ghost use Rattle.st_parser.specs.Reading.{behind, listed_at, others_at, perhaps_at, next_symbol, after_symbol};
+ghost use Rattle.st_parser.specs.Reading.{with_first, listed_at, others_at, perhaps_at, next_symbol, after_symbol};
 ghost use Rattle.st_parser.specs.ReadingStatements.{number_at, label_at, next_label, negative_at};
 
 use crate::fault::Stop;
@@ -78,7 +78,7 @@ fn label(reader: &mut Reader) -> Result<Label, Stop>
 
 /// Reads the labels behind a first one, each with its comma.
 fn more_labels(alloc: Global, first: Label, reader: &mut Reader) -> Result<Vec<Label>, Stop>
-    ensures { Gives (λ labels. (labels.items, reader.new)) result (behind (first ∷ []) (others_at label_at reader.old)) }
+    ensures { Gives (λ labels. (labels.items, reader.new)) result (with_first (first ∷ []) (others_at label_at reader.old)) }
 {
     let mut labels = Vec::new(alloc);
     labels.push(first)?;

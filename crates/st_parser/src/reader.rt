@@ -1,7 +1,7 @@
 //! A place in a text's tokens.
 
 ghost use Rattle.std.specs.Prelude.{◌≡◌, ◌∷◌, [], length, drop, MatchOption};
-ghost use Rattle.st_parser.specs.Lexemes.{lexemes, lexeme_of, first_name, span_of};
+ghost use Rattle.st_parser.specs.Lexemes.{lexemes, lexeme_of, first_name, slice_of};
 ghost use Rattle.st_parser.specs.Reading.{word_at, next_symbol, next_keyword, next_word, symbol_at, keyword_at};
 ghost use Rattle.st_parser.specs.Outcome.{Gives};
 
@@ -141,7 +141,7 @@ impl<'a> Reader<'a> {
 
 /// The bytes of a token.
 fn span(text: &[u8], token: Token) -> &[u8]
-    ensures { result.now ≡ span_of text.now token.from token.until }
+    ensures { result.now ≡ slice_of text.now token.from token.until }
 {
     match text.get(token.from..token.until) {
         Some(bytes) => bytes,

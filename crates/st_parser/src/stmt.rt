@@ -2,7 +2,7 @@
 
 ghost use Rattle.std.specs.Prelude.{◌≡◌, ◌∷◌, [], map, ◌<◌};
 ghost use Rattle.st_parser.specs.Outcome.{Gives};
-ghost use Rattle.st_parser.specs.Reading.{all_at, behind, perhaps_at, next_keyword, after_keyword, expression_at};
+ghost use Rattle.st_parser.specs.Reading.{all_at, with_first, perhaps_at, next_keyword, after_keyword, expression_at};
 ghost use Rattle.st_parser.specs.ReadingStatements.{assigned_at, called_at, simple_at, branch_at, branches_at, choice_at, choices_at, otherwise_at, if_at, case_at, bounds_at, for_at, stmt_at, item_at, sequence_at, body_at, next_stmt, next_label};
 ghost use Rattle.st_tree.specs.View.{view_expr, view_option, view_stmt, view_body, view_branch, view_choice};
 
@@ -192,7 +192,7 @@ fn more_branches(
     first: Branch<Text>,
     reader: &mut Reader,
 ) -> Result<Vec<Branch<Text>>, Stop>
-    ensures { Gives (λ b. (map view_branch b.items, reader.new)) result (behind (view_branch first ∷ []) (all_at (next_keyword Keyword.Elsif) (after_keyword Keyword.Elsif (branch_at (sequence_at deeper))) reader.old)) }
+    ensures { Gives (λ b. (map view_branch b.items, reader.new)) result (with_first (view_branch first ∷ []) (all_at (next_keyword Keyword.Elsif) (after_keyword Keyword.Elsif (branch_at (sequence_at deeper))) reader.old)) }
 {
     let mut branches = Vec::new(alloc);
     branches.push(first)?;
@@ -268,7 +268,7 @@ fn more_choices(
     first: Choice<Text>,
     reader: &mut Reader,
 ) -> Result<Vec<Choice<Text>>, Stop>
-    ensures { Gives (λ c. (map view_choice c.items, reader.new)) result (behind (view_choice first ∷ []) (all_at next_label (choice_at (sequence_at deeper)) reader.old)) }
+    ensures { Gives (λ c. (map view_choice c.items, reader.new)) result (with_first (view_choice first ∷ []) (all_at next_label (choice_at (sequence_at deeper)) reader.old)) }
 {
     let mut choices = Vec::new(alloc);
     choices.push(first)?;

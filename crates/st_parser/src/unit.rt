@@ -1,7 +1,6 @@
 //! What a source declares. Names stand as they are spelled.
 
-use plant_types::{Kind, Text};
-use st_lexer::Region;
+use plant_types::{Kind, Region, Text};
 use st_tree::{Expr, Stmt};
 
 /// What variables are declared as: of a kind, or as instances of a block type.

@@ -1,10 +1,10 @@
 //! Blocks, programs and units.
 
 ghost use Rattle.std.specs.Prelude.{◌≡◌, ◌-◌, List, map, length, IfErr, MatchResult};
-ghost use Rattle.st_parser.specs.Declarations.{Spells, closing};
+ghost use Rattle.st_parser.specs.Declarations.{SpellsUnit, closing_keyword};
 ghost use Rattle.st_parser.specs.Lexemes.{Lexeme, lexemes};
 ghost use Rattle.st_parser.specs.Outcome.{Gives, SpellNone, NamesOneOf};
-ghost use Rattle.st_parser.specs.Reading.{all_at, told_next, next_keyword};
+ghost use Rattle.st_parser.specs.Reading.{all_at, table_next, next_keyword};
 ghost use Rattle.st_parser.specs.ReadingUnits.{globals_at, next_section as next_section_of, section_at, pou_of, next_pou, pou_at, unit_at};
 ghost use Rattle.st_parser.specs.Units.{PlainUnit, view_unit, view_section, view_pou};
 
@@ -54,7 +54,7 @@ fn sections(alloc: Global, pou: PouKind, reader: &mut Reader) -> Result<Vec<Sect
 
 /// What the next token opens.
 fn next_kind(reader: &Reader) -> Option<PouKind>
-    ensures { result ≡ told_next pou_of reader.now }
+    ensures { result ≡ table_next pou_of reader.now }
 {
     match reader.peek()? {
         TokenKind::Keyword(Keyword::FunctionBlock) => Some(PouKind::Block),
@@ -71,8 +71,8 @@ fn is_pou(reader: &Reader) -> bool
 }
 
 /// The keyword at the end of a block or a program.
-fn closing(kind: PouKind) -> Keyword
-    ensures { result ≡ closing kind }
+fn closing_keyword(kind: PouKind) -> Keyword
+    ensures { result ≡ closing_keyword kind }
 {
     match kind {
         PouKind::Block => Keyword::EndFunctionBlock,
@@ -92,7 +92,7 @@ fn pou(alloc: Global, reader: &mut Reader) -> Result<Pou, Stop>
     let name = reader.word(alloc)?;
     let sections = sections(alloc, kind, reader)?;
     let body = statements(alloc, reader)?;
-    reader.keyword(closing(kind))?;
+    reader.keyword(closing_keyword(kind))?;
     Ok(Pou {
         kind,
         name,
@@ -140,7 +140,7 @@ fn refused(tokens: &[Token], left: usize) -> ParseFault
 
 /// The unit that the tokens of a text spell, all of them. The error is Memory where a growth was refused; else no unit is spelled, and it names the first token with which none can go on.
 pub fn parse(alloc: Global, text: &[u8], tokens: &[Token]) -> Result<Unit, ParseFault>
-    ensures spelled { MatchResult result (λ unit. Spells (lexemes text.now tokens.now) (view_unit unit)) (SpellNone (lexemes text.now tokens.now)) }
+    ensures spelled { MatchResult result (λ unit. SpellsUnit (lexemes text.now tokens.now) (view_unit unit)) (SpellNone (lexemes text.now tokens.now)) }
     ensures within { IfErr result (NamesOneOf (length tokens.now)) }
 {
     let mut reader = Reader::new(text, tokens);
@@ -160,5 +160,5 @@ pub fn parse(alloc: Global, text: &[u8], tokens: &[Token]) -> Result<Unit, Parse
 
 /// A text's tokens spell at most one unit.
 pub fn one_unit()
-    ensures { (ts : List Lexeme) (a b : PlainUnit) → Spells ts a → Spells ts b → a ≡ b }
+    ensures { (ts : List Lexeme) (a b : PlainUnit) → SpellsUnit ts a → SpellsUnit ts b → a ≡ b }
 {}

@@ -8,7 +8,7 @@ use Rattle.std.specs.Str.{bytes_eq}
 use Rattle.std.specs.Cmp.Lexicographic.{bytes_decides}
 use Rattle.plant_types.specs.Words.{folded}
 use Rattle.st_resolve.specs.declared.logic.Variable.{Variable}
-use Rattle.st_resolve.specs.Names.{words_of}
+use Rattle.st_resolve.specs.Names.{global_words}
 use Rattle.st_resolve.specs.declared.logic.Local.{Local}
 use Rattle.st_resolve.specs.Names.{own_words, is_standard, is_among, repeats}
 use Rattle.st_resolve.specs.Faults.{globals_clash}
@@ -46,41 +46,41 @@ standard g = is_standard g.name
 abbrev word : Variable → List ℕ
 word g = folded g.name
 
-pub words_push : (gs : List Variable) (g : Variable) → words_of (gs ++ g ∷ []) ≡ words_of gs ++ folded g.name ∷ []
+pub words_push : (gs : List Variable) (g : Variable) → global_words (gs ++ g ∷ []) ≡ global_words gs ++ folded g.name ∷ []
 words_push gs g = map_push word gs g
 
-clash_push : (gs : List Variable) (g : Variable) → globals_clash gs ≡ false → is_taken (words_of gs) g.name ≡ false → globals_clash (gs ++ g ∷ []) ≡ false
+clash_push : (gs : List Variable) (g : Variable) → globals_clash gs ≡ false → is_taken (global_words gs) g.name ≡ false → globals_clash (gs ++ g ∷ []) ≡ false
 clash_push gs g sound free =
-    let before = or_parts (list_any standard gs) (repeats (words_of gs)) sound in
-    let here = or_parts (is_standard g.name) (is_among (words_of gs) (folded g.name)) free in
+    let before = or_parts (list_any standard gs) (repeats (global_words gs)) sound in
+    let here = or_parts (is_standard g.name) (is_among (global_words gs) (folded g.name)) free in
     let none : list_any standard (gs ++ g ∷ []) ≡ false = list_any-append standard gs (g ∷ []) ∙ rw (before.0, here.0) refl in
-    rw none (ap repeats (words_push gs g) ∙ repeats_push (words_of gs) (folded g.name) before.1 here.1)
+    rw none (ap repeats (words_push gs g) ∙ repeats_push (global_words gs) (folded g.name) before.1 here.1)
 
-clash_found : (gs hs : List Variable) (g : Variable) → is_taken (words_of gs) g.name ≡ true → globals_clash (gs ++ g ∷ hs) ≡ true
+clash_found : (gs hs : List Variable) (g : Variable) → is_taken (global_words gs) g.name ≡ true → globals_clash (gs ++ g ∷ hs) ≡ true
 clash_found gs hs g taken =
-    elim (or_cases (is_standard g.name) (is_among (words_of gs) (folded g.name)) taken) [
-      | inl is ↦ or_left (list_any standard (gs ++ g ∷ hs)) (repeats (words_of (gs ++ g ∷ hs))) (list_any-append standard gs (g ∷ hs) ∙ or_right (list_any standard gs) (list_any standard (g ∷ hs)) (or_left (is_standard g.name) (list_any standard hs) is))
-      | inr among ↦ or_right (list_any standard (gs ++ g ∷ hs)) (repeats (words_of (gs ++ g ∷ hs))) (ap repeats (map-append word gs (g ∷ hs)) ∙ repeats_found (words_of gs) (words_of hs) (folded g.name) among)
+    elim (or_cases (is_standard g.name) (is_among (global_words gs) (folded g.name)) taken) [
+      | inl is ↦ or_left (list_any standard (gs ++ g ∷ hs)) (repeats (global_words (gs ++ g ∷ hs))) (list_any-append standard gs (g ∷ hs) ∙ or_right (list_any standard gs) (list_any standard (g ∷ hs)) (or_left (is_standard g.name) (list_any standard hs) is))
+      | inr among ↦ or_right (list_any standard (gs ++ g ∷ hs)) (repeats (global_words (gs ++ g ∷ hs))) (ap repeats (map-append word gs (g ∷ hs)) ∙ repeats_found (global_words gs) (global_words hs) (folded g.name) among)
     ]
 
 -- the names of the globals that were gone over, which don't clash
 pub record Gone (globals : List Variable) (i : ℕ) (words : List (List ℕ)) : Type 0 where
-  pub are : words ≡ words_of (take i globals)
+  pub are : words ≡ global_words (take i globals)
   pub sound : globals_clash (take i globals) ≡ false
 
 pub gone_more : (globals : List Variable) (i : ℕ) (g : Variable) (words more : List (List ℕ)) → i < length globals → g ≡ get_or globals i g → Gone globals i words → is_taken words g.name ≡ false → more ≡ words ++ folded g.name ∷ [] → Gone globals (i + 1) more
 gone_more globals i g words more within is gone free new =
     let step : take (i + 1) globals ≡ take i globals ++ g ∷ [] = take_more globals i g within ∙ ap (λ (x : Variable). take i globals ++ x ∷ []) (sym is) in
-    let free' : is_taken (words_of (take i globals)) g.name ≡ false = ap (λ ws. is_taken ws g.name) (sym gone.are) ∙ free in
+    let free' : is_taken (global_words (take i globals)) g.name ≡ false = ap (λ ws. is_taken ws g.name) (sym gone.are) ∙ free in
     record {
-      are = new ∙ ap (λ ws. ws ++ folded g.name ∷ []) gone.are ∙ sym (words_push (take i globals) g) ∙ ap words_of (sym step);
+      are = new ∙ ap (λ ws. ws ++ folded g.name ∷ []) gone.are ∙ sym (words_push (take i globals) g) ∙ ap global_words (sym step);
       sound = ap globals_clash step ∙ clash_push (take i globals) g gone.sound free';
     }
 
 pub gone_taken : (globals : List Variable) (i : ℕ) (g : Variable) (words : List (List ℕ)) → i < length globals → g ≡ get_or globals i g → Gone globals i words → is_taken words g.name ≡ true → globals_clash globals ≡ true
 gone_taken globals i g words within is gone taken =
     let split : globals ≡ take i globals ++ g ∷ drop (i + 1) globals = sym (take-append-drop i globals) ∙ ap (λ l. take i globals ++ l) (drop_more globals i g within ∙ ap (λ (x : Variable). x ∷ drop (i + 1) globals) (sym is)) in
-    let taken' : is_taken (words_of (take i globals)) g.name ≡ true = ap (λ ws. is_taken ws g.name) (sym gone.are) ∙ taken in
+    let taken' : is_taken (global_words (take i globals)) g.name ≡ true = ap (λ ws. is_taken ws g.name) (sym gone.are) ∙ taken in
     ap globals_clash split ∙ clash_found (take i globals) (drop (i + 1) globals) g taken'
 
 abbrev own_word : Local → List ℕ

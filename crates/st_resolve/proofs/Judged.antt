@@ -7,7 +7,7 @@ use Rattle.std.proofs.lemmas.Bool.Decides.{nat_tests}
 use Rattle.plant_types.specs.Words.{folded}
 use Rattle.st_tree.specs.Plain.{PlainBody}
 use Rattle.st_tree.specs.Numbers.{numbered}
-use Rattle.st_tree.specs.Kinds.{told_body}
+use Rattle.st_tree.specs.Kinds.{resolved_body}
 use Rattle.st_resolve.specs.declared.logic.Variable.{Variable}
 use Rattle.st_resolve.specs.declared.logic.Local.{Local}
 use Rattle.st_resolve.specs.declared.scope.Scope.{Scope}
@@ -16,8 +16,8 @@ use Rattle.st_resolve.specs.declared.faults.FirstFault.{FirstFault}
 use Rattle.st_resolve.specs.declared.faults.FirstFault.TheVariants as fault
 use Rattle.st_resolve.specs.Source.{Source}
 use Rattle.st_resolve.specs.Loops.{all_allowed, all_short}
-use Rattle.st_resolve.specs.Names.{words_of, own_words, find_word, find_in, behind, slot_in, kind_at, no_output, is_standard, repeats, all_pass}
-use Rattle.st_resolve.specs.Faults.{globals_clash, is_global, program_clashes, locals_clash, is_known, number_of, meant_of, name_is_unknown, named, all_fit, kinds_misfit, loops_wrong, loops_long, entry_of, own_entry, entries_of, which_fault, first_fault, Refuses}
+use Rattle.st_resolve.specs.Names.{global_words, own_words, find_word, find_in, shifted, slot_in, kind_at, no_output, is_standard, repeats, all_pass}
+use Rattle.st_resolve.specs.Faults.{globals_clash, is_global, program_clashes, locals_clash, is_known, name_number, meant_of, name_is_unknown, entry_named, all_fit, kinds_misfit, loops_wrong, loops_long, entry_of, own_entry, entries_of, which_fault, first_fault, Refuses}
 use Rattle.st_resolve.specs.Resolved.{renamed, flat_body}
 use Rattle.st_resolve.specs.Kept.{IsScope, IsFlat}
 use Rattle.st_resolve.proofs.Places.{found}
@@ -69,7 +69,7 @@ pub sound_parts : (source : Source) → first_fault source ≡ None → Sound (g
 sound_parts source sound = sound_by (globals_clash source.globals) (program_clashes source) (locals_clash source) (all_pass (is_known source) (meant_of source)) (kinds_misfit source) (loops_wrong source) (loops_long source) sound
 
 -- a name is known where its number is below the count of the variables
-known_by : (words own : List (List ℕ)) (name : List ℕ) (o p : Option ℕ) → find_word own name ≡ o → find_word words name ≡ p → is_some (behind (length words) o p) ≡ nat_lt (unwrap_or (behind (length words) o p) (length words + length own)) (length words + length own)
+known_by : (words own : List (List ℕ)) (name : List ℕ) (o p : Option ℕ) → find_word own name ≡ o → find_word words name ≡ p → is_some (shifted (length words) o p) ≡ nat_lt (unwrap_or (shifted (length words) o p) (length words + length own)) (length words + length own)
 known_by words own name (Some j) p e f = let g = found own name j e in sym (lt-ltb (length words + j) (length words + length own) (omega (arith, g.within)))
 known_by words own name None (Some i) e f = let g = found words name i f in sym (lt-ltb i (length words + length own) (omega (arith, g.within)))
 known_by words own name None None e f = grind (arith, nat_tests)
@@ -77,7 +77,7 @@ known_by words own name None None e f = grind (arith, nat_tests)
 known_is : (words own : List (List ℕ)) (name : List ℕ) → is_some (find_in words own name) ≡ nat_lt (slot_in words own name) (length words + length own)
 known_is words own name = known_by words own name (find_word own name) (find_word words name) refl refl
 
-count_is : (source : Source) (entries : List Entry) → entries ≡ entries_of source.globals source.locals → length entries ≡ length (words_of source.globals) + length (own_words source.locals)
+count_is : (source : Source) (entries : List Entry) → entries ≡ entries_of source.globals source.locals → length entries ≡ length (global_words source.globals) + length (own_words source.locals)
 count_is source entries are =
     let a = length-map source.globals entry_of in
     let b = length-map source.locals own_entry in
@@ -88,59 +88,59 @@ count_is source entries are =
 
 module _ (source : Source) (scope : Scope) (is : IsScope source scope) where
   -- the body over numbers is that of the source
-  pub resolved : (given : PlainBody (List ℕ)) (body : PlainBody ℕ) → given ≡ source.body → body ≡ flat_body scope 1 given → body ≡ renamed (number_of source) (meant_of source)
+  pub resolved : (given : PlainBody (List ℕ)) (body : PlainBody ℕ) → given ≡ source.body → body ≡ flat_body scope 1 given → body ≡ renamed (name_number source) (meant_of source)
   resolved given body same are =
-      are ∙ (λ k. renamed (slot_in (is.globals_are k) (is.own_are k)) (told_body (λ name. kind_at (is.entries_are k) (slot_in (is.globals_are k) (is.own_are k) name)) no_output (numbered 1 (same k))))
+      are ∙ (λ k. renamed (slot_in (is.globals_are k) (is.own_are k)) (resolved_body (λ name. kind_at (is.entries_are k) (slot_in (is.globals_are k) (is.own_are k) name)) no_output (numbered 1 (same k))))
 
-  known_same : (body given : PlainBody ℕ) (count : ℕ) (known : Bool) → body ≡ renamed (number_of source) (meant_of source) → given ≡ body → count ≡ length scope.entries.items → all_pass (λ slot. nat_lt slot count) given ≡ known → all_pass (is_known source) (meant_of source) ≡ known
+  known_same : (body given : PlainBody ℕ) (count : ℕ) (known : Bool) → body ≡ renamed (name_number source) (meant_of source) → given ≡ body → count ≡ length scope.entries.items → all_pass (λ slot. nat_lt slot count) given ≡ known → all_pass (is_known source) (meant_of source) ≡ known
   known_same body given count known are same counted all =
-      let words = words_of source.globals in
+      let words = global_words source.globals in
       let own = own_words source.locals in
       let many : count ≡ length words + length own = counted ∙ count_is source scope.entries.items is.entries_are in
-      (λ k. all_pass (λ name. known_is words own name k) (meant_of source)) ∙ pass_same (number_of source) (λ slot. nat_lt slot (length words + length own)) (meant_of source)
+      (λ k. all_pass (λ name. known_is words own name k) (meant_of source)) ∙ pass_same (name_number source) (λ slot. nat_lt slot (length words + length own)) (meant_of source)
       ∙ (λ k. all_pass (λ slot. nat_lt slot (sym many k)) (sym (same ∙ are) k)) ∙ all
 
-  fit_by_name : (body given : PlainBody ℕ) (entries : List Entry) (fit : Bool) → body ≡ renamed (number_of source) (meant_of source) → given ≡ body → entries ≡ scope.entries.items → all_fit (slice_get entries) given ≡ fit → all_fit (named source) (meant_of source) ≡ fit
+  fit_by_name : (body given : PlainBody ℕ) (entries : List Entry) (fit : Bool) → body ≡ renamed (name_number source) (meant_of source) → given ≡ body → entries ≡ scope.entries.items → all_fit (slice_get entries) given ≡ fit → all_fit (entry_named source) (meant_of source) ≡ fit
   fit_by_name body given entries fit are same listed all =
-      fit_same (number_of source) (slice_get (entries_of source.globals source.locals)) (meant_of source) ∙ (λ k. all_fit (slice_get (sym (listed ∙ is.entries_are) k)) (sym (same ∙ are) k)) ∙ all
+      fit_same (name_number source) (slice_get (entries_of source.globals source.locals)) (meant_of source) ∙ (λ k. all_fit (slice_get (sym (listed ∙ is.entries_are) k)) (sym (same ∙ are) k)) ∙ all
 
-  allow_by_name : (body given : PlainBody ℕ) (entries : List Entry) (allow : Bool) → body ≡ renamed (number_of source) (meant_of source) → given ≡ body → entries ≡ scope.entries.items → all_allowed (slice_get entries) (λ a b. a == b) given ≡ allow
-      → all_allowed (named source) (λ a b. number_of source a == number_of source b) (meant_of source) ≡ allow
+  allow_by_name : (body given : PlainBody ℕ) (entries : List Entry) (allow : Bool) → body ≡ renamed (name_number source) (meant_of source) → given ≡ body → entries ≡ scope.entries.items → all_allowed (slice_get entries) (λ a b. a == b) given ≡ allow
+      → all_allowed (entry_named source) (λ a b. name_number source a == name_number source b) (meant_of source) ≡ allow
   allow_by_name body given entries allow are same listed all =
-      allow_same (number_of source) (slice_get (entries_of source.globals source.locals)) (λ a b. a == b) (meant_of source) ∙ (λ k. all_allowed (slice_get (sym (listed ∙ is.entries_are) k)) (λ a b. a == b) (sym (same ∙ are) k)) ∙ all
+      allow_same (name_number source) (slice_get (entries_of source.globals source.locals)) (λ a b. a == b) (meant_of source) ∙ (λ k. all_allowed (slice_get (sym (listed ∙ is.entries_are) k)) (λ a b. a == b) (sym (same ∙ are) k)) ∙ all
 
-  short_by_name : (body given : PlainBody ℕ) (short : Bool) → body ≡ renamed (number_of source) (meant_of source) → given ≡ body → all_short given ≡ short → all_short (meant_of source) ≡ short
-  short_by_name body given short are same all = short_same (number_of source) (meant_of source) ∙ ap all_short (sym (same ∙ are)) ∙ all
+  short_by_name : (body given : PlainBody ℕ) (short : Bool) → body ≡ renamed (name_number source) (meant_of source) → given ≡ body → all_short given ≡ short → all_short (meant_of source) ≡ short
+  short_by_name body given short are same all = short_same (name_number source) (meant_of source) ∙ ap all_short (sym (same ∙ are)) ∙ all
 
-  pub names_refused : (body given : PlainBody ℕ) (count : ℕ) → body ≡ renamed (number_of source) (meant_of source) → given ≡ body → count ≡ length scope.entries.items → all_pass (λ slot. nat_lt slot count) given ≡ false → first_fault source ≡ Some (fault.Name false)
+  pub names_refused : (body given : PlainBody ℕ) (count : ℕ) → body ≡ renamed (name_number source) (meant_of source) → given ≡ body → count ≡ length scope.entries.items → all_pass (λ slot. nat_lt slot count) given ≡ false → first_fault source ≡ Some (fault.Name false)
   names_refused body given count are same counted all =
       unknown_is (globals_clash source.globals) (program_clashes source) (locals_clash source) (all_pass (is_known source) (meant_of source)) (kinds_misfit source) (loops_wrong source) (loops_long source) is.apart is.free is.own_apart (known_same body given count false are same counted all)
 
-  after_names : (body given : PlainBody ℕ) (count : ℕ) → body ≡ renamed (number_of source) (meant_of source) → given ≡ body → count ≡ length scope.entries.items → all_pass (λ slot. nat_lt slot count) given ≡ true → first_fault source ≡ which_fault false false (kinds_misfit source) (loops_wrong source) (loops_long source)
+  after_names : (body given : PlainBody ℕ) (count : ℕ) → body ≡ renamed (name_number source) (meant_of source) → given ≡ body → count ≡ length scope.entries.items → all_pass (λ slot. nat_lt slot count) given ≡ true → first_fault source ≡ which_fault false false (kinds_misfit source) (loops_wrong source) (loops_long source)
   after_names body given count are same counted all =
       named_right (globals_clash source.globals) (program_clashes source) (locals_clash source) (all_pass (is_known source) (meant_of source)) (kinds_misfit source) (loops_wrong source) (loops_long source) is.apart is.free is.own_apart (known_same body given count true are same counted all)
 
-  pub kinds_refused : (body given given1 : PlainBody ℕ) (count : ℕ) (entries : List Entry) → body ≡ renamed (number_of source) (meant_of source) → given ≡ body → given1 ≡ body → count ≡ length scope.entries.items → entries ≡ scope.entries.items
+  pub kinds_refused : (body given given1 : PlainBody ℕ) (count : ℕ) (entries : List Entry) → body ≡ renamed (name_number source) (meant_of source) → given ≡ body → given1 ≡ body → count ≡ length scope.entries.items → entries ≡ scope.entries.items
       → all_pass (λ slot. nat_lt slot count) given ≡ true → all_fit (slice_get entries) given1 ≡ false → first_fault source ≡ Some fault.Kind
   kinds_refused body given given1 count entries are same same1 counted listed all fit =
       after_names body given count are same counted all ∙ ap (λ b. which_fault false false (not b) (loops_wrong source) (loops_long source)) (fit_by_name body given1 entries false are same1 listed fit)
 
-  pub loops_refused : (body given given1 given2 : PlainBody ℕ) (count : ℕ) (entries entries2 : List Entry) → body ≡ renamed (number_of source) (meant_of source) → given ≡ body → given1 ≡ body → given2 ≡ body → count ≡ length scope.entries.items → entries ≡ scope.entries.items → entries2 ≡ scope.entries.items
+  pub loops_refused : (body given given1 given2 : PlainBody ℕ) (count : ℕ) (entries entries2 : List Entry) → body ≡ renamed (name_number source) (meant_of source) → given ≡ body → given1 ≡ body → given2 ≡ body → count ≡ length scope.entries.items → entries ≡ scope.entries.items → entries2 ≡ scope.entries.items
       → all_pass (λ slot. nat_lt slot count) given ≡ true → all_fit (slice_get entries) given1 ≡ true → all_allowed (slice_get entries2) (λ a b. a == b) given2 ≡ false → first_fault source ≡ Some fault.Constant
   loops_refused body given given1 given2 count entries entries2 are same same1 same2 counted listed listed2 all fit allow =
       after_names body given count are same counted all ∙ (λ k. which_fault false false (not (fit_by_name body given1 entries true are same1 listed fit k)) (not (allow_by_name body given2 entries2 false are same2 listed2 allow k)) (loops_long source))
 
-  pub turns_refused : (body given given1 given2 given3 : PlainBody ℕ) (count : ℕ) (entries entries2 : List Entry) → body ≡ renamed (number_of source) (meant_of source) → given ≡ body → given1 ≡ body → given2 ≡ body → given3 ≡ body → count ≡ length scope.entries.items → entries ≡ scope.entries.items → entries2 ≡ scope.entries.items
+  pub turns_refused : (body given given1 given2 given3 : PlainBody ℕ) (count : ℕ) (entries entries2 : List Entry) → body ≡ renamed (name_number source) (meant_of source) → given ≡ body → given1 ≡ body → given2 ≡ body → given3 ≡ body → count ≡ length scope.entries.items → entries ≡ scope.entries.items → entries2 ≡ scope.entries.items
       → all_pass (λ slot. nat_lt slot count) given ≡ true → all_fit (slice_get entries) given1 ≡ true → all_allowed (slice_get entries2) (λ a b. a == b) given2 ≡ true → all_short given3 ≡ false → first_fault source ≡ Some fault.Turns
   turns_refused body given given1 given2 given3 count entries entries2 are same same1 same2 same3 counted listed listed2 all fit allow short =
       after_names body given count are same counted all
       ∙ (λ k. which_fault false false (not (fit_by_name body given1 entries true are same1 listed fit k)) (not (allow_by_name body given2 entries2 true are same2 listed2 allow k)) (not (short_by_name body given3 false are same3 short k)))
 
-  pub accepted : (body given given1 given2 given3 : PlainBody ℕ) (count : ℕ) (entries entries2 : List Entry) → body ≡ renamed (number_of source) (meant_of source) → given ≡ body → given1 ≡ body → given2 ≡ body → given3 ≡ body → count ≡ length scope.entries.items → entries ≡ scope.entries.items → entries2 ≡ scope.entries.items
+  pub accepted : (body given given1 given2 given3 : PlainBody ℕ) (count : ℕ) (entries entries2 : List Entry) → body ≡ renamed (name_number source) (meant_of source) → given ≡ body → given1 ≡ body → given2 ≡ body → given3 ≡ body → count ≡ length scope.entries.items → entries ≡ scope.entries.items → entries2 ≡ scope.entries.items
       → all_pass (λ slot. nat_lt slot count) given ≡ true → all_fit (slice_get entries) given1 ≡ true → all_allowed (slice_get entries2) (λ a b. a == b) given2 ≡ true → all_short given3 ≡ true → IsFlat source scope body
   accepted body given given1 given2 given3 count entries entries2 are same same1 same2 same3 counted listed listed2 all fit allow short =
       record {
-        named = is;
+        entry_named = is;
         sound = after_names body given count are same counted all
             ∙ (λ k. which_fault false false (not (fit_by_name body given1 entries true are same1 listed fit k)) (not (allow_by_name body given2 entries2 true are same2 listed2 allow k)) (not (short_by_name body given3 true are same3 short k)));
         body_is = are;
@@ -149,12 +149,12 @@ module _ (source : Source) (scope : Scope) (is : IsScope source scope) where
 -- the globals' names are apart and listed, and the program's is none of them
 pub record Declared (source : Source) (words : List (List ℕ)) : Type 0 where
   pub apart : globals_clash source.globals ≡ false
-  pub are : words ≡ words_of source.globals
+  pub are : words ≡ global_words source.globals
   pub free : program_clashes source ≡ false
 
-pub declared : (source : Source) (globals : List Variable) (words : List (List ℕ)) (bytes text : List ℕ) (taken : Option ℕ) → globals ≡ source.globals → bytes ≡ source.name → text ≡ source.name → globals_clash globals ≡ false → words ≡ words_of globals → is_standard bytes ≡ false → taken ≡ find_word words text → is_some taken ≡ false → Declared source words
+pub declared : (source : Source) (globals : List Variable) (words : List (List ℕ)) (bytes text : List ℕ) (taken : Option ℕ) → globals ≡ source.globals → bytes ≡ source.name → text ≡ source.name → globals_clash globals ≡ false → words ≡ global_words globals → is_standard bytes ≡ false → taken ≡ find_word words text → is_some taken ≡ false → Declared source words
 declared source globals words bytes text taken same as_bytes as_text apart are standard found none =
-    let are' = are ∙ ap words_of same in
+    let are' = are ∙ ap global_words same in
     let standard' : is_standard source.name ≡ false = ap is_standard (sym as_bytes) ∙ standard in
     let none' : is_global source.globals source.name ≡ false = ap (λ ws. is_some (find_word ws source.name)) (sym are') ∙ ap (λ t. is_some (find_word words t)) (sym as_text) ∙ ap is_some (sym found) ∙ none in
     record { apart = ap globals_clash (sym same) ∙ apart; are = are'; free = or_from (is_standard source.name) (is_global source.globals source.name) standard' none' }

@@ -9,14 +9,14 @@ use Rattle.std.specs.Str.{bytes_eq}
 use Rattle.plant_types.specs.Words.{folded}
 use Rattle.st_resolve.specs.declared.logic.Variable.{Variable}
 use Rattle.st_resolve.specs.Source.{Source}
-use Rattle.st_resolve.specs.Names.{words_of, find_global, is_among, is_standard, repeats}
+use Rattle.st_resolve.specs.Names.{global_words, find_global, is_among, is_standard, repeats}
 use Rattle.st_resolve.specs.Faults.{first_fault}
 use Rattle.st_resolve.proofs.Clashes.{turned}
 use Rattle.st_resolve.proofs.Judged.{sound_parts}
 use Rattle.st_resolve.proofs.Places.{word_at, found_number}
 
-pub words_apart : (source : Source) → first_fault source ≡ None → repeats (words_of source.globals) ≡ false
-words_apart source sound = (or_parts (list_any (λ (g : Variable). is_standard g.name) source.globals) (repeats (words_of source.globals)) (sound_parts source sound).apart).1
+pub words_apart : (source : Source) → first_fault source ≡ None → repeats (global_words source.globals) ≡ false
+words_apart source sound = (or_parts (list_any (λ (g : Variable). is_standard g.name) source.globals) (repeats (global_words source.globals)) (sound_parts source sound).apart).1
 
 apart : (words : List (List ℕ)) (k i : ℕ) (d : List ℕ) → repeats words ≡ false → k < i → i < length words → bytes_eq (get_or words k d) (get_or words i d) ≡ false
 apart [] k i d once before within = absurd (omega arith)
@@ -30,7 +30,7 @@ apart (w ∷ ws) (suc k) (suc i) d once before within = apart ws k i d (or_parts
 
 pub global_numbered : (source : Source) (i : ℕ) (g : Variable) → first_fault source ≡ None → slice_get source.globals i ≡ Some g → find_global source.globals g.name ≡ Some i
 global_numbered source i g sound at =
-    let words = words_of source.globals in
+    let words = global_words source.globals in
     let x = folded g.name in
     let f = found_number source.globals i g at in
     let here : get_or words i x ≡ x = word_at source.globals i g x at in

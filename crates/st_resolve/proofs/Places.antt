@@ -8,7 +8,7 @@ use Rattle.std.specs.Str.{bytes_eq}
 use Rattle.std.specs.Cmp.Lexicographic.{bytes_decides}
 use Rattle.plant_types.specs.Words.{folded}
 use Rattle.st_resolve.specs.declared.logic.Variable.{Variable}
-use Rattle.st_resolve.specs.Names.{words_of, find_word}
+use Rattle.st_resolve.specs.Names.{global_words, find_word}
 
 -- a name that stands among words, at its place
 pub record Found (words : List (List ℕ)) (name : List ℕ) (i : ℕ) : Type 0 where
@@ -28,12 +28,12 @@ abbrev pub word : Variable → List ℕ
 word g = folded g.name
 
 -- the word of the global of a number
-pub word_at : (globals : List Variable) (i : ℕ) (g : Variable) (d : List ℕ) → slice_get globals i ≡ Some g → get_or (words_of globals) i d ≡ folded g.name
+pub word_at : (globals : List Variable) (i : ℕ) (g : Variable) (d : List ℕ) → slice_get globals i ≡ Some g → get_or (global_words globals) i d ≡ folded g.name
 word_at globals i g d at = get_or-map word globals i g d (slice_get_within globals i g at) ∙ ap word (get_or_from_slice_get globals i g g at)
 
-pub found_number : (globals : List Variable) (i : ℕ) (g : Variable) → slice_get globals i ≡ Some g → Found (words_of globals) g.name i
+pub found_number : (globals : List Variable) (i : ℕ) (g : Variable) → slice_get globals i ≡ Some g → Found (global_words globals) g.name i
 found_number globals i g at =
     record {
       within = subst (λ n. i < n) (sym (length-map globals word)) (slice_get_within globals i g at);
-      is = (bytes_decides (folded g.name) (get_or (words_of globals) i (folded g.name))).1 (sym (word_at globals i g (folded g.name) at));
+      is = (bytes_decides (folded g.name) (get_or (global_words globals) i (folded g.name))).1 (sym (word_at globals i g (folded g.name) at));
     }

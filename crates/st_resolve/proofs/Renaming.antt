@@ -3,16 +3,16 @@ use Rattle.std.proofs.Common.{◌≡◌, ap, refl, Bool, List, [], ◌∷◌, Op
 use Rattle.std.specs.Prelude.{Some, None, map, ◌&&◌, ◌||◌, option_and_then, option_map, not, nat_lt}
 use Rattle.plant_types.specs.declared.values.Kind.{Kind}
 use Rattle.plant_types.specs.declared.values.Kind.TheVariants as kind
-use Rattle.st_tree.specs.Plain.{PlainExpr, literal, read, output_of, one, two, PlainArgument, input, output}
+use Rattle.st_tree.specs.Plain.{PlainExpr, literal, read, output_of, unary, binary, PlainArgument, input, output}
 use Rattle.st_tree.specs.Plain.{PlainStmt, empty, assign, call, choose, select, repeat, PlainBody, done, next, Branches, no_branch, branch, Choices, no_choice, choice}
-use Rattle.st_tree.specs.Operators.{one_of, two_of}
+use Rattle.st_tree.specs.Operators.{eval_unary, eval_binary}
 use Rattle.st_tree.specs.Meaning.{then_one, then_two}
 use Rattle.st_tree.specs.Constants.{constant_of}
-use Rattle.st_tree.specs.Kinds.{judged, is_kind, same_kind, is_bit, one_kind, two_kind}
+use Rattle.st_tree.specs.Kinds.{kind_of_expr, is_kind, same_kind, is_bit, unary_kind, binary_kind}
 use Rattle.st_resolve.specs.declared.scope.Entry.{Entry}
 use Rattle.st_resolve.specs.Names.{reads_pass, option_passes, arguments_pass, passes, all_pass, branches_pass, choices_pass}
 use Rattle.st_resolve.specs.Loops.{constant_step, is_bound, is_step, is_control, outputs_assign, assigns, body_assigns, branches_assign, choices_assign, allowed, all_allowed, branches_allowed, choices_allowed, turns_of, is_short, all_short, branches_short, choices_short}
-use Rattle.st_resolve.specs.Faults.{kind_named, output_named, is_of, option_is_of, takes, fits, all_fit, branches_fit, choices_fit}
+use Rattle.st_resolve.specs.Faults.{kind_named, output_named, is_of, option_is_of, takes, stmt_fits, all_fit, branches_fit, choices_fit}
 use Rattle.st_resolve.specs.Resolved.{renamed_expr, renamed_option, renamed_argument, renamed_stmt, renamed, renamed_branches, renamed_choices}
 
 module _ {V W : Type 0} (f : V → W) (test : W → Bool) where
@@ -23,8 +23,8 @@ module _ {V W : Type 0} (f : V → W) (test : W → Bool) where
   reads_same (literal n) = refl
   reads_same (read v) = refl
   reads_same (output_of instance name) = refl
-  reads_same (one op a) = reads_same a
-  reads_same (two op a b) = λ i. reads_same a i && reads_same b i
+  reads_same (unary op a) = reads_same a
+  reads_same (binary op a b) = λ i. reads_same a i && reads_same b i
 
   option_same : (o : Option (PlainExpr V)) → option_passes before o ≡ option_passes test (renamed_option f o)
   option_same None = refl
@@ -60,12 +60,12 @@ module _ {V W : Type 0} (f : V → W) (look : W → Option Entry) where
   abbrev seen : V → Option Entry
   seen v = look (f v)
 
-  judged_same : (e : PlainExpr V) → judged (kind_named seen) (output_named seen) e ≡ judged (kind_named look) (output_named look) (renamed_expr f e)
+  judged_same : (e : PlainExpr V) → kind_of_expr (kind_named seen) (output_named seen) e ≡ kind_of_expr (kind_named look) (output_named look) (renamed_expr f e)
   judged_same (literal n) = refl
   judged_same (read v) = refl
   judged_same (output_of instance name) = refl
-  judged_same (one op a) = ap (option_and_then (one_kind op)) (judged_same a)
-  judged_same (two op a b) = λ i. option_and_then (λ k. option_and_then (two_kind op k) (judged_same b i)) (judged_same a i)
+  judged_same (unary op a) = ap (option_and_then (unary_kind op)) (judged_same a)
+  judged_same (binary op a b) = λ i. option_and_then (λ k. option_and_then (binary_kind op k) (judged_same b i)) (judged_same a i)
 
   of_same : (k : Kind) (e : PlainExpr V) → is_of seen k e ≡ is_of look k (renamed_expr f e)
   of_same k e = ap (is_kind k) (judged_same e)
@@ -78,15 +78,15 @@ module _ {V W : Type 0} (f : V → W) (look : W → Option Entry) where
   bit_same (literal n) = refl
   bit_same (read v) = refl
   bit_same (output_of instance name) = refl
-  bit_same (one op a) = refl
-  bit_same (two op a b) = refl
+  bit_same (unary op a) = refl
+  bit_same (binary op a b) = refl
 
   takes_same : (o : Option Entry) (e : PlainExpr V) → takes seen o e ≡ takes look o (renamed_expr f e)
   takes_same None e = refl
   takes_same (Some entry) e = λ i. not entry.is_input && (is_kind entry.kind (judged_same e i) || (same_kind entry.kind kind.Bool && bit_same e i))
 
   mutual
-    fits_same : (s : PlainStmt V) → fits seen s ≡ fits look (renamed_stmt f s)
+    fits_same : (s : PlainStmt V) → stmt_fits seen s ≡ stmt_fits look (renamed_stmt f s)
     fits_same (empty number) = refl
     fits_same (assign number v e) = takes_same (look (f v)) e
     fits_same (call number instance arguments) = refl
@@ -141,8 +141,8 @@ module _ {V W : Type 0} (f : V → W) where
   constant_same (literal n) = refl
   constant_same (read v) = refl
   constant_same (output_of instance name) = refl
-  constant_same (one op a) = ap (option_map (λ x. then_one x (one_of op))) (constant_same a)
-  constant_same (two op a b) = λ i. option_and_then (λ x. option_map (λ y. then_two x y (two_of op)) (constant_same b i)) (constant_same a i)
+  constant_same (unary op a) = ap (option_map (λ x. then_one x (eval_unary op))) (constant_same a)
+  constant_same (binary op a b) = λ i. option_and_then (λ x. option_map (λ y. then_two x y (eval_binary op)) (constant_same b i)) (constant_same a i)
 
   step_same : (o : Option (PlainExpr V)) → constant_step o ≡ constant_step (renamed_option f o)
   step_same None = refl

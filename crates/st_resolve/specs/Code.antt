@@ -3,8 +3,8 @@ use Rattle.std.specs.Prelude.{◌≡◌, ℕ, zero, suc, List, Option, refl}
 use Rattle.std.specs.Coded.{Coded, code_by, coded×, coded_list, coded_option, coded_ℕ}
 use Rattle.plant_types.specs.declared.values.Kind.{Kind}
 use Rattle.plant_types.specs.declared.values.Kind.TheVariants as kind
-use Rattle.st_lexer.specs.declared.token.Region.{Region}
-use Rattle.st_lexer.specs.declared.token.Region.TheVariants as region
+use Rattle.plant_types.specs.declared.values.Region.{Region}
+use Rattle.plant_types.specs.declared.values.Region.TheVariants as region
 use Rattle.st_tree.specs.Plain.{PlainBody}
 use Rattle.st_tree.specs.Code.{body_code}
 use Rattle.st_resolve.specs.declared.logic.Variable.{Variable}

@@ -3,10 +3,10 @@ use Rattle.std.specs.Prelude.{◌≡◌, ℕ, Bool, true, false, not, ◌&&◌, 
 use Rattle.std.specs.List.{list_any}
 use Rattle.plant_types.specs.declared.values.Kind.{Kind}
 use Rattle.plant_types.specs.declared.values.Kind.TheVariants as kind
-use Rattle.st_lexer.specs.declared.token.Region.{Region}
-use Rattle.st_lexer.specs.declared.token.Region.TheVariants as region
+use Rattle.plant_types.specs.declared.values.Region.{Region}
+use Rattle.plant_types.specs.declared.values.Region.TheVariants as region
 use Rattle.st_tree.specs.Plain.{PlainExpr, PlainStmt, empty, assign, call, choose, select, repeat, PlainBody, done, next, Branches, no_branch, branch, Choices, no_choice, choice}
-use Rattle.st_tree.specs.Kinds.{judged, is_kind, fits_kind, meant}
+use Rattle.st_tree.specs.Kinds.{kind_of_expr, is_kind, fits_kind, meant}
 use Rattle.st_resolve.specs.declared.logic.Variable.{Variable}
 use Rattle.st_resolve.specs.declared.logic.Local.{Local}
 use Rattle.st_resolve.specs.declared.scope.Entry.{Entry}
@@ -14,11 +14,11 @@ use Rattle.st_resolve.specs.declared.faults.FirstFault.{FirstFault}
 use Rattle.st_resolve.specs.declared.faults.FirstFault.TheVariants as fault
 use Rattle.st_resolve.specs.Source.{Source}
 use Rattle.st_resolve.specs.Loops.{all_allowed, all_short}
-use Rattle.st_resolve.specs.Names.{words_of, own_words, find_global, find_in, slot_in, kind_at, no_output, is_standard, repeats, all_pass}
+use Rattle.st_resolve.specs.Names.{global_words, own_words, find_global, find_in, slot_in, kind_at, no_output, is_standard, repeats, all_pass}
 
 -- a global's name is that of a standard block, or another global's
 abbrev pub globals_clash : List Variable → Bool
-globals_clash globals = list_any (λ (global : Variable). is_standard global.name) globals || repeats (words_of globals)
+globals_clash globals = list_any (λ (global : Variable). is_standard global.name) globals || repeats (global_words globals)
 
 -- a name is that of a global
 abbrev pub is_global : List Variable → List ℕ → Bool
@@ -48,19 +48,19 @@ entries_of globals locals = map entry_of globals ++ map own_entry locals
 
 -- a name in the body is that of one of the program's own variables, or of a global
 abbrev pub is_known : Source → List ℕ → Bool
-is_known source name = is_some (find_in (words_of source.globals) (own_words source.locals) name)
+is_known source name = is_some (find_in (global_words source.globals) (own_words source.locals) name)
 
 -- the number of what a name in the body names
-abbrev pub number_of : Source → List ℕ → ℕ
-number_of source name = slot_in (words_of source.globals) (own_words source.locals) name
+abbrev pub name_number : Source → List ℕ → ℕ
+name_number source name = slot_in (global_words source.globals) (own_words source.locals) name
 
 -- what a name in the body names, if anything
-abbrev pub named : Source → List ℕ → Option Entry
-named source name = slice_get (entries_of source.globals source.locals) (number_of source name)
+abbrev pub entry_named : Source → List ℕ → Option Entry
+entry_named source name = slice_get (entries_of source.globals source.locals) (name_number source name)
 
 -- the body that is meant: its statements are numbered from 1, and each operator is that of its operands' kind
 abbrev pub meant_of : Source → PlainBody (List ℕ)
-meant_of source = meant (λ name. kind_at (entries_of source.globals source.locals) (number_of source name)) no_output source.body
+meant_of source = meant (λ name. kind_at (entries_of source.globals source.locals) (name_number source name)) no_output source.body
 
 -- the program reads, assigns or calls a name that is neither its own nor a global's
 abbrev pub name_is_unknown : Source → Bool
@@ -76,7 +76,7 @@ module _ {V : Type 0} (look : V → Option Entry) where
 
   -- an expression is of a kind
   abbrev pub is_of : Kind → PlainExpr V → Bool
-  is_of k e = is_kind k (judged kind_named output_named e)
+  is_of k e = is_kind k (kind_of_expr kind_named output_named e)
 
   abbrev pub option_is_of : Kind → Option (PlainExpr V) → Bool
   option_is_of k None = true
@@ -89,17 +89,17 @@ module _ {V : Type 0} (look : V → Option Entry) where
 
   -- each right side, test, selector, bound and step is of its kind, and nothing is called
   abbrev mutual
-    pub fits : PlainStmt V → Bool
-    fits (empty number) = true
-    fits (assign number v e) = takes (look v) e
-    fits (call number instance arguments) = false
-    fits (choose number branches last) = branches_fit branches && all_fit last
-    fits (select number e choices last) = is_of kind.Dint e && (choices_fit choices && all_fit last)
-    fits (repeat number v from to by body) = is_of kind.Dint from && (is_of kind.Dint to && (option_is_of kind.Dint by && all_fit body))
+    pub stmt_fits : PlainStmt V → Bool
+    stmt_fits (empty number) = true
+    stmt_fits (assign number v e) = takes (look v) e
+    stmt_fits (call number instance arguments) = false
+    stmt_fits (choose number branches last) = branches_fit branches && all_fit last
+    stmt_fits (select number e choices last) = is_of kind.Dint e && (choices_fit choices && all_fit last)
+    stmt_fits (repeat number v from to by body) = is_of kind.Dint from && (is_of kind.Dint to && (option_is_of kind.Dint by && all_fit body))
 
     pub all_fit : PlainBody V → Bool
     all_fit done = true
-    all_fit (next s rest) = fits s && all_fit rest
+    all_fit (next s rest) = stmt_fits s && all_fit rest
 
     pub branches_fit : Branches V → Bool
     branches_fit no_branch = true
@@ -110,11 +110,11 @@ module _ {V : Type 0} (look : V → Option Entry) where
     choices_fit (choice labels body rest) = all_fit body && choices_fit rest
 
 abbrev pub kinds_misfit : Source → Bool
-kinds_misfit source = not (all_fit (named source) (meant_of source))
+kinds_misfit source = not (all_fit (entry_named source) (meant_of source))
 
 -- a control variable isn't allowed or is assigned in its FOR, or a bound or step isn't constant, traps, or is a step of 0
 abbrev pub loops_wrong : Source → Bool
-loops_wrong source = not (all_allowed (named source) (λ a b. number_of source a == number_of source b) (meant_of source))
+loops_wrong source = not (all_allowed (entry_named source) (λ a b. name_number source a == name_number source b) (meant_of source))
 
 -- a FOR has more than 10,000 turns
 abbrev pub loops_long : Source → Bool

@@ -3,8 +3,8 @@ use Rattle.std.specs.Prelude.{◌≡◌, ℕ, None, false}
 use Rattle.st_tree.specs.Plain.{PlainBody}
 use Rattle.st_resolve.specs.declared.scope.Scope.{Scope}
 use Rattle.st_resolve.specs.Source.{Source}
-use Rattle.st_resolve.specs.Names.{words_of, own_words}
-use Rattle.st_resolve.specs.Faults.{globals_clash, program_clashes, locals_clash, entries_of, number_of, meant_of, first_fault}
+use Rattle.st_resolve.specs.Names.{global_words, own_words}
+use Rattle.st_resolve.specs.Faults.{globals_clash, program_clashes, locals_clash, entries_of, name_number, meant_of, first_fault}
 use Rattle.st_resolve.specs.Resolved.{renamed}
 
 -- the scope has the source's names in small letters, none of them taken, and what its variables are
@@ -12,7 +12,7 @@ pub record IsScope (source : Source) (scope : Scope) : Type 0 where
   pub apart : globals_clash source.globals ≡ false
   pub free : program_clashes source ≡ false
   pub own_apart : locals_clash source ≡ false
-  pub globals_are : scope.globals ≡ words_of source.globals
+  pub globals_are : scope.globals ≡ global_words source.globals
   pub own_are : scope.own ≡ own_words source.locals
   pub entries_are : scope.entries.items ≡ entries_of source.globals source.locals
 
@@ -20,4 +20,4 @@ pub record IsScope (source : Source) (scope : Scope) : Type 0 where
 pub record IsFlat (source : Source) (scope : Scope) (body : PlainBody ℕ) : Type 0 where
   pub named : IsScope source scope
   pub sound : first_fault source ≡ None
-  pub body_is : body ≡ renamed (number_of source) (meant_of source)
+  pub body_is : body ≡ renamed (name_number source) (meant_of source)

@@ -5,15 +5,15 @@ use Rattle.std.specs.Str.{bytes_eq}
 use Rattle.plant_types.specs.Words.{folded, same_word}
 use Rattle.plant_types.specs.declared.values.Kind.{Kind}
 use Rattle.plant_types.specs.declared.values.Kind.TheVariants as kind
-use Rattle.st_tree.specs.Plain.{PlainExpr, literal, read, output_of, one, two, PlainArgument, input, output}
+use Rattle.st_tree.specs.Plain.{PlainExpr, literal, read, output_of, unary, binary, PlainArgument, input, output}
 use Rattle.st_tree.specs.Plain.{PlainStmt, empty, assign, call, choose, select, repeat, PlainBody, done, next, Branches, no_branch, branch, Choices, no_choice, choice}
 use Rattle.st_resolve.specs.declared.logic.Variable.{Variable}
 use Rattle.st_resolve.specs.declared.logic.Local.{Local}
 use Rattle.st_resolve.specs.declared.scope.Entry.{Entry}
 
 -- the globals' names in small letters, in order of declaration
-abbrev pub words_of : List Variable → List (List ℕ)
-words_of globals = map (λ (global : Variable). folded global.name) globals
+abbrev pub global_words : List Variable → List (List ℕ)
+global_words globals = map (λ (global : Variable). folded global.name) globals
 
 -- the same of the names of a program's own variables
 abbrev pub own_words : List Local → List (List ℕ)
@@ -25,7 +25,7 @@ find_word words name = position (bytes_eq (folded name)) words
 
 -- the number of the first global of a name, from 0
 abbrev pub find_global : List Variable → List ℕ → Option ℕ
-find_global globals name = find_word (words_of globals) name
+find_global globals name = find_word (global_words globals) name
 
 -- the block types that exist from the start
 abbrev pub is_standard : List ℕ → Bool
@@ -41,13 +41,13 @@ repeats [] = false
 repeats (w ∷ ws) = is_among ws w || repeats ws
 
 -- a place behind others
-abbrev pub behind : ℕ → Option ℕ → Option ℕ → Option ℕ
-behind n (Some i) other = Some (n + i)
-behind n None other = other
+abbrev pub shifted : ℕ → Option ℕ → Option ℕ → Option ℕ
+shifted n (Some i) other = Some (n + i)
+shifted n None other = other
 
 -- the number of what a name names, the globals counted first: a program's own variable hides a global
 abbrev pub find_in : List (List ℕ) → List (List ℕ) → List ℕ → Option ℕ
-find_in words own name = behind (length words) (find_word own name) (find_word words name)
+find_in words own name = shifted (length words) (find_word own name) (find_word words name)
 
 -- the same; a name of nothing has the number behind all
 abbrev pub slot_in : List (List ℕ) → List (List ℕ) → List ℕ → ℕ
@@ -70,8 +70,8 @@ abbrev pub reads_pass : {V : Type 0} → (V → Bool) → PlainExpr V → Bool
 reads_pass test (literal n) = true
 reads_pass test (read v) = test v
 reads_pass test (output_of instance name) = false
-reads_pass test (one op a) = reads_pass test a
-reads_pass test (two op a b) = reads_pass test a && reads_pass test b
+reads_pass test (unary op a) = reads_pass test a
+reads_pass test (binary op a b) = reads_pass test a && reads_pass test b
 
 abbrev pub option_passes : {V : Type 0} → (V → Bool) → Option (PlainExpr V) → Bool
 option_passes test None = true

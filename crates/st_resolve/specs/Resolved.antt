@@ -1,10 +1,10 @@
 -- Bodies with numbers of variables in place of names.
 use Rattle.std.specs.Prelude.{ℕ, Option, Some, None, List, map}
 use Rattle.plant_types.specs.declared.values.Kind.{Kind}
-use Rattle.st_tree.specs.Plain.{PlainExpr, literal, read, output_of, one, two, PlainArgument, input, output}
+use Rattle.st_tree.specs.Plain.{PlainExpr, literal, read, output_of, unary, binary, PlainArgument, input, output}
 use Rattle.st_tree.specs.Plain.{PlainStmt, empty, assign, call, choose, select, repeat, PlainBody, done, next, Branches, no_branch, branch, Choices, no_choice, choice}
 use Rattle.st_tree.specs.Numbers.{numbered_stmt, numbered, numbered_branches, numbered_choices}
-use Rattle.st_tree.specs.Kinds.{told, told_argument, told_stmt, told_body, told_branches, told_choices}
+use Rattle.st_tree.specs.Kinds.{resolved_expr, resolved_argument, resolved_stmt, resolved_body, resolved_branches, resolved_choices}
 use Rattle.st_resolve.specs.declared.scope.Scope.{Scope}
 use Rattle.st_resolve.specs.Names.{slot_in, kind_at, no_output}
 
@@ -14,8 +14,8 @@ module _ {V W : Type 0} (f : V → W) where
   renamed_expr (literal n) = literal n
   renamed_expr (read v) = read (f v)
   renamed_expr (output_of instance name) = output_of (f instance) (f name)
-  renamed_expr (one op a) = one op (renamed_expr a)
-  renamed_expr (two op a b) = two op (renamed_expr a) (renamed_expr b)
+  renamed_expr (unary op a) = unary op (renamed_expr a)
+  renamed_expr (binary op a b) = binary op (renamed_expr a) (renamed_expr b)
 
   abbrev pub renamed_option : Option (PlainExpr V) → Option (PlainExpr W)
   renamed_option None = None
@@ -51,30 +51,30 @@ module _ {V W : Type 0} (f : V → W) where
 abbrev pub slot_of : Scope → List ℕ → ℕ
 slot_of scope name = slot_in scope.globals scope.own name
 
-abbrev pub kind_of : Scope → List ℕ → Kind
-kind_of scope name = kind_at scope.entries.items (slot_of scope name)
+abbrev pub scope_kind : Scope → List ℕ → Kind
+scope_kind scope name = kind_at scope.entries.items (slot_of scope name)
 
 module _ (scope : Scope) where
   -- an expression over numbers, in which each operator is the one that is meant
   abbrev pub flat_expr : PlainExpr (List ℕ) → PlainExpr ℕ
-  flat_expr e = renamed_expr (slot_of scope) (told (kind_of scope) no_output e)
+  flat_expr e = renamed_expr (slot_of scope) (resolved_expr (scope_kind scope) no_output e)
 
   abbrev pub flat_option : Option (PlainExpr (List ℕ)) → Option (PlainExpr ℕ)
   flat_option None = None
   flat_option (Some e) = Some (flat_expr e)
 
   abbrev pub flat_argument : PlainArgument (List ℕ) → PlainArgument ℕ
-  flat_argument a = renamed_argument (slot_of scope) (told_argument (kind_of scope) no_output a)
+  flat_argument a = renamed_argument (slot_of scope) (resolved_argument (scope_kind scope) no_output a)
 
   -- a statement over numbers of variables, whose statements are numbered from a number on
   abbrev pub flat_stmt : ℕ → PlainStmt (List ℕ) → PlainStmt ℕ
-  flat_stmt n s = renamed_stmt (slot_of scope) (told_stmt (kind_of scope) no_output (numbered_stmt n s))
+  flat_stmt n s = renamed_stmt (slot_of scope) (resolved_stmt (scope_kind scope) no_output (numbered_stmt n s))
 
   abbrev pub flat_body : ℕ → PlainBody (List ℕ) → PlainBody ℕ
-  flat_body n body = renamed (slot_of scope) (told_body (kind_of scope) no_output (numbered n body))
+  flat_body n body = renamed (slot_of scope) (resolved_body (scope_kind scope) no_output (numbered n body))
 
   abbrev pub flat_branches : ℕ → Branches (List ℕ) → Branches ℕ
-  flat_branches n branches = renamed_branches (slot_of scope) (told_branches (kind_of scope) no_output (numbered_branches n branches))
+  flat_branches n branches = renamed_branches (slot_of scope) (resolved_branches (scope_kind scope) no_output (numbered_branches n branches))
 
   abbrev pub flat_choices : ℕ → Choices (List ℕ) → Choices ℕ
-  flat_choices n choices = renamed_choices (slot_of scope) (told_choices (kind_of scope) no_output (numbered_choices n choices))
+  flat_choices n choices = renamed_choices (slot_of scope) (resolved_choices (scope_kind scope) no_output (numbered_choices n choices))

@@ -3,7 +3,7 @@
 ghost use Rattle.std.specs.Prelude.{◌≡◌, None, IfOk, MatchResult};
 ghost use Rattle.st_resolve.specs.Source.{source_of};
 ghost use Rattle.st_resolve.specs.Names.{find_global};
-ghost use Rattle.st_resolve.specs.Faults.{first_fault, Refuses, number_of, meant_of};
+ghost use Rattle.st_resolve.specs.Faults.{first_fault, Refuses, name_number, meant_of};
 ghost use Rattle.st_resolve.specs.Resolved.{renamed};
 ghost use Rattle.st_resolve.specs.Kept.{IsScope, IsFlat};
 ghost use Rattle.st_tree.specs.View.{view_body};
@@ -152,7 +152,7 @@ impl Flat {
 
     /// The program's body over the numbers of its variables.
     pub fn body(&self) -> &[Stmt<usize>]
-        ensures body { view_body result.now ≡ renamed (number_of self.now) (meant_of self.now) }
+        ensures body { view_body result.now ≡ renamed (name_number self.now) (meant_of self.now) }
         ensures sound { first_fault self.now ≡ None }
     {
         self.body.as_slice()

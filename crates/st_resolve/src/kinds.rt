@@ -2,12 +2,12 @@
 
 ghost use Rattle.std.specs.Prelude.{◌≡◌, slice_get, option_copied};
 ghost use Rattle.st_tree.specs.View.{view_expr, view_option, view_stmt, view_body, view_branches, view_choices};
-ghost use Rattle.st_tree.specs.Kinds.{judged, is_kind};
-ghost use Rattle.st_resolve.specs.Faults.{kind_named, output_named, is_of, option_is_of, takes, fits, all_fit, branches_fit, choices_fit};
+ghost use Rattle.st_tree.specs.Kinds.{kind_of_expr, is_kind};
+ghost use Rattle.st_resolve.specs.Faults.{kind_named, output_named, is_of, option_is_of, takes, stmt_fits, all_fit, branches_fit, choices_fit};
 
 use crate::scope::Entry;
 use plant_types::Kind;
-use st_tree::{Branch, Choice, Expr, Stmt, is_bit, one_kind, two_kind};
+use st_tree::{Branch, Choice, Expr, Stmt, binary_kind, is_bit, unary_kind};
 
 fn entry_at(entries: &[Entry], slot: usize) -> Option<Entry>
     ensures { result ≡ slice_get entries.now slot }
@@ -17,7 +17,7 @@ fn entry_at(entries: &[Entry], slot: usize) -> Option<Entry>
 
 /// The kind of an expression, if its operators take their operands.
 fn judge(entries: &[Entry], expr: &Expr<usize>) -> Option<Kind>
-    ensures { result ≡ judged (kind_named (slice_get entries.now)) (output_named (slice_get entries.now)) (view_expr expr.now) }
+    ensures { result ≡ kind_of_expr (kind_named (slice_get entries.now)) (output_named (slice_get entries.now)) (view_expr expr.now) }
 {
     match expr {
         Expr::Literal(literal) => Some(literal.kind()),
@@ -26,14 +26,14 @@ fn judge(entries: &[Entry], expr: &Expr<usize>) -> Option<Kind>
             None => None,
         },
         Expr::Output(_, _) => None,
-        Expr::One(op, a) => {
+        Expr::Unary(op, a) => {
             let kind = judge(entries, a)?;
-            one_kind(*op, kind)
+            unary_kind(*op, kind)
         }
-        Expr::Two(op, a, b) => {
+        Expr::Binary(op, a, b) => {
             let left = judge(entries, a)?;
             let right = judge(entries, b)?;
-            two_kind(*op, left, right)
+            binary_kind(*op, left, right)
         }
     }
 }
@@ -81,7 +81,7 @@ fn takes(entries: &[Entry], slot: usize, expr: &Expr<usize>) -> bool
 
 #[cycle(fits)]
 fn stmt_fits(entries: &[Entry], stmt: &Stmt<usize>) -> bool
-    ensures { result ≡ fits (slice_get entries.now) (view_stmt stmt.now) }
+    ensures { result ≡ stmt_fits (slice_get entries.now) (view_stmt stmt.now) }
 {
     match stmt {
         Stmt::Empty(_) => true,

@@ -14,8 +14,8 @@ fn reads_known(count: usize, expr: &Expr<usize>) -> bool
         Expr::Literal(_) => true,
         Expr::Read(slot) => *slot < count,
         Expr::Output(_, _) => false,
-        Expr::One(_, a) => reads_known(count, a),
-        Expr::Two(_, a, b) => reads_known(count, a) && reads_known(count, b),
+        Expr::Unary(_, a) => reads_known(count, a),
+        Expr::Binary(_, a, b) => reads_known(count, a) && reads_known(count, b),
     }
 }
 

@@ -1,7 +1,6 @@
 //! What is made ready to run: global variables, and a program with its own variables.
 
-use plant_types::{Kind, Text};
-use st_lexer::Region;
+use plant_types::{Kind, Region, Text};
 use st_tree::Stmt;
 
 /// A program and the global variables.

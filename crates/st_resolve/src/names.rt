@@ -3,7 +3,7 @@
 ghost use Rattle.std.specs.Prelude.{◌≡◌, ◌++◌, ◌∷◌, [], IfOk, IfErr, not, if◌then◌else◌, Some, None, true, false, MatchResult, string_bytes, ◌||◌, ◌<◌, ◌^◌, length, IfSome};
 ghost use Rattle.std.specs.List.{list_any};
 ghost use Rattle.plant_types.specs.Words.{folded};
-ghost use Rattle.st_resolve.specs.Names.{find_word, is_standard, is_among, words_of, own_words, repeats};
+ghost use Rattle.st_resolve.specs.Names.{find_word, is_standard, is_among, global_words, own_words, repeats};
 ghost use Rattle.st_resolve.specs.Faults.{globals_clash, Refuses};
 ghost use Rattle.st_resolve.specs.Taken.{is_taken};
 
@@ -100,7 +100,7 @@ fn add_global(alloc: Global, names: &mut Names, global: &Variable) -> Result<(),
 
 /// The names of the globals in order, where none is a standard block's and none stands twice.
 pub fn names_of(alloc: Global, globals: &[Variable]) -> Result<Names, FirstFault>
-    ensures { MatchResult result (λ names. (globals_clash globals.now ≡ false) × (names ≡ words_of globals.now)) (Refuses (if globals_clash globals.now then Some (FirstFault.Name true) else None)) }
+    ensures { MatchResult result (λ names. (globals_clash globals.now ≡ false) × (names ≡ global_words globals.now)) (Refuses (if globals_clash globals.now then Some (FirstFault.Name true) else None)) }
 {
     let mut names = Names::new(alloc);
     for global in globals {

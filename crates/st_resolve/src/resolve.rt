@@ -2,15 +2,16 @@
 
 ghost use Rattle.std.specs.Prelude.{◌≡◌, ◌+◌, IfOk, map};
 ghost use Rattle.st_tree.specs.View.{view_expr, view_option, view_argument, view_stmt, view_body, view_branches, view_choices};
-ghost use Rattle.st_tree.specs.Kinds.{one_result, two_result, kind_in, told_argument};
+ghost use Rattle.st_tree.specs.Kinds.{unary_result, binary_result, kind_in, resolved_argument};
 ghost use Rattle.st_tree.specs.Numbers.{count, count_all, count_branches, count_choices};
 ghost use Rattle.st_resolve.specs.Names.{kind_at, no_output};
-ghost use Rattle.st_resolve.specs.Resolved.{renamed_argument, slot_of, kind_of, flat_expr, flat_option, flat_argument, flat_stmt, flat_body, flat_branches, flat_choices};
+ghost use Rattle.st_resolve.specs.Resolved.{renamed_argument, slot_of, scope_kind, flat_expr, flat_option, flat_argument, flat_stmt, flat_body, flat_branches, flat_choices};
 
 use crate::scope::{Entry, Scope};
 use plant_types::{Kind, Text};
 use st_tree::{
-    Argument, Binary, Branch, Choice, Expr, Stmt, Unary, copy_labels, one_told, two_told,
+    Argument, Binary, Branch, Choice, Expr, Stmt, Unary, copy_labels, resolved_binary,
+    resolved_unary,
 };
 use std::alloc::{AllocError, Global};
 
@@ -25,8 +26,8 @@ fn kind_at(entries: &[Entry], slot: usize) -> Kind
 }
 
 /// The kind of what an operator gives of an operand that it takes.
-fn one_result(op: Unary, a: Kind) -> Kind
-    ensures { result ≡ one_result op a }
+fn unary_result(op: Unary, a: Kind) -> Kind
+    ensures { result ≡ unary_result op a }
 {
     match op {
         Unary::Not => Kind::Bool,
@@ -36,8 +37,8 @@ fn one_result(op: Unary, a: Kind) -> Kind
 }
 
 /// The kind of what an operator gives of operands that it takes, the left one of a kind.
-fn two_result(op: Binary, a: Kind) -> Kind
-    ensures { result ≡ two_result op a }
+fn binary_result(op: Binary, a: Kind) -> Kind
+    ensures { result ≡ binary_result op a }
 {
     match op {
         Binary::Add | Binary::Subtract => a,
@@ -54,7 +55,7 @@ fn resolve_kinded(
     expr: &Expr<Text>,
 ) -> Result<(Expr<usize>, Kind), AllocError>
     ensures expr { IfOk result (λ r. view_expr r.0 ≡ flat_expr scope.now (view_expr expr.now)) }
-    ensures kind { IfOk result (λ r. r.1 ≡ kind_in (kind_of scope.now) no_output (view_expr expr.now)) }
+    ensures kind { IfOk result (λ r. r.1 ≡ kind_in (scope_kind scope.now) no_output (view_expr expr.now)) }
 {
     match expr {
         Expr::Literal(literal) => Ok((Expr::Literal(*literal), literal.kind())),
@@ -67,17 +68,23 @@ fn resolve_kinded(
             let name = scope.slot(alloc, name.as_str())?;
             Ok((Expr::Output(instance, name), Kind::Bool))
         }
-        Expr::One(op, a) => {
+        Expr::Unary(op, a) => {
             let (a, kind) = resolve_kinded(alloc, scope, a)?;
             let a = Box::new(alloc, a)?;
-            Ok((Expr::One(one_told(*op, kind), a), one_result(*op, kind)))
+            Ok((
+                Expr::Unary(resolved_unary(*op, kind), a),
+                unary_result(*op, kind),
+            ))
         }
-        Expr::Two(op, a, b) => {
+        Expr::Binary(op, a, b) => {
             let (a, kind) = resolve_kinded(alloc, scope, a)?;
             let (b, _) = resolve_kinded(alloc, scope, b)?;
             let a = Box::new(alloc, a)?;
             let b = Box::new(alloc, b)?;
-            Ok((Expr::Two(two_told(*op, kind), a, b), two_result(*op, kind)))
+            Ok((
+                Expr::Binary(resolved_binary(*op, kind), a, b),
+                binary_result(*op, kind),
+            ))
         }
     }
 }
@@ -129,7 +136,7 @@ fn resolve_arguments(
     scope: &Scope,
     arguments: &[Argument<Text>],
 ) -> Result<Vec<Argument<usize>>, AllocError>
-    ensures { IfOk result (λ r. map view_argument r.items ≡ map (renamed_argument (slot_of scope.now)) (map (told_argument (kind_of scope.now) no_output) (map view_argument arguments.now))) }
+    ensures { IfOk result (λ r. map view_argument r.items ≡ map (renamed_argument (slot_of scope.now)) (map (resolved_argument (scope_kind scope.now) no_output) (map view_argument arguments.now))) }
 {
     let mut resolved = Vec::new(alloc);
     for argument in arguments {

@@ -10,8 +10,7 @@ ghost use Rattle.st_resolve.specs.Resolved.{slot_of};
 use crate::faults::FirstFault;
 use crate::logic::{Local, Logic, Variable};
 use crate::names::{Names, is_standard, names_of, own_names_of};
-use plant_types::Kind;
-use st_lexer::Region;
+use plant_types::{Kind, Region};
 use std::alloc::{AllocError, Global};
 
 /// What a variable is.

@@ -3,13 +3,13 @@ use Rattle.std.proofs.Common.{◌≡◌, ℕ, pos, [], ◌∷◌, None, refl}
 use Rattle.std.specs.Prelude.{Option, true}
 use Rattle.st_tree.specs.declared.tree.Literal.TheVariants.{Integer}
 use Rattle.st_tree.specs.declared.tree.Binary.TheVariants.{Add}
-use Rattle.st_tree.specs.Plain.{PlainExpr, literal, read, two, PlainArgument, input, output}
+use Rattle.st_tree.specs.Plain.{PlainExpr, literal, read, binary, PlainArgument, input, output}
 use Rattle.st_tree.specs.Plain.{PlainStmt, empty, assign, call, choose, select, repeat, PlainBody, done, next, branch, no_branch, choice, no_choice}
 use Rattle.st_tree.specs.Costs.{body_cost, body_size}
 
 -- n := n + 1
 abbrev count_on : PlainBody ℕ
-count_on = next (assign 0 1 (two Add (read 1) (literal (Integer (pos 1))))) done
+count_on = next (assign 0 1 (binary Add (read 1) (literal (Integer (pos 1))))) done
 
 -- FOR .. DO body END_FOR
 abbrev loop : PlainBody ℕ → PlainBody ℕ
@@ -33,7 +33,7 @@ no_turn = refl
 
 -- IF a THEN n := n + 1; n := n + 1; ELSE ; END_IF: 1, the test 1, and the greatest branch 8; its size has the ELSE too
 abbrev branches : PlainBody ℕ
-branches = next (choose 0 (branch (read 0) (next (assign 0 1 (two Add (read 1) (literal (Integer (pos 1))))) count_on) no_branch) (next (empty 0) done)) done
+branches = next (choose 0 (branch (read 0) (next (assign 0 1 (binary Add (read 1) (literal (Integer (pos 1))))) count_on) no_branch) (next (empty 0) done)) done
 
 greatest_branch : body_cost (λ from to by. 1) nothing branches ≡ 10
 greatest_branch = refl
@@ -49,5 +49,5 @@ each_label : body_cost (λ from to by. 1) nothing labels ≡ 9
 each_label = refl
 
 -- f(x := n + 1, y => n), where the block's body costs 5: 1, an input 1 and 3, an output 1, and 5
-called : body_cost {V = ℕ} (λ from to by. 1) (λ instance. 5) (next (call 0 3 (input 4 (two Add (read 1) (literal (Integer (pos 1)))) ∷ output 5 1 ∷ [])) done) ≡ 11
+called : body_cost {V = ℕ} (λ from to by. 1) (λ instance. 5) (next (call 0 3 (input 4 (binary Add (read 1) (literal (Integer (pos 1)))) ∷ output 5 1 ∷ [])) done) ≡ 11
 called = refl

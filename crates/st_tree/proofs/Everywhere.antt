@@ -3,25 +3,25 @@ use Rattle.std.proofs.Common.{◌≡◌, ℤ, refl, ap}
 use Rattle.std.specs.Prelude.{Option, Some, None, option_map, option_and_then}
 use Rattle.st_tree.specs.declared.tree.Unary.{Unary}
 use Rattle.st_tree.specs.declared.tree.Binary.{Binary}
-use Rattle.st_tree.specs.Plain.{PlainExpr, literal, read, output_of, one, two}
-use Rattle.st_tree.specs.Operators.{Outcome, one_of, two_of}
+use Rattle.st_tree.specs.Plain.{PlainExpr, literal, read, output_of, unary, binary}
+use Rattle.st_tree.specs.Operators.{Outcome, eval_unary, eval_binary}
 use Rattle.st_tree.specs.Meaning.{value_of, then_one, then_two}
 use Rattle.st_tree.specs.Constants.{constant_of}
 
-one_constant : (op : Unary) (o : Option Outcome) (a r : Outcome) → ((x : Outcome) → o ≡ Some x → a ≡ x) → option_map (λ x. then_one x (one_of op)) o ≡ Some r → then_one a (one_of op) ≡ r
+one_constant : (op : Unary) (o : Option Outcome) (a r : Outcome) → ((x : Outcome) → o ≡ Some x → a ≡ x) → option_map (λ x. then_one x (eval_unary op)) o ≡ Some r → then_one a (eval_unary op) ≡ r
 one_constant op None a r same is = absurd (cc)
-one_constant op (Some x) a r same is = let e = ap (λ y. then_one y (one_of op)) (same x refl) in cc
+one_constant op (Some x) a r same is = let e = ap (λ y. then_one y (eval_unary op)) (same x refl) in cc
 
-two_constant : (op : Binary) (o p : Option Outcome) (a b r : Outcome) → ((x : Outcome) → o ≡ Some x → a ≡ x) → ((x : Outcome) → p ≡ Some x → b ≡ x) → option_and_then (λ x. option_map (λ y. then_two x y (two_of op)) p) o ≡ Some r → then_two a b (two_of op) ≡ r
+two_constant : (op : Binary) (o p : Option Outcome) (a b r : Outcome) → ((x : Outcome) → o ≡ Some x → a ≡ x) → ((x : Outcome) → p ≡ Some x → b ≡ x) → option_and_then (λ x. option_map (λ y. then_two x y (eval_binary op)) p) o ≡ Some r → then_two a b (eval_binary op) ≡ r
 two_constant op None p a b r same too is = absurd (cc)
 two_constant op (Some x) None a b r same too is = absurd (cc)
 two_constant op (Some x) (Some y) a b r same too is =
-    let e : then_two a b (two_of op) ≡ then_two x y (two_of op) = λ i. then_two (same x refl i) (too y refl i) (two_of op) in cc
+    let e : then_two a b (eval_binary op) ≡ then_two x y (eval_binary op) = λ i. then_two (same x refl i) (too y refl i) (eval_binary op) in cc
 
 module _ {V : Type 0} (look : V → ℤ) (peek : V → V → ℤ) where
   pub constant_value : (e : PlainExpr V) (r : Outcome) → constant_of e ≡ Some r → value_of look peek e ≡ r
   constant_value (literal n) r is = cc
   constant_value (read v) r is = absurd (cc)
   constant_value (output_of instance name) r is = absurd (cc)
-  constant_value (one op a) r is = one_constant op (constant_of a) (value_of look peek a) r (λ x e. constant_value a x e) is
-  constant_value (two op a b) r is = two_constant op (constant_of a) (constant_of b) (value_of look peek a) (value_of look peek b) r (λ x e. constant_value a x e) (λ x e. constant_value b x e) is
+  constant_value (unary op a) r is = one_constant op (constant_of a) (value_of look peek a) r (λ x e. constant_value a x e) is
+  constant_value (binary op a b) r is = two_constant op (constant_of a) (constant_of b) (value_of look peek a) (value_of look peek b) r (λ x e. constant_value a x e) (λ x e. constant_value b x e) is

@@ -7,10 +7,10 @@ use Rattle.st_tree.specs.declared.tree.Unary.{Unary}
 use Rattle.st_tree.specs.declared.tree.Unary.TheVariants.{Not, Negate, NegateTime}
 use Rattle.st_tree.specs.declared.tree.Binary.{Binary}
 use Rattle.st_tree.specs.declared.tree.Binary.TheVariants.{And, Xor, Or, Equal, Unequal, Less, Greater, AtMost, AtLeast, Add, AddTime, Subtract, SubtractTime, Multiply, Divide, Mod}
-use Rattle.st_tree.specs.Plain.{PlainExpr, literal, read, output_of, one, two}
-use Rattle.st_tree.specs.Kinds.{same_kind, one_kind, two_kind, one_result, two_result, judged, kind_in, of_truths, of_numbers, of_times, of_sums, of_order}
+use Rattle.st_tree.specs.Plain.{PlainExpr, literal, read, output_of, unary, binary}
+use Rattle.st_tree.specs.Kinds.{same_kind, unary_kind, binary_kind, unary_result, binary_result, kind_of_expr, kind_in, of_truths, of_numbers, of_times, of_sums, of_order}
 
-one_kindly : (op : Unary) (a r : Kind) → one_kind op a ≡ Some r → one_result op a ≡ r
+one_kindly : (op : Unary) (a r : Kind) → unary_kind op a ≡ Some r → unary_result op a ≡ r
 one_kindly Not kind.Bool r is = cc
 one_kindly Not kind.Dint r is = absurd (cc)
 one_kindly Not kind.Time r is = absurd (cc)
@@ -64,7 +64,7 @@ equals : (same : Bool) (r : Kind) → (if same then Some kind.Bool else None) �
 equals true r is = cc
 equals false r is = absurd (cc)
 
-two_kindly : (op : Binary) (a b r : Kind) → two_kind op a b ≡ Some r → two_result op a ≡ r
+two_kindly : (op : Binary) (a b r : Kind) → binary_kind op a b ≡ Some r → binary_result op a ≡ r
 two_kindly And a b r is = truths a b r is
 two_kindly Xor a b r is = truths a b r is
 two_kindly Or a b r is = truths a b r is
@@ -84,19 +84,19 @@ two_kindly Mod a b r is = numbers a b r is
 
 module _ {V : Type 0} (look : V → Option Kind) (peek : V → V → Option Kind) (known : V → Kind) (known_output : V → V → Kind)
     (agrees : (v : V) (k : Kind) → look v ≡ Some k → known v ≡ k) (agrees_output : (instance name : V) (k : Kind) → peek instance name ≡ Some k → known_output instance name ≡ k) where
-  one_of_kind : (op : Unary) (o : Option Kind) (a r : Kind) → ((k : Kind) → o ≡ Some k → a ≡ k) → option_and_then (one_kind op) o ≡ Some r → one_result op a ≡ r
+  one_of_kind : (op : Unary) (o : Option Kind) (a r : Kind) → ((k : Kind) → o ≡ Some k → a ≡ k) → option_and_then (unary_kind op) o ≡ Some r → unary_result op a ≡ r
   one_of_kind op None a r same is = absurd (cc)
-  one_of_kind op (Some k) a r same is = ap (one_result op) (same k refl) ∙ one_kindly op k r is
+  one_of_kind op (Some k) a r same is = ap (unary_result op) (same k refl) ∙ one_kindly op k r is
 
-  two_of_kind : (op : Binary) (o p : Option Kind) (a r : Kind) → ((k : Kind) → o ≡ Some k → a ≡ k) → option_and_then (λ k. option_and_then (two_kind op k) p) o ≡ Some r → two_result op a ≡ r
+  two_of_kind : (op : Binary) (o p : Option Kind) (a r : Kind) → ((k : Kind) → o ≡ Some k → a ≡ k) → option_and_then (λ k. option_and_then (binary_kind op k) p) o ≡ Some r → binary_result op a ≡ r
   two_of_kind op None p a r same is = absurd (cc)
   two_of_kind op (Some k) None a r same is = absurd (cc)
-  two_of_kind op (Some k) (Some l) a r same is = ap (two_result op) (same k refl) ∙ two_kindly op k l r is
+  two_of_kind op (Some k) (Some l) a r same is = ap (binary_result op) (same k refl) ∙ two_kindly op k l r is
 
   -- what is judged to be of a kind is of this kind
-  pub judged_kind : (e : PlainExpr V) (r : Kind) → judged look peek e ≡ Some r → kind_in known known_output e ≡ r
+  pub judged_kind : (e : PlainExpr V) (r : Kind) → kind_of_expr look peek e ≡ Some r → kind_in known known_output e ≡ r
   judged_kind (literal n) r is = cc
   judged_kind (read v) r is = agrees v r is
   judged_kind (output_of instance name) r is = agrees_output instance name r is
-  judged_kind (one op a) r is = one_of_kind op (judged look peek a) (kind_in known known_output a) r (λ k e. judged_kind a k e) is
-  judged_kind (two op a b) r is = two_of_kind op (judged look peek a) (judged look peek b) (kind_in known known_output a) r (λ k e. judged_kind a k e) is
+  judged_kind (unary op a) r is = one_of_kind op (kind_of_expr look peek a) (kind_in known known_output a) r (λ k e. judged_kind a k e) is
+  judged_kind (binary op a b) r is = two_of_kind op (kind_of_expr look peek a) (kind_of_expr look peek b) (kind_in known known_output a) r (λ k e. judged_kind a k e) is

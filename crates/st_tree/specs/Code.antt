@@ -12,7 +12,7 @@ use Rattle.st_tree.specs.declared.tree.Unary.{Unary}
 use Rattle.st_tree.specs.declared.tree.Unary.TheVariants.{Not, Negate, NegateTime}
 use Rattle.st_tree.specs.declared.tree.Binary.{Binary}
 use Rattle.st_tree.specs.declared.tree.Binary.TheVariants.{And, Xor, Or, Equal, Unequal, Less, Greater, AtMost, AtLeast, Add, AddTime, Subtract, SubtractTime, Multiply, Divide, Mod}
-use Rattle.st_tree.specs.Plain.{PlainExpr, literal, read, output_of, one, two, PlainArgument, input, output}
+use Rattle.st_tree.specs.Plain.{PlainExpr, literal, read, output_of, unary, binary, PlainArgument, input, output}
 use Rattle.st_tree.specs.Plain.{PlainStmt, empty, assign, call, choose, select, repeat, PlainBody, done, next, Branches, no_branch, branch, Choices, no_choice, choice}
 
 abbrev gv_code : Coded Gv
@@ -159,23 +159,23 @@ abbrev expr_in : PlainExpr (List ℕ) → Gv
 expr_in (literal n) = gcons (gnum 0) (literal_in n)
 expr_in (read v) = gcons (gnum 1) (name_in v)
 expr_in (output_of instance name) = gcons (gnum 2) (gcons (name_in instance) (name_in name))
-expr_in (one op a) = gcons (gnum 3) (gcons (unary_in op) (expr_in a))
-expr_in (two op a b) = gcons (gnum 4) (gcons (binary_in op) (gcons (expr_in a) (expr_in b)))
+expr_in (unary op a) = gcons (gnum 3) (gcons (unary_in op) (expr_in a))
+expr_in (binary op a b) = gcons (gnum 4) (gcons (binary_in op) (gcons (expr_in a) (expr_in b)))
 
 abbrev expr_out : Gv → PlainExpr (List ℕ)
 expr_out (gcons (gnum zero) n) = literal (literal_out n)
 expr_out (gcons (gnum (suc zero)) v) = read (name_out v)
 expr_out (gcons (gnum (suc (suc zero))) (gcons instance name)) = output_of (name_out instance) (name_out name)
-expr_out (gcons (gnum (suc (suc (suc zero)))) (gcons op a)) = one (unary_out op) (expr_out a)
-expr_out (gcons (gnum (suc (suc (suc (suc n))))) (gcons op (gcons a b))) = two (binary_out op) (expr_out a) (expr_out b)
+expr_out (gcons (gnum (suc (suc (suc zero)))) (gcons op a)) = unary (unary_out op) (expr_out a)
+expr_out (gcons (gnum (suc (suc (suc (suc n))))) (gcons op (gcons a b))) = binary (binary_out op) (expr_out a) (expr_out b)
 expr_out _ = read []
 
 pub expr_back : (e : PlainExpr (List ℕ)) → expr_out (expr_in e) ≡ e
 expr_back (literal n) = ap literal (literal_back n)
 expr_back (read v) = ap read (name_back v)
 expr_back (output_of instance name) = λ i. output_of (name_back instance i) (name_back name i)
-expr_back (one op a) = λ i. one (unary_back op i) (expr_back a i)
-expr_back (two op a b) = λ i. two (binary_back op i) (expr_back a i) (expr_back b i)
+expr_back (unary op a) = λ i. unary (unary_back op i) (expr_back a i)
+expr_back (binary op a b) = λ i. binary (binary_back op i) (expr_back a i) (expr_back b i)
 
 abbrev option_in : Option (PlainExpr (List ℕ)) → Gv
 option_in None = gnil

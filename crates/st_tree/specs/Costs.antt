@@ -1,6 +1,6 @@
 -- What a body costs, and how large it is, by cases on the plain tree.
 use Rattle.std.specs.Prelude.{ℕ, ◌+◌, ◌*◌, max, List, [], ◌∷◌, length, Option}
-use Rattle.st_tree.specs.Plain.{PlainExpr, literal, read, output_of, one, two, PlainArgument, input, output}
+use Rattle.st_tree.specs.Plain.{PlainExpr, literal, read, output_of, unary, binary, PlainArgument, input, output}
 use Rattle.st_tree.specs.Plain.{PlainStmt, empty, assign, call, choose, select, repeat, PlainBody, done, next, Branches, no_branch, branch, Choices, no_choice, choice}
 
 -- an expression costs the number of its literals, reads and operators
@@ -8,8 +8,8 @@ abbrev pub expr_cost : {V : Type 0} → PlainExpr V → ℕ
 expr_cost (literal n) = 1
 expr_cost (read v) = 1
 expr_cost (output_of instance name) = 1
-expr_cost (one op a) = 1 + expr_cost a
-expr_cost (two op a b) = 1 + expr_cost a + expr_cost b
+expr_cost (unary op a) = 1 + expr_cost a
+expr_cost (binary op a b) = 1 + expr_cost a + expr_cost b
 
 -- the tests of an IF cost what their expressions do
 abbrev pub tests_cost : {V : Type 0} → Branches V → ℕ

@@ -5,15 +5,15 @@ use Rattle.plant_types.specs.Values as values
 use Rattle.st_tree.specs.declared.tree.Literal.{Literal}
 use Rattle.st_tree.specs.declared.tree.Literal.TheVariants.{Integer, Value}
 use Rattle.st_tree.specs.declared.tree.Label.{Label}
-use Rattle.st_tree.specs.Plain.{PlainExpr, literal, read, output_of, one, two, PlainArgument, input, output}
+use Rattle.st_tree.specs.Plain.{PlainExpr, literal, read, output_of, unary, binary, PlainArgument, input, output}
 use Rattle.st_tree.specs.Plain.{PlainStmt, empty, assign, call, choose, select, repeat, PlainBody, done, next, Branches, no_branch, branch, Choices, no_choice, choice}
-use Rattle.st_tree.specs.Operators.{Outcome, one_of, two_of}
+use Rattle.st_tree.specs.Operators.{Outcome, eval_unary, eval_binary}
 use Rattle.st_tree.specs.Controls.{control_values, span_of}
 
 -- a literal as a whole number
-abbrev pub worth : Literal → ℤ
-worth (Integer n) = n
-worth (Value v) = values.worth v
+abbrev pub literal_worth : Literal → ℤ
+literal_worth (Integer n) = n
+literal_worth (Value v) = values.worth v
 
 abbrev pub then_one : Outcome → (ℤ → Outcome) → Outcome
 then_one (Ok x) f = f x
@@ -25,11 +25,11 @@ then_two a b f = then_one a (λ x. then_one b (f x))
 
 -- the outcome of an expression where each variable, and each output of an instance, has the value that is looked up for it
 abbrev pub value_of : {V : Type 0} → (V → ℤ) → (V → V → ℤ) → PlainExpr V → Outcome
-value_of look peek (literal n) = Ok (worth n)
+value_of look peek (literal n) = Ok (literal_worth n)
 value_of look peek (read v) = Ok (look v)
 value_of look peek (output_of instance name) = Ok (peek instance name)
-value_of look peek (one op a) = then_one (value_of look peek a) (one_of op)
-value_of look peek (two op a b) = then_two (value_of look peek a) (value_of look peek b) (two_of op)
+value_of look peek (unary op a) = then_one (value_of look peek a) (eval_unary op)
+value_of look peek (binary op a b) = then_two (value_of look peek a) (value_of look peek b) (eval_binary op)
 
 -- where a run traps: the names of the program and the instances that lead there, the innermost first, each as declared, and the number of the statement in its body
 pub record Spot : Type 0 where
@@ -67,12 +67,12 @@ turns set body [] w = Done w
 turns set body (n ∷ ns) w = then_run (body (set w n)) (turns set body ns)
 
 -- a label fits from its low end to its high end
-abbrev pub fits : ℤ → Label → Bool
-fits n label = not (int_lt n label.low) && not (int_lt label.high n)
+abbrev pub label_fits : ℤ → Label → Bool
+label_fits n label = not (int_lt n label.low) && not (int_lt label.high n)
 
-abbrev pub fits_one : ℤ → List Label → Bool
-fits_one n [] = false
-fits_one n (label ∷ labels) = fits n label || fits_one n labels
+abbrev pub labels_fit : ℤ → List Label → Bool
+labels_fit n [] = false
+labels_fit n (label ∷ labels) = label_fits n label || labels_fit n labels
 
 -- one of several was taken, or all were passed by
 pub data Chosen (W : Type 0) : Type 0 where
@@ -88,8 +88,8 @@ on_test w spot (Ok n) body later = if values.is_true n then Took (body w) else l
 on_test w spot (Err trap) body later = Took (Trapped w spot trap)
 
 -- the place of a statement
-abbrev pub spot_of : {V W : Type 0} → Space V W → ℕ → Spot
-spot_of space number = record { path = space.path; statement = number }
+abbrev pub statement_spot : {V W : Type 0} → Space V W → ℕ → Spot
+statement_spot space number = record { path = space.path; statement = number }
 
 -- the outcome of an expression in a world
 abbrev pub outcome : {V W : Type 0} → Space V W → W → PlainExpr V → Outcome
@@ -104,7 +104,7 @@ step_of space w (Some e) = outcome space w e
 abbrev pub take_inputs : {V W : Type 0} → Space V W → ℕ → V → List (PlainArgument V) → W → Ran W
 take_inputs space number instance [] w = Done w
 take_inputs space number instance (input name e ∷ rest) w =
-    with_value w (spot_of space number) (outcome space w e) (λ n. take_inputs space number instance rest (space.put_input w instance name n))
+    with_value w (statement_spot space number) (outcome space w e) (λ n. take_inputs space number instance rest (space.put_input w instance name n))
 take_inputs space number instance (output name v ∷ rest) w = take_inputs space number instance rest w
 
 -- the outputs of a call are assigned one after another as written
@@ -117,14 +117,14 @@ abbrev mutual
   -- what a statement does
   pub run : {V W : Type 0} → Space V W → PlainStmt V → W → Ran W
   run space (empty number) w = Done w
-  run space (assign number v e) w = with_value w (spot_of space number) (outcome space w e) (λ n. Done (space.put w v n))
+  run space (assign number v e) w = with_value w (statement_spot space number) (outcome space w e) (λ n. Done (space.put w v n))
   run space (call number instance arguments) w =
       then_run (then_run (take_inputs space number instance arguments w) (λ u. space.enter u instance)) (λ u. Done (give_outputs space instance arguments u))
   run space (choose number branches last) w = or_else (first_true space number branches w) (run_all space last)
   run space (select number e choices last) w =
-      with_value w (spot_of space number) (outcome space w e) (λ n. or_else (first_fit space n choices w) (run_all space last))
+      with_value w (statement_spot space number) (outcome space w e) (λ n. or_else (first_fit space n choices w) (run_all space last))
   run space (repeat number v from to by body) w =
-      with_value w (spot_of space number) (span_of (outcome space w from) (outcome space w to) (step_of space w by)) (λ span.
+      with_value w (statement_spot space number) (span_of (outcome space w from) (outcome space w to) (step_of space w by)) (λ span.
       turns (λ u n. space.put u v n) (run_all space body) (control_values span) w)
 
   -- what a body does
@@ -136,9 +136,9 @@ abbrev mutual
   pub first_true : {V W : Type 0} → Space V W → ℕ → Branches V → W → Chosen W
   first_true space number no_branch w = Passed w
   first_true space number (branch test body rest) w =
-      on_test w (spot_of space number) (outcome space w test) (run_all space body) (first_true space number rest)
+      on_test w (statement_spot space number) (outcome space w test) (run_all space body) (first_true space number rest)
 
   -- the first choice with a label that fits
   pub first_fit : {V W : Type 0} → Space V W → ℤ → Choices V → W → Chosen W
   first_fit space n no_choice w = Passed w
-  first_fit space n (choice labels body rest) w = if fits_one n labels then Took (run_all space body w) else first_fit space n rest w
+  first_fit space n (choice labels body rest) w = if labels_fit n labels then Took (run_all space body w) else first_fit space n rest w

@@ -44,26 +44,26 @@ abbrev pub remainder : ℤ → ℤ → ℤ
 remainder x y = if int_eq y (pos 0) then pos 0 else x -ℤ (int_div x y *ℤ y)
 
 -- what an operator gives of its operand's value
-abbrev pub one_of : Unary → ℤ → Outcome
-one_of Not x = verdict (not (is_true x))
-one_of Negate x = dint (neg_ℤ x)
-one_of NegateTime x = time (neg_ℤ x)
+abbrev pub eval_unary : Unary → ℤ → Outcome
+eval_unary Not x = verdict (not (is_true x))
+eval_unary Negate x = dint (neg_ℤ x)
+eval_unary NegateTime x = time (neg_ℤ x)
 
 -- what an operator gives of its operands' values
-abbrev pub two_of : Binary → ℤ → ℤ → Outcome
-two_of And x y = verdict (is_true x && is_true y)
-two_of Xor x y = verdict (either (is_true x) (is_true y))
-two_of Or x y = verdict (is_true x || is_true y)
-two_of Equal x y = verdict (int_eq x y)
-two_of Unequal x y = verdict (not (int_eq x y))
-two_of Less x y = verdict (int_lt x y)
-two_of Greater x y = verdict (int_lt y x)
-two_of AtMost x y = verdict (not (int_lt y x))
-two_of AtLeast x y = verdict (not (int_lt x y))
-two_of Add x y = dint (x +ℤ y)
-two_of AddTime x y = time (x +ℤ y)
-two_of Subtract x y = dint (x -ℤ y)
-two_of SubtractTime x y = time (x -ℤ y)
-two_of Multiply x y = dint (x *ℤ y)
-two_of Divide x y = quotient x y
-two_of Mod x y = Ok (remainder x y)
+abbrev pub eval_binary : Binary → ℤ → ℤ → Outcome
+eval_binary And x y = verdict (is_true x && is_true y)
+eval_binary Xor x y = verdict (either (is_true x) (is_true y))
+eval_binary Or x y = verdict (is_true x || is_true y)
+eval_binary Equal x y = verdict (int_eq x y)
+eval_binary Unequal x y = verdict (not (int_eq x y))
+eval_binary Less x y = verdict (int_lt x y)
+eval_binary Greater x y = verdict (int_lt y x)
+eval_binary AtMost x y = verdict (not (int_lt y x))
+eval_binary AtLeast x y = verdict (not (int_lt x y))
+eval_binary Add x y = dint (x +ℤ y)
+eval_binary AddTime x y = time (x +ℤ y)
+eval_binary Subtract x y = dint (x -ℤ y)
+eval_binary SubtractTime x y = time (x -ℤ y)
+eval_binary Multiply x y = dint (x *ℤ y)
+eval_binary Divide x y = quotient x y
+eval_binary Mod x y = Ok (remainder x y)

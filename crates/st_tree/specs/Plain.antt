@@ -10,8 +10,8 @@ pub data PlainExpr (V : Type 0) : Type 0 where
   literal : Literal → PlainExpr V
   read : V → PlainExpr V
   output_of : (instance name : V) → PlainExpr V
-  one : Unary → PlainExpr V → PlainExpr V
-  two : Binary → PlainExpr V → PlainExpr V → PlainExpr V
+  unary : Unary → PlainExpr V → PlainExpr V
+  binary : Binary → PlainExpr V → PlainExpr V → PlainExpr V
 
 -- an argument of a call: an input with what is assigned to it, or an output with the variable that takes it
 pub data PlainArgument (V : Type 0) : Type 0 where

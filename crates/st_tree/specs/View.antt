@@ -9,7 +9,7 @@ use Rattle.st_tree.specs.declared.tree.Stmt.{Stmt, fold-Stmt}
 use Rattle.st_tree.specs.declared.tree.Branch.{Branch, fold-Branch}
 use Rattle.st_tree.specs.declared.tree.Choice.{Choice, fold-Choice}
 use Rattle.st_tree.specs.declared.tree.Stmt.TheOpen.{Stmt-F, Branch-F, Choice-F}
-use Rattle.st_tree.specs.Plain.{PlainExpr, literal, read, output_of, one, two, PlainArgument, input, output}
+use Rattle.st_tree.specs.Plain.{PlainExpr, literal, read, output_of, unary, binary, PlainArgument, input, output}
 use Rattle.st_tree.specs.Plain.{PlainStmt, empty, assign, call, choose, select, repeat, PlainBody, done, next, Branches, no_branch, branch, Choices, no_choice, choice}
 
 module _ {V : Type 0} where
@@ -17,8 +17,8 @@ module _ {V : Type 0} where
   view_expr_step (Expr-F.Literal n) = literal n
   view_expr_step (Expr-F.Read v) = read v
   view_expr_step (Expr-F.Output instance name) = output_of instance name
-  view_expr_step (Expr-F.One op a) = one op a.value
-  view_expr_step (Expr-F.Two op a b) = two op a.value b.value
+  view_expr_step (Expr-F.Unary op a) = unary op a.value
+  view_expr_step (Expr-F.Binary op a b) = binary op a.value b.value
 
   -- the plain expression of an expression
   abbrev pub view_expr : Expr V → PlainExpr V

@@ -37,11 +37,11 @@ pub fn copy_expr<V: Duplicate>(alloc: Global, expr: &Expr<V>) -> Result<Expr<V>,
             let instance = instance.duplicate(alloc)?;
             Ok(Expr::Output(instance, name.duplicate(alloc)?))
         }
-        Expr::One(op, a) => Ok(Expr::One(*op, Box::new(alloc, copy_expr(alloc, a)?)?)),
-        Expr::Two(op, a, b) => {
+        Expr::Unary(op, a) => Ok(Expr::Unary(*op, Box::new(alloc, copy_expr(alloc, a)?)?)),
+        Expr::Binary(op, a, b) => {
             let left = Box::new(alloc, copy_expr(alloc, a)?)?;
             let right = Box::new(alloc, copy_expr(alloc, b)?)?;
-            Ok(Expr::Two(*op, left, right))
+            Ok(Expr::Binary(*op, left, right))
         }
     }
 }

@@ -1,7 +1,7 @@
 //! The kinds that operators take and give.
 
 ghost use Rattle.std.specs.Prelude.{◌≡◌};
-ghost use Rattle.st_tree.specs.Kinds.{one_kind, two_kind, one_told, two_told, literal_kind, literal_is_bit, is_bit};
+ghost use Rattle.st_tree.specs.Kinds.{unary_kind, binary_kind, resolved_unary, resolved_binary, literal_kind, literal_is_bit, is_bit};
 ghost use Rattle.st_tree.specs.View.{view_expr};
 
 use crate::tree::{Binary, Expr, Literal, Unary};
@@ -30,8 +30,8 @@ impl Literal {
 }
 
 /// The kind of what an operator gives of an operand of a kind; None where it doesn't take it (IEC 61131-3).
-pub fn one_kind(op: Unary, a: Kind) -> Option<Kind>
-    ensures { result ≡ one_kind op a }
+pub fn unary_kind(op: Unary, a: Kind) -> Option<Kind>
+    ensures { result ≡ unary_kind op a }
 {
     match (op, a) {
         (Unary::Not, Kind::Bool) => Some(Kind::Bool),
@@ -42,8 +42,8 @@ pub fn one_kind(op: Unary, a: Kind) -> Option<Kind>
 }
 
 /// The kind of what an operator gives of operands of two kinds; None where it doesn't take them (IEC 61131-3). BOOL has no order (this profile).
-pub fn two_kind(op: Binary, a: Kind, b: Kind) -> Option<Kind>
-    ensures { result ≡ two_kind op a b }
+pub fn binary_kind(op: Binary, a: Kind, b: Kind) -> Option<Kind>
+    ensures { result ≡ binary_kind op a b }
 {
     match (op, a, b) {
         (Binary::And | Binary::Xor | Binary::Or, Kind::Bool, Kind::Bool) => Some(Kind::Bool),
@@ -73,8 +73,8 @@ pub fn two_kind(op: Binary, a: Kind, b: Kind) -> Option<Kind>
 }
 
 /// The operator that is meant where its operand is of a kind: a `-` of a TIME is that of TIME.
-pub fn one_told(op: Unary, a: Kind) -> Unary
-    ensures { result ≡ one_told op a }
+pub fn resolved_unary(op: Unary, a: Kind) -> Unary
+    ensures { result ≡ resolved_unary op a }
 {
     match (op, a) {
         (Unary::Negate, Kind::Time) => Unary::NegateTime,
@@ -83,8 +83,8 @@ pub fn one_told(op: Unary, a: Kind) -> Unary
 }
 
 /// The operator that is meant where its left operand is of a kind: a `+` or `-` of TIMEs is that of TIME.
-pub fn two_told(op: Binary, a: Kind) -> Binary
-    ensures { result ≡ two_told op a }
+pub fn resolved_binary(op: Binary, a: Kind) -> Binary
+    ensures { result ≡ resolved_binary op a }
 {
     match (op, a) {
         (Binary::Add, Kind::Time) => Binary::AddTime,
@@ -99,6 +99,6 @@ pub fn is_bit<V>(expr: &Expr<V>) -> bool
 {
     match expr {
         Expr::Literal(literal) => literal.is_bit(),
-        Expr::Read(_) | Expr::Output(_, _) | Expr::One(_, _) | Expr::Two(_, _, _) => false,
+        Expr::Read(_) | Expr::Output(_, _) | Expr::Unary(_, _) | Expr::Binary(_, _, _) => false,
     }
 }

@@ -1,9 +1,9 @@
 //! What no clause says: worked values, and each call once.
 
 use crate::{
-    Argument, Binary, Branch, Choice, Duplicate, Expr, Label, Literal, Stmt, Unary, constant,
-    copy_body, count_turns, fits, is_bit, one, one_kind, one_told, span_of, two, two_kind,
-    two_told,
+    Argument, Binary, Branch, Choice, Duplicate, Expr, Label, Literal, Stmt, Unary, binary_kind,
+    constant, copy_body, count_turns, eval_binary, eval_unary, is_bit, labels_fit, resolved_binary,
+    resolved_unary, span_of, unary_kind,
 };
 use plant_types::{Kind, Text, Trap, Value};
 use std::alloc::{AllocError, Global};
@@ -27,10 +27,10 @@ fn numbers_have_the_range_of_dint(rt: HostRuntime) {
         (Binary::Multiply, 65536, 65536, Err(Trap::Overflow)),
         (Binary::Multiply, 65536, -32768, Ok(-2147483648)),
     ] {
-        assert_eq!(rt; two(op, x, y), want);
+        assert_eq!(rt; eval_binary(op, x, y), want);
     }
-    assert_eq!(rt; one(Unary::Negate, -2147483648), Err(Trap::Overflow));
-    assert_eq!(rt; one(Unary::Negate, 2147483647), Ok(-2147483647));
+    assert_eq!(rt; eval_unary(Unary::Negate, -2147483648), Err(Trap::Overflow));
+    assert_eq!(rt; eval_unary(Unary::Negate, 2147483647), Ok(-2147483647));
 }
 
 #[test]
@@ -51,13 +51,13 @@ fn durations_have_the_range_of_time(rt: HostRuntime) {
         ),
         (Binary::SubtractTime, 2000, 90900000, Ok(-90898000)),
     ] {
-        assert_eq!(rt; two(op, x, y), want);
+        assert_eq!(rt; eval_binary(op, x, y), want);
     }
     assert_eq!(rt;
-        one(Unary::NegateTime, -9223372036854775808),
+        eval_unary(Unary::NegateTime, -9223372036854775808),
         Err(Trap::Overflow)
     );
-    assert_eq!(rt; one(Unary::NegateTime, -2147483648), Ok(2147483648));
+    assert_eq!(rt; eval_unary(Unary::NegateTime, -2147483648), Ok(2147483648));
 }
 
 #[test]
@@ -76,17 +76,17 @@ fn truths_are_0_and_1(rt: HostRuntime) {
         (Binary::AtMost, 3, 3, 1),
         (Binary::AtLeast, 2, 3, 0),
     ] {
-        assert_eq!(rt; two(op, x, y), Ok(want));
+        assert_eq!(rt; eval_binary(op, x, y), Ok(want));
     }
-    assert_eq!(rt; one(Unary::Not, 0), Ok(1));
-    assert_eq!(rt; one(Unary::Not, 1), Ok(0));
+    assert_eq!(rt; eval_unary(Unary::Not, 0), Ok(1));
+    assert_eq!(rt; eval_unary(Unary::Not, 1), Ok(0));
 }
 
 #[test]
 fn operators_take_kinds(rt: HostRuntime) {
-    assert_eq!(rt; one_kind(Unary::Not, Kind::Bool), Some(Kind::Bool));
-    assert_eq!(rt; one_kind(Unary::Negate, Kind::Time), Some(Kind::Time));
-    assert_eq!(rt; one_kind(Unary::Negate, Kind::Bool), None);
+    assert_eq!(rt; unary_kind(Unary::Not, Kind::Bool), Some(Kind::Bool));
+    assert_eq!(rt; unary_kind(Unary::Negate, Kind::Time), Some(Kind::Time));
+    assert_eq!(rt; unary_kind(Unary::Negate, Kind::Bool), None);
     for (op, a, b, want) in [
         (Binary::And, Kind::Bool, Kind::Bool, Some(Kind::Bool)),
         (Binary::And, Kind::Bool, Kind::Dint, None),
@@ -98,14 +98,20 @@ fn operators_take_kinds(rt: HostRuntime) {
         (Binary::Multiply, Kind::Time, Kind::Dint, None),
         (Binary::Mod, Kind::Dint, Kind::Dint, Some(Kind::Dint)),
     ] {
-        assert_eq!(rt; two_kind(op, a, b), want);
+        assert_eq!(rt; binary_kind(op, a, b), want);
     }
-    assert_eq!(rt; one_told(Unary::Negate, Kind::Time), Unary::NegateTime);
     assert_eq!(rt;
-        two_told(Binary::Subtract, Kind::Time),
+        resolved_unary(Unary::Negate, Kind::Time),
+        Unary::NegateTime
+    );
+    assert_eq!(rt;
+        resolved_binary(Binary::Subtract, Kind::Time),
         Binary::SubtractTime
     );
-    assert_eq!(rt; two_told(Binary::Subtract, Kind::Dint), Binary::Subtract);
+    assert_eq!(rt;
+        resolved_binary(Binary::Subtract, Kind::Dint),
+        Binary::Subtract
+    );
     assert_eq!(rt; Literal::Integer(1).kind(), Kind::Dint);
     assert_eq!(rt; Literal::Value(Value::Time(14700)).worth(), 14700);
 }
@@ -126,7 +132,7 @@ fn labels_fit_from_end_to_end(rt: HostRuntime) {
         (8, false),
         (9, false),
     ] {
-        assert!(rt; fits(n, &labels) == want);
+        assert!(rt; labels_fit(n, &labels) == want);
     }
 }
 
@@ -159,7 +165,7 @@ fn both(
     a: Expr<usize>,
     b: Expr<usize>,
 ) -> Result<Expr<usize>, AllocError> {
-    Ok(Expr::Two(op, Box::new(alloc, a)?, Box::new(alloc, b)?))
+    Ok(Expr::Binary(op, Box::new(alloc, a)?, Box::new(alloc, b)?))
 }
 
 /// The constants that are worked out by hand, each with its outcome.

@@ -67,8 +67,8 @@ pub enum Expr<V> {
     Read(V),
     /// `instance.output`: an output of a block's instance.
     Output(V, V),
-    One(Unary, Box<Expr<V>>),
-    Two(Binary, Box<Expr<V>>, Box<Expr<V>>),
+    Unary(Unary, Box<Expr<V>>),
+    Binary(Binary, Box<Expr<V>>, Box<Expr<V>>),
 }
 
 /// An argument of a call, as it is written.

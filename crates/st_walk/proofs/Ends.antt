@@ -7,38 +7,38 @@ use Rattle.st_tree.specs.Meaning.{Ran, Done, Trapped, run_all}
 use Rattle.st_tree.specs.Plain.{PlainBody}
 use Rattle.st_resolve.specs.declared.logic.Variable.{Variable}
 use Rattle.st_resolve.specs.Source.{Source}
-use Rattle.st_resolve.specs.Names.{words_of, own_words, repeats, is_standard}
-use Rattle.st_resolve.specs.Faults.{number_of, meant_of, first_fault}
+use Rattle.st_resolve.specs.Names.{global_words, own_words, repeats, is_standard}
+use Rattle.st_resolve.specs.Faults.{name_number, meant_of, first_fault}
 use Rattle.st_resolve.specs.Resolved.{renamed}
 use Rattle.st_resolve.proofs.Judged.{sound_parts}
 use Rattle.st_walk.specs.Worlds.{World, Stands, run_program}
-use Rattle.st_walk.specs.Slots.{slots}
-use Rattle.st_walk.specs.Runs.{Agree, spot_of}
+use Rattle.st_walk.specs.Slots.{cell_space}
+use Rattle.st_walk.specs.Runs.{Agree, place_spot}
 use Rattle.st_walk.proofs.Agreeing.{Alike, body_alike}
 
-module _ (source : Source) (globals_once : repeats (words_of source.globals) ≡ false) (own_once : repeats (own_words source.locals) ≡ false) where
+module _ (source : Source) (globals_once : repeats (global_words source.globals) ≡ false) (own_once : repeats (own_words source.locals) ≡ false) where
   done_agrees : (r : Ran World) (cells : List ℤ) → Alike source globals_once own_once r (Done cells) → Agree source r (Done cells)
   done_agrees (Done w) cells same = same
   done_agrees (Trapped w spot trap) cells same = absurd same
 
-  trapped_agrees : (r : Ran World) (cells : List ℤ) (number program : ℕ) (trap : Trap) → program < 1 → Alike source globals_once own_once r (Trapped cells (record { path = []; statement = number }) trap) → Agree source r (Trapped cells (spot_of source (record { path = program; statement = number })) trap)
+  trapped_agrees : (r : Ran World) (cells : List ℤ) (number program : ℕ) (trap : Trap) → program < 1 → Alike source globals_once own_once r (Trapped cells (record { path = []; statement = number }) trap) → Agree source r (Trapped cells (place_spot source (record { path = program; statement = number })) trap)
   trapped_agrees (Done w) cells number program trap first same = absurd same
   trapped_agrees (Trapped w spot kind) cells number zero trap first same = same
   trapped_agrees (Trapped w spot kind) cells number (suc n) trap first same = absurd (omega arith)
 
-module _ (source : Source) (sound : first_fault source ≡ None) (w : World) (cells later : List ℤ) (stands : Stands source cells w) (body : PlainBody ℕ) (is : body ≡ renamed (number_of source) (meant_of source)) where
-  globals_once : repeats (words_of source.globals) ≡ false
-  globals_once = (or_parts (list_any (λ (g : Variable). is_standard g.name) source.globals) (repeats (words_of source.globals)) (sound_parts source sound).apart).1
+module _ (source : Source) (sound : first_fault source ≡ None) (w : World) (cells later : List ℤ) (stands : Stands source cells w) (body : PlainBody ℕ) (is : body ≡ renamed (name_number source) (meant_of source)) where
+  globals_once : repeats (global_words source.globals) ≡ false
+  globals_once = (or_parts (list_any (λ (g : Variable). is_standard g.name) source.globals) (repeats (global_words source.globals)) (sound_parts source sound).apart).1
 
   own_once : repeats (own_words source.locals) ≡ false
   own_once = (sound_parts source sound).own_apart
 
-  runs_alike : (q : Ran (List ℤ)) → q ≡ run_all slots body cells → Alike source globals_once own_once (run_program source w) q
+  runs_alike : (q : Ran (List ℤ)) → q ≡ run_all cell_space body cells → Alike source globals_once own_once (run_program source w) q
   runs_alike q ran =
-      subst (Alike source globals_once own_once (run_program source w)) (sym (ran ∙ ap (λ b. run_all slots b cells) is)) (body_alike source globals_once own_once (meant_of source) w cells stands (sound_parts source sound).known_all)
+      subst (Alike source globals_once own_once (run_program source w)) (sym (ran ∙ ap (λ b. run_all cell_space b cells) is)) (body_alike source globals_once own_once (meant_of source) w cells stands (sound_parts source sound).known_all)
 
-  pub walk_done : Done later ≡ run_all slots body cells → Agree source (run_program source w) (Done later)
+  pub walk_done : Done later ≡ run_all cell_space body cells → Agree source (run_program source w) (Done later)
   walk_done ran = done_agrees source globals_once own_once (run_program source w) later (runs_alike (Done later) ran)
 
-  pub walk_trapped : (number program : ℕ) (trap : Trap) → program < 1 → Trapped later (record { path = []; statement = number }) trap ≡ run_all slots body cells → Agree source (run_program source w) (Trapped later (spot_of source (record { path = program; statement = number })) trap)
+  pub walk_trapped : (number program : ℕ) (trap : Trap) → program < 1 → Trapped later (record { path = []; statement = number }) trap ≡ run_all cell_space body cells → Agree source (run_program source w) (Trapped later (place_spot source (record { path = program; statement = number })) trap)
   walk_trapped number program trap first ran = trapped_agrees source globals_once own_once (run_program source w) later number program trap first (runs_alike (Trapped later (record { path = []; statement = number }) trap) ran)

@@ -5,18 +5,18 @@ use Rattle.st_tree.specs.Plain.{PlainBody}
 use Rattle.st_tree.specs.Meaning.{run_all, turns}
 use Rattle.st_tree.specs.Controls.{up, down}
 use Rattle.st_walk.specs.declared.walker.Ended.{Ended}
-use Rattle.st_walk.specs.Slots.{slots, ended}
+use Rattle.st_walk.specs.Slots.{cell_space, ended_run}
 
-pub ran_body : (slot : ℕ) (body : PlainBody ℕ) (at cast : ℤ) (w w1 w2 : List ℤ) (r s : Ended) → cast ≡ at → w1 ≡ slots.put w slot cast → ended r w2 ≡ run_all slots body w1 → r ≡ s → run_all slots body (slots.put w slot at) ≡ ended s w2
-ran_body slot body at cast w w1 w2 r s e f g is = ap (λ n. run_all slots body (slots.put w slot n)) (sym e) ∙ ap (run_all slots body) (sym f) ∙ sym g ∙ ap (λ x. ended x w2) is
+pub ran_body : (slot : ℕ) (body : PlainBody ℕ) (at cast : ℤ) (w w1 w2 : List ℤ) (r s : Ended) → cast ≡ at → w1 ≡ cell_space.put w slot cast → ended_run r w2 ≡ run_all cell_space body w1 → r ≡ s → run_all cell_space body (cell_space.put w slot at) ≡ ended_run s w2
+ran_body slot body at cast w w1 w2 r s e f g is = ap (λ n. run_all cell_space body (cell_space.put w slot n)) (sym e) ∙ ap (run_all cell_space body) (sym f) ∙ sym g ∙ ap (λ x. ended_run x w2) is
 
 -- the same turns where the numbers are the same
 module _ (slot : ℕ) (body : PlainBody ℕ) (at at' to to' step step' : ℤ) (w : List ℤ) where
-  pub up_same : at ≡ at' → to ≡ to' → step ≡ step' → turns (λ u n. slots.put u slot n) (run_all slots body) (up at to step) w ≡ turns (λ u n. slots.put u slot n) (run_all slots body) (up at' to' step') w
-  up_same e f g = λ i. turns (λ u n. slots.put u slot n) (run_all slots body) (up (e i) (f i) (g i)) w
+  pub up_same : at ≡ at' → to ≡ to' → step ≡ step' → turns (λ u n. cell_space.put u slot n) (run_all cell_space body) (up at to step) w ≡ turns (λ u n. cell_space.put u slot n) (run_all cell_space body) (up at' to' step') w
+  up_same e f g = λ i. turns (λ u n. cell_space.put u slot n) (run_all cell_space body) (up (e i) (f i) (g i)) w
 
-  pub down_same : at ≡ at' → to ≡ to' → step ≡ step' → turns (λ u n. slots.put u slot n) (run_all slots body) (down at to step) w ≡ turns (λ u n. slots.put u slot n) (run_all slots body) (down at' to' step') w
-  down_same e f g = λ i. turns (λ u n. slots.put u slot n) (run_all slots body) (down (e i) (f i) (g i)) w
+  pub down_same : at ≡ at' → to ≡ to' → step ≡ step' → turns (λ u n. cell_space.put u slot n) (run_all cell_space body) (down at to step) w ≡ turns (λ u n. cell_space.put u slot n) (run_all cell_space body) (down at' to' step') w
+  down_same e f g = λ i. turns (λ u n. cell_space.put u slot n) (run_all cell_space body) (down (e i) (f i) (g i)) w
 
 below_fits : (n : ℕ) (to : ℤ) → FitsSigned w64 to → pos n ≤ℤ to → FitsSigned w64 (pos n)
 below_fits n (pos m) f h = record { sfits = omega (arith, ints, f.sfits) }

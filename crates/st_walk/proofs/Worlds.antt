@@ -12,10 +12,10 @@ use Rattle.plant_types.specs.Words.{folded}
 use Rattle.st_resolve.specs.declared.logic.Variable.{Variable}
 use Rattle.st_resolve.specs.declared.logic.Local.{Local}
 use Rattle.st_resolve.specs.Source.{Source}
-use Rattle.st_resolve.specs.Names.{words_of, own_words, find_word, behind, is_among, repeats}
-use Rattle.st_resolve.specs.Faults.{is_known, number_of}
+use Rattle.st_resolve.specs.Names.{global_words, own_words, find_word, shifted, is_among, repeats}
+use Rattle.st_resolve.specs.Faults.{is_known, name_number}
 use Rattle.st_resolve.proofs.Places.{Found, found, word_is}
-use Rattle.st_walk.specs.Worlds.{World, Stands, opening, assign, path_of, own_path, path_in}
+use Rattle.st_walk.specs.Worlds.{World, Stands, opening_world, assign, path_of, own_path, path_in}
 use Rattle.st_walk.specs.Slots.{cell}
 
 -- words of which none is x keep what they have
@@ -46,41 +46,41 @@ written x n f (y ∷ ys) (suc i) once within is =
 -- what a name in the body names: a variable of the program's own, or a global
 pub record OwnAt (source : Source) (name : List ℕ) (slot : ℕ) : Type 0 where
   pub place : ℕ
-  pub slot_is : slot ≡ length (words_of source.globals) + place
+  pub slot_is : slot ≡ length (global_words source.globals) + place
   pub found_at : Found (own_words source.locals) name place
   pub path_is : path_in source name ≡ own_path source name
 
 pub record GlobalAt (source : Source) (name : List ℕ) (slot : ℕ) : Type 0 where
-  pub found_at : Found (words_of source.globals) name slot
+  pub found_at : Found (global_words source.globals) name slot
   pub path_is : path_in source name ≡ path_of name
 
-located_by : (source : Source) (name : List ℕ) (o p : Option ℕ) → find_word (own_words source.locals) name ≡ o → find_word (words_of source.globals) name ≡ p → is_some (behind (length (words_of source.globals)) o p) ≡ true
-    → OwnAt source name (number_of source name) ⊎ GlobalAt source name (number_of source name)
+located_by : (source : Source) (name : List ℕ) (o p : Option ℕ) → find_word (own_words source.locals) name ≡ o → find_word (global_words source.globals) name ≡ p → is_some (shifted (length (global_words source.globals)) o p) ≡ true
+    → OwnAt source name (name_number source name) ⊎ GlobalAt source name (name_number source name)
 located_by source name (Some j) p e f known =
-    let n = length (words_of source.globals) in
+    let n = length (global_words source.globals) in
     inl
     (record {
       place = j;
-      slot_is = ap (λ o. unwrap_or (behind n o (find_word (words_of source.globals) name)) (n + length (own_words source.locals))) e;
+      slot_is = ap (λ o. unwrap_or (shifted n o (find_word (global_words source.globals) name)) (n + length (own_words source.locals))) e;
       found_at = found (own_words source.locals) name j e;
       path_is = ap (λ o. if is_some o then own_path source name else path_of name) e;
     })
 located_by source name None (Some i) e f known =
-    let n = length (words_of source.globals) in
-    let at : number_of source name ≡ i = λ k. unwrap_or (behind n (e k) (f k)) (n + length (own_words source.locals)) in
+    let n = length (global_words source.globals) in
+    let at : name_number source name ≡ i = λ k. unwrap_or (shifted n (e k) (f k)) (n + length (own_words source.locals)) in
     inr
     (record {
-      found_at = subst (Found (words_of source.globals) name) (sym at) (found (words_of source.globals) name i f);
+      found_at = subst (Found (global_words source.globals) name) (sym at) (found (global_words source.globals) name i f);
       path_is = ap (λ o. if is_some o then own_path source name else path_of name) e;
     })
 located_by source name None None e f known = absurd (cc)
 
-pub located : (source : Source) (name : List ℕ) → is_known source name ≡ true → OwnAt source name (number_of source name) ⊎ GlobalAt source name (number_of source name)
-located source name known = located_by source name (find_word (own_words source.locals) name) (find_word (words_of source.globals) name) refl refl known
+pub located : (source : Source) (name : List ℕ) → is_known source name ≡ true → OwnAt source name (name_number source name) ⊎ GlobalAt source name (name_number source name)
+located source name known = located_by source name (find_word (own_words source.locals) name) (find_word (global_words source.globals) name) refl refl known
 
 module _ (source : Source) (cells : List ℤ) (w : World) (stands : Stands source cells w) where
   abbrev words : List (List ℕ)
-  words = words_of source.globals
+  words = global_words source.globals
 
   abbrev own : List (List ℕ)
   own = own_words source.locals
@@ -139,7 +139,7 @@ module _ (source : Source) (cells : List ℤ) (w : World) (stands : Stands sourc
 -- as many cells as variables
 pub stands-length : (source : Source) (cells : List ℤ) (w : World) → Stands source cells w → length cells ≡ length source.globals + length source.locals
 stands-length source cells w stands =
-    let words = words_of source.globals in
+    let words = global_words source.globals in
     let own = own_words source.locals in
     let a = length-map words (λ word. w (word ∷ [])) in
     let b = length-map own (λ word. w (word ∷ folded source.name ∷ [])) in
@@ -153,6 +153,6 @@ zeros : {X : Type 0} (f : X → List ℕ) (xs : List X) → map (λ _. pos 0) xs
 zeros f [] = refl
 zeros f (x ∷ xs) = ap (λ l. pos 0 ∷ l) (zeros f xs)
 
-pub zeros_stand : (source : Source) (globals : List Variable) (locals : List Local) (cells values : List ℤ) → globals ≡ source.globals → locals ≡ source.locals → values ≡ map (λ _. pos 0) globals ++ map (λ _. pos 0) locals → cells ≡ values → Stands source cells opening
+pub zeros_stand : (source : Source) (globals : List Variable) (locals : List Local) (cells values : List ℤ) → globals ≡ source.globals → locals ≡ source.locals → values ≡ map (λ _. pos 0) globals ++ map (λ _. pos 0) locals → cells ≡ values → Stands source cells opening_world
 zeros_stand source globals locals cells values same sames are is =
     is ∙ are ∙ (λ k. zeros (λ (g : Variable). folded g.name) (same k) k ++ zeros (λ (l : Local). folded l.name) (sames k) k)

@@ -12,13 +12,13 @@ abbrev pub paths_of : Source → List Path
 paths_of source = (source.name ∷ []) ∷ []
 
 -- the spot of a place
-abbrev pub spot_of : Source → Place → Spot
-spot_of source place = record { path = slice_index_or (paths_of source) place.path []; statement = place.statement }
+abbrev pub place_spot : Source → Place → Spot
+place_spot source place = record { path = slice_index_or (paths_of source) place.path []; statement = place.statement }
 
 -- how a walk ends, with the cells that it leaves
 abbrev pub ran : Source → Walked → List ℤ → Ran (List ℤ)
 ran source walked.Done cells = Done cells
-ran source (walked.Trapped place trap) cells = Trapped cells (spot_of source place) trap
+ran source (walked.Trapped place trap) cells = Trapped cells (place_spot source place) trap
 
 -- a run over cells ends as a run in a world does, at the same spot and with the same kind of trap, and the cells stand for the world
 abbrev pub Agree : Source → Ran World → Ran (List ℤ) → Type 0

@@ -9,8 +9,8 @@ abbrev pub cell : List ℤ → ℕ → ℤ
 cell cells slot = slice_index_or cells slot (pos 0)
 
 -- the cells of a body; no cell is an instance of a block
-abbrev pub slots : Space ℕ (List ℤ)
-slots = record {
+abbrev pub cell_space : Space ℕ (List ℤ)
+cell_space = record {
   path = [];
   get = cell;
   put = λ cells slot n. slice_set cells slot n;
@@ -20,11 +20,11 @@ slots = record {
 }
 
 -- how a run ends, with the cells that it leaves
-abbrev pub ended : Ended → List ℤ → Ran (List ℤ)
-ended end.Done cells = Done cells
-ended (end.Trapped number trap) cells = Trapped cells (record { path = []; statement = number }) trap
+abbrev pub ended_run : Ended → List ℤ → Ran (List ℤ)
+ended_run end.Done cells = Done cells
+ended_run (end.Trapped number trap) cells = Trapped cells (record { path = []; statement = number }) trap
 
 -- the run of a branch that was taken, or none
 abbrev pub chosen : Option Ended → List ℤ → Chosen (List ℤ)
 chosen None cells = Passed cells
-chosen (Some r) cells = Took (ended r cells)
+chosen (Some r) cells = Took (ended_run r cells)

@@ -4,7 +4,7 @@ use Rattle.std.specs.Str.{bytes_eq}
 use Rattle.plant_types.specs.Words.{folded}
 use Rattle.st_tree.specs.Meaning.{Space, Ran, Done, run_all}
 use Rattle.st_resolve.specs.Source.{Source}
-use Rattle.st_resolve.specs.Names.{words_of, own_words, find_word}
+use Rattle.st_resolve.specs.Names.{global_words, own_words, find_word}
 use Rattle.st_resolve.specs.Faults.{meant_of}
 
 -- a list of names in small letters, the innermost first
@@ -26,8 +26,8 @@ abbrev pub assign : World → Path → ℤ → World
 assign w path n q = if same_path path q then n else w q
 
 -- before anything is assigned each value is FALSE or 0
-abbrev pub opening : World
-opening path = pos 0
+abbrev pub opening_world : World
+opening_world path = pos 0
 
 -- the path of a global
 abbrev pub path_of : List ℕ → Path
@@ -42,8 +42,8 @@ abbrev pub path_in : Source → List ℕ → Path
 path_in source name = if is_some (find_word (own_words source.locals) name) then own_path source name else path_of name
 
 -- the names of the program's body; none is that of an instance
-abbrev pub names : Source → Space (List ℕ) World
-names source = record {
+abbrev pub name_space : Source → Space (List ℕ) World
+name_space source = record {
   path = source.name ∷ [];
   get = λ w name. w (path_in source name);
   put = λ w name n. assign w (path_in source name) n;
@@ -54,8 +54,8 @@ names source = record {
 
 -- what the program does
 abbrev pub run_program : Source → World → Ran World
-run_program source w = run_all (names source) (meant_of source) w
+run_program source w = run_all (name_space source) (meant_of source) w
 
 -- the cells hold what the world has for each global, and then for each of the program's own variables, in order of declaration
 abbrev pub Stands : Source → List ℤ → World → Type 0
-Stands source cells w = cells ≡ map (λ word. w (word ∷ [])) (words_of source.globals) ++ map (λ word. w (word ∷ folded source.name ∷ [])) (own_words source.locals)
+Stands source cells w = cells ≡ map (λ word. w (word ∷ [])) (global_words source.globals) ++ map (λ word. w (word ∷ folded source.name ∷ [])) (own_words source.locals)

@@ -1,7 +1,7 @@
 //! The values of variables.
 
 ghost use Rattle.std.specs.Prelude.{◌≡◌, ◌<◌, ◌==◌, ◌++◌, map, pos, length, slice_index_or, slice_set, IfOk};
-ghost use Rattle.st_walk.specs.Worlds.{Stands, opening};
+ghost use Rattle.st_walk.specs.Worlds.{Stands, opening_world};
 
 use st_resolve::{Flat, Local, Variable};
 use std::alloc::{AllocError, Global};
@@ -33,7 +33,7 @@ impl Cells {
     /// The cells before a program's first run: each value is FALSE or 0. The error is a refused growth.
     #[tactic(auto, using(crate::proofs::Worlds::zeros_stand))]
     pub fn opening(alloc: Global, flat: &Flat) -> Result<Cells, AllocError>
-        ensures { IfOk result (λ cells. Stands flat.now cells opening) }
+        ensures { IfOk result (λ cells. Stands flat.now cells opening_world) }
     {
         let values = zeros(alloc, flat.globals(), flat.locals())?;
         Ok(Cells::new(values))

@@ -4,14 +4,16 @@ ghost use Rattle.std.specs.Prelude.{◌≡◌, pos, map, slice_set, ◌<ℤ◌, 
 ghost use Rattle.st_tree.specs.View.{view_expr, view_body, view_stmt, view_branches, view_choices, view_option, view_argument};
 ghost use Rattle.st_tree.specs.Meaning.{run, run_all, turns, first_true, first_fit, outcome, step_of, take_inputs, give_outputs};
 ghost use Rattle.st_tree.specs.Controls.{up, down, control_values};
-ghost use Rattle.st_walk.specs.Slots.{cell, slots, ended, chosen};
+ghost use Rattle.st_walk.specs.Slots.{cell, cell_space, ended_run, chosen};
 ghost use Rattle.st_walk.specs.Worlds.{World, Stands, run_program};
 ghost use Rattle.st_walk.specs.Runs.{ran, Agree};
 
 use crate::cells::Cells;
 use plant_types::{Place, Trap};
 use st_resolve::Flat;
-use st_tree::{Argument, Branch, Choice, Expr, Span, Stmt, fits, one, span_of, two};
+use st_tree::{
+    Argument, Branch, Choice, Expr, Span, Stmt, eval_binary, eval_unary, labels_fit, span_of,
+};
 
 /// How a walk ends.
 #[derive(Clone, Copy, Debug, PartialEq, Eq, Drop)]
@@ -49,27 +51,27 @@ fn write(cells: &mut Cells, slot: usize, value: i64)
 
 /// The value of an expression, its operands from the left.
 fn value(expr: &Expr<usize>, cells: &Cells) -> Result<i64, Trap>
-    ensures { result ≡ outcome slots cells.now (view_expr expr.now) }
+    ensures { result ≡ outcome cell_space cells.now (view_expr expr.now) }
 {
     match expr {
         Expr::Literal(literal) => Ok(literal.worth()),
         Expr::Read(slot) => Ok(read(cells, *slot)),
         Expr::Output(_, _) => Ok(0),
-        Expr::One(op, a) => {
+        Expr::Unary(op, a) => {
             let x = value(a, cells)?;
-            one(*op, x)
+            eval_unary(*op, x)
         }
-        Expr::Two(op, a, b) => {
+        Expr::Binary(op, a, b) => {
             let x = value(a, cells)?;
             let y = value(b, cells)?;
-            two(*op, x, y)
+            eval_binary(*op, x, y)
         }
     }
 }
 
 /// Evaluates the inputs of a call one after another. No cell is an instance that takes them.
 fn take_inputs(number: u32, instance: usize, arguments: &[Argument<usize>], cells: &Cells) -> Ended
-    ensures { ended result cells.now ≡ take_inputs slots number instance (map view_argument arguments.now) cells.now }
+    ensures { ended_run result cells.now ≡ take_inputs cell_space number instance (map view_argument arguments.now) cells.now }
 {
     let _instance = instance;
     for argument in arguments {
@@ -84,7 +86,7 @@ fn take_inputs(number: u32, instance: usize, arguments: &[Argument<usize>], cell
 
 /// Assigns the outputs of a call one after another. No cell is an instance, so each of them is 0.
 fn give_outputs(instance: usize, arguments: &[Argument<usize>], cells: &mut Cells)
-    ensures { cells.new ≡ give_outputs slots instance (map view_argument arguments.now) cells.old }
+    ensures { cells.new ≡ give_outputs cell_space instance (map view_argument arguments.now) cells.old }
 {
     let _instance = instance;
     for argument in arguments {
@@ -97,7 +99,7 @@ fn give_outputs(instance: usize, arguments: &[Argument<usize>], cells: &mut Cell
 /// Runs the statements of a body one after another.
 #[cycle(walk)]
 pub(crate) fn run_body(body: &[Stmt<usize>], cells: &mut Cells) -> Ended
-    ensures { ended result cells.new ≡ run_all slots (view_body body.now) cells.old }
+    ensures { ended_run result cells.new ≡ run_all cell_space (view_body body.now) cells.old }
 {
     for stmt in body {
         if let Ended::Trapped(number, trap) = run_stmt(stmt, cells) {
@@ -109,7 +111,7 @@ pub(crate) fn run_body(body: &[Stmt<usize>], cells: &mut Cells) -> Ended
 
 #[cycle(walk)]
 fn run_stmt(stmt: &Stmt<usize>, cells: &mut Cells) -> Ended
-    ensures { ended result cells.new ≡ run slots (view_stmt stmt.now) cells.old }
+    ensures { ended_run result cells.new ≡ run cell_space (view_stmt stmt.now) cells.old }
 {
     match stmt {
         Stmt::Empty(_) => Ended::Done,
@@ -152,7 +154,7 @@ fn run_stmt(stmt: &Stmt<usize>, cells: &mut Cells) -> Ended
 /// Runs the first branch whose test is TRUE; None where there is none.
 #[cycle(walk)]
 fn run_first_true(number: u32, branches: &[Branch<usize>], cells: &mut Cells) -> Option<Ended>
-    ensures { chosen result cells.new ≡ first_true slots number (view_branches branches.now) cells.old }
+    ensures { chosen result cells.new ≡ first_true cell_space number (view_branches branches.now) cells.old }
 {
     for branch in branches {
         match value(&branch.test, cells) {
@@ -167,10 +169,10 @@ fn run_first_true(number: u32, branches: &[Branch<usize>], cells: &mut Cells) ->
 /// Runs the first choice with a label that fits the number; None where there is none.
 #[cycle(walk)]
 fn run_first_fit(n: i64, choices: &[Choice<usize>], cells: &mut Cells) -> Option<Ended>
-    ensures { chosen result cells.new ≡ first_fit slots n (view_choices choices.now) cells.old }
+    ensures { chosen result cells.new ≡ first_fit cell_space n (view_choices choices.now) cells.old }
 {
     for choice in choices {
-        if fits(n, &choice.labels) {
+        if labels_fit(n, &choice.labels) {
             return Some(run_body(&choice.body, cells));
         }
     }
@@ -179,7 +181,7 @@ fn run_first_fit(n: i64, choices: &[Choice<usize>], cells: &mut Cells) -> Option
 
 /// The value of the step of a loop, which is 1 where none is written.
 fn step_value(by: &Option<Expr<usize>>, cells: &Cells) -> Result<i64, Trap>
-    ensures { result ≡ step_of slots cells.now (view_option by.now) }
+    ensures { result ≡ step_of cell_space cells.now (view_option by.now) }
 {
     match by {
         Some(by) => value(by, cells),
@@ -190,7 +192,7 @@ fn step_value(by: &Option<Expr<usize>>, cells: &Cells) -> Result<i64, Trap>
 /// Runs a body once for each value of its control variable; not at all by the step 0.
 #[cycle(walk)]
 fn run_turns(slot: usize, span: Span, body: &[Stmt<usize>], cells: &mut Cells) -> Ended
-    ensures { ended result cells.new ≡ turns (λ w n. slots.put w slot n) (run_all slots (view_body body.now)) (control_values span) cells.old }
+    ensures { ended_run result cells.new ≡ turns (λ w n. cell_space.put w slot n) (run_all cell_space (view_body body.now)) (control_values span) cells.old }
 {
     if span.step > 0 {
         count_up(slot, span.from, span.to, span.step, body, cells)
@@ -211,7 +213,7 @@ fn count_up(
     cells: &mut Cells,
 ) -> Ended
     requires { pos 0 <ℤ step }
-    ensures { ended result cells.new ≡ turns (λ w n. slots.put w slot n) (run_all slots (view_body body.now)) (up from to step) cells.old }
+    ensures { ended_run result cells.new ≡ turns (λ w n. cell_space.put w slot n) (run_all cell_space (view_body body.now)) (up from to step) cells.old }
 {
     let mut at = i128::from(from);
     while at <= i128::from(to) {
@@ -234,7 +236,7 @@ fn count_down(
     cells: &mut Cells,
 ) -> Ended
     requires { step <ℤ pos 0 }
-    ensures { ended result cells.new ≡ turns (λ w n. slots.put w slot n) (run_all slots (view_body body.now)) (down from to step) cells.old }
+    ensures { ended_run result cells.new ≡ turns (λ w n. cell_space.put w slot n) (run_all cell_space (view_body body.now)) (down from to step) cells.old }
 {
     let mut at = i128::from(from);
     while i128::from(to) <= at {

@@ -1,8 +1,7 @@
 //! Each call once, with ample memory.
 
 use crate::source::flat_of;
-use plant_types::Kind;
-use st_lexer::Region;
+use plant_types::{Kind, Region};
 use st_resolve::{FirstFault, Flat, each_found};
 use st_walk::{Cells, as_many_cells, cell_of_global, found_global, written_cell};
 use std::alloc::{AllocError, Global};

@@ -2,7 +2,7 @@
 use Rattle.std.proofs.Common.{◌≡◌, ◌+◌, ◌-◌, ◌∙◌, ap, sym, arith, rules, length, map, true, false, ◌∷◌, [], ◌++◌, Some}
 use Rattle.st_lexer.specs.declared.token.Symbol.TheVariants as s
 use Rattle.st_tree.specs.View.{view_argument}
-use Rattle.st_parser.specs.Reading.{◌>>=◌, behind, others_at, next_symbol, after_symbol}
+use Rattle.st_parser.specs.Reading.{◌>>=◌, with_first, others_at, next_symbol, after_symbol}
 use Rattle.st_parser.specs.ReadingStatements.{argument_at}
 use Rattle.st_parser.proofs.Many.{many_goes, many_ends}
 use Rattle.st_parser.proofs.calls.more_arguments.Goals as goal
@@ -12,7 +12,7 @@ returns-then-not-is_symbol c =
     let count = length c.args.reader.now in
     let stop : next_symbol s.Comma c.loop-turn.reader ≡ false = search rules in
     let first = ap (map view_argument) (c.in_ok-push.ensures.items ∙ ap (λ l. l ++ c.args.first ∷ []) c.new-arguments.ensures.items) in
-    ap (λ l. behind l (others_at argument_at c.args.reader.now)) (sym first) ∙ sym c.loop-turn.invariant ∙ many_ends (next_symbol s.Comma) (after_symbol s.Comma argument_at) (map view_argument c.loop-turn.arguments.items) (count - c.loop-turn._turn) c.loop-turn.reader stop
+    ap (λ l. with_first l (others_at argument_at c.args.reader.now)) (sym first) ∙ sym c.loop-turn.invariant ∙ many_ends (next_symbol s.Comma) (after_symbol s.Comma argument_at) (map view_argument c.loop-turn.arguments.items) (count - c.loop-turn._turn) c.loop-turn.reader stop
 
 pub loop-turn-preserved : goal.loop-turn-preserved
 loop-turn-preserved c =

@@ -1,9 +1,9 @@
 -- One operator more, with its right operand.
 use Rattle.std.proofs.Common.{◌≡◌, ap, sym, ◌∙◌, arith, rules, ◌+◌, ◌-◌, max, drop, Some, List, ℕ}
-use Rattle.st_tree.specs.Plain.{two}
+use Rattle.st_tree.specs.Plain.{binary}
 use Rattle.st_tree.specs.View.{view_expr}
 use Rattle.st_tree.specs.declared.tree.Expr.{Expr, Two}
-use Rattle.st_tree.proofs.Views.{view_expr-Two}
+use Rattle.st_tree.proofs.Views.{view_expr-Binary}
 use Rattle.st_parser.specs.Grammar.{level_of}
 use Rattle.st_parser.specs.Reading.{climb, operator_at}
 use Rattle.st_parser.proofs.Chain.{goes}
@@ -19,10 +19,10 @@ chain-loop-turn-preserved t c =
     let found : operator_at c.args.level_wanted ts ≡ Some op = sym c.in-Some.ensures in
     let most : c.max-depth.result ≡ max c.loop-turn.depth c.in_ok-right.right_depth = search rules in
     let left = c.loop-turn.left in
-    let made : view_expr (Two op c.in_ok-new.field-0 c.in_ok-new-2.field-0) ≡ two op (view_expr left) (view_expr c.in_ok-right.right) =
-    view_expr-Two op c.in_ok-new.field-0 c.in_ok-new-2.field-0
-    ∙ ap (λ (e : Expr (List ℕ)). two op (view_expr e) (view_expr c.in_ok-new-2.field-0.value)) c.in_ok-new.ensures.ok
-    ∙ ap (λ (e : Expr (List ℕ)). two op (view_expr left) (view_expr e)) c.in_ok-new-2.ensures.ok in
+    let made : view_expr (Two op c.in_ok-new.field-0 c.in_ok-new-2.field-0) ≡ binary op (view_expr left) (view_expr c.in_ok-right.right) =
+    view_expr-Binary op c.in_ok-new.field-0 c.in_ok-new-2.field-0
+    ∙ ap (λ (e : Expr (List ℕ)). binary op (view_expr e) (view_expr c.in_ok-new-2.field-0.value)) c.in_ok-new.ensures.ok
+    ∙ ap (λ (e : Expr (List ℕ)). binary op (view_expr left) (view_expr e)) c.in_ok-new-2.ensures.ok in
     let small = c.in_ok-right.ensures.deep in
     record {
       same = rw (made, most) (sym (goes (climb (limit - 1)) (limit - 1) c.args.level_wanted (limit - c.loop-turn._turn) (limit - (c.loop-turn._turn + 1)) (view_expr c.loop-turn.left) c.loop-turn.depth ts op (view_expr c.in_ok-right.right, c.in_ok-right.right_depth, c.climb.new.reader) (omega arith) found (omega arith) right) ∙ c.loop-turn.invariant.same);

@@ -1,7 +1,7 @@
 -- One more, and none more.
 use Rattle.std.proofs.Common.{◌≡◌, ◌+◌, ◌-◌, ◌∙◌, ap, sym, arith, rules, length, true, false, ◌∷◌, [], ◌++◌, Some}
 use Rattle.st_lexer.specs.declared.token.Symbol.TheVariants as s
-use Rattle.st_parser.specs.Reading.{◌>>=◌, behind, others_at, next_symbol, after_symbol}
+use Rattle.st_parser.specs.Reading.{◌>>=◌, with_first, others_at, next_symbol, after_symbol}
 use Rattle.st_parser.specs.ReadingStatements.{label_at}
 use Rattle.st_parser.proofs.Many.{many_more, many_ends}
 use Rattle.st_parser.proofs.labels.more_labels.Goals as goal
@@ -11,7 +11,7 @@ returns-then-not-is_symbol c =
     let count = length c.args.reader.now in
     let stop : next_symbol s.Comma c.loop-turn.reader ≡ false = search rules in
     let first = c.in_ok-push.ensures.items ∙ ap (λ l. l ++ c.args.first ∷ []) c.new-labels.ensures.items in
-    ap (λ l. behind l (others_at label_at c.args.reader.now)) (sym first) ∙ sym c.loop-turn.invariant ∙ many_ends (next_symbol s.Comma) (after_symbol s.Comma label_at) c.loop-turn.labels.items (count - c.loop-turn._turn) c.loop-turn.reader stop
+    ap (λ l. with_first l (others_at label_at c.args.reader.now)) (sym first) ∙ sym c.loop-turn.invariant ∙ many_ends (next_symbol s.Comma) (after_symbol s.Comma label_at) c.loop-turn.labels.items (count - c.loop-turn._turn) c.loop-turn.reader stop
 
 pub loop-turn-preserved : goal.loop-turn-preserved
 loop-turn-preserved c =

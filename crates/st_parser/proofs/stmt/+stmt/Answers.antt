@@ -2,7 +2,7 @@
 use Rattle.std.proofs.Common.{◌≡◌, ◌+◌, ◌-◌, ◌∙◌, ap, sym, arith, rules, length, map, true, false, ◌∷◌, [], ◌++◌, Some}
 use Rattle.st_lexer.specs.declared.token.Keyword.TheVariants as k
 use Rattle.st_tree.specs.View.{view_stmt, view_branch, view_choice}
-use Rattle.st_parser.specs.Reading.{◌>>=◌, behind, all_at, next_keyword, after_keyword}
+use Rattle.st_parser.specs.Reading.{◌>>=◌, with_first, all_at, next_keyword, after_keyword}
 use Rattle.st_parser.specs.ReadingStatements.{as_body, next_stmt, item_at, next_label, branch_at, choice_at, sequence_at}
 use Rattle.st_parser.proofs.Many.{many_goes, many_ends}
 use Rattle.st_parser.proofs.stmt.+stmt.Goals as goal
@@ -27,7 +27,7 @@ more_branches-returns-then-not-is_keyword t c =
     let one_at = after_keyword k.Elsif (branch_at (sequence_at c.args.deeper)) in
     let stop : next_keyword k.Elsif c.loop-turn.reader ≡ false = search rules in
     let first = ap (map view_branch) (c.in_ok-push.ensures.items ∙ ap (λ l. l ++ c.args.first ∷ []) c.new-branches.ensures.items) in
-    ap (λ l. behind l (all_at (next_keyword k.Elsif) one_at c.args.reader.now)) (sym first) ∙ sym c.loop-turn.invariant ∙ many_ends (next_keyword k.Elsif) one_at (map view_branch c.loop-turn.branches.items) (count - c.loop-turn._turn) c.loop-turn.reader stop
+    ap (λ l. with_first l (all_at (next_keyword k.Elsif) one_at c.args.reader.now)) (sym first) ∙ sym c.loop-turn.invariant ∙ many_ends (next_keyword k.Elsif) one_at (map view_branch c.loop-turn.branches.items) (count - c.loop-turn._turn) c.loop-turn.reader stop
 
 pub more_branches-loop-turn-preserved : goal.more_branches-loop-turn-preserved
 more_branches-loop-turn-preserved t c =
@@ -45,7 +45,7 @@ more_choices-returns-then-not-is_label t c =
     let one_at = choice_at (sequence_at c.args.deeper) in
     let stop : next_label c.loop-turn.reader ≡ false = search rules in
     let first = ap (map view_choice) (c.in_ok-push.ensures.items ∙ ap (λ l. l ++ c.args.first ∷ []) c.new-choices.ensures.items) in
-    ap (λ l. behind l (all_at next_label one_at c.args.reader.now)) (sym first) ∙ sym c.loop-turn.invariant ∙ many_ends next_label one_at (map view_choice c.loop-turn.choices.items) (count - c.loop-turn._turn) c.loop-turn.reader stop
+    ap (λ l. with_first l (all_at next_label one_at c.args.reader.now)) (sym first) ∙ sym c.loop-turn.invariant ∙ many_ends next_label one_at (map view_choice c.loop-turn.choices.items) (count - c.loop-turn._turn) c.loop-turn.reader stop
 
 pub more_choices-loop-turn-preserved : goal.more_choices-loop-turn-preserved
 more_choices-loop-turn-preserved t c =

@@ -4,7 +4,7 @@ use Rattle.std.proofs.lemmas.Int.{ints}
 use Rattle.st_tree.specs.View.{view_body}
 use Rattle.st_tree.specs.Meaning.{run_all}
 use Rattle.st_tree.proofs.Counting.{falls_up, falls_down, up_on, down_on}
-use Rattle.st_walk.specs.Slots.{slots}
+use Rattle.st_walk.specs.Slots.{cell_space}
 use Rattle.st_walk.proofs.Turns.{ran_body, between_fits, up_same, down_same}
 use Rattle.st_walk.proofs.walker.+walk.Goals as goal
 
@@ -26,7 +26,7 @@ count_up-loop-at-preserved t c =
     let bounded : next ≤ℤ pos (2 ^ 65) = omega (arith, ints) in
     let cast : to_z w64 (of_z w64 at) ≡ at = between_fits at c.args.from c.args.to c.ranges.from c.ranges.to c.loop-at.invariant.1 within in
     let did = ran_body c.args.slot (view_body c.args.body.now) at _ c.loop-at.cells c.write.new.cells c.run_body.new.cells c.run_body.result _ cast c.write.ensures c.run_body.ensures c.in-Done.is in (
-      up_on (λ w n. slots.put w c.args.slot n) (run_all slots (view_body c.args.body.now)) at to step next c.loop-at.cells _ _ c.loop-at.invariant.0 sign within later did,
+      up_on (λ w n. cell_space.put w c.args.slot n) (run_all cell_space (view_body c.args.body.now)) at to step next c.loop-at.cells _ _ c.loop-at.invariant.0 sign within later did,
       beyond,
       bounded,
     )
@@ -43,7 +43,7 @@ count_up-returns-in-Trapped t c =
     let third : step ≡ c.args.step = omega (arith, ints) in
     let cast : to_z w64 (of_z w64 at) ≡ at = between_fits at c.args.from c.args.to c.ranges.from c.ranges.to c.loop-at.invariant.1 within in
     let did = ran_body c.args.slot (view_body c.args.body.now) at _ c.loop-at.cells c.write.new.cells c.run_body.new.cells c.run_body.result _ cast c.write.ensures c.run_body.ensures c.in-Trapped.is in
-    up_on (λ w n. slots.put w c.args.slot n) (run_all slots (view_body c.args.body.now)) at to step (at +ℤ step) c.loop-at.cells _ _ c.loop-at.invariant.0 sign within refl did
+    up_on (λ w n. cell_space.put w c.args.slot n) (run_all cell_space (view_body c.args.body.now)) at to step (at +ℤ step) c.loop-at.cells _ _ c.loop-at.invariant.0 sign within refl did
     ∙ up_same c.args.slot (view_body c.args.body.now) (to_z w64 (of_z w64 c.args.from)) c.args.from to c.args.to step c.args.step c.args.cells.now first second third
 
 pub count_down-loop-at-smaller : goal.count_down-loop-at-smaller
@@ -64,7 +64,7 @@ count_down-loop-at-preserved t c =
     let bounded : neg_ℤ (pos (2 ^ 65)) ≤ℤ next = omega (arith, ints) in
     let cast : to_z w64 (of_z w64 at) ≡ at = between_fits at c.args.to c.args.from c.ranges.to c.ranges.from within c.loop-at.invariant.1 in
     let did = ran_body c.args.slot (view_body c.args.body.now) at _ c.loop-at.cells c.write.new.cells c.run_body.new.cells c.run_body.result _ cast c.write.ensures c.run_body.ensures c.in-Done.is in (
-      down_on (λ w n. slots.put w c.args.slot n) (run_all slots (view_body c.args.body.now)) at to step next c.loop-at.cells _ _ c.loop-at.invariant.0 sign within later did,
+      down_on (λ w n. cell_space.put w c.args.slot n) (run_all cell_space (view_body c.args.body.now)) at to step next c.loop-at.cells _ _ c.loop-at.invariant.0 sign within later did,
       beyond,
       bounded,
     )
@@ -81,5 +81,5 @@ count_down-returns-in-Trapped t c =
     let third : step ≡ c.args.step = omega (arith, ints) in
     let cast : to_z w64 (of_z w64 at) ≡ at = between_fits at c.args.to c.args.from c.ranges.to c.ranges.from within c.loop-at.invariant.1 in
     let did = ran_body c.args.slot (view_body c.args.body.now) at _ c.loop-at.cells c.write.new.cells c.run_body.new.cells c.run_body.result _ cast c.write.ensures c.run_body.ensures c.in-Trapped.is in
-    down_on (λ w n. slots.put w c.args.slot n) (run_all slots (view_body c.args.body.now)) at to step (at +ℤ step) c.loop-at.cells _ _ c.loop-at.invariant.0 sign within refl did
+    down_on (λ w n. cell_space.put w c.args.slot n) (run_all cell_space (view_body c.args.body.now)) at to step (at +ℤ step) c.loop-at.cells _ _ c.loop-at.invariant.0 sign within refl did
     ∙ down_same c.args.slot (view_body c.args.body.now) (to_z w64 (of_z w64 c.args.from)) c.args.from to c.args.to step c.args.step c.args.cells.now first second third

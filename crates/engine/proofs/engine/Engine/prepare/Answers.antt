@@ -1,7 +1,7 @@
 use Rattle.std.proofs.Common.{◌≡◌, length, rules, subst, sym, ◌∙◌, arith}
 use Rattle.engine.specs.Image.{IsDue}
 use Rattle.engine.specs.System.{system}
-use Rattle.engine.specs.Held.{Agrees}
+use Rattle.engine.specs.Engines.{Agrees}
 use Rattle.engine.proofs.Systems.{kept_alarms, kept_faulted, scan_event_is, scan_fits}
 use Rattle.engine.proofs.engine.Engine.prepare.Goals as goal
 

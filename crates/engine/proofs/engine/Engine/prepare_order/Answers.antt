@@ -1,6 +1,6 @@
 use Rattle.std.proofs.Common.{◌≡◌, length, rules, arith}
 use Rattle.engine.specs.System.{system}
-use Rattle.engine.specs.Held.{Agrees}
+use Rattle.engine.specs.Engines.{Agrees}
 use Rattle.engine.proofs.Systems.{kept_alarms, order_fits, order_event_ready, order_event_full}
 use Rattle.engine.proofs.engine.Engine.prepare_order.Goals as goal
 

@@ -1,7 +1,7 @@
 use Rattle.std.proofs.Common.{ap, ◌∙◌, sym, arith}
 use Rattle.std.specs.Prelude.{slice_get}
 use Rattle.std.specs.Option.{option_map}
-use Rattle.alarm_machine.specs.Alarms.{Seen}
+use Rattle.alarm_machine.specs.Alarms.{PlainAlarm}
 use Rattle.engine.proofs.Systems.{kept_alarms}
 use Rattle.engine.proofs.engine.Engine.state.Goals as goal
 
@@ -12,4 +12,4 @@ alarm_state-requires c =
     omega (arith, each, there)
 
 pub returns : goal.returns
-returns c = rw (← c.self.view_is) (ap (λ alarms. option_map (λ (a : Seen). a.state) (slice_get alarms c.args.alarm)) (sym c.self.invariant.agrees.alarms_are) ∙ c.alarm_state.ensures)
+returns c = rw (← c.self.view_is) (ap (λ alarms. option_map (λ (a : PlainAlarm). a.state) (slice_get alarms c.args.alarm)) (sym c.self.invariant.agrees.alarms_are) ∙ c.alarm_state.ensures)

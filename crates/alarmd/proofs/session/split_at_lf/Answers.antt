@@ -1,7 +1,7 @@
 use Rattle.std.proofs.Common.{arith, drop}
 use Rattle.std.proofs.lemmas.List.{length-drop}
 use Rattle.alarmd.proofs.FeedLaws.{nowhere_feed, before_feed, cut_feed}
-use Rattle.alarmd.proofs.session.split_feed.Goals as goal
+use Rattle.alarmd.proofs.session.split_at_lf.Goals as goal
 
 pub returns-in_default : goal.returns-in_default
 returns-in_default c = nowhere_feed c.args.bytes.now c.in_default.ensures

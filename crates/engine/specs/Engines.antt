@@ -1,49 +1,49 @@
 -- What an engine shows, what a scan tells, and when something made ready fits an engine.
 use Rattle.std.specs.Prelude.{◌≡◌, ℕ, ◌<◌, ◌≤◌, ◌^◌, ℤ, Bool, List, [], ◌∷◌, ◌++◌, length, map, All, Result, Ok, None, refl}
 use Rattle.std.specs.Coded.{Coded, code_by, coded×, coded_list, coded_ℕ}
-use Rattle.plant_types.specs.Named.{Named}
+use Rattle.plant_types.specs.Pairs.{PlainPair}
 use Rattle.plant_types.specs.declared.values.Value.{Value}
 use Rattle.st_resolve.specs.Faults.{first_fault}
 use Rattle.st_walk.specs.Worlds.{Stands}
-use Rattle.st_walk.specs.Runs.{spot_of}
-use Rattle.alarm_machine.specs.Alarms.{Seen}
+use Rattle.st_walk.specs.Runs.{place_spot}
+use Rattle.alarm_machine.specs.Alarms.{PlainAlarm}
 use Rattle.alarm_machine.specs.declared.states.OrderFault.{OrderFault}
-use Rattle.plant_config.specs.Meaning.{Meaning, IsPlant}
-use Rattle.plant_config.specs.Code.{meaning_code}
+use Rattle.plant_config.specs.Plants.{PlainPlant, IsPlant}
+use Rattle.plant_config.specs.Code.{plant_code}
 use Rattle.engine.specs.declared.event.Event.{Event}
 use Rattle.engine.specs.contracts.event.Event as event_row
 use Rattle.engine.specs.declared.event.Order.{Order}
 use Rattle.engine.specs.declared.event.Reply.{Reply}
 use Rattle.engine.specs.declared.orders.Effect.{Effect}
-use Rattle.engine.specs.Told.{Told}
+use Rattle.engine.specs.Reports.{PlainReport}
 use Rattle.engine.specs.System.{System, system, step, scan_event, faults_of, changes_of, outs_of, outputs_of, ordered, reply_to}
 
 -- the plant, the events so far, and for how many more there is room
-pub record Held : Type 0 where
-  pub plant : Meaning
+pub record PlainEngine : Type 0 where
+  pub plant : PlainPlant
   pub history : List Event
   pub room : ℕ
 
 -- the state of an engine's system
-abbrev pub state_of : Held → System
+abbrev pub state_of : PlainEngine → System
 state_of e = system e.plant e.history
 
 -- a code of what an engine shows
-abbrev pub held_code : Coded Held
-held_code =
-    code_by (Meaning × (List Event × ℕ)) (coded× meaning_code (coded× (coded_list event_row.the_row.coded) coded_ℕ))
+abbrev pub engine_code : Coded PlainEngine
+engine_code =
+    code_by (PlainPlant × (List Event × ℕ)) (coded× plant_code (coded× (coded_list event_row.the_row.coded) coded_ℕ))
     (λ e. (e.plant, (e.history, e.room))) (λ p. record { plant = p.0; history = p.1.0; room = p.1.1 }) (λ _. refl)
 
 -- what a scan and an order leave beside plant and history: the cells of the variables, the faulted programs, the alarms, the outputs and the last moment
-pub record Kept : Type 0 where
+pub record PlainState : Type 0 where
   pub cells : List ℤ
   pub faulted : List Bool
-  pub alarms : List Seen
+  pub alarms : List PlainAlarm
   pub outputs : List (ℕ × Value)
   pub moment : ℕ
 
 -- that is what the system has
-pub record Agrees (plant : Meaning) (sys : System) (k : Kept) : Type 0 where
+pub record Agrees (plant : PlainPlant) (sys : System) (k : PlainState) : Type 0 where
   pub world_stands : Stands plant.source k.cells sys.world
   pub faulted_is : k.faulted ≡ sys.faulted
   pub alarms_are : k.alarms ≡ sys.alarms
@@ -52,48 +52,48 @@ pub record Agrees (plant : Meaning) (sys : System) (k : Kept) : Type 0 where
   pub in_range : k.moment ≤ 4000000000000
 
 -- what a report tells is what an event did: its moment, the faults in program order, the changes in the order of the database, and the outputs that it changed in order of declaration; all numbers are there
-pub record Tells (plant : Meaning) (sys : System) (e : Event) (r : Told) : Type 0 where
+pub record IsReport (plant : PlainPlant) (sys : System) (e : Event) (r : PlainReport) : Type 0 where
   pub moment_is : r.moment ≡ (step plant sys e).moment
-  pub faults_are : map (λ f. (spot_of plant.source f.0, f.1)) r.faults ≡ faults_of plant sys e
+  pub faults_are : map (λ f. (place_spot plant.source f.0, f.1)) r.faults ≡ faults_of plant sys e
   pub changes_are : r.changes ≡ changes_of plant sys e
   pub changes_within : All (λ c. c.0 < length plant.alarms) r.changes
   pub outs_are : r.outs ≡ outs_of plant sys e
   pub outs_within : All (λ o. o.0 < length plant.source.globals) r.outs
 
 -- a scan was taken: its event is the last of the history, and the report tells what it did
-pub record TakesScan (old new : Held) (pairs : List Named) (t : ℕ) (r : Told) : Type 0 where
+pub record TakesScan (old new : PlainEngine) (pairs : List PlainPair) (t : ℕ) (r : PlainReport) : Type 0 where
   pub event : Event
   pub event_is : scan_event old.plant (state_of old) pairs t ≡ Ok event
   pub history_is : new.history ≡ old.history ++ event ∷ []
-  pub tells : Tells old.plant (state_of old) event r
+  pub tells : IsReport old.plant (state_of old) event r
 
 -- a scan that was made ready: its event, what it leaves and what it tells
-pub record Ready : Type 0 where
+pub record PlainPrepared : Type 0 where
   pub event : Event
-  pub kept : Kept
-  pub report : Told
+  pub kept : PlainState
+  pub report : PlainReport
 
 -- an engine may commit it: there is room, and it is what that event makes of this engine's plant and history
-pub record Fits (e : Held) (p : Ready) : Type 0 where
+pub record Fits (e : PlainEngine) (p : PlainPrepared) : Type 0 where
   pub room : 0 < e.room
   pub agrees : Agrees e.plant (system e.plant (e.history ++ p.event ∷ [])) p.kept
-  pub tells : Tells e.plant (state_of e) p.event p.report
+  pub tells : IsReport e.plant (state_of e) p.event p.report
 
 -- an order that was made ready: what it does, and its reply
-pub record ReadyOrder : Type 0 where
+pub record PlainPreparedOrder : Type 0 where
   pub console : ℕ
   pub order : Order
   pub done : Result Effect OrderFault
   pub reply : Reply
 
 -- an engine may commit it: there is room, and that is what the order does in this engine's state
-pub record FitsOrder (e : Held) (p : ReadyOrder) : Type 0 where
+pub record FitsOrder (e : PlainEngine) (p : PlainPreparedOrder) : Type 0 where
   pub room : 0 < e.room
   pub done_is : p.done ≡ ordered e.plant (state_of e) p.console p.order
   pub reply_is : p.reply ≡ reply_to e.plant (state_of e) p.console p.order
 
 -- what an engine keeps agrees with its plant and its history; what holds of each plant holds of this one, its source has no fault, and its globals can be numbered
-pub record IsEngine (plant : Meaning) (history : List Event) (k : Kept) : Type 0 where
+pub record IsEngine (plant : PlainPlant) (history : List Event) (k : PlainState) : Type 0 where
   pub agrees : Agrees plant (system plant history) k
   pub plant_is : IsPlant plant
   pub sound : first_fault plant.source ≡ None

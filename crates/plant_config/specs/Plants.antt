@@ -7,7 +7,7 @@ use Rattle.plant_config.specs.declared.rows.Console.{Console}
 use Rattle.st_resolve.specs.Source.{Source}
 
 -- its logic, the names of its areas, its consoles and its alarms, in order; areas and globals are numbered from 0
-pub record Meaning : Type 0 where
+pub record PlainPlant : Type 0 where
   pub source : Source
   pub areas : List (List ℕ)
   pub consoles : List Console
@@ -19,7 +19,7 @@ pub record IsBoolGlobal (globals : List Variable) (number : ℕ) : Type 0 where
   pub is_bool : IfSome (slice_get globals number) (λ global. global.kind ≡ kind.Bool)
 
 -- what holds of each alarm of a plant
-pub record IsAlarm (plant : Meaning) (row : AlarmRow) : Type 0 where
+pub record IsAlarmRow (plant : PlainPlant) (row : AlarmRow) : Type 0 where
   pub area : row.area < length plant.areas
   pub lowest : 1 ≤ row.priority
   pub highest : row.priority ≤ 4
@@ -28,7 +28,7 @@ pub record IsAlarm (plant : Meaning) (row : AlarmRow) : Type 0 where
   pub shelve : row.max_shelve_ms ≤ 2592000000
 
 -- what holds of each plant
-pub record IsPlant (plant : Meaning) : Type 0 where
+pub record IsPlant (plant : PlainPlant) : Type 0 where
   pub few : length plant.alarms ≤ 20000
   pub areas : length plant.areas ≤ 64
-  pub alarms : All (IsAlarm plant) plant.alarms
+  pub alarms : All (IsAlarmRow plant) plant.alarms
