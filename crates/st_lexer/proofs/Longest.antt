@@ -119,7 +119,7 @@ blank_next b bs is = record {
   is = blank_of b is;
   longest = λ other m more w h. (let same = blank_class other (sym (opens_at other b bs m h) ∙ is) in let one = one_at b bs m (subst (λ z. IsPiece z (take m (b ∷ bs))) same h) w in omega arith);
   follows = refl;
-  mark_piece = λ h. absurd (let e : f.Mark ≡ f.Blank = sym (comment_mark b bs h) ∙ is in cc);
+  comment = λ h. absurd (let e : f.Mark ≡ f.Blank = sym (comment_mark b bs h) ∙ is in cc);
 }
 
 blank_only : (b : ℕ) (bs : List ℕ) (piece : Piece) (n : ℕ) → first_of b ≡ f.Blank → IsNext (b ∷ bs) piece n → (let s : Option Found = Some (p.Blank, 1) in s) ≡ Some (piece, n)
@@ -196,7 +196,7 @@ module _ (class : First) (extent : List ℕ → ℕ) (classify : List ℕ → Op
         is = spells;
         longest = λ other m more w fits. (let near = reached b bs other m is w fits in omega arith);
         follows = reader.solid.apart kind same (drop (extent (b ∷ bs)) (b ∷ bs)) ∙ reader.ends (b ∷ bs);
-        mark_piece = λ c. absurd (reader.solid.no_mark (sym (comment_mark b bs c) ∙ is));
+        comment = λ c. absurd (reader.solid.no_mark (sym (comment_mark b bs c) ∙ is));
       }
 
   pub spread_sound : (b : ℕ) (bs : List ℕ) (piece : Piece) (n : ℕ) → first_of b ≡ class → spread extent classify (b ∷ bs) ≡ Some (piece, n) → IsNext (b ∷ bs) piece n
@@ -328,7 +328,7 @@ address_next b bs region k is read apart =
           let size = at.size in
           omega arith);
       follows = apart;
-      mark_piece = λ c. absurd (let e : f.Mark ≡ f.Percent = sym (comment_mark b bs c) ∙ is in cc);
+      comment = λ c. absurd (let e : f.Mark ≡ f.Percent = sym (comment_mark b bs c) ∙ is in cc);
     }
 
 one_more : (k : ℕ) → k + 1 ≡ suc k
@@ -365,13 +365,13 @@ address_complete b bs piece n is x =
     ap (λ o. o >>= address_piece bs) at.reaches.read ∙ cond-true (stands_apart (drop at.reaches.n bs)) (Some (p.Token (t.Address at.region), at.reaches.n + 1)) None apart ∙ ap (λ z. Some (z, at.reaches.n + 1)) (sym at.same) ∙ ap (λ i. Some (piece, i)) size
 
 -- ---- comments and symbols
-mark_piece : (piece : Piece) → class_of piece ≡ f.Mark → (piece ≡ p.Comment) ⊎ ((symbol : Symbol) × (piece ≡ p.Token (t.Symbol symbol)))
-mark_piece p.Blank e = absurd (cc)
-mark_piece p.Comment e = inl refl
-mark_piece (p.Token (t.Symbol symbol)) e = inr (symbol, refl)
-mark_piece (p.Token (t.Integer n)) e = absurd (cc)
-mark_piece (p.Token (t.Address region)) e = absurd (cc)
-mark_piece (p.Token _) e = absurd (cc)
+comment_or_symbol : (piece : Piece) → class_of piece ≡ f.Mark → (piece ≡ p.Comment) ⊎ ((symbol : Symbol) × (piece ≡ p.Token (t.Symbol symbol)))
+comment_or_symbol p.Blank e = absurd (cc)
+comment_or_symbol p.Comment e = inl refl
+comment_or_symbol (p.Token (t.Symbol symbol)) e = inr (symbol, refl)
+comment_or_symbol (p.Token (t.Integer n)) e = absurd (cc)
+comment_or_symbol (p.Token (t.Address region)) e = absurd (cc)
+comment_or_symbol (p.Token _) e = absurd (cc)
 
 -- a symbol has at most two bytes
 symbol_short : (symbol : Symbol) (text : List ℕ) (m : ℕ) → m ≤ length text → take m text ≡ bytes_of symbol → m ≤ 2
@@ -414,7 +414,7 @@ module _ (a b : ℕ) (form : List ℕ → Bool) (read : List ℕ → Option ℕ)
       record {
         within = omega arith;
         is = subst (λ i. is_comment (take i (a ∷ b ∷ inner)) ≡ true) size (is.comment_of (take n inner) s.1);
-        longest = λ other m more w fits. elim (mark_piece other (sym (opens_at other a (b ∷ inner) m fits) ∙ is.mark)) [
+        longest = λ other m more w fits. elim (comment_or_symbol other (sym (opens_at other a (b ∷ inner) m fits) ∙ is.mark)) [
           | inl comment ↦
               let c = comment_inner a b inner m (subst (λ z. IsPiece z (take m (a ∷ b ∷ inner))) comment fits) in
               let same = c.1 in
@@ -425,7 +425,7 @@ module _ (a b : ℕ) (form : List ℕ → Bool) (read : List ℕ → Option ℕ)
           | inr symbol ↦ (let short = symbol_short symbol.0 (a ∷ b ∷ inner) m w (subst (λ z. IsPiece z (take m (a ∷ b ∷ inner))) symbol.1 fits) in omega arith)
         ];
         follows = refl;
-        mark_piece = λ h. refl;
+        comment = λ h. refl;
       }
 
   pub form_sound : (inner : List ℕ) (piece : Piece) (n : ℕ) → option_map as_comment (read inner) ≡ Some (piece, n) → IsNext (a ∷ b ∷ inner) piece n
@@ -435,7 +435,7 @@ module _ (a b : ℕ) (form : List ℕ → Bool) (read : List ℕ → Option ℕ)
 
   pub form_complete : (inner : List ℕ) (piece : Piece) (n : ℕ) → IsNext (a ∷ b ∷ inner) piece n → option_map as_comment (read inner) ≡ Some (piece, n)
   form_complete inner piece n x =
-      let comment : piece ≡ p.Comment = x.marked is.begins in
+      let comment : piece ≡ p.Comment = x.comment is.begins in
       let c = comment_inner a b inner n (subst (λ z. IsPiece z (take n (a ∷ b ∷ inner))) comment x.is) in
       let same = c.1 in
       let w = x.within in
@@ -517,7 +517,7 @@ record SymbolAt (text : List ℕ) (piece : Piece) (m : ℕ) : Type 0 where
 
 -- where no comment begins, what begins with a mark is a symbol
 symbol_at : (a b : ℕ) (inner : List ℕ) (piece : Piece) (m : ℕ) → first_of a ≡ f.Mark → begins_comment (a ∷ b ∷ inner) ≡ false → m ≤ length (a ∷ b ∷ inner) → IsPiece piece (take m (a ∷ b ∷ inner)) → SymbolAt (a ∷ b ∷ inner) piece m
-symbol_at a b inner piece m is none w h = elim (mark_piece piece (sym (opens_at piece a (b ∷ inner) m h) ∙ is)) [
+symbol_at a b inner piece m is none w h = elim (comment_or_symbol piece (sym (opens_at piece a (b ∷ inner) m h) ∙ is)) [
   | inl comment ↦
       let c = comment_inner a b inner m (subst (λ z. IsPiece z (take m (a ∷ b ∷ inner))) comment h) in
       no_truth (sym none ∙ comment_begins a b (take c.0 inner) c.2)
@@ -546,7 +546,7 @@ double_next a b inner symbol is none h = record {
   is = sym (double_is a b symbol h);
   longest = λ other m more w fits. (let at = symbol_at a b inner other m is none w fits in let short = at.short in omega arith);
   follows = refl;
-  mark_piece = no_mark_comment a b inner none symbol;
+  comment = no_mark_comment a b inner none symbol;
 }
 
 single_next : (a b : ℕ) (inner : List ℕ) (symbol : Symbol) → first_of a ≡ f.Mark → begins_comment (a ∷ b ∷ inner) ≡ false → double_by a b ≡ None → single_by a ≡ Some symbol → IsNext (a ∷ b ∷ inner) (p.Token (t.Symbol symbol)) 1
@@ -555,7 +555,7 @@ single_next a b inner symbol is none no_double h = record {
   is = sym (single_is a symbol h);
   longest = λ other m more w fits. (let at = symbol_at a b inner other m is none w fits in none-some at.symbol (sym no_double ∙ (two_bytes a b inner other m at more).1));
   follows = refl;
-  mark_piece = no_mark_comment a b inner none symbol;
+  comment = no_mark_comment a b inner none symbol;
 }
 
 symbol_sound_by : (a b : ℕ) (inner : List ℕ) (piece : Piece) (n : ℕ) (o : Option Symbol) → first_of a ≡ f.Mark → begins_comment (a ∷ b ∷ inner) ≡ false → double_by a b ≡ o → first_some (option_map (as_symbol 2) o) (option_map (as_symbol 1) (single_by a)) ≡ Some (piece, n) → IsNext (a ∷ b ∷ inner) piece n
@@ -588,7 +588,7 @@ symbol_complete a b inner piece n is none x =
 alone_symbol : (a : ℕ) (piece : Piece) (m : ℕ) → first_of a ≡ f.Mark → m ≤ 1 → IsPiece piece (take m (a ∷ [])) → (symbol : Symbol) × (piece ≡ p.Token (t.Symbol symbol)) × (m ≡ 1) × (single_by a ≡ Some symbol)
 alone_symbol a piece zero is w h = absurd (fits_none piece h)
 alone_symbol a piece (suc (suc m)) is w h = absurd (omega arith)
-alone_symbol a piece (suc zero) is w h = elim (mark_piece piece (sym (opens_at piece a [] 1 h) ∙ is)) [
+alone_symbol a piece (suc zero) is w h = elim (comment_or_symbol piece (sym (opens_at piece a [] 1 h) ∙ is)) [
   | inl comment ↦ no_truth (subst (λ z. IsPiece z (a ∷ [])) comment h)
   | inr symbol ↦ (symbol.0, symbol.1, refl, single_found a symbol.0 (subst (λ z. IsPiece z (a ∷ [])) symbol.1 h))
 ]
@@ -601,7 +601,7 @@ alone_sound a piece n h =
       is = sym (single_is a found.0 found.1);
       longest = λ other m more w fits. omega arith;
       follows = refl;
-      mark_piece = λ c. no_truth c;
+      comment = λ c. no_truth c;
     }
 
 alone_complete : (a : ℕ) (piece : Piece) (n : ℕ) → first_of a ≡ f.Mark → IsNext (a ∷ []) piece n → option_map (as_symbol 1) (single_by a) ≡ Some (piece, n)

@@ -36,7 +36,7 @@ pub record IsNext (text : List ℕ) (piece : Piece) (n : ℕ) : Type 0 where
   pub is : IsPiece piece (take n text)
   pub longest : (other : Piece) (m : ℕ) → n < m → m ≤ length text → IsPiece other (take m text) → ⊥
   pub follows : IsTrue (may_precede piece (drop n text))
-  pub marked : IsTrue (begins_comment text) → piece ≡ p.Comment
+  pub comment : IsTrue (begins_comment text) → piece ≡ p.Comment
 
 -- no piece is next
 abbrev pub IsOver : List ℕ → Type 0
