@@ -11,7 +11,7 @@ use Rattle.st_tree.specs.declared.tree.Binary.{Binary}
 use Rattle.st_tree.specs.declared.tree.Binary.TheVariants as b
 use Rattle.st_tree.specs.Plain.{PlainExpr, literal, read, output_of, unary}
 use Rattle.st_parser.specs.Lexemes.{Lexeme, word, keyword, integer, symbol}
-use Rattle.st_parser.specs.Grammar.{literal_of, prefix_of, operator_of, level_of, top, is_signed, in_parentheses, constant, negative, variable, output, parens, unary, binary, SpellsExpr, IsExpression}
+use Rattle.st_parser.specs.Grammar.{literal_of, prefix_of, operator_of, level_of, top, is_signed, in_parentheses, constant, negative, variable, output, parens, before_operand, between_operands, SpellsExpr, IsExpression}
 use Rattle.st_parser.specs.Reading.{Answer, ◌>>=◌, operator_at, if_allowed, next_symbol, minus_at, constant_at, operand, prefixed, chain, climb, tree_of, expression_at}
 use Rattle.st_parser.proofs.Chain.{stops, goes}
 use Rattle.st_parser.proofs.Steps.{both_ways, same_some}
@@ -82,8 +82,8 @@ some_lexeme (suc d) l ts e (negative n small is tree) = let q = ap length is in 
 some_lexeme (suc d) l ts e (variable name is tree) = let q = ap length is in omega arith
 some_lexeme (suc d) l ts e (output name part is tree) = let q = ap length is in omega arith
 some_lexeme (suc d) l ts e (parens a x is tree p) = let q = ap length is in omega arith
-some_lexeme (suc d) l ts e (unary t op a x kind alone is tree p) = let q = ap length is in omega arith
-some_lexeme (suc d) l ts e (binary t op a c x y kind tight is tree left right) = let q = ap length is in let r = length-append x (t ∷ y) in omega arith
+some_lexeme (suc d) l ts e (before_operand t op a x kind alone is tree p) = let q = ap length is in omega arith
+some_lexeme (suc d) l ts e (between_operands t op a c x y kind tight is tree left right) = let q = ap length is in let r = length-append x (t ∷ y) in omega arith
 
 constant_read : (inner : ℕ → List Lexeme → Answer) (t : Lexeme) (e : PlainExpr (List ℕ)) (ts : List Lexeme) → literal_of t ≡ Some e → operand inner (t ∷ ts) ≡ Some (e, 1, ts)
 unfolding operand
@@ -159,14 +159,14 @@ complete (suc d) (suc limit) m l ts e rest le lm (parens a x is tree inside) sto
     let w = whole limit 0 (x ++ symbol s.Close ∷ rest) a (symbol s.Close ∷ rest) d (omega arith) refl h in
     let small = w.shallow in
     rw (is, append_assoc x (symbol s.Close ∷ []) rest, tree) (begun limit l (symbol s.Open ∷ (x ++ symbol s.Close ∷ rest)) (in_parentheses a) rest (w.seen + 1) (suc d) (parens_read (climb limit) a w.seen _ rest w.is) (omega arith) (omega arith))
-complete (suc d) (suc limit) m l ts e rest le lm (unary t op a x kind signs is tree part) stop alone =
+complete (suc d) (suc limit) m l ts e rest le lm (before_operand t op a x kind signs is tree part) stop alone =
     let h = complete d limit top top x a rest (omega arith) (omega arith) part (stops_at_top (top + 1) rest (omega arith)) alone in
     let w = whole limit top (x ++ rest) a rest d (omega arith) (stops_at_top top rest (omega arith)) h in
     let small = w.shallow in
     let some = some_lexeme d top x a part in
     let unsigned : is_signed (t ∷ x) ≡ false = sym (ap is_signed is) ∙ signs in
     rw (is, tree) (begun limit l (t ∷ (x ++ rest)) (unary op a) rest (w.seen + 1) (suc d) (prefix_read (climb limit) t op x rest kind unsigned some ∙ ap (prefixed op) w.is) (omega arith) (omega arith))
-complete (suc d) (suc limit) m l ts e rest le lm (binary t op a c x y kind tight is tree left right) stop alone =
+complete (suc d) (suc limit) m l ts e rest le lm (between_operands t op a c x y kind tight is tree left right) stop alone =
     let behind = t ∷ (y ++ rest) in
     let first = complete d (suc limit) (level_of op) l x a behind (omega arith) (omega arith) left (stops_above (level_of op + 1) t op (y ++ rest) kind (omega arith)) (operator_no_point t op (y ++ rest) kind) in
     let second = complete d limit (level_of op + 1) (level_of op + 1) y c rest (omega arith) (omega arith) right (stops_more (m + 1) (level_of op + 1 + 1) rest (omega arith) stop) alone in

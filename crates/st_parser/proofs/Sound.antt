@@ -10,7 +10,7 @@ use Rattle.st_tree.specs.declared.tree.Unary.TheVariants as u
 use Rattle.st_tree.specs.declared.tree.Binary.{Binary}
 use Rattle.st_tree.specs.Plain.{PlainExpr, literal, read, output_of, unary, binary}
 use Rattle.st_parser.specs.Lexemes.{Lexeme, word, keyword, integer, symbol}
-use Rattle.st_parser.specs.Grammar.{literal_of, prefix_of, operator_of, level_of, top, is_signed, in_parentheses, Production, constant, negative, variable, output, parens, unary, binary, SpellsExpr, IsExpression}
+use Rattle.st_parser.specs.Grammar.{literal_of, prefix_of, operator_of, level_of, top, is_signed, in_parentheses, Production, constant, negative, variable, output, parens, before_operand, between_operands, SpellsExpr, IsExpression}
 use Rattle.st_parser.specs.Reading.{Answer, word_at, operator_at, if_allowed, next_symbol, part_at, named_at, minus_at, constant_at, operand, prefixed, closed, symbol_at, chain, climb, tree_of, expression_at}
 use Rattle.st_parser.proofs.Chain.{stops, too_deep, goes, fails}
 use Rattle.st_parser.proofs.Complete.{starts_with, stops_at_top, some_lexeme}
@@ -30,9 +30,9 @@ weaken (suc d) (suc n) m l x e le lm (negative i small is tree) = negative i sma
 weaken (suc d) (suc n) m l x e le lm (variable name is tree) = variable name is tree
 weaken (suc d) (suc n) m l x e le lm (output name part is tree) = output name part is tree
 weaken (suc d) (suc n) m l x e le lm (parens a y is tree p) = parens a y is tree (weaken d n 0 0 y a (omega arith) (omega arith) p)
-weaken (suc d) (suc n) m l x e le lm (unary t op a y kind signs is tree p) = unary t op a y kind signs is tree (weaken d n top top y a (omega arith) (omega arith) p)
-weaken (suc d) (suc n) m l x e le lm (binary t op a c y z kind tight is tree left right) =
-    binary t op a c y z kind (omega arith) is tree (weaken d n (level_of op) (level_of op) y a (omega arith) (omega arith) left) (weaken d n (level_of op + 1) (level_of op + 1) z c (omega arith) (omega arith) right)
+weaken (suc d) (suc n) m l x e le lm (before_operand t op a y kind signs is tree p) = before_operand t op a y kind signs is tree (weaken d n top top y a (omega arith) (omega arith) p)
+weaken (suc d) (suc n) m l x e le lm (between_operands t op a c y z kind tight is tree left right) =
+    between_operands t op a c y z kind (omega arith) is tree (weaken d n (level_of op) (level_of op) y a (omega arith) (omega arith) left) (weaken d n (level_of op + 1) (level_of op + 1) z c (omega arith) (omega arith) right)
 
 one_more : (d m : ℕ) (x : List Lexeme) (e : PlainExpr (List ℕ)) → Production (SpellsExpr d) m x e → SpellsExpr (d + 1) m x e
 one_more d m x e p = let same : suc d ≡ d + 1 = omega arith in subst (λ n. SpellsExpr n m x e) same p
@@ -85,7 +85,7 @@ prefix_started d t op ts q r kind signs p is =
     let one_on : Started (d + 1) (t ∷ ts) (unary op q.0, q.1 + 1, q.2) = record {
       front = t ∷ p.front;
       whole = ap (λ l. t ∷ l) p.whole;
-      spelled = λ m. one_more q.1 m _ _ (unary t op q.0 p.front kind unsigned refl refl p.spelled);
+      spelled = λ m. one_more q.1 m _ _ (before_operand t op q.0 p.front kind unsigned refl refl p.spelled);
       small = omega arith;
     } in
     subst (Started (d + 1) (t ∷ ts)) is one_on
@@ -188,7 +188,7 @@ module _ (deeper : ℕ) (inner : ℕ → List Lexeme → Answer) (sound : IsSoun
                     let more = goes inner deeper level (suc fuel) fuel e n ts op q (omega arith) found.1 fits.1 some.1 in
                     chain_sound fuel (binary op e q.0) (max n q.1 + 1) (level_of op) (x ++ t ∷ p.front) q.2 all r
                     (is ∙ ap (λ l. x ++ l) (begins ∙ ap (λ l. t ∷ l) p.whole) ∙ sym (append_assoc x (t ∷ p.front) q.2))
-                    (one_more (max n q.1) (level_of op) _ _ (binary t op e q.0 x p.front kind (omega arith) refl refl (weaken n (max n q.1) m (level_of op) x e (omega arith) tight left) (weaken q.1 (max n q.1) (level_of op + 1) (level_of op + 1) p.front q.0 (omega arith) (omega arith) p.spelled)))
+                    (one_more (max n q.1) (level_of op) _ _ (between_operands t op e q.0 x p.front kind (omega arith) refl refl (weaken n (max n q.1) m (level_of op) x e (omega arith) tight left) (weaken q.1 (max n q.1) (level_of op + 1) (level_of op + 1) p.front q.0 (omega arith) (omega arith) p.spelled)))
                     (omega arith) above p.stop (sym more ∙ h)
               ]
             ]

@@ -140,7 +140,7 @@ module _ (source : Source) (scope : Scope) (is : IsScope source scope) where
       → all_pass (λ slot. nat_lt slot count) given ≡ true → all_fit (slice_get entries) given1 ≡ true → all_allowed (slice_get entries2) (λ a b. a == b) given2 ≡ true → all_short given3 ≡ true → IsFlat source scope body
   accepted body given given1 given2 given3 count entries entries2 are same same1 same2 same3 counted listed listed2 all fit allow short =
       record {
-        entry_named = is;
+        named = is;
         sound = after_names body given count are same counted all
             ∙ (λ k. which_fault false false (not (fit_by_name body given1 entries true are same1 listed fit k)) (not (allow_by_name body given2 entries2 true are same2 listed2 allow k)) (not (short_by_name body given3 true are same3 short k)));
         body_is = are;

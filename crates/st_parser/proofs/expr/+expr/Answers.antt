@@ -2,7 +2,8 @@
 use Rattle.std.proofs.Common.{◌≡◌, ap, sym, ◌∙◌, arith, rules, ◌+◌, ◌-◌, max, drop, Some, List, ℕ}
 use Rattle.st_tree.specs.Plain.{binary}
 use Rattle.st_tree.specs.View.{view_expr}
-use Rattle.st_tree.specs.declared.tree.Expr.{Expr, Two}
+use Rattle.st_tree.specs.declared.tree.Expr.{Expr}
+use Rattle.st_tree.specs.declared.tree.Expr.TheVariants as expr
 use Rattle.st_tree.proofs.Views.{view_expr-Binary}
 use Rattle.st_parser.specs.Grammar.{level_of}
 use Rattle.st_parser.specs.Reading.{climb, operator_at}
@@ -19,7 +20,7 @@ chain-loop-turn-preserved t c =
     let found : operator_at c.args.level_wanted ts ≡ Some op = sym c.in-Some.ensures in
     let most : c.max-depth.result ≡ max c.loop-turn.depth c.in_ok-right.right_depth = search rules in
     let left = c.loop-turn.left in
-    let made : view_expr (Two op c.in_ok-new.field-0 c.in_ok-new-2.field-0) ≡ binary op (view_expr left) (view_expr c.in_ok-right.right) =
+    let made : view_expr (expr.Binary op c.in_ok-new.field-0 c.in_ok-new-2.field-0) ≡ binary op (view_expr left) (view_expr c.in_ok-right.right) =
     view_expr-Binary op c.in_ok-new.field-0 c.in_ok-new-2.field-0
     ∙ ap (λ (e : Expr (List ℕ)). binary op (view_expr e) (view_expr c.in_ok-new-2.field-0.value)) c.in_ok-new.ensures.ok
     ∙ ap (λ (e : Expr (List ℕ)). binary op (view_expr left) (view_expr e)) c.in_ok-new-2.ensures.ok in
