@@ -185,7 +185,14 @@ fn show_stmt(alloc: Global, stmt: &Stmt<Text>, out: &mut String) -> Result<(), A
             show_body(alloc, last, out)?;
             out.push_str("END")
         }
-        Stmt::For(_, name, from, to, by, body) => {
+        Stmt::For {
+            variable: name,
+            from,
+            to,
+            by,
+            body,
+            ..
+        } => {
             out.push_str("FOR ")?;
             show_assignment(alloc, name, from, out)?;
             out.push_str(" TO ")?;

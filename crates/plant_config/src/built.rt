@@ -52,7 +52,13 @@ fn stmt_built(stmt: &Stmt<Text>) -> bool
         Stmt::Case(_, selector, choices, last) => {
             expr_built(selector) && choices_built(choices) && body_built(last)
         }
-        Stmt::For(_, _, from, to, by, body) => bounds_built(from, to, by) && body_built(body),
+        Stmt::For {
+            from,
+            to,
+            by,
+            body,
+            ..
+        } => bounds_built(from, to, by) && body_built(body),
     }
 }
 

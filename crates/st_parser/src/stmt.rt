@@ -309,5 +309,12 @@ fn for_statement(alloc: Global, deeper: u32, reader: &mut Reader) -> Result<Stmt
     reader.keyword(Keyword::Do)?;
     let body = body(alloc, deeper, reader)?;
     reader.keyword(Keyword::EndFor)?;
-    Ok(Stmt::For(0, word, from, to, by, body))
+    Ok(Stmt::For {
+        number: 0,
+        variable: word,
+        from,
+        to,
+        by,
+        body,
+    })
 }

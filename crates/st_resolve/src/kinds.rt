@@ -93,7 +93,13 @@ fn stmt_fits(entries: &[Entry], stmt: &Stmt<usize>) -> bool
                 && choices_fit(entries, choices)
                 && all_fit(entries, last)
         }
-        Stmt::For(_, _, from, to, by, body) => {
+        Stmt::For {
+            from,
+            to,
+            by,
+            body,
+            ..
+        } => {
             is_of(entries, Kind::Dint, from)
                 && is_of(entries, Kind::Dint, to)
                 && option_is_of(entries, Kind::Dint, by)

@@ -68,9 +68,14 @@ fn stmt_known(count: usize, stmt: &Stmt<usize>) -> bool
         Stmt::Case(_, selector, choices, last) => {
             reads_known(count, selector) && choices_known(count, choices) && all_known(count, last)
         }
-        Stmt::For(_, slot, from, to, by, body) => {
-            bounds_known(count, *slot, from, to, by) && all_known(count, body)
-        }
+        Stmt::For {
+            variable: slot,
+            from,
+            to,
+            by,
+            body,
+            ..
+        } => bounds_known(count, *slot, from, to, by) && all_known(count, body),
     }
 }
 

@@ -76,7 +76,11 @@ fn stmt_assigns(slot: usize, stmt: &Stmt<usize>) -> bool
         Stmt::If(_, branches, last) => branches_assign(slot, branches) || body_assigns(slot, last),
         Stmt::Case(_, _, choices, last) => choices_assign(slot, choices)
             || body_assigns(slot, last),
-        Stmt::For(_, other, _, _, _, body) => slot == *other || body_assigns(slot, body),
+        Stmt::For {
+            variable: other,
+            body,
+            ..
+        } => slot == *other || body_assigns(slot, body),
     }
 }
 
@@ -129,7 +133,14 @@ fn stmt_allowed(entries: &[Entry], stmt: &Stmt<usize>) -> bool
         Stmt::Case(_, _, choices, last) => {
             choices_allowed(entries, choices) && all_allowed(entries, last)
         }
-        Stmt::For(_, slot, from, to, by, body) => {
+        Stmt::For {
+            variable: slot,
+            from,
+            to,
+            by,
+            body,
+            ..
+        } => {
             is_control(entries, *slot)
                 && is_bound(from)
                 && is_bound(to)
@@ -198,7 +209,13 @@ fn stmt_short(stmt: &Stmt<usize>) -> bool
         Stmt::Empty(_) | Stmt::Assign(_, _, _) | Stmt::Call(_, _, _) => true,
         Stmt::If(_, branches, last) => branches_short(branches) && all_short(last),
         Stmt::Case(_, _, choices, last) => choices_short(choices) && all_short(last),
-        Stmt::For(_, _, from, to, by, body) => turns_of(from, to, by) <= TURNS && all_short(body),
+        Stmt::For {
+            from,
+            to,
+            by,
+            body,
+            ..
+        } => turns_of(from, to, by) <= TURNS && all_short(body),
     }
 }
 

@@ -192,13 +192,27 @@ fn resolve_stmt(
             let last = resolve_body(alloc, scope, last, number)?;
             Ok(Stmt::Case(own, selector, choices, last))
         }
-        Stmt::For(_, variable, from, to, by, body) => {
+        Stmt::For {
+            variable,
+            from,
+            to,
+            by,
+            body,
+            ..
+        } => {
             let slot = scope.slot(alloc, variable.as_str())?;
             let from = resolve_expr(alloc, scope, from)?;
             let to = resolve_expr(alloc, scope, to)?;
             let by = resolve_option(alloc, scope, by)?;
             let body = resolve_body(alloc, scope, body, number)?;
-            Ok(Stmt::For(own, slot, from, to, by, body))
+            Ok(Stmt::For {
+                number: own,
+                variable: slot,
+                from,
+                to,
+                by,
+                body,
+            })
         }
     }
 }

@@ -123,12 +123,26 @@ fn copy_stmt<V: Duplicate>(alloc: Global, stmt: &Stmt<V>) -> Result<Stmt<V>, All
             let choices = copy_choices(alloc, choices)?;
             Ok(Stmt::Case(*number, selector, choices, copy_body(alloc, last)?))
         }
-        Stmt::For(number, variable, from, to, by, body) => {
+        Stmt::For {
+            number,
+            variable,
+            from,
+            to,
+            by,
+            body,
+        } => {
             let variable = variable.duplicate(alloc)?;
             let from = copy_expr(alloc, from)?;
             let to = copy_expr(alloc, to)?;
             let by = copy_option(alloc, by)?;
-            Ok(Stmt::For(*number, variable, from, to, by, copy_body(alloc, body)?))
+            Ok(Stmt::For {
+                number: *number,
+                variable,
+                from,
+                to,
+                by,
+                body: copy_body(alloc, body)?,
+            })
         }
     }
 }

@@ -247,7 +247,15 @@ fn repeated(alloc: Global) -> Result<Stmt<Text>, AllocError> {
     let from = Expr::Literal(Literal::Integer(1));
     let to = Expr::Literal(Literal::Integer(9));
     let by = Some(Expr::Literal(Literal::Integer(2)));
-    Ok(Stmt::For(6, variable, from, to, by, Vec::new(alloc)))
+    let body = Vec::new(alloc);
+    Ok(Stmt::For {
+        number: 6,
+        variable,
+        from,
+        to,
+        by,
+        body,
+    })
 }
 
 fn sample(alloc: Global) -> Result<Vec<Stmt<Text>>, AllocError> {
@@ -264,7 +272,14 @@ fn is_literal(expr: &Expr<Text>, n: i32) -> bool {
 
 fn is_repeated(stmt: &Stmt<Text>) -> bool {
     match stmt {
-        Stmt::For(6, variable, from, to, Some(by), body) => {
+        Stmt::For {
+            number: 6,
+            variable,
+            from,
+            to,
+            by: Some(by),
+            body,
+        } => {
             variable.as_bytes() == b"i".as_slice()
                 && is_literal(from, 1)
                 && is_literal(to, 9)

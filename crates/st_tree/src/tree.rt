@@ -121,5 +121,12 @@ pub enum Stmt<V> {
     /// `CASE`, its selector, its choices and the body of `ELSE`, which is empty where none is written.
     Case(u32, Expr<V>, Vec<Choice<V>>, Vec<Stmt<V>>),
     /// `FOR`, its control variable, its bounds `from` and `to`, its step, if one is written after `BY`, and its body.
-    For(u32, V, Expr<V>, Expr<V>, Option<Expr<V>>, Vec<Stmt<V>>),
+    For {
+        number: u32,
+        variable: V,
+        from: Expr<V>,
+        to: Expr<V>,
+        by: Option<Expr<V>>,
+        body: Vec<Stmt<V>>,
+    },
 }

@@ -142,7 +142,14 @@ fn run_stmt(stmt: &Stmt<usize>, cells: &mut Cells) -> Ended
             },
             Err(trap) => Ended::Trapped(*number, trap),
         },
-        Stmt::For(number, slot, from, to, by, body) => {
+        Stmt::For {
+            number,
+            variable: slot,
+            from,
+            to,
+            by,
+            body,
+        } => {
             match span_of(value(from, cells), value(to, cells), step_value(by, cells)) {
                 Ok(span) => run_turns(*slot, span, body, cells),
                 Err(trap) => Ended::Trapped(*number, trap),
