@@ -1,10 +1,9 @@
 -- Costs of worked examples.
 use Rattle.std.proofs.Common.{◌≡◌, ℕ, pos, [], ◌∷◌, None, refl}
-use Rattle.std.specs.Prelude.{Option, true}
 use Rattle.st_tree.specs.declared.tree.Literal.TheVariants.{Integer}
 use Rattle.st_tree.specs.declared.tree.Binary.TheVariants.{Add}
-use Rattle.st_tree.specs.Plain.{PlainExpr, literal, read, binary, PlainArgument, input, output}
-use Rattle.st_tree.specs.Plain.{PlainStmt, empty, assign, call, choose, select, repeat, PlainBody, done, next, branch, no_branch, choice, no_choice}
+use Rattle.st_tree.specs.Plain.{literal, read, binary, input, output}
+use Rattle.st_tree.specs.Plain.{empty, assign, call, choose, select, repeat, PlainBody, done, next, branch, no_branch, choice, no_choice}
 use Rattle.st_tree.specs.Costs.{body_cost, body_size}
 
 -- n := n + 1
