@@ -1,8 +1,7 @@
 -- Which texts are accepted as a plant's source, and why the others aren't.
-use Rattle.std.specs.Prelude.{◌≡◌, ⊤, ℕ, ◌-◌, ◌≤◌, Bool, if◌then◌else◌, List, length, Some, None, slice_get, codes}
-use Rattle.std.specs.Option.{option_map_or}
+use Rattle.std.specs.Prelude.{◌≡◌, ⊤, ℕ, ◌≤◌, Bool, if◌then◌else◌, List, length, Some, None, codes}
 use Rattle.st_lexer.specs.declared.token.Token.{Token}
-use Rattle.st_lexer.specs.Lexes.{Lexes, Stops, mark_len, unmarked}
+use Rattle.st_lexer.specs.Lexes.{Lexes, Stops, unmarked, start_of}
 use Rattle.st_lexer.specs.Places.{line_at, column_at}
 use Rattle.st_parser.specs.Lexemes.{lexemes}
 use Rattle.st_parser.specs.Units.{PlainUnit}
@@ -33,10 +32,6 @@ pub record Accepted (text : List ℕ) (plant : PlainPlant) : Type 0 where
   pub spelled : Spelled text plant.source
   pub sound : first_fault plant.source ≡ None
   pub example : IsExample plant
-
--- where a token begins, or, behind the last one, where the text ends; a byte order mark isn't counted
-abbrev pub start_of : List ℕ → List Token → ℕ → ℕ
-start_of text tokens token = option_map_or (λ t. t.from) (slice_get tokens token) (length text) - mark_len text
 
 -- the tokens of a text spell no unit; the place is that of one of them, or of the text's end
 pub record Unspelled (text : List ℕ) (line column : ℕ) : Type 0 where

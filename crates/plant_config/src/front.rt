@@ -1,14 +1,14 @@
 //! From a text to the logic that it spells.
 
 ghost use Rattle.std.specs.Prelude.{◌≡◌, ◌≤◌, None, IfOk, IfErr, length};
-ghost use Rattle.st_lexer.specs.Lexes.{Lexes, mark_len, unmarked};
+ghost use Rattle.st_lexer.specs.Lexes.{Lexes, mark_len, unmarked, start_of};
 ghost use Rattle.st_lexer.specs.Places.{line_at, column_at};
 ghost use Rattle.st_parser.specs.Declarations.{SpellsUnit};
 ghost use Rattle.st_parser.specs.Lexemes.{lexemes};
 ghost use Rattle.st_parser.specs.Units.{view_unit};
 ghost use Rattle.st_resolve.specs.Source.{source_of};
 ghost use Rattle.st_resolve.specs.Faults.{first_fault, Refuses};
-ghost use Rattle.plant_config.specs.Accepted.{Spelled, IsRefused, IsUnfit, start_of, unit_of};
+ghost use Rattle.plant_config.specs.Accepted.{Spelled, IsRefused, IsUnfit, unit_of};
 
 use crate::fault::ConfigFault;
 use crate::logic;

@@ -1,7 +1,8 @@
 -- The tokens of a text, and the place where it has none.
-use Rattle.std.specs.Prelude.{◌≡◌, ℕ, ◌+◌, ◌<◌, ◌≤◌, nat_eq, if◌then◌else◌, List, [], ◌∷◌, length, drop, Result, Ok, Err}
+use Rattle.std.specs.Prelude.{◌≡◌, ℕ, ◌+◌, ◌-◌, ◌<◌, ◌≤◌, nat_eq, if◌then◌else◌, List, [], ◌∷◌, length, drop, slice_get, Result, Ok, Err}
 use Rattle.std.specs.Prelude.{Vec}
 use Rattle.std.specs.List.{starts_with, slice_range}
+use Rattle.std.specs.Option.{option_map_or}
 use Rattle.std.specs.declared.alloc.Global.{Global}
 use Rattle.st_lexer.specs.declared.token.Token.{Token}
 use Rattle.st_lexer.specs.declared.piece.Piece.{Piece}
@@ -19,6 +20,10 @@ mark_len text = if starts_with nat_eq text (239 ∷ 187 ∷ 191 ∷ []) then 3 e
 -- the text behind it
 abbrev pub unmarked : List ℕ → List ℕ
 unmarked text = drop (mark_len text) text
+
+-- where the token of this number begins, or where the text ends if it has fewer tokens; a byte order mark isn't counted
+abbrev pub start_of : List ℕ → List Token → ℕ → ℕ
+start_of text tokens number = option_map_or (λ t. t.from) (slice_get tokens number) (length text) - mark_len text
 
 -- the pieces that are no separators, with their places
 abbrev pub tokens_of : ℕ → List (Piece × ℕ) → List Token

@@ -2,11 +2,11 @@
 
 ghost use Rattle.std.specs.Prelude.{◌≡◌, ℕ, List, [], ◌∷◌, ◌++◌, ◌+◌, ◌<◌, ◌≤◌, ◌^◌, length, All, IfOk, IfErr, OnOk, count_by, ◌==◌, not};
 ghost use Rattle.std.specs.List.{suffix_len};
-ghost use Rattle.st_lexer.specs.Lexes.{Lexes, Stops, IsTokenOf, IfBad, mark_len, tokens_of};
+ghost use Rattle.st_lexer.specs.Lexes.{Lexes, Stops, IsTokenOf, IfBad, tokens_of};
 
 use crate::next::next;
 use crate::piece::Piece;
-use crate::places::place_behind;
+use crate::places::{mark_len, place_behind};
 use crate::token::Token;
 use std::alloc::{AllocFailed, Global};
 
@@ -31,17 +31,6 @@ impl<T: Drop> From<AllocFailed<T>> for LexFault {
     }
 }
 
-// How many bytes of a byte order mark a text begins with.
-fn mark_len(text: &[u8]) -> usize
-    ensures found { result ≡ mark_len text.now }
-    ensures within { result ≤ length text.now }
-{
-    match text {
-        [0xEF, 0xBB, 0xBF, ..] => 3,
-        _ => 0,
-    }
-}
-
 fn keep(tokens: &mut Vec<Token>, piece: Piece, from: usize, n: usize) -> Result<(), LexFault>
     requires { from + n < 2 ^ 64 }
     ensures kept { OnOk result (tokens.new.items ≡ tokens.old.items ++ tokens_of from ((piece, n) ∷ [])) }
@@ -60,7 +49,6 @@ fn keep(tokens: &mut Vec<Token>, piece: Piece, from: usize, n: usize) -> Result<
 
 // The fault of a text whose pieces can't go on behind these bytes.
 fn bad(before: &[u8]) -> LexFault
-    requires { length before.now + 1 < 2 ^ 64 }
     ensures { result ≡ LexFault.Bad (count_by (λ b. b == 10) before.now + 1) (suffix_len (λ b. not (b == 10)) before.now + 1) }
 {
     let (line, column) = place_behind(before);

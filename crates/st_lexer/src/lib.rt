@@ -20,5 +20,5 @@ mod token;
 pub use laws::{one_answer, one_cut};
 pub use lexer::{LexFault, lex};
 pub use piece::Piece;
-pub use places::place_behind;
+pub use places::{place_behind, place_of};
 pub use token::{Keyword, Symbol, Token, TokenKind};
