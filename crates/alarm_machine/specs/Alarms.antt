@@ -1,14 +1,15 @@
--- One alarm: what it keeps, and what scans and orders make of it by the table of transitions.
-use Rattle.std.specs.Prelude.{◌≡◌, ℕ, ◌≤◌, Bool, true, false, ◌&&◌, not, Option, Some, None, Result, Ok, Err}
+-- One alarm: what it stores, and how scans and orders change it by the table of transitions.
+use Rattle.std.specs.Prelude.{◌≡◌, ℕ, ◌+◌, ◌≤◌, Bool, true, false, ◌&&◌, not, Option, Some, None, Result, Ok, Err}
 use Rattle.alarm_machine.specs.declared.states.AlarmState.{AlarmState}
 use Rattle.alarm_machine.specs.declared.states.AlarmState.TheVariants as state
 use Rattle.alarm_machine.specs.declared.states.Verb.{Verb}
 use Rattle.alarm_machine.specs.declared.states.Verb.TheVariants as verb
 use Rattle.alarm_machine.specs.declared.states.OrderFault.{OrderFault}
+use Rattle.alarm_machine.specs.declared.limits.TheConstants.{LAST_MOMENT, LONGEST_SHELVE_MS}
 use Rattle.alarm_machine.specs.Codes.{PlainChange, code_of, change_between}
 use Rattle.alarm_machine.specs.Transitions.{on_scan, on_ack, on_reset, on_shelve, on_unshelve, on_remove, on_return, wrong_state}
 
--- what is fixed for an alarm, its state, and the condition and the suppression of the last scan
+-- an alarm: whether it latches, its longest shelving, its state, and the condition and suppression of the last scan
 pub record PlainAlarm : Type 0 where
   pub latching : Bool
   pub max_shelve_ms : ℕ
@@ -16,7 +17,7 @@ pub record PlainAlarm : Type 0 where
   pub condition : Bool
   pub suppressed : Bool
 
--- an alarm before the first scan: it is normal, and the last condition and suppression are FALSE
+-- an alarm before the first scan: it is normal, its last condition and suppression are FALSE
 abbrev pub new_alarm : Bool → ℕ → PlainAlarm
 new_alarm latching max_shelve_ms = record { latching = latching; max_shelve_ms = max_shelve_ms; state = state.Norm; condition = false; suppressed = false }
 
@@ -24,7 +25,7 @@ new_alarm latching max_shelve_ms = record { latching = latching; max_shelve_ms =
 abbrev pub after_scan : Bool → Bool → ℕ → PlainAlarm → PlainAlarm
 after_scan c s t a = record a { state = on_scan a.latching a.state c s t; condition = c; suppressed = s }
 
--- the state to which an order leads, last being the last scan's moment; a restart is for programs alone
+-- the state after an order, or its refusal; last is the moment of the last scan; a restart is only for programs
 abbrev pub on_order : Verb → ℕ → PlainAlarm → Result AlarmState OrderFault
 on_order verb.Ack last a = on_ack a.state
 on_order verb.Reset last a = on_reset a.state
@@ -38,35 +39,35 @@ on_order verb.Restart last a = wrong_state
 abbrev pub after_order : Verb → ℕ → PlainAlarm → Result PlainAlarm OrderFault
 after_order v last a = elim (on_order v last a) [ Ok new ↦ Ok (record a { state = new }) | Err e ↦ Err e ]
 
--- an order that is taken leaves the new alarm and tells the change of its code; a refused one leaves the old alarm
-abbrev pub Answers : Result PlainAlarm OrderFault → PlainAlarm → PlainAlarm → Result (Option PlainChange) OrderFault → Type 0
-Answers (Ok a) old new r = (new ≡ a) × (r ≡ Ok (change_between (code_of old.state) (code_of a.state)))
-Answers (Err e) old new r = (new ≡ old) × (r ≡ Err e)
+-- an order that is taken leaves the new alarm and returns the change of its code; a refused one leaves the old alarm and returns the refusal
+abbrev pub AnswersOrder : Result PlainAlarm OrderFault → PlainAlarm → PlainAlarm → Result (Option PlainChange) OrderFault → Type 0
+AnswersOrder (Ok a) old new r = (new ≡ a) × (r ≡ Ok (change_between (code_of old.state) (code_of a.state)))
+AnswersOrder (Err e) old new r = (new ≡ old) × (r ≡ Err e)
 
 -- the moment at which a state's shelf ends
 abbrev pub end_of : AlarmState → Option ℕ
 end_of (state.Shelved e) = Some e
 end_of _ = None
 
--- a shelf ends at most the longest shelving after the last moment of all
+-- a shelf ends at most the longest shelving after the last moment
 abbrev pub EndsInRange : AlarmState → Type 0
-EndsInRange (state.Shelved e) = e ≤ 4002592000000
+EndsInRange (state.Shelved e) = e ≤ LAST_MOMENT + LONGEST_SHELVE_MS
 EndsInRange _ = Unit {0}
 
 -- whether a state is one that a scan with this condition and suppression can leave
-abbrev pub settled : AlarmState → Bool → Bool → Bool
-settled state.Norm c s = not c && not s
-settled state.Unack c s = c && not s
-settled state.Acked c s = c && not s
-settled state.Rtnun c s = not c && not s
-settled state.Latun c s = not c && not s
-settled state.Latak c s = not c && not s
-settled (state.Shelved e) c s = true
-settled state.Suppr c s = s
-settled state.Oos c s = true
+abbrev pub is_settled : AlarmState → Bool → Bool → Bool
+is_settled state.Norm c s = not c && not s
+is_settled state.Unack c s = c && not s
+is_settled state.Acked c s = c && not s
+is_settled state.Rtnun c s = not c && not s
+is_settled state.Latun c s = not c && not s
+is_settled state.Latak c s = not c && not s
+is_settled (state.Shelved e) c s = true
+is_settled state.Suppr c s = s
+is_settled state.Oos c s = true
 
 -- what holds of every alarm
 pub record IsAlarm (a : PlainAlarm) : Type 0 where
-  pub most_in_range : a.max_shelve_ms ≤ 2592000000
+  pub most_in_range : a.max_shelve_ms ≤ LONGEST_SHELVE_MS
   pub end_in_range : EndsInRange a.state
-  pub is_settled : settled a.state a.condition a.suppressed ≡ true
+  pub settled : is_settled a.state a.condition a.suppressed ≡ true

@@ -1,4 +1,4 @@
--- The codes of an alarm's states, how they are printed, and what a change of them is.
+-- The codes of an alarm's states, how they are printed, and when a code has changed.
 use Rattle.std.specs.Prelude.{ℕ, ◌==◌, Bool, if◌then◌else◌, Option, Some, None, List, codes}
 use Rattle.alarm_machine.specs.declared.states.Code.{Code}
 use Rattle.alarm_machine.specs.declared.states.Code.TheVariants as code
@@ -17,7 +17,7 @@ code_of (state.Shelved e) = code.Shelved
 code_of state.Suppr = code.Suppr
 code_of state.Oos = code.Oos
 
--- how a code is printed
+-- the text of a code
 abbrev pub code_text : Code → List ℕ
 code_text code.Norm = codes "NORM"
 code_text code.Unack = codes "UNACK"
@@ -29,7 +29,7 @@ code_text code.Shelved = codes "SHELVED"
 code_text code.Suppr = codes "SUPPR"
 code_text code.Oos = codes "OOS"
 
--- the place of a code in the order in which codes are listed
+-- the place of a code in the list of codes, from 0
 abbrev pub rank : Code → ℕ
 rank code.Norm = 0
 rank code.Unack = 1
@@ -41,15 +41,15 @@ rank code.Shelved = 6
 rank code.Suppr = 7
 rank code.Oos = 8
 
--- whether two codes are one
+-- whether two codes are the same
 abbrev pub same_code : Code → Code → Bool
 same_code a b = rank a == rank b
 
--- from one code to another
+-- a change of a code: the code before and the code after
 pub record PlainChange : Type 0 where
   pub from : Code
   pub to : Code
 
--- the move from one code to another, if they differ
+-- the change from one code to another, if they differ
 abbrev pub change_between : Code → Code → Option PlainChange
 change_between a b = if same_code a b then None else Some (record { from = a; to = b })

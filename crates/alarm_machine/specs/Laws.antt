@@ -5,35 +5,35 @@ use Rattle.alarm_machine.specs.declared.states.AlarmState.{AlarmState}
 use Rattle.alarm_machine.specs.declared.states.AlarmState.TheVariants as state
 use Rattle.alarm_machine.specs.Codes.{code_text, change_between}
 use Rattle.alarm_machine.specs.Transitions.{on_scan}
-use Rattle.alarm_machine.specs.Alarms.{PlainAlarm, after_scan, settled}
+use Rattle.alarm_machine.specs.Alarms.{PlainAlarm, after_scan, is_settled}
 
--- what is printed tells the codes apart
-abbrev pub TextsTellApart : Type 0
-TextsTellApart = (a b : Code) → code_text a ≡ code_text b → a ≡ b
+-- codes that are printed alike are the same
+abbrev pub CodesPrintDifferently : Type 0
+CodesPrintDifferently = (a b : Code) → code_text a ≡ code_text b → a ≡ b
 
--- a change is told wherever two codes differ
-abbrev pub DifferencesAreTold : Type 0
-DifferencesAreTold = (a b : Code) → change_between a b ≡ None → a ≡ b
+-- a change is reported wherever two codes differ
+abbrev pub CodeChangesAreReported : Type 0
+CodeChangesAreReported = (a b : Code) → change_between a b ≡ None → a ≡ b
 
 -- whether a shelf ends by moment t
 abbrev pub shelf_ends : ℕ → AlarmState → Bool
 shelf_ends t (state.Shelved e) = nat_le e t
 shelf_ends t _ = false
 
--- a second scan that sees the same changes nothing, unless a shelf ends
-abbrev pub ScansSettle : Type 0
-ScansSettle = (c s : Bool) (t u : ℕ) (a : PlainAlarm) → shelf_ends u (after_scan c s t a).state ≡ false → after_scan c s u (after_scan c s t a) ≡ after_scan c s t a
+-- a second scan with the same condition and suppression changes nothing, unless a shelf ends
+abbrev pub RepeatedScanChangesNothing : Type 0
+RepeatedScanChangesNothing = (c s : Bool) (t u : ℕ) (a : PlainAlarm) → shelf_ends u (after_scan c s t a).state ≡ false → after_scan c s u (after_scan c s t a) ≡ after_scan c s t a
 
--- whether an alarm waits for an acknowledgement
+-- whether a state waits for an acknowledgement
 abbrev pub waits_for_ack : AlarmState → Bool
 waits_for_ack state.Unack = true
 waits_for_ack state.Rtnun = true
 waits_for_ack state.Latun = true
 waits_for_ack _ = false
 
--- an alarm that waits for an acknowledgement goes on waiting through every scan that doesn't suppress it
-abbrev pub NoScanAcknowledges : Type 0
-NoScanAcknowledges = (l c : Bool) (t : ℕ) (x : AlarmState) → waits_for_ack x ≡ true → waits_for_ack (on_scan l x c false t) ≡ true
+-- a scan without suppression leaves every alarm waiting that waits for an acknowledgement
+abbrev pub NoUnsuppressedScanAcknowledges : Type 0
+NoUnsuppressedScanAcknowledges = (l c : Bool) (t : ℕ) (x : AlarmState) → waits_for_ack x ≡ true → waits_for_ack (on_scan l x c false t) ≡ true
 
 -- whether an alarm is neither shelved nor out of service
 abbrev pub in_service : AlarmState → Bool
@@ -41,6 +41,6 @@ in_service (state.Shelved e) = false
 in_service state.Oos = false
 in_service _ = true
 
--- a condition that comes anew wants an acknowledgement: where an alarm was left without a condition, a scan with one and no suppression leaves it unacknowledged
-abbrev pub NewConditionsWantAck : Type 0
-NewConditionsWantAck = (l s : Bool) (t : ℕ) (x : AlarmState) → settled x false s ≡ true → in_service x ≡ true → on_scan l x true false t ≡ state.Unack
+-- a scan with a condition and no suppression leaves an alarm in service unacknowledged that had no condition before
+abbrev pub NewConditionInServiceNeedsAck : Type 0
+NewConditionInServiceNeedsAck = (l s : Bool) (t : ℕ) (x : AlarmState) → is_settled x false s ≡ true → in_service x ≡ true → on_scan l x true false t ≡ state.Unack

@@ -1,11 +1,11 @@
--- How orders and their refusals are printed.
+-- The texts of orders and of their refusals.
 use Rattle.std.specs.Prelude.{ℕ, List, codes}
 use Rattle.alarm_machine.specs.declared.states.Verb.{Verb}
 use Rattle.alarm_machine.specs.declared.states.Verb.TheVariants as verb
 use Rattle.alarm_machine.specs.declared.states.OrderFault.{OrderFault}
 use Rattle.alarm_machine.specs.declared.states.OrderFault.TheVariants as fault
 
--- the word of an order
+-- the text of an order: its command word
 abbrev pub verb_text : Verb → List ℕ
 verb_text verb.Ack = codes "ack"
 verb_text verb.Reset = codes "reset"
@@ -15,7 +15,7 @@ verb_text verb.Remove = codes "remove"
 verb_text verb.PutBack = codes "return"
 verb_text verb.Restart = codes "restart"
 
--- the number of a refusal, as it is printed
+-- the text of a refusal: its number
 abbrev pub order_fault_text : OrderFault → List ℕ
 order_fault_text fault.UnknownTarget = codes "O1"
 order_fault_text fault.NotYourArea = codes "O2"

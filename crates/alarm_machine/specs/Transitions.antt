@@ -5,7 +5,7 @@ use Rattle.alarm_machine.specs.declared.states.AlarmState.TheVariants as state
 use Rattle.alarm_machine.specs.declared.states.OrderFault.{OrderFault}
 use Rattle.alarm_machine.specs.declared.states.OrderFault.TheVariants as fault
 
--- where an alarm goes on that was shelved, suppressed or out of service: c is the condition, s the suppression
+-- the state of an alarm that is no longer shelved, suppressed or out of service: c is the condition, s the suppression
 abbrev pub resume : Bool → Bool → AlarmState
 resume c s = if s then state.Suppr else if c then state.Unack else state.Norm
 
@@ -49,11 +49,11 @@ on_reset (state.Shelved e) = wrong_state
 on_reset state.Suppr = wrong_state
 on_reset state.Oos = wrong_state
 
--- a new shelf for d milliseconds from the last moment on, if d is from 1 to the most that the alarm allows; else O4
+-- a new shelf for d milliseconds after the last moment, if d is from 1 to the alarm's longest shelving; else O4
 abbrev pub new_shelf : ℕ → ℕ → ℕ → Result AlarmState OrderFault
 new_shelf d most last = if nat_le 1 d && nat_le d most then Ok (state.Shelved (last + d)) else Err fault.ShelveTime
 
--- shelving for d: the state is tested before the time
+-- shelving for d milliseconds: the state is tested before the time
 abbrev pub on_shelve : ℕ → ℕ → ℕ → AlarmState → Result AlarmState OrderFault
 on_shelve d most last state.Norm = new_shelf d most last
 on_shelve d most last state.Unack = new_shelf d most last
@@ -65,7 +65,7 @@ on_shelve d most last (state.Shelved e) = new_shelf d most last
 on_shelve d most last state.Suppr = wrong_state
 on_shelve d most last state.Oos = wrong_state
 
--- unshelving, with the condition and the suppression of the last scan
+-- the end of a shelf by hand, with the condition and suppression of the last scan
 abbrev pub on_unshelve : Bool → Bool → AlarmState → Result AlarmState OrderFault
 on_unshelve c s (state.Shelved e) = Ok (resume c s)
 on_unshelve c s _ = wrong_state
@@ -75,7 +75,7 @@ abbrev pub on_remove : AlarmState → Result AlarmState OrderFault
 on_remove state.Oos = wrong_state
 on_remove _ = Ok state.Oos
 
--- return to service, with the condition and the suppression of the last scan
+-- return to service, with the condition and suppression of the last scan
 abbrev pub on_return : Bool → Bool → AlarmState → Result AlarmState OrderFault
 on_return c s state.Oos = Ok (resume c s)
 on_return c s _ = wrong_state

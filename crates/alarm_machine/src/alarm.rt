@@ -1,13 +1,14 @@
 ghost use Rattle.std.specs.Prelude.{◌≡◌, ◌≤◌, ◌↔◌, IsTrue, IfOk, true};
 ghost use Rattle.alarm_machine.specs.Codes.{code_of, change_between};
 ghost use Rattle.alarm_machine.specs.Transitions.{resume, on_scan};
-ghost use Rattle.alarm_machine.specs.Alarms.{new_alarm, after_scan, after_order, on_order, end_of, settled, Answers, EndsInRange};
+ghost use Rattle.alarm_machine.specs.Alarms.{new_alarm, after_scan, after_order, on_order, end_of, is_settled, AnswersOrder, EndsInRange};
+ghost use Rattle.alarm_machine.specs.declared.limits.TheConstants.{LAST_MOMENT, LONGEST_SHELVE_MS};
 
 use crate::change::Change;
 use crate::states::{AlarmState, OrderFault, Verb};
 use std::marker::Model;
 
-/// One alarm: whether it latches, its longest shelving, its state, and the condition and the suppression of the last scan.
+/// One alarm: whether it latches, its longest shelving, its state, and the condition and suppression of the last scan.
 #[derive(Clone, Copy, Debug, PartialEq, Eq, Drop)]
 pub struct Alarm {
     latching: bool,
@@ -29,7 +30,7 @@ impl Model for Alarm {
     ghost inverse = { λ a. record { latching = a.latching; max_shelve_ms = a.max_shelve_ms; state = a.state; condition = a.condition; suppressed = a.suppressed } };
 }
 
-/// Where an alarm goes on that was shelved, suppressed or out of service.
+/// The state of an alarm that is no longer shelved, suppressed or out of service.
 fn resume(condition: bool, suppressed: bool) -> AlarmState
     ensures { result ≡ resume condition suppressed }
 {
@@ -42,7 +43,7 @@ fn resume(condition: bool, suppressed: bool) -> AlarmState
     }
 }
 
-/// The state in which a scan leaves an alarm.
+/// The state of an alarm after a scan, by the table of transitions.
 fn on_scan(
     latching: bool,
     state: AlarmState,
@@ -68,10 +69,10 @@ fn on_scan(
 }
 
 impl Alarm {
-    /// An alarm before the first scan: it is normal, its last condition and suppression are FALSE.
-    /// `max_shelve_ms` is its longest shelving in milliseconds, at most 30 days.
+    /// Makes an alarm before its first scan: it is normal, its last condition and suppression are FALSE.
+    /// `max_shelve_ms` is its longest shelving in milliseconds, at most 30 days; at 0 it can't be shelved.
     pub fn new(latching: bool, max_shelve_ms: u64) -> Alarm
-        requires { max_shelve_ms ≤ 2592000000 }
+        requires { max_shelve_ms ≤ LONGEST_SHELVE_MS }
         ensures { result ≡ new_alarm latching max_shelve_ms }
     {
         Alarm {
@@ -83,24 +84,24 @@ impl Alarm {
         }
     }
 
-    /// The state now.
+    /// The state.
     pub fn state(&self) -> AlarmState
         ensures { result ≡ self.now.state }
     {
         self.state
     }
 
-    /// Whether the alarm stays latched when its condition goes, until it is reset.
+    /// Whether the alarm stays latched after its condition has gone, until it is reset.
     pub fn latching(&self) -> bool
         ensures { result ≡ self.now.latching }
     {
         self.latching
     }
 
-    /// The longest time in milliseconds for which the alarm may be shelved.
+    /// The longest time for which the alarm may be shelved, in milliseconds.
     pub fn max_shelve_ms(&self) -> u64
         ensures time { result ≡ self.now.max_shelve_ms }
-        ensures in_range { result ≤ 2592000000 }
+        ensures in_range { result ≤ LONGEST_SHELVE_MS }
     {
         self.max_shelve_ms
     }
@@ -119,7 +120,7 @@ impl Alarm {
         self.suppressed
     }
 
-    /// The moment at which the shelf ends, for a shelved alarm alone.
+    /// The moment at which the shelf ends, in milliseconds; `None` unless the alarm is shelved.
     pub fn end(&self) -> Option<u64>
         ensures end { result ≡ end_of self.now.state }
         ensures in_range { EndsInRange self.now.state }
@@ -127,7 +128,7 @@ impl Alarm {
         self.state.end()
     }
 
-    /// Whether a scan would leave the alarm just as it is. It is found without the table: the scan sees the same as the last one, and no shelf ends.
+    /// Whether a scan would change nothing of the alarm: its condition and suppression are those of the last scan, and no shelf ends.
     pub fn rests(&self, condition: bool, suppressed: bool, moment: u64) -> bool
         ensures { IsTrue result ↔ (after_scan condition suppressed moment self.now ≡ self.now) }
     {
@@ -138,7 +139,8 @@ impl Alarm {
         self.condition == condition && self.suppressed == suppressed && !shelf_ends
     }
 
-    /// A scan at a moment, in milliseconds, with the alarm's condition and suppression after the scan's programs. It tells the change of the alarm's code, if there is one.
+    /// Takes a scan at a moment in milliseconds, with the alarm's condition and suppression after the scan's programs.
+    /// Returns the change of the alarm's code, if there is one.
     pub fn scan(&mut self, condition: bool, suppressed: bool, moment: u64) -> Option<Change>
         ensures alarm { self.new ≡ after_scan condition suppressed moment self.old }
         ensures change { result ≡ change_between (code_of self.old.state) (code_of self.new.state) }
@@ -150,11 +152,11 @@ impl Alarm {
         Change::between(before, self.state.code())
     }
 
-    /// The state to which an order leads, or the refusal.
+    /// The state after an order, or the order's refusal.
     fn on_order(&self, verb: Verb, last: u64) -> Result<AlarmState, OrderFault>
-        requires { last ≤ 4000000000000 }
+        requires { last ≤ LAST_MOMENT }
         ensures state { result ≡ on_order verb last self.now }
-        ensures stays { IfOk result (λ s. EndsInRange s × (settled s self.now.condition self.now.suppressed ≡ true)) }
+        ensures stays { IfOk result (λ s. EndsInRange s × (is_settled s self.now.condition self.now.suppressed ≡ true)) }
     {
         match (verb, self.state) {
             (Verb::Ack, AlarmState::Unack) => Ok(AlarmState::Acked),
@@ -178,21 +180,17 @@ impl Alarm {
         }
     }
 
-    /// An order of an operator, `last` being the moment of the last scan in milliseconds, at most 4,000,000,000,000, or 0 before the first.
-    /// It tells the change of the alarm's code, if there is one; a second shelving moves the shelf's end and changes no code.
-    /// A refusal changes nothing: `WrongState` (O3) where the state doesn't take the order, and then `ShelveTime` (O4) where the time is out of range.
+    /// Takes an operator's order; `last` is the moment of the last scan in milliseconds, 0 before the first.
+    /// Returns the change of the alarm's code, if there is one: a second shelving moves the shelf's end and changes no code.
+    /// Fails with `WrongState` (O3) where the state doesn't take the order, else with `ShelveTime` (O4) where the time is out of range, and then changes nothing.
     pub fn order(&mut self, verb: Verb, last: u64) -> Result<Option<Change>, OrderFault>
-        requires { last ≤ 4000000000000 }
-        ensures { Answers (after_order verb last self.old) self.old self.new result }
+        requires { last ≤ LAST_MOMENT }
+        ensures { AnswersOrder (after_order verb last self.old) self.old self.new result }
     {
-        match self.on_order(verb, last) {
-            Ok(state) => {
-                let before = self.state.code();
-                self.state = state;
-                Ok(Change::between(before, self.state.code()))
-            }
-            Err(fault) => Err(fault),
-        }
+        let state = self.on_order(verb, last)?;
+        let before = self.state.code();
+        self.state = state;
+        Ok(Change::between(before, state.code()))
     }
 }
 

@@ -25,7 +25,7 @@ impl Model for Change {
 }
 
 impl Change {
-    /// The change from one code to another, or None where they are one.
+    /// The change from one code to another; `None` if they are the same.
     pub fn between(from: Code, to: Code) -> Option<Change>
         ensures { result ≡ change_between from to }
     {

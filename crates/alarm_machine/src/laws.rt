@@ -1,40 +1,26 @@
-ghost use Rattle.alarm_machine.specs.Laws.{DifferencesAreTold, NewConditionsWantAck, NoScanAcknowledges, ScansSettle, TextsTellApart};
+ghost use Rattle.alarm_machine.specs.Laws.{CodeChangesAreReported, CodesPrintDifferently, NewConditionInServiceNeedsAck, NoUnsuppressedScanAcknowledges, RepeatedScanChangesNothing};
 
-/// What is printed tells the codes apart. (A law alone: it does nothing.)
-pub fn texts_tell_codes_apart()
-    ensures { TextsTellApart }
+/// Law: codes that are printed alike are the same code. (It does nothing when it is called.)
+pub fn codes_print_differently()
+    ensures { CodesPrintDifferently }
 {}
 
-/// A second scan that sees the same condition and suppression changes nothing, unless a shelf ends. (A law alone: it does nothing.)
-pub fn scans_settle()
-    ensures { ScansSettle }
+/// Law: a change of an alarm's code is reported wherever the two codes differ. (It does nothing when it is called.)
+pub fn code_changes_are_reported()
+    ensures { CodeChangesAreReported }
 {}
 
-/// An alarm that waits for an acknowledgement goes on waiting through every scan that doesn't suppress it. (A law alone: it does nothing.)
-pub fn no_scan_acknowledges()
-    ensures { NoScanAcknowledges }
+/// Law: a second scan with the same condition and suppression changes nothing until a shelf ends. (It does nothing when it is called.)
+pub fn repeated_scan_changes_nothing()
+    ensures { RepeatedScanChangesNothing }
 {}
 
-/// A change of an alarm's code is told wherever the code differs. (A law alone: it does nothing.)
-pub fn differences_are_told()
-    ensures { DifferencesAreTold }
+/// Law: a scan that doesn't suppress an alarm never acknowledges it: an unacknowledged alarm stays unacknowledged. (It does nothing when it is called.)
+pub fn no_unsuppressed_scan_acknowledges()
+    ensures { NoUnsuppressedScanAcknowledges }
 {}
 
-/// A condition that comes anew leaves an alarm in service unacknowledged, unless it is suppressed. (A law alone: it does nothing.)
-pub fn new_conditions_want_ack()
-    ensures { NewConditionsWantAck }
+/// Law: a new condition makes an alarm unacknowledged if it is in service and the scan doesn't suppress it. (It does nothing when it is called.)
+pub fn new_condition_in_service_needs_ack()
+    ensures { NewConditionInServiceNeedsAck }
 {}
-
-#[cfg(test)]
-mod tests {
-    use super::*;
-
-    #[test]
-    fn laws_can_be_called() {
-        texts_tell_codes_apart();
-        scans_settle();
-        no_scan_acknowledges();
-        differences_are_told();
-        new_conditions_want_ack();
-    }
-}

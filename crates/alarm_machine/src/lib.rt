@@ -1,18 +1,20 @@
-//! One alarm: its nine states, the table of transitions, and the orders that it takes.
+//! One alarm: its nine states, the table of their transitions, and the orders that it takes.
 //!
-//! The states are those of ANSI/ISA-18.2 and IEC 62682; the table with its codes, and what happens where the standards leave a choice, are this profile's.
-//! Nothing here takes memory, and an alarm knows neither clock nor console: each scan hands in its condition, its suppression and its moment.
+//! The states are those of ANSI/ISA-18.2 and IEC 62682; the table with its codes, and every choice that the standards leave open, are this profile's.
+//! Nothing here allocates memory, and an alarm knows neither clock nor console: each scan passes its condition, its suppression and the moment.
 #![tactic(auto)]
 
 mod alarm;
 mod change;
 mod laws;
+mod limits;
 mod states;
 
 pub use alarm::Alarm;
 pub use change::Change;
 pub use laws::{
-    differences_are_told, new_conditions_want_ack, no_scan_acknowledges, scans_settle,
-    texts_tell_codes_apart,
+    code_changes_are_reported, codes_print_differently, new_condition_in_service_needs_ack,
+    no_unsuppressed_scan_acknowledges, repeated_scan_changes_nothing,
 };
+pub use limits::{LAST_MOMENT, LONGEST_SHELVE_MS};
 pub use states::{AlarmState, Code, OrderFault, Verb};

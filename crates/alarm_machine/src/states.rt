@@ -3,7 +3,7 @@ ghost use Rattle.alarm_machine.specs.Alarms.{end_of};
 ghost use Rattle.alarm_machine.specs.Codes.{code_of, code_text, rank};
 ghost use Rattle.alarm_machine.specs.Orders.{order_fault_text, verb_text};
 
-/// The name of a state, as it is printed and counted (this profile's codes). Their order is the one in which they stand here.
+/// The name of a state, as it is printed and counted (this profile's codes), in the order in which codes are listed.
 #[derive(Clone, Copy, Debug, PartialEq, Eq, Drop)]
 pub enum Code {
     /// Normal.
@@ -20,14 +20,14 @@ pub enum Code {
     Latak,
     /// Shelved by an operator for a time.
     Shelved,
-    /// Suppressed by design: the logic says that the alarm has no meaning now.
+    /// Suppressed by design: the plant's logic says that the alarm has no meaning now.
     Suppr,
     /// Out of service, by hand.
     Oos,
 }
 
 impl Code {
-    /// All codes in their order.
+    /// All codes, in their order.
     pub fn all() -> [Code; 9]
         ensures { map rank result ≡ 0 ∷ 1 ∷ 2 ∷ 3 ∷ 4 ∷ 5 ∷ 6 ∷ 7 ∷ 8 ∷ [] }
     {
@@ -44,14 +44,14 @@ impl Code {
         ]
     }
 
-    /// Its place in the order of codes, from 0 for NORM to 8 for OOS.
+    /// Its place in the list of codes, from 0 for NORM to 8 for OOS.
     pub fn rank(self) -> u8
         ensures { result ≡ rank self }
     {
         self as u8
     }
 
-    /// How it is printed, as `NORM` or `UNACK`.
+    /// Its text, as `NORM` or `UNACK`.
     pub fn text(self) -> &'static str
         ensures { result.now ≡ code_text self }
     {
@@ -69,14 +69,14 @@ impl Code {
     }
 }
 
-/// What an operator asks of an alarm, or of a program (`Restart`).
+/// What an operator orders of an alarm, or of a program (`Restart`).
 #[derive(Clone, Copy, Debug, PartialEq, Eq, Drop)]
 pub enum Verb {
     /// Acknowledge the alarm.
     Ack,
     /// Reset a latched alarm.
     Reset,
-    /// Shelve the alarm for so many milliseconds after the last scan.
+    /// Shelve the alarm until this many milliseconds after the last scan.
     Shelve(u64),
     /// End a shelf by hand.
     Unshelve,
@@ -84,12 +84,12 @@ pub enum Verb {
     Remove,
     /// Return the alarm to service.
     PutBack,
-    /// Restart a program that a trap has stopped. No alarm takes it.
+    /// Restart a program that a trap has stopped. Every alarm refuses it.
     Restart,
 }
 
 impl Verb {
-    /// The word of the order, as `ack` or `shelve`.
+    /// Its command word, as `ack` or `shelve`.
     pub fn text(self) -> &'static str
         ensures { result.now ≡ verb_text self }
     {
@@ -105,7 +105,7 @@ impl Verb {
     }
 }
 
-/// Why an order is refused, in the order in which it is tested (this profile). An alarm by itself answers `WrongState` and `ShelveTime` alone.
+/// Why an order is refused; the first reason that holds, in this order, is the reply (this profile). An alarm itself returns only `WrongState` and `ShelveTime`.
 #[derive(Clone, Copy, Debug, PartialEq, Eq, Drop)]
 pub enum OrderFault {
     /// O1: there is no such alarm or program.
@@ -121,7 +121,7 @@ pub enum OrderFault {
 }
 
 impl OrderFault {
-    /// How it is printed, as `O3`.
+    /// Its number, as `O3`.
     pub fn text(self) -> &'static str
         ensures { result.now ≡ order_fault_text self }
     {
@@ -135,7 +135,7 @@ impl OrderFault {
     }
 }
 
-/// The state of an alarm (ANSI/ISA-18.2, IEC 62682). `Code` says what each means.
+/// The state of an alarm (ANSI/ISA-18.2, IEC 62682). `Code` explains each.
 #[derive(Clone, Copy, Debug, PartialEq, Eq, Drop)]
 pub enum AlarmState {
     Norm,
@@ -144,7 +144,7 @@ pub enum AlarmState {
     Rtnun,
     Latun,
     Latak,
-    /// With the moment at which the shelf ends, in milliseconds: the first scan at that moment or later ends it.
+    /// Until this moment, in milliseconds: the first scan at that moment or after it ends the shelf.
     Shelved(u64),
     Suppr,
     Oos,
@@ -168,7 +168,7 @@ impl AlarmState {
         }
     }
 
-    /// The moment at which the shelf ends, for a shelved alarm alone.
+    /// The moment at which the shelf ends, in milliseconds; `None` unless the alarm is shelved.
     pub fn end(self) -> Option<u64>
         ensures { result ≡ end_of self }
     {

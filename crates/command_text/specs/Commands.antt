@@ -1,4 +1,4 @@
--- What a line asks for. Each command is one case more of `command_in`, and has a definition of the words behind its name.
+-- The command of a line. Each command is a case of `command_in`, and has a definition of the words after its name.
 use Rattle.std.specs.Prelude.{ℕ, ◌==◌, ◌∷◌, [], List, Bool, false, if◌then◌else◌, length, nat_lt, Some, None, codes}
 use Rattle.std.specs.Str.{bytes_eq}
 use Rattle.plant_types.specs.Pairs.{PlainPair}
@@ -10,21 +10,21 @@ use Rattle.command_text.specs.Words.{words_of}
 use Rattle.command_text.specs.Numbers.{number_of}
 use Rattle.command_text.specs.Given.{pairs_of}
 
--- what can be asked for: nothing, something that is no command, a scan at a moment with what is given, an order from a console for a target
+-- a command: nothing, no command (L1), a scan at a moment with pairs of name and value, an order from a console for a target
 pub data PlainCommand : Type 0 where
   Nothing : PlainCommand
   Unknown : PlainCommand
   Scan : ℕ → List PlainPair → PlainCommand
   Order : Verb → ℕ → List ℕ → PlainCommand
 
--- what a command of the code asks for
+-- a command of the code without pointers
 abbrev pub plain_command : Command → PlainCommand
 plain_command command.Nothing = Nothing
 plain_command command.Unknown = Unknown
 plain_command (command.Scan moment pairs) = Scan moment pairs
 plain_command (command.Order v console target) = Order v console target.now
 
--- scan MOMENT NAME=VALUE ..
+-- the command of the words after scan: MOMENT NAME=VALUE ..
 unfoldable pub scan_of : List (List ℕ) → PlainCommand
 scan_of [] = Unknown
 scan_of (m ∷ ws) = elim (number_of 19 m) [
@@ -32,14 +32,14 @@ scan_of (m ∷ ws) = elim (number_of 19 m) [
   | Some moment ↦ elim (pairs_of ws) [ None ↦ Unknown | Some pairs ↦ Scan moment pairs ]
 ]
 
--- ack CONSOLE TAG and restart CONSOLE PROGRAM: the verb is the command's, the target is any word
+-- the command of the words after an order's name: CONSOLE TARGET, the target being any word
 unfoldable pub order_of : Verb → List (List ℕ) → PlainCommand
 order_of v [] = Unknown
 order_of v (c ∷ []) = Unknown
 order_of v (c ∷ target ∷ []) = elim (number_of 9 c) [ None ↦ Unknown | Some console ↦ Order v console target ]
 order_of v (c ∷ target ∷ w ∷ ws) = Unknown
 
--- what the words of a line ask for: the first word is the command, in small letters
+-- the command of a line's words: the first is its name, in lower case
 unfoldable pub command_in : List (List ℕ) → PlainCommand
 command_in [] = Nothing
 command_in (w ∷ ws) =
@@ -54,7 +54,7 @@ is_remark [] = false
 is_remark ([] ∷ ws) = false
 is_remark ((b ∷ bs) ∷ ws) = b == 35
 
--- what a line asks for: a line of more than 1,048,576 bytes is no command, and a remark asks for nothing
+-- the command of a line: a line of more than 1,048,576 bytes is no command, and a remark asks for nothing
 unfoldable pub command_of : List ℕ → PlainCommand
 command_of line = if nat_lt 1048576 (length line) then Unknown
     else if is_remark (words_of line) then Nothing else command_in (words_of line)

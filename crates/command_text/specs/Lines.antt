@@ -10,40 +10,40 @@ use Rattle.alarm_machine.specs.Codes.{PlainChange, code_text}
 use Rattle.alarm_machine.specs.Orders.{order_fault_text}
 use Rattle.alarm_machine.specs.declared.states.OrderFault.{OrderFault}
 
--- a line: its name, each field behind one space, LF
+-- a line: its name, each field after one space, LF
 abbrev pub line_of : List ℕ → List (List ℕ) → List ℕ
 line_of name fields = name ++ flat_map (λ field. 32 ∷ field) fields ++ 10 ∷ []
 
--- a value: TRUE, FALSE, a number, for a time its milliseconds
+-- the text of a value: TRUE, FALSE, a number, for a TIME its milliseconds
 abbrev pub value_text : Value → List ℕ
 value_text (value.Bool b) = if b then codes "TRUE" else codes "FALSE"
 value_text (value.Dint n) = signed_decimal n
 value_text (value.Time n) = signed_decimal n
 
--- the names of a path, that of the program first, with points between them; a path has its innermost name first
+-- the text of a path: its names with points between them, the program's first; the list has the innermost name first
 abbrev pub path_text : List (List ℕ) → List ℕ
 path_text [] = []
 path_text (name ∷ []) = name
 path_text (name ∷ outer ∷ path) = path_text (outer ∷ path) ++ 46 ∷ name
 
--- why a program stopped
+-- the word for why a program stopped
 abbrev pub trap_text : Trap → List ℕ
 trap_text trap.Overflow = codes "OVERFLOW"
 trap_text trap.DivZero = codes "DIVZERO"
 
--- a program that stopped, at a statement of the body with this path
+-- the line for a program that stopped, at a statement of the body with this path
 unfoldable pub fault_line : ℕ → List ℕ → ℕ → Trap → List ℕ
 fault_line moment path statement trap = line_of (codes "FAULT") (decimal moment ∷ path ∷ decimal statement ∷ trap_text trap ∷ [])
 
--- an alarm whose code changed
+-- the line for an alarm whose code changed
 unfoldable pub alarm_line : ℕ → List ℕ → PlainChange → List ℕ
 alarm_line moment tag change = line_of (codes "ALARM") (decimal moment ∷ tag ∷ code_text change.from ∷ code_text change.to ∷ [])
 
--- an output whose value changed
+-- the line for an output whose value changed
 unfoldable pub out_line : ℕ → List ℕ → Value → List ℕ
 out_line moment name value = line_of (codes "OUT") (decimal moment ∷ name ∷ value_text value ∷ [])
 
--- the end of a scan's answer, with the number of lines before it
+-- the line at the end of a scan's answer, with the number of lines before it
 unfoldable pub done_line : ℕ → ℕ → List ℕ
 done_line moment lines = line_of (codes "DONE") (decimal moment ∷ decimal lines ∷ [])
 
@@ -52,9 +52,10 @@ abbrev pub reply_text : Option OrderFault → List ℕ
 reply_text None = codes "OK"
 reply_text (Some fault) = order_fault_text fault
 
+-- the line with the reply to an order
 unfoldable pub reply_line : Option OrderFault → List ℕ
 reply_line refused = line_of (codes "REPLY") (reply_text refused ∷ [])
 
--- the refusal of a line or of an event, by its number
+-- the line for the refusal of a line or an event, by its number
 unfoldable pub refused_line : List ℕ → List ℕ
 refused_line number = line_of (codes "REFUSED") (number ∷ [])

@@ -1,16 +1,16 @@
 use alarm_machine::Verb;
 use plant_types::{Items, Pair};
 
-/// What a line asks for.
+/// The command that a line asks for.
 #[derive(Drop)]
 pub enum Command<'a> {
     /// Nothing: the line has no words, or is a remark.
     Nothing,
-    /// Something that is no command (L1).
+    /// No command: the line is refused (L1).
     Unknown,
-    /// A scan at a moment, in milliseconds, with what is given for inputs.
+    /// A scan at a moment, in milliseconds, with the values given for inputs, in the line's order.
     Scan(u64, Items<Pair>),
-    /// An order from the console of this number: an acknowledgement (ISA-18.2) of the alarm with this tag, or a restart (this profile) of the program
-    /// with this name. The word is as the line has it; whether it names anything is the plant's to tell.
+    /// An order from the console of this number: to acknowledge the alarm with this tag (ISA-18.2), or to restart the program with this name (this profile).
+    /// The word is as the line has it, and may name nothing.
     Order(Verb, u32, &'a [u8]),
 }

@@ -9,7 +9,7 @@ use plant_types::{Given, Items, Pair, is_name, same_word};
 use std::alloc::{AllocError, Global};
 use std::str;
 
-/// What stands before the first byte `cut`, and what behind it.
+/// Splits a word at the first byte `cut`, into what is before it and what is after it; `None` without such a byte.
 fn cut_at(word: &[u8], cut: u8) -> Option<(&[u8], &[u8])>
     ensures { MatchOption result (cut_at cut word.now ≡ None) (λ r. cut_at cut word.now ≡ Some (r.0.now, r.1.now)) }
 {
@@ -23,7 +23,7 @@ fn cut_at(word: &[u8], cut: u8) -> Option<(&[u8], &[u8])>
     None
 }
 
-/// What a word gives for an input.
+/// Parses a value for an input: TRUE or FALSE in any letter case, or a number; `None` for any other word.
 #[tactic(auto, unfolding(crate::specs::Given::given_of))]
 fn given(word: &[u8]) -> Option<Given>
     ensures { result ≡ given_of word.now }
@@ -34,13 +34,11 @@ fn given(word: &[u8]) -> Option<Given>
     if same_word(word, b"false") {
         return Some(Given::Truth(false));
     }
-    match whole(word) {
-        Some(n) => Some(Given::Whole(n)),
-        None => None,
-    }
+    let n = whole(word)?;
+    Some(Given::Whole(n))
 }
 
-/// The bytes of a name as a text.
+/// Makes a string of a name's bytes. Fails only where memory was refused.
 fn name_text(alloc: Global, name: &[u8]) -> Result<String, AllocError>
     requires { is_name name.now ≡ true }
     ensures { IfOk result (λ t. string_bytes t ≡ name.now) }
@@ -51,7 +49,7 @@ fn name_text(alloc: Global, name: &[u8]) -> Result<String, AllocError>
     }
 }
 
-/// The name and what is given for it that a word tells, if it is such a pair.
+/// Parses `NAME=VALUE`; `None` for any other word. Fails only where memory was refused.
 #[tactic(auto, unfolding(crate::specs::Given::pair_of))]
 fn pair(alloc: Global, word: &[u8]) -> Result<Option<Pair>, AllocError>
     ensures { IfOk result (λ p. p ≡ pair_of word.now) }
@@ -62,16 +60,14 @@ fn pair(alloc: Global, word: &[u8]) -> Result<Option<Pair>, AllocError>
     if !is_name(name) {
         return Ok(None);
     }
-    match given(value) {
-        Some(given) => {
-            let name = name_text(alloc, name)?;
-            Ok(Some(Pair { name, given }))
-        }
-        None => Ok(None),
-    }
+    let Some(given) = given(value) else {
+        return Ok(None);
+    };
+    let name = name_text(alloc, name)?;
+    Ok(Some(Pair { name, given }))
 }
 
-/// The pairs that the words are, if each of them is one.
+/// Parses each word of a line as `NAME=VALUE`; `None` if one of them isn't. Fails only where memory was refused.
 pub(crate) fn pairs(alloc: Global, words: &[u8]) -> Result<Option<Items<Pair>>, AllocError>
     ensures { IfOk result (λ p. p ≡ pairs_of (words_of words.now)) }
 {

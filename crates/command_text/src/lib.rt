@@ -1,6 +1,6 @@
-//! The lines of a session: what a line asks for, and the lines of its answer.
+//! The lines of a session: the command that a line asks for, and the lines of its answer.
 //!
-//! What a line means (`command_of`) and what each line of an answer says are definitions on bytes; the functions here compute them.
+//! The command of a line (`command_of`) and each line of an answer (`alarm_line` and the others) are definitions on bytes, which the functions here compute.
 #![tactic(auto)]
 
 mod command;

@@ -6,7 +6,7 @@ use itoa::Buffer;
 use plant_types::{Trap, Value};
 use std::alloc::AllocError;
 
-/// Adds the name and the fields of a line. Where a growth is refused a part of them may stand behind the old text.
+/// Appends the name and the fields of a line, each after a space, and LF. Where memory is refused a part of them may be appended.
 fn add_words(out: &mut Vec<u8>, name: &str, fields: &[&str]) -> Result<(), AllocError>
     ensures ok { OnOk result (out.new.items ≡ out.old.items ++ line_of name.now (map (λ f. f.now) fields.now)) }
     ensures err { OnErr result (take (length out.old.items) out.new.items ≡ out.old.items) }
@@ -20,7 +20,7 @@ fn add_words(out: &mut Vec<u8>, name: &str, fields: &[&str]) -> Result<(), Alloc
     Ok(())
 }
 
-/// Adds a line to a text: its name, each field behind a space, LF. Where a growth is refused the text stays as it was.
+/// Appends a line: its name, each field after a space, LF. Where memory is refused the text is unchanged.
 fn push_line(out: &mut Vec<u8>, name: &str, fields: &[&str]) -> Result<(), AllocError>
     ensures ok { OnOk result (out.new.items ≡ out.old.items ++ line_of name.now (map (λ f. f.now) fields.now)) }
     ensures err { OnErr result (out.new.items ≡ out.old.items) }
@@ -35,7 +35,7 @@ fn push_line(out: &mut Vec<u8>, name: &str, fields: &[&str]) -> Result<(), Alloc
     }
 }
 
-/// The line of this name with one field.
+/// Appends the line of this name with one field.
 fn push_one(out: &mut Vec<u8>, name: &str, field: &str) -> Result<(), AllocError>
     ensures ok { OnOk result (out.new.items ≡ out.old.items ++ line_of name.now (field.now ∷ [])) }
     ensures err { OnErr result (out.new.items ≡ out.old.items) }
@@ -43,7 +43,7 @@ fn push_one(out: &mut Vec<u8>, name: &str, field: &str) -> Result<(), AllocError
     push_line(out, name, &[field])
 }
 
-/// The line of this name with two fields.
+/// Appends the line of this name with two fields.
 fn push_two<'a>(
     out: &mut Vec<u8>,
     name: &str,
@@ -56,7 +56,7 @@ fn push_two<'a>(
     push_line(out, name, &[first, second])
 }
 
-/// The line of this name with three fields.
+/// Appends the line of this name with three fields.
 fn push_three<'a>(
     out: &mut Vec<u8>,
     name: &str,
@@ -70,7 +70,7 @@ fn push_three<'a>(
     push_line(out, name, &[first, second, third])
 }
 
-/// The line of this name with four fields.
+/// Appends the line of this name with four fields.
 fn push_four<'a>(
     out: &mut Vec<u8>,
     name: &str,
@@ -85,7 +85,7 @@ fn push_four<'a>(
     push_line(out, name, &[first, second, third, fourth])
 }
 
-/// Why a program stopped, as it is printed.
+/// The word for why a program stopped.
 fn trap_text(trap: Trap) -> &'static str
     ensures { result.now ≡ trap_text trap }
 {
@@ -95,7 +95,7 @@ fn trap_text(trap: Trap) -> &'static str
     }
 }
 
-/// Adds `FAULT MOMENT PATH STATEMENT KIND`: a program stopped at this statement of the body with this path. Where a growth is refused the text stays as it was.
+/// Appends `FAULT MOMENT PATH STATEMENT KIND`: a program stopped at this statement of the body with this path. Where memory is refused the text is unchanged.
 #[tactic(auto, unfolding(crate::specs::Lines::fault_line))]
 pub fn push_fault(
     out: &mut Vec<u8>,
@@ -114,7 +114,7 @@ pub fn push_fault(
     push_four(out, "FAULT", moment, path, statement, trap_text(trap))
 }
 
-/// Adds `ALARM MOMENT TAG FROM TO`: the code of this alarm changed. Where a growth is refused the text stays as it was.
+/// Appends `ALARM MOMENT TAG FROM TO`: this alarm's code changed. Where memory is refused the text is unchanged.
 #[tactic(auto, unfolding(crate::specs::Lines::alarm_line))]
 pub fn push_alarm(
     out: &mut Vec<u8>,
@@ -137,7 +137,7 @@ pub fn push_alarm(
     )
 }
 
-/// Adds `OUT MOMENT NAME VALUE`: this output's value changed. Where a growth is refused the text stays as it was.
+/// Appends `OUT MOMENT NAME VALUE`: this output's value changed. Where memory is refused the text is unchanged.
 #[tactic(auto, unfolding(crate::specs::Lines::out_line))]
 pub fn push_out(out: &mut Vec<u8>, moment: u64, name: &str, value: Value) -> Result<(), AllocError>
     ensures ok { OnOk result (out.new.items ≡ out.old.items ++ out_line moment name.now value) }
@@ -154,7 +154,7 @@ pub fn push_out(out: &mut Vec<u8>, moment: u64, name: &str, value: Value) -> Res
     }
 }
 
-/// Adds `DONE MOMENT LINES`, the end of a scan's answer with the number of lines before it. Where a growth is refused the text stays as it was.
+/// Appends `DONE MOMENT LINES`: the end of a scan's answer, with the number of lines before it. Where memory is refused the text is unchanged.
 #[tactic(auto, unfolding(crate::specs::Lines::done_line))]
 pub fn push_done(out: &mut Vec<u8>, moment: u64, lines: u64) -> Result<(), AllocError>
     ensures ok { OnOk result (out.new.items ≡ out.old.items ++ done_line moment lines) }
@@ -165,7 +165,7 @@ pub fn push_done(out: &mut Vec<u8>, moment: u64, lines: u64) -> Result<(), Alloc
     push_two(out, "DONE", digits.format(moment), count.format(lines))
 }
 
-/// Adds `REPLY OK`, or `REPLY` and the number of the order's refusal. Where a growth is refused the text stays as it was.
+/// Appends `REPLY OK`, or `REPLY` and the number of the order's refusal. Where memory is refused the text is unchanged.
 #[tactic(auto, unfolding(crate::specs::Lines::reply_line))]
 pub fn push_reply(out: &mut Vec<u8>, refused: Option<OrderFault>) -> Result<(), AllocError>
     ensures ok { OnOk result (out.new.items ≡ out.old.items ++ reply_line refused) }
@@ -177,7 +177,7 @@ pub fn push_reply(out: &mut Vec<u8>, refused: Option<OrderFault>) -> Result<(), 
     }
 }
 
-/// Adds `REFUSED` and the number of the refusal, of a line or an event. Where a growth is refused the text stays as it was.
+/// Appends `REFUSED` and the number of the refusal of a line or an event. Where memory is refused the text is unchanged.
 #[tactic(auto, unfolding(crate::specs::Lines::refused_line))]
 pub fn push_refused(out: &mut Vec<u8>, number: &str) -> Result<(), AllocError>
     ensures ok { OnOk result (out.new.items ≡ out.old.items ++ refused_line number.now) }

@@ -1,7 +1,7 @@
 ghost use Rattle.std.specs.Prelude.{◌≡◌, ◌<◌, ◌≤◌, ◌^◌, IfSome};
 ghost use Rattle.command_text.specs.Numbers.{number_of, whole_of};
 
-/// The number that 1 to `most` decimal digits write, or None for another word.
+/// Parses a number of 1 to `most` decimal digits; `None` for any other word.
 fn digits(word: &[u8], most: usize) -> Option<u64>
     requires { most ≤ 19 }
     ensures value { result ≡ number_of most word.now }
@@ -23,37 +23,31 @@ fn digits(word: &[u8], most: usize) -> Option<u64>
     Some(n)
 }
 
-/// A number of 1 to 19 digits, as moments have and times.
+/// Parses a number of 1 to 19 digits, such as a moment; `None` for any other word.
 pub(crate) fn number(word: &[u8]) -> Option<u64>
     ensures { result ≡ number_of 19 word.now }
 {
     digits(word, 19)
 }
 
-/// A number of 1 to 9 digits, as consoles have.
+/// Parses a number of 1 to 9 digits, such as a console's; `None` for any other word.
 pub(crate) fn short_number(word: &[u8]) -> Option<u32>
     ensures { result ≡ number_of 9 word.now }
 {
-    match digits(word, 9) {
-        Some(n) => Some(n as u32),
-        None => None,
-    }
+    let n = digits(word, 9)?;
+    Some(n as u32)
 }
 
-/// A number of 1 to 19 digits, or a minus and such a number.
+/// Parses a number of 1 to 19 digits, perhaps with a minus before it; `None` for any other word.
 pub(crate) fn whole(word: &[u8]) -> Option<i128>
     ensures { result ≡ whole_of word.now }
 {
     let (first, others) = word.split_first()?;
     if *first == b'-' {
-        match number(others) {
-            Some(n) => Some(-i128::from(n)),
-            None => None,
-        }
+        let n = number(others)?;
+        Some(-i128::from(n))
     } else {
-        match number(word) {
-            Some(n) => Some(i128::from(n)),
-            None => None,
-        }
+        let n = number(word)?;
+        Some(i128::from(n))
     }
 }

@@ -9,12 +9,12 @@ use crate::words::next_word;
 use alarm_machine::Verb;
 use std::alloc::{AllocError, Global};
 
-/// The most bytes that a line may have.
-const LONGEST: usize = 1_048_576;
+/// The greatest number of bytes of a line.
+const LONGEST_LINE: usize = 1_048_576;
 
-/// A scan, by the words behind its name.
+/// Parses the words after `scan`: a moment, then a pair for each input that is given. Fails only where memory was refused.
 #[tactic(auto, unfolding(crate::specs::Commands::scan_of))]
-fn scan<'a>(alloc: Global, words: &'a [u8]) -> Result<Command<'a>, AllocError>
+fn parse_scan<'a>(alloc: Global, words: &'a [u8]) -> Result<Command<'a>, AllocError>
     ensures { IfOk result (λ c. plain_command c ≡ scan_of (words_of words.now)) }
 {
     let Some((moment, image)) = next_word(words) else {
@@ -29,9 +29,9 @@ fn scan<'a>(alloc: Global, words: &'a [u8]) -> Result<Command<'a>, AllocError>
     }
 }
 
-/// An order, by the words behind its name: a console and a target.
+/// Parses the words after an order's name: a console and a target.
 #[tactic(auto, unfolding(crate::specs::Commands::order_of))]
-fn order<'a>(verb: Verb, words: &'a [u8]) -> Command<'a>
+fn parse_order<'a>(verb: Verb, words: &'a [u8]) -> Command<'a>
     ensures { plain_command result ≡ order_of verb (words_of words.now) }
 {
     let Some((console, rest)) = next_word(words) else {
@@ -49,20 +49,20 @@ fn order<'a>(verb: Verb, words: &'a [u8]) -> Command<'a>
     }
 }
 
-/// What the words of a line ask for.
+/// Parses the words of a line: the first is the command's name. Fails only where memory was refused.
 #[tactic(auto, unfolding(crate::specs::Commands::command_in))]
-fn command<'a>(alloc: Global, words: &'a [u8]) -> Result<Command<'a>, AllocError>
+fn parse_words<'a>(alloc: Global, words: &'a [u8]) -> Result<Command<'a>, AllocError>
     ensures { IfOk result (λ c. plain_command c ≡ command_in (words_of words.now)) }
 {
     let Some((first, others)) = next_word(words) else {
         return Ok(Command::Nothing);
     };
     if first == b"scan".as_slice() {
-        scan(alloc, others)
+        parse_scan(alloc, others)
     } else if first == b"ack".as_slice() {
-        Ok(order(Verb::Ack, others))
+        Ok(parse_order(Verb::Ack, others))
     } else if first == b"restart".as_slice() {
-        Ok(order(Verb::Restart, others))
+        Ok(parse_order(Verb::Restart, others))
     } else {
         Ok(Command::Unknown)
     }
@@ -81,16 +81,16 @@ fn is_remark(line: &[u8]) -> bool
     }
 }
 
-/// What a line asks for, the line without its end. The error is a refused growth.
+/// Parses a line, without its line end. A line of more than 1,048,576 bytes is no command. Fails only where memory was refused.
 #[tactic(auto, unfolding(crate::specs::Commands::command_of))]
 pub fn read_command<'a>(alloc: Global, line: &'a [u8]) -> Result<Command<'a>, AllocError>
     ensures { IfOk result (λ c. plain_command c ≡ command_of line.now) }
 {
-    if line.len() > LONGEST {
+    if line.len() > LONGEST_LINE {
         return Ok(Command::Unknown);
     }
     if is_remark(line) {
         return Ok(Command::Nothing);
     }
-    command(alloc, line)
+    parse_words(alloc, line)
 }

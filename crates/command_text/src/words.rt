@@ -1,17 +1,17 @@
 ghost use Rattle.std.specs.Prelude.{◌≡◌, ◌<◌, ◌≤◌, [], ◌∷◌, length, MatchOption, take, drop, false};
-ghost use Rattle.command_text.specs.Words.{is_gap, at_blank, words_of};
+ghost use Rattle.command_text.specs.Words.{is_gap, at_gap, words_of};
 
-/// Whether a byte parts words: a space or a tab.
+/// Whether a byte separates words: a space or a tab.
 fn is_gap(byte: u8) -> bool
     ensures { result ≡ is_gap byte }
 {
     byte == b' ' || byte == b'\t'
 }
 
-/// A line from its first word on.
-fn trimmed(line: &[u8]) -> &[u8]
+/// Skips the spaces and tabs at the start of a line.
+fn trim_start(line: &[u8]) -> &[u8]
     ensures words { words_of result.now ≡ words_of line.now }
-    ensures solid { 0 < length result.now → at_blank result.now ≡ false }
+    ensures at_word { 0 < length result.now → at_gap result.now ≡ false }
     ensures shorter { length result.now ≤ length line.now }
 {
     let mut rest = line;
@@ -24,10 +24,10 @@ fn trimmed(line: &[u8]) -> &[u8]
     rest
 }
 
-/// How many bytes the word has with which a line begins.
+/// The number of bytes of the word with which a line begins.
 fn word_len(line: &[u8]) -> usize
     requires some { 0 < length line.now }
-    requires solid { at_blank line.now ≡ false }
+    requires at_word { at_gap line.now ≡ false }
     ensures within { (0 < result) × (result ≤ length line.now) }
     ensures words { words_of line.now ≡ take result line.now ∷ words_of (drop result line.now) }
 {
@@ -39,11 +39,11 @@ fn word_len(line: &[u8]) -> usize
     line.len()
 }
 
-/// The first word of a line, and what follows it.
+/// The first word of a line and the rest after it; `None` if there is no word.
 pub(crate) fn next_word(line: &[u8]) -> Option<(&[u8], &[u8])>
     ensures { MatchOption result (words_of line.now ≡ []) (λ r. (words_of line.now ≡ r.0.now ∷ words_of r.1.now) × (length r.1.now < length line.now)) }
 {
-    let line = trimmed(line);
+    let line = trim_start(line);
     if line.is_empty() {
         return None;
     }

@@ -14,21 +14,21 @@ kind_of (value.Bool b) = kind.Bool
 kind_of (value.Dint n) = kind.Dint
 kind_of (value.Time n) = kind.Time
 
--- a truth as a whole number: FALSE is 0, TRUE is 1
+-- a truth value as a whole number: FALSE is 0, TRUE is 1
 abbrev pub truth : Bool → ℤ
 truth b = if b then pos 1 else pos 0
 
--- whether a whole number stands for TRUE: it isn't 0
+-- whether a whole number stands for TRUE: any number but 0 does
 abbrev pub is_true : ℤ → Bool
 is_true n = not (int_eq n (pos 0))
 
--- a value as a whole number: a DINT itself, a TIME its milliseconds
+-- a value as a whole number: a BOOL is 0 or 1, a TIME its milliseconds
 abbrev pub worth : Value → ℤ
 worth (value.Bool b) = truth b
 worth (value.Dint n) = n
 worth (value.Time n) = n
 
--- the value of a kind that a whole number stands for
+-- the value of a kind for a whole number of its range
 abbrev pub value_of_kind : Kind → ℤ → Value
 value_of_kind kind.Bool n = value.Bool (is_true n)
 value_of_kind kind.Dint n = value.Dint n
@@ -38,13 +38,13 @@ value_of_kind kind.Time n = value.Time n
 abbrev pub is_outside : ℤ → ℤ → ℤ → Bool
 is_outside low high n = int_lt n low || int_lt high n
 
--- the range of each kind: a truth, 32 bits, 64 bits
+-- whether a number is in a kind's range: 0 or 1, 32 bits, 64 bits
 abbrev pub is_in_range : Kind → ℤ → Bool
 is_in_range kind.Bool n = not (is_outside (pos 0) (pos 1) n)
 is_in_range kind.Dint n = not (is_outside (negsuc 2147483647) (pos 2147483647) n)
 is_in_range kind.Time n = not (is_outside (negsuc 9223372036854775807) (pos 9223372036854775807) n)
 
--- the value that is given for a variable of a kind: a truth or 0 or 1 for a BOOL, a number of the range for the others
+-- the value that was given for a variable of a kind: a truth value or 0 or 1 for a BOOL, a number of the range for the others; else none
 abbrev pub fitted : Kind → Given → Option Value
 fitted kind.Bool (given.Truth b) = Some (value.Bool b)
 fitted kind.Bool (given.Whole n) = if int_eq n (pos 0) then Some (value.Bool false) else if int_eq n (pos 1) then Some (value.Bool true) else None

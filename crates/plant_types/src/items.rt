@@ -2,7 +2,7 @@ ghost use Rattle.std.specs.Prelude.{◌≡◌};
 
 use std::marker::Model;
 
-/// A list of values. Contracts see the list, and neither its room nor where it lies, so that it may stand in events and reports.
+/// A list of values. Contracts see only its items, and neither its capacity nor its address, so that events and reports can be compared.
 #[derive(Drop)]
 pub struct Items<T> {
     items: Vec<T>,
@@ -17,21 +17,21 @@ impl<T> Model for Items<T> {
 }
 
 impl<T> Items<T> {
-    /// The list of a vector's items, in their order.
+    /// Makes a list of a vector's items, in their order.
     pub fn from_vec(items: Vec<T>) -> Items<T>
         ensures { result ≡ items.items }
     {
         Items { items }
     }
 
-    /// The items as a vector.
+    /// Returns the items as a vector, in their order.
     pub fn into_vec(self) -> Vec<T>
         ensures { result.items ≡ self }
     {
         self.items
     }
 
-    /// The items as a slice.
+    /// Borrows the items as a slice.
     pub fn as_slice(&self) -> &[T]
         ensures { result.now ≡ self.now }
     {

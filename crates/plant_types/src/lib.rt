@@ -1,6 +1,6 @@
-//! Values, places, names and lists of a plant, as all crates above speak of them.
+//! The values, places, names and lists of a plant that all other crates use.
 //!
-//! Contracts see each of these types as plain data: a text as its bytes, a list as its items, a pair as a name and what is given.
+//! Contracts see each of these types as plain data: a text as its bytes, a list as its items, a pair as a name and the value given for it.
 #![tactic(auto)]
 
 mod items;

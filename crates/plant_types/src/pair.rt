@@ -1,7 +1,7 @@
 use crate::values::Given;
 use std::marker::Model;
 
-/// A name and what is given for it, as one part of a scan's image. Contracts see the name's bytes.
+/// A name and the value given for it: one part of a scan's image. Contracts see the name's bytes.
 #[derive(Drop)]
 pub struct Pair {
     pub name: String,

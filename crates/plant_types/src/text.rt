@@ -18,14 +18,14 @@ impl Model for Text {
 }
 
 impl Text {
-    /// The text of a string.
+    /// Makes a text of a string.
     pub fn new(text: String) -> Text
         ensures { result ≡ string_bytes text }
     {
         Text { text }
     }
 
-    /// A copy of a string. The error is a refused growth.
+    /// Copies a string slice. Fails only where memory was refused.
     pub fn from_str(alloc: Global, text: &str) -> Result<Text, AllocError>
         ensures { IfOk result (λ t. t ≡ text.now) }
     {
@@ -34,7 +34,7 @@ impl Text {
         })
     }
 
-    /// A copy of the text. The error is a refused growth.
+    /// Copies the text. Fails only where memory was refused.
     pub fn copy(&self, alloc: Global) -> Result<Text, AllocError>
         ensures { IfOk result (λ t. t ≡ self.now) }
     {

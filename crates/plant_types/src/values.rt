@@ -6,13 +6,13 @@ ghost use Rattle.plant_types.specs.Values.{kind_of, worth, value_of_kind, is_in_
 pub enum Kind {
     /// TRUE or FALSE.
     Bool,
-    /// A signed whole number of 32 bits.
+    /// A signed integer of 32 bits.
     Dint,
     /// A duration in milliseconds, signed, of 64 bits (this profile).
     Time,
 }
 
-/// A value of a variable, within its kind's range.
+/// A variable's value, within its kind's range.
 #[derive(Clone, Copy, Debug, PartialEq, Eq, Drop)]
 pub enum Value {
     Bool(bool),
@@ -29,23 +29,23 @@ pub enum Region {
     Plain,
 }
 
-/// Why a program stops before its end (this profile).
+/// Why a program stopped before its end (this profile).
 #[derive(Clone, Copy, Debug, PartialEq, Eq, Drop)]
 pub enum Trap {
     /// A result out of its kind's range.
     Overflow,
-    /// A division with divisor 0.
+    /// A division by 0.
     DivZero,
 }
 
-/// Where in a program something happens: the number of a path of names, and the number of a statement in its body, from 1.
+/// A statement of a program: the number of its body's path of names, and its own number in that body, from 1.
 #[derive(Clone, Copy, Debug, PartialEq, Eq, Drop)]
 pub struct Place {
     pub path: u32,
     pub statement: u32,
 }
 
-/// What is given for an input: a truth, or a whole number that may be out of every kind's range.
+/// What a scan gives for an input: a truth value, or a whole number, which may be outside every kind's range.
 #[derive(Clone, Copy, Debug, PartialEq, Eq, Drop)]
 pub enum Given {
     Truth(bool),
@@ -64,7 +64,7 @@ impl Value {
         }
     }
 
-    /// The value as a whole number: 0 or 1 for a truth, milliseconds for a time.
+    /// The value as a whole number: 0 or 1 for a BOOL, milliseconds for a TIME.
     pub fn worth(self) -> i64
         ensures { result ≡ worth self }
     {
@@ -75,7 +75,7 @@ impl Value {
         }
     }
 
-    /// The value of a kind that a whole number stands for: for a BOOL all but 0 is TRUE. The number is in the kind's range.
+    /// The value of this kind for a whole number of its range: a BOOL is TRUE unless the number is 0.
     pub fn of_kind(kind: Kind, n: i64) -> Value
         requires { IsTrue (is_in_range kind n) }
         ensures { result ≡ value_of_kind kind n }
@@ -88,7 +88,8 @@ impl Value {
     }
 }
 
-/// The value of what is given, where it fits the kind: a BOOL takes a truth or the number 0 or 1, the others a number of their range (this profile).
+/// The value that was given, if it fits the kind: a BOOL takes a truth value or the number 0 or 1, DINT and TIME a number of their range (this profile).
+/// `None` otherwise.
 pub fn fitted(kind: Kind, given: Given) -> Option<Value>
     ensures { result ≡ fitted kind given }
 {
