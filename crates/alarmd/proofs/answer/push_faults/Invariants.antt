@@ -1,6 +1,0 @@
-use Rattle.std.proofs.Common.{◌≡◌, ◌++◌, take}
-use Rattle.alarmd.specs.Answers.{spots_of, fault_lines}
-use Rattle.alarmd.proofs.answer.push_faults.Given as goal
-
-abbrev pub invariant-loop-place : goal.invariant-loop-place
-invariant-loop-place l = l.text.items ≡ l.fn.text.items ++ fault_lines l.moment (spots_of l.plant.source (take l.place-index l.faults))

@@ -1,7 +1,0 @@
--- Laws of lines.
-use Rattle.std.specs.Prelude.{◌≡◌, ℕ, false, List, ◌∷◌, ◌++◌}
-use Rattle.alarmd.specs.Input.{has_lf, stripped, last_line, lines_of}
-
--- bytes without LF and then LF are one line, and what follows are the others; bytes without LF are a last line, if there are any
-abbrev pub LinesEndInFeeds : Type 0
-LinesEndInFeeds = (line rest : List ℕ) → has_lf line ≡ false → (lines_of (line ++ 10 ∷ rest) ≡ stripped line ∷ lines_of rest) × (lines_of line ≡ last_line line)

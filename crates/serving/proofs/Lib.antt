@@ -1,0 +1,5 @@
+pub mod InputLaws
+pub mod LfLaws
+pub mod SessionLaws
+pub mod HeldLaws
+pub mod AnswerLaws

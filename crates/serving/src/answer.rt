@@ -1,0 +1,230 @@
+ghost use Rattle.std.specs.Prelude.{◌≡◌, ◌++◌, ◌⊎◌, ◌<◌, ◌^◌, ◌+◌, OnOk, OnErr, IfSome, All, length, false};
+ghost use Rattle.command_text.specs.Lines.{path_text};
+ghost use Rattle.engine.specs.Engines.{state_of};
+ghost use Rattle.plant_config.specs.Names.{tag_of, global_of};
+ghost use Rattle.st_walk.specs.Runs.{place_spot};
+ghost use Rattle.engine.specs.Orders.{is_restart};
+ghost use Rattle.engine.specs.System.{system, scan_event, order_event};
+ghost use Rattle.serving.specs.Answers.{spots_of, named_by, target_of, tag_for, order_for, order_answer, fault_lines, alarm_lines, out_lines, report_text, order_text, fault_number, event_text, scan_text, event_added, after_line, line_answer};
+
+use alarm_machine::{Change, Verb};
+use command_text::{
+    Command, push_alarm, push_done, push_fault, push_out, push_refused, push_reply, read_command,
+};
+use engine::{Engine, EngineFault, Order, Reply, Report};
+use plant_config::Plant;
+use plant_types::{Pair, Place, Trap, Value};
+use std::alloc::{AllocError, Global};
+use std::str;
+
+/// Returns the tag of the alarm that an order is for; `""` for a restart, and for an order that names no alarm.
+fn tag_for(plant: &Plant, order: Order) -> &str
+    requires { is_restart order.verb ≡ false → IfSome order.target (λ alarm. alarm < length plant.now.alarms) }
+    ensures { result.now ≡ tag_for plant.now order }
+{
+    match (order.verb, order.target) {
+        (Verb::Restart, _) => "",
+        (_, Some(alarm)) => plant.tag(alarm),
+        (_, None) => "",
+    }
+}
+
+/// Appends an ALARM line for each change.
+fn push_alarms(
+    text: &mut Vec<u8>,
+    plant: &Plant,
+    moment: u64,
+    changes: &[(u32, Change)],
+) -> Result<(), AllocError>
+    requires { All (λ c. c.0 < length plant.now.alarms) changes.now }
+    ensures { OnOk result (text.new.items ≡ text.old.items ++ alarm_lines plant.now moment changes.now) }
+{
+    for (alarm, change) in changes {
+        push_alarm(text, moment, plant.tag(*alarm), *change)?;
+    }
+    Ok(())
+}
+
+/// Returns the path of a place: the names that lead to it, with points between them.
+fn path_text<'a>(plant: &'a Plant, place: &Place) -> &'a str
+    ensures { result.now ≡ path_text (place_spot plant.now.source place.now).path }
+{
+    if place.path == 0 { plant.path(0) } else { "" }
+}
+
+/// Appends a FAULT line for each program that stopped.
+fn push_faults(
+    text: &mut Vec<u8>,
+    plant: &Plant,
+    moment: u64,
+    faults: &[(Place, Trap)],
+) -> Result<(), AllocError>
+    ensures { OnOk result (text.new.items ≡ text.old.items ++ fault_lines moment (spots_of plant.now.source faults.now)) }
+{
+    for (place, trap) in faults {
+        push_fault(
+            text,
+            moment,
+            path_text(plant, place),
+            place.statement,
+            *trap,
+        )?;
+    }
+    Ok(())
+}
+
+/// Appends an OUT line for each output that changed.
+fn push_outs(
+    text: &mut Vec<u8>,
+    plant: &Plant,
+    moment: u64,
+    outs: &[(u32, Value)],
+) -> Result<(), AllocError>
+    requires { All (λ o. o.0 < length plant.now.source.globals) outs.now }
+    ensures { OnOk result (text.new.items ≡ text.old.items ++ out_lines plant.now moment outs.now) }
+{
+    for (output, value) in outs {
+        push_out(text, moment, plant.global(*output), *value)?;
+    }
+    Ok(())
+}
+
+/// Appends the answer to a scan that was taken: its faults, its alarms, its outputs, and how many lines these are.
+#[tactic(auto, using(crate::proofs::AnswerLaws::spots_length), unfolding(crate::specs::Answers::report_text))]
+fn push_report(text: &mut Vec<u8>, plant: &Plant, report: &Report) -> Result<(), AllocError>
+    requires changes { All (λ c. c.0 < length plant.now.alarms) report.now.changes }
+    requires outs { All (λ o. o.0 < length plant.now.source.globals) report.now.outs }
+    ensures { OnOk result (text.new.items ≡ text.old.items ++ report_text plant.now report.now.moment (spots_of plant.now.source report.now.faults) report.now.changes report.now.outs) }
+{
+    let faults = report.faults.as_slice();
+    let changes = report.changes.as_slice();
+    let outs = report.outs.as_slice();
+    push_faults(text, plant, report.moment, faults)?;
+    push_alarms(text, plant, report.moment, changes)?;
+    push_outs(text, plant, report.moment, outs)?;
+    let lines = faults.len() as u64 + changes.len() as u64 + outs.len() as u64;
+    push_done(text, report.moment, lines)
+}
+
+/// Returns the number that is printed for a refusal; `""` for `Memory`, which is never printed.
+pub fn fault_number(fault: EngineFault) -> &'static str
+    ensures { result.now ≡ fault_number fault }
+{
+    match fault {
+        EngineFault::Memory => "",
+        EngineFault::MomentBack => "E1",
+        EngineFault::MomentRange => "E2",
+        EngineFault::ImageName => "E3",
+        EngineFault::ImageKind => "E4",
+        EngineFault::HistoryFull => "E6",
+    }
+}
+
+/// Does a scan, and appends its answer. It fails where an allocation failed: before the scan took effect or after it.
+fn answer_scan(
+    alloc: Global,
+    engine: &mut Engine,
+    text: &mut Vec<u8>,
+    moment: u64,
+    pairs: &[Pair],
+) -> Result<(), AllocError>
+    ensures plant { engine.new.plant ≡ engine.old.plant }
+    ensures history { OnOk result (engine.new.history ≡ engine.old.history ++ event_added (scan_event engine.old.plant (state_of engine.old) pairs.now moment)) }
+    ensures text { OnOk result (text.new.items ≡ text.old.items ++ event_text (scan_event engine.old.plant (state_of engine.old) pairs.now moment) (scan_text engine.old.plant (state_of engine.old))) }
+    ensures err { OnErr result ((engine.new.history ≡ engine.old.history) ⊎ (engine.new.history ≡ engine.old.history ++ event_added (scan_event engine.old.plant (state_of engine.old) pairs.now moment))) }
+{
+    match engine.scan(alloc, pairs, moment) {
+        Ok(report) => push_report(text, engine.plant(), &report),
+        Err(EngineFault::Memory) => Err(AllocError),
+        Err(fault) => push_refused(text, fault_number(fault)),
+    }
+}
+
+/// Returns the number of the program that a text names for a restart, and of the alarm that it names for every other order.
+fn named_by(plant: &Plant, verb: Verb, name: &str) -> Option<u32>
+    ensures number { result ≡ named_by plant.now verb name.now }
+    ensures within { is_restart verb ≡ false → IfSome result (λ alarm. alarm < length plant.now.alarms) }
+{
+    match verb {
+        Verb::Restart => plant.program_number(name),
+        _ => plant.alarm_number(name),
+    }
+}
+
+/// Returns the number of what a word names as an order's target; `None` where there is no such program or alarm, and where the word
+/// isn't UTF-8.
+fn target_of(plant: &Plant, verb: Verb, word: &[u8]) -> Option<u32>
+    ensures number { result ≡ target_of plant.now verb word.now }
+    ensures within { is_restart verb ≡ false → IfSome result (λ alarm. alarm < length plant.now.alarms) }
+{
+    match str::from_utf8(word) {
+        Ok(name) => named_by(plant, verb, name),
+        Err(_) => None,
+    }
+}
+
+/// Appends the REPLY to an order, and the ALARM line of its change if there is one.
+#[tactic(auto, unfolding(crate::specs::Answers::order_text))]
+fn push_order(text: &mut Vec<u8>, moment: u64, tag: &str, reply: Reply) -> Result<(), AllocError>
+    ensures { OnOk result (text.new.items ≡ text.old.items ++ order_text moment tag.now reply) }
+{
+    match reply {
+        Reply::Done(None) => push_reply(text, None),
+        Reply::Done(Some(change)) => {
+            push_reply(text, None)?;
+            push_alarm(text, moment, tag, change)
+        }
+        Reply::Refused(fault) => push_reply(text, Some(fault)),
+    }
+}
+
+/// Does an order for what a word names, and appends its answer. It fails where an allocation failed: before the order took effect or
+/// after it.
+fn answer_order(
+    alloc: Global,
+    engine: &mut Engine,
+    text: &mut Vec<u8>,
+    verb: Verb,
+    console: u32,
+    word: &[u8],
+) -> Result<(), AllocError>
+    ensures plant { engine.new.plant ≡ engine.old.plant }
+    ensures history { OnOk result (engine.new.history ≡ engine.old.history ++ event_added (order_event (state_of engine.old) console (order_for engine.old.plant verb word.now))) }
+    ensures text { OnOk result (text.new.items ≡ text.old.items ++ order_answer engine.old.plant (state_of engine.old) console (order_for engine.old.plant verb word.now)) }
+    ensures err { OnErr result ((engine.new.history ≡ engine.old.history)
+        ⊎ (engine.new.history ≡ engine.old.history ++ event_added (order_event (state_of engine.old) console (order_for engine.old.plant verb word.now)))) }
+{
+    let last = engine.moment();
+    let order = Order {
+        verb,
+        target: target_of(engine.plant(), verb, word),
+    };
+    match engine.order(alloc, console, order) {
+        Ok(reply) => push_order(text, last, tag_for(engine.plant(), order), reply),
+        Err(EngineFault::Memory) => Err(AllocError),
+        Err(fault) => push_refused(text, fault_number(fault)),
+    }
+}
+
+/// Does what a line asks for, and appends its answer. It fails where an allocation failed: before the line took effect or after it.
+#[tactic(auto, unfolding(crate::specs::Answers::after_line, crate::specs::Answers::line_answer))]
+pub(crate) fn answer_line(
+    alloc: Global,
+    engine: &mut Engine,
+    text: &mut Vec<u8>,
+    line: &[u8],
+) -> Result<(), AllocError>
+    ensures plant { engine.new.plant ≡ engine.old.plant }
+    ensures history { OnOk result (engine.new.history ≡ after_line engine.old.plant engine.old.history line.now) }
+    ensures text { OnOk result (text.new.items ≡ text.old.items ++ line_answer engine.old.plant engine.old.history line.now) }
+    ensures err { OnErr result ((engine.new.history ≡ engine.old.history) ⊎ (engine.new.history ≡ after_line engine.old.plant engine.old.history line.now)) }
+{
+    match read_command(alloc, line)? {
+        Command::Nothing => Ok(()),
+        Command::Unknown => push_refused(text, "L1"),
+        Command::Scan(moment, pairs) => answer_scan(alloc, engine, text, moment, pairs.as_slice()),
+        Command::Order(verb, console, word) => {
+            answer_order(alloc, engine, text, verb, console, word)
+        }
+    }
+}
