@@ -1,15 +1,25 @@
 -- One piece more, and the one way to cut a text.
-use Rattle.std.proofs.Common.{◌≡◌, ℕ, ◌+◌, ◌-◌, ◌<◌, ◌≤◌, List, [], ◌∷◌, ◌++◌, length, length-drop, take, drop, get_or, zero, suc, refl, sym, ap, ◌∙◌, subst, arith}
+use Rattle.std.proofs.Common.{◌≡◌, ℕ, ◌+◌, ◌-◌, ◌<◌, ◌≤◌, true, ◌⊎◌, inl, inr, Option, Some, None, List, [], ◌∷◌, ◌++◌, length, length-drop, take, drop, get_or, zero, suc, refl, sym, ap, ◌∙◌, subst, arith}
 use Rattle.st_lexer.specs.declared.piece.Piece.{Piece}
 use Rattle.st_lexer.specs.declared.piece.Piece.TheVariants as p
+use Rattle.std.specs.List.{list_all, slice_range}
+use Rattle.std.specs.Str.{IsAscii}
+use Rattle.std.specs.Str.Lossy.{utf8_lossy}
+use Rattle.std.proofs.lemmas.Bool.{and_parts}
+use Rattle.std.proofs.lemmas.Bool.Decides.{nat_tests}
 use Rattle.std.proofs.lemmas.List.{drop-drop}
+use Rattle.std.proofs.lemmas.Str.{IsUtf8-from_ascii, utf8_lossy-IsUtf8}
+use Rattle.plant_types.specs.Words.{is_name_byte}
 use Rattle.st_lexer.specs.declared.token.TokenKind.{TokenKind}
+use Rattle.st_lexer.specs.declared.token.TokenKind.TheVariants as t
 use Rattle.st_lexer.specs.declared.token.Token.{Token}
 use Rattle.st_lexer.specs.Spellings.{SpellsToken}
 use Rattle.st_lexer.specs.Pieces.{IsNext, IsOver, Cut, total}
 use Rattle.st_lexer.specs.Lexes.{tokens_of, mark_len, unmarked, Lexes, Stops, IsTokenOf}
 use Rattle.st_lexer.specs.Places.{line_at, column_at}
-use Rattle.st_lexer.proofs.Longest.{one_next, fits_some}
+use Rattle.st_lexer.specs.Reading.{next_of}
+use Rattle.st_lexer.proofs.LiteralLaws.{name_bytes}
+use Rattle.st_lexer.proofs.Longest.{one_next, fits_some, found_of, none_of}
 
 pub cut_push : (text rest : List ℕ) (ps : List (Piece × ℕ)) (piece : Piece) (n : ℕ) → Cut text ps rest → IsNext rest piece n → Cut text (ps ++ (piece, n) ∷ []) (drop n rest)
 cut_push text rest [] piece n c x = (subst (λ t. IsNext t piece n) (sym c) x, ap (drop n) c)
@@ -102,3 +112,50 @@ never_both text tokens line column a b =
     let some = b.some in
     let size = ap length same.1 in
     omega arith
+
+-- ---- some answer
+-- a text, cut as far as it goes
+record CutUp (text : List ℕ) : Type 0 where
+  pieces : List (Piece × ℕ)
+  rest : List ℕ
+  cut : Cut text pieces rest
+  over : IsOver rest
+
+-- at most so many pieces, where the next one is known
+cut_up : (fuel : ℕ) (text : List ℕ) (next : Option (Piece × ℕ)) → next ≡ next_of text → length text ≤ fuel → CutUp text
+cut_up fuel text None is w = record { pieces = []; rest = text; cut = refl; over = none_of text None is }
+cut_up zero text (Some q) is w =
+    let found : IsNext text q.0 q.1 = found_of text (Some q) is in
+    let some = fits_some q.0 q.1 text found.is in
+    let within = found.within in
+    absurd (omega arith)
+cut_up (suc fuel) text (Some q) is w =
+    let found : IsNext text q.0 q.1 = found_of text (Some q) is in
+    let some = fits_some q.0 q.1 text found.is in
+    let size = length-drop q.1 text in
+    let more = cut_up fuel (drop q.1 text) (next_of (drop q.1 text)) refl (omega arith) in
+    record { pieces = q ∷ more.pieces; rest = more.rest; cut = (found, more.cut); over = more.over }
+
+answer_by : (text : List ℕ) (pieces : List (Piece × ℕ)) (rest : List ℕ) → Cut (unmarked text) pieces rest → IsOver rest → ((tokens : List Token) × Lexes text tokens) ⊎ ((line : ℕ) × (column : ℕ) × Stops text line column)
+answer_by text pieces [] cut over = inl (tokens_of (mark_len text) pieces, record { pieces = pieces; cut = cut; told = refl })
+answer_by text pieces (b ∷ bs) cut over = inr (line_at (unmarked text) (total pieces), column_at (unmarked text) (total pieces), record { pieces = pieces; rest = b ∷ bs; cut = cut; some = omega arith; over = over; line_is = refl; column_is = refl })
+
+pub some_answer : (text : List ℕ) → ((tokens : List Token) × Lexes text tokens) ⊎ ((line : ℕ) × (column : ℕ) × Stops text line column)
+some_answer text =
+    let all = cut_up (length (unmarked text)) (unmarked text) (next_of (unmarked text)) refl (omega arith) in
+    answer_by text all.pieces all.rest all.cut all.over
+
+-- ---- words
+name_byte_ascii : (b : ℕ) → is_name_byte b ≡ true → b < 128
+name_byte_ascii b h = grind (arith, nat_tests)
+
+name_bytes_ascii : (bs : List ℕ) → list_all is_name_byte bs ≡ true → IsAscii bs
+name_bytes_ascii [] h i = omega arith
+name_bytes_ascii (b ∷ bs) h zero = name_byte_ascii b (and_parts (is_name_byte b) (list_all is_name_byte bs) h).0
+name_bytes_ascii (b ∷ bs) h (suc i) = name_bytes_ascii bs (and_parts (is_name_byte b) (list_all is_name_byte bs) h).1 i
+
+pub word_spelling : (text : List ℕ) (token : Token) → IsTokenOf text token → token.kind ≡ t.Word → utf8_lossy (slice_range text token.from token.until) ≡ slice_range text token.from token.until
+word_spelling text token is word =
+    let bytes = slice_range text token.from token.until in
+    let spelled : SpellsToken t.Word bytes = subst (λ k. SpellsToken k bytes) word is.spelled in
+    utf8_lossy-IsUtf8 bytes (IsUtf8-from_ascii bytes (name_bytes_ascii bytes (name_bytes bytes spelled.form)))

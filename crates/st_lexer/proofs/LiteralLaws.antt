@@ -74,7 +74,7 @@ bytes_no_hash (b ∷ bs) h (suc k) =
     let parts = and_parts (is_name_byte b) (list_all is_name_byte bs) h in
     or_from (hash b) (list_any hash (take k bs)) (byte_no_hash b parts.0) (bytes_no_hash bs parts.1 k)
 
-name_bytes : (bs : List ℕ) → is_name bs ≡ true → list_all is_name_byte bs ≡ true
+pub name_bytes : (bs : List ℕ) → is_name bs ≡ true → list_all is_name_byte bs ≡ true
 name_bytes [] h = refl
 name_bytes (b ∷ bs) h = let parts = and_parts (is_letter b) (list_all is_name_byte bs) h in and_from (is_name_byte b) (list_all is_name_byte bs) (or_left (is_letter b) _ parts.0) parts.1
 

@@ -13,11 +13,9 @@ mod numbers;
 mod piece;
 mod places;
 mod tables;
-#[cfg(test)]
-mod tests;
 mod token;
 
-pub use laws::{one_answer, one_cut};
+pub use laws::{one_answer, one_cut, some_answer, word_spelling};
 pub use lexer::{LexFault, lex};
 pub use piece::Piece;
 pub use places::{place_behind, place_of};

@@ -10,32 +10,28 @@ use crate::numbers::integer;
 use crate::token::TokenKind;
 use plant_types::same_word;
 
+// A number with its sign; `None` where it doesn't fit 32 bits.
 #[tactic(auto, unfolding(crate::specs::ReadingLiterals::signed_by))]
-fn above(n: u32) -> Option<i32>
-    ensures { result ≡ signed_by (2 ^ 31) false n }
+fn dint_from(n: u32, is_negative: bool) -> Option<i32>
+    ensures { result ≡ signed_by (2 ^ 31) is_negative n }
 {
-    0i32.checked_add_unsigned(n)
+    if is_negative {
+        0i32.checked_sub_unsigned(n)
+    } else {
+        0i32.checked_add_unsigned(n)
+    }
 }
 
+// A number with its sign; `None` where it doesn't fit 64 bits.
 #[tactic(auto, unfolding(crate::specs::ReadingLiterals::signed_by))]
-fn below(n: u32) -> Option<i32>
-    ensures { result ≡ signed_by (2 ^ 31) true n }
+fn time_from(n: u64, is_negative: bool) -> Option<i64>
+    ensures { result ≡ signed_by (2 ^ 63) is_negative n }
 {
-    0i32.checked_sub_unsigned(n)
-}
-
-#[tactic(auto, unfolding(crate::specs::ReadingLiterals::signed_by))]
-fn ahead(n: u64) -> Option<i64>
-    ensures { result ≡ signed_by (2 ^ 63) false n }
-{
-    0i64.checked_add_unsigned(n)
-}
-
-#[tactic(auto, unfolding(crate::specs::ReadingLiterals::signed_by))]
-fn back(n: u64) -> Option<i64>
-    ensures { result ≡ signed_by (2 ^ 63) true n }
-{
-    0i64.checked_sub_unsigned(n)
+    if is_negative {
+        0i64.checked_sub_unsigned(n)
+    } else {
+        0i64.checked_add_unsigned(n)
+    }
 }
 
 // An optional sign and an integer.
@@ -44,11 +40,11 @@ fn dint(text: &[u8]) -> Option<i32>
     ensures { result ≡ dint_by text.now }
 {
     if begins_with(b'-', text) {
-        below(integer(&text[1..])?)
+        dint_from(integer(&text[1..])?, true)
     } else if begins_with(b'+', text) {
-        above(integer(&text[1..])?)
+        dint_from(integer(&text[1..])?, false)
     } else {
-        above(integer(text)?)
+        dint_from(integer(text)?, false)
     }
 }
 
@@ -71,9 +67,9 @@ fn timed(text: &[u8]) -> Option<i64>
     ensures { result ≡ timed_by text.now }
 {
     if begins_with(b'-', text) {
-        back(parts(&text[1..])?)
+        time_from(parts(&text[1..])?, true)
     } else {
-        ahead(parts(text)?)
+        time_from(parts(text)?, false)
     }
 }
 
