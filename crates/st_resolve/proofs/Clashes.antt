@@ -10,9 +10,8 @@ use Rattle.plant_types.specs.Words.{folded}
 use Rattle.st_resolve.specs.declared.logic.Variable.{Variable}
 use Rattle.st_resolve.specs.Names.{global_words}
 use Rattle.st_resolve.specs.declared.logic.Local.{Local}
-use Rattle.st_resolve.specs.Names.{own_words, is_standard, is_among, repeats}
+use Rattle.st_resolve.specs.Names.{own_words, is_standard, is_among, repeats, is_taken}
 use Rattle.st_resolve.specs.Faults.{globals_clash}
-use Rattle.st_resolve.specs.Taken.{is_taken}
 
 -- which of two words stands first doesn't matter
 pub turned : (x y : List ℕ) (b : Bool) → bytes_eq x y ≡ b → bytes_eq y x ≡ b

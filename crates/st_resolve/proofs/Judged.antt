@@ -19,7 +19,7 @@ use Rattle.st_resolve.specs.Loops.{all_allowed, all_short}
 use Rattle.st_resolve.specs.Names.{global_words, own_words, find_word, find_in, shifted, slot_in, kind_at, no_output, is_standard, repeats, all_pass}
 use Rattle.st_resolve.specs.Faults.{globals_clash, is_global, program_clashes, locals_clash, is_known, name_number, meant_of, name_is_unknown, entry_named, all_fit, kinds_misfit, loops_wrong, loops_long, entry_of, own_entry, entries_of, which_fault, first_fault, Refuses}
 use Rattle.st_resolve.specs.Resolved.{renamed, flat_body}
-use Rattle.st_resolve.specs.Kept.{IsScope, IsFlat}
+use Rattle.st_resolve.specs.Flats.{IsScope, IsFlat}
 use Rattle.st_resolve.proofs.Places.{found}
 use Rattle.st_resolve.proofs.Renaming.{pass_same, fit_same, allow_same, short_same}
 
@@ -50,23 +50,24 @@ unknown_is : (clash clashes own known kinds loops long : Bool) → clash ≡ fal
 unknown_is clash clashes own known kinds loops long sound free apart is = rw (sound, free, apart, is) refl
 
 -- where the names are right, what comes after them is the first
-named_right : (clash clashes own known kinds loops long : Bool) → clash ≡ false → clashes ≡ false → own ≡ false → known ≡ true → which_fault clash (clashes || (own || not known)) kinds loops long ≡ which_fault false false kinds loops long
-named_right clash clashes own known kinds loops long sound free apart is = rw (sound, free, apart, is) refl
+after_right_names : (clash clashes own known kinds loops long : Bool) → clash ≡ false → clashes ≡ false → own ≡ false → known ≡ true → which_fault clash (clashes || (own || not known)) kinds loops long ≡ which_fault false false kinds loops long
+after_right_names clash clashes own known kinds loops long sound free apart is = rw (sound, free, apart, is) refl
 
-pub record Sound (clash own known : Bool) : Type 0 where
-  pub apart : clash ≡ false
+-- what a source without a fault has of the names that it declares and uses
+pub record NamesRight (clash own known : Bool) : Type 0 where
+  pub globals_apart : clash ≡ false
   pub own_apart : own ≡ false
-  pub known_all : known ≡ true
+  pub all_known : known ≡ true
 
-sound_by : (clash clashes own known kinds loops long : Bool) → which_fault clash (clashes || (own || not known)) kinds loops long ≡ None → Sound clash own known
-sound_by true clashes own known kinds loops long e = absurd (cc)
-sound_by false true own known kinds loops long e = absurd (cc)
-sound_by false false true known kinds loops long e = absurd (cc)
-sound_by false false false false kinds loops long e = absurd (cc)
-sound_by false false false true kinds loops long e = record { apart = refl; own_apart = refl; known_all = refl }
+names_right_by : (clash clashes own known kinds loops long : Bool) → which_fault clash (clashes || (own || not known)) kinds loops long ≡ None → NamesRight clash own known
+names_right_by true clashes own known kinds loops long e = absurd (cc)
+names_right_by false true own known kinds loops long e = absurd (cc)
+names_right_by false false true known kinds loops long e = absurd (cc)
+names_right_by false false false false kinds loops long e = absurd (cc)
+names_right_by false false false true kinds loops long e = record { globals_apart = refl; own_apart = refl; all_known = refl }
 
-pub sound_parts : (source : Source) → first_fault source ≡ None → Sound (globals_clash source.globals) (locals_clash source) (all_pass (is_known source) (meant_of source))
-sound_parts source sound = sound_by (globals_clash source.globals) (program_clashes source) (locals_clash source) (all_pass (is_known source) (meant_of source)) (kinds_misfit source) (loops_wrong source) (loops_long source) sound
+pub names_right : (source : Source) → first_fault source ≡ None → NamesRight (globals_clash source.globals) (locals_clash source) (all_pass (is_known source) (meant_of source))
+names_right source sound = names_right_by (globals_clash source.globals) (program_clashes source) (locals_clash source) (all_pass (is_known source) (meant_of source)) (kinds_misfit source) (loops_wrong source) (loops_long source) sound
 
 -- a name is known where its number is below the count of the variables
 known_by : (words own : List (List ℕ)) (name : List ℕ) (o p : Option ℕ) → find_word own name ≡ o → find_word words name ≡ p → is_some (shifted (length words) o p) ≡ nat_lt (unwrap_or (shifted (length words) o p) (length words + length own)) (length words + length own)
@@ -114,11 +115,11 @@ module _ (source : Source) (scope : Scope) (is : IsScope source scope) where
 
   pub names_refused : (body given : PlainBody ℕ) (count : ℕ) → body ≡ renamed (name_number source) (meant_of source) → given ≡ body → count ≡ length scope.entries.items → all_pass (λ slot. nat_lt slot count) given ≡ false → first_fault source ≡ Some (fault.Name false)
   names_refused body given count are same counted all =
-      unknown_is (globals_clash source.globals) (program_clashes source) (locals_clash source) (all_pass (is_known source) (meant_of source)) (kinds_misfit source) (loops_wrong source) (loops_long source) is.apart is.free is.own_apart (known_same body given count false are same counted all)
+      unknown_is (globals_clash source.globals) (program_clashes source) (locals_clash source) (all_pass (is_known source) (meant_of source)) (kinds_misfit source) (loops_wrong source) (loops_long source) is.globals_apart is.program_apart is.own_apart (known_same body given count false are same counted all)
 
   after_names : (body given : PlainBody ℕ) (count : ℕ) → body ≡ renamed (name_number source) (meant_of source) → given ≡ body → count ≡ length scope.entries.items → all_pass (λ slot. nat_lt slot count) given ≡ true → first_fault source ≡ which_fault false false (kinds_misfit source) (loops_wrong source) (loops_long source)
   after_names body given count are same counted all =
-      named_right (globals_clash source.globals) (program_clashes source) (locals_clash source) (all_pass (is_known source) (meant_of source)) (kinds_misfit source) (loops_wrong source) (loops_long source) is.apart is.free is.own_apart (known_same body given count true are same counted all)
+      after_right_names (globals_clash source.globals) (program_clashes source) (locals_clash source) (all_pass (is_known source) (meant_of source)) (kinds_misfit source) (loops_wrong source) (loops_long source) is.globals_apart is.program_apart is.own_apart (known_same body given count true are same counted all)
 
   pub kinds_refused : (body given given1 : PlainBody ℕ) (count : ℕ) (entries : List Entry) → body ≡ renamed (name_number source) (meant_of source) → given ≡ body → given1 ≡ body → count ≡ length scope.entries.items → entries ≡ scope.entries.items
       → all_pass (λ slot. nat_lt slot count) given ≡ true → all_fit (slice_get entries) given1 ≡ false → first_fault source ≡ Some fault.Kind
@@ -140,36 +141,36 @@ module _ (source : Source) (scope : Scope) (is : IsScope source scope) where
       → all_pass (λ slot. nat_lt slot count) given ≡ true → all_fit (slice_get entries) given1 ≡ true → all_allowed (slice_get entries2) (λ a b. a == b) given2 ≡ true → all_short given3 ≡ true → IsFlat source scope body
   accepted body given given1 given2 given3 count entries entries2 are same same1 same2 same3 counted listed listed2 all fit allow short =
       record {
-        named = is;
-        sound = after_names body given count are same counted all
+        scope_is = is;
+        no_fault = after_names body given count are same counted all
             ∙ (λ k. which_fault false false (not (fit_by_name body given1 entries true are same1 listed fit k)) (not (allow_by_name body given2 entries2 true are same2 listed2 allow k)) (not (short_by_name body given3 true are same3 short k)));
         body_is = are;
       }
 
 -- the globals' names are apart and listed, and the program's is none of them
 pub record Declared (source : Source) (words : List (List ℕ)) : Type 0 where
-  pub apart : globals_clash source.globals ≡ false
+  pub globals_apart : globals_clash source.globals ≡ false
   pub are : words ≡ global_words source.globals
-  pub free : program_clashes source ≡ false
+  pub program_apart : program_clashes source ≡ false
 
 pub declared : (source : Source) (globals : List Variable) (words : List (List ℕ)) (bytes text : List ℕ) (taken : Option ℕ) → globals ≡ source.globals → bytes ≡ source.name → text ≡ source.name → globals_clash globals ≡ false → words ≡ global_words globals → is_standard bytes ≡ false → taken ≡ find_word words text → is_some taken ≡ false → Declared source words
 declared source globals words bytes text taken same as_bytes as_text apart are standard found none =
     let are' = are ∙ ap global_words same in
     let standard' : is_standard source.name ≡ false = ap is_standard (sym as_bytes) ∙ standard in
     let none' : is_global source.globals source.name ≡ false = ap (λ ws. is_some (find_word ws source.name)) (sym are') ∙ ap (λ t. is_some (find_word words t)) (sym as_text) ∙ ap is_some (sym found) ∙ none in
-    record { apart = ap globals_clash (sym same) ∙ apart; are = are'; free = or_from (is_standard source.name) (is_global source.globals source.name) standard' none' }
+    record { globals_apart = ap globals_clash (sym same) ∙ apart; are = are'; program_apart = or_from (is_standard source.name) (is_global source.globals source.name) standard' none' }
 
 -- a fault of the names of the program's own variables
 pub own_refused : (source : Source) (words : List (List ℕ)) (locals : List Local) (f : FirstFault) → Declared source words → locals ≡ source.locals → Refuses (if repeats (own_words locals) then Some (fault.Name false) else None) f → Refuses (first_fault source) f
 own_refused source words locals f d same refused =
-    from_own (globals_clash source.globals) (program_clashes source) (locals_clash source) (name_is_unknown source) (kinds_misfit source) (loops_wrong source) (loops_long source) f d.apart d.free
+    from_own (globals_clash source.globals) (program_clashes source) (locals_clash source) (name_is_unknown source) (kinds_misfit source) (loops_wrong source) (loops_long source) f d.globals_apart d.program_apart
     (subst (λ ls. Refuses (if repeats (own_words ls) then Some (fault.Name false) else None) f) same refused)
 
 pub scoped : (source : Source) (globals : List Variable) (locals locals1 : List Local) (scope : Scope) → Declared source scope.globals → globals ≡ source.globals → locals ≡ source.locals → locals1 ≡ source.locals → repeats (own_words locals) ≡ false → scope.own ≡ own_words locals → scope.entries.items ≡ entries_of globals locals1 → IsScope source scope
 scoped source globals locals locals1 scope d same sames same1 apart own entries =
     record {
-      apart = d.apart;
-      free = d.free;
+      globals_apart = d.globals_apart;
+      program_apart = d.program_apart;
       own_apart = ap (λ ls. repeats (own_words ls)) (sym sames) ∙ apart;
       globals_are = d.are;
       own_are = own ∙ ap own_words sames;

@@ -54,7 +54,7 @@ variable_code =
 abbrev pub local_code : Coded Local
 local_code = code_by (List ℕ × Kind) (coded× (coded_list coded_ℕ) kind_code) (λ l. (l.name, l.kind)) (λ p. record { name = p.0; kind = p.1 }) (λ _. refl)
 
--- a source is kept as its globals, its name, its own variables and its body
+-- the code of a source: that of its globals, its name, its own variables and its body
 abbrev pub source_code : Coded Source
 source_code =
     code_by (List Variable × (List ℕ × (List Local × PlainBody (List ℕ)))) (coded× (coded_list variable_code) (coded× (coded_list coded_ℕ) (coded× (coded_list local_code) body_code))) (λ s. (s.globals, (s.name, (s.locals, s.body))))

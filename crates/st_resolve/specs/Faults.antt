@@ -20,7 +20,7 @@ use Rattle.st_resolve.specs.Names.{global_words, own_words, find_global, find_in
 abbrev pub globals_clash : List Variable → Bool
 globals_clash globals = list_any (λ (global : Variable). is_standard global.name) globals || repeats (global_words globals)
 
--- a name is that of a global
+-- a global has the name
 abbrev pub is_global : List Variable → List ℕ → Bool
 is_global globals name = is_some (find_global globals name)
 
@@ -28,33 +28,36 @@ is_global globals name = is_some (find_global globals name)
 abbrev pub program_clashes : Source → Bool
 program_clashes source = is_standard source.name || is_global source.globals source.name
 
--- a name of one of the program's own variables is that of another of them
+-- two of the program's own variables have one name
 abbrev pub locals_clash : Source → Bool
 locals_clash source = repeats (own_words source.locals)
 
+-- the region of a variable is that of the inputs
 abbrev pub is_input : Option Region → Bool
 is_input (Some region.Input) = true
 is_input _ = false
 
--- what the variables are: the globals, then the program's own
+-- the entry of a global
 abbrev pub entry_of : Variable → Entry
 entry_of global = record { kind = global.kind; is_input = is_input global.region; is_own = false }
 
+-- the entry of a program's own variable
 abbrev pub own_entry : Local → Entry
 own_entry local = record { kind = local.kind; is_input = false; is_own = true }
 
+-- the entries of the variables: the globals, then the program's own
 abbrev pub entries_of : List Variable → List Local → List Entry
 entries_of globals locals = map entry_of globals ++ map own_entry locals
 
--- a name in the body is that of one of the program's own variables, or of a global
+-- a name in the body is that of a variable: the program's own, or a global
 abbrev pub is_known : Source → List ℕ → Bool
 is_known source name = is_some (find_in (global_words source.globals) (own_words source.locals) name)
 
--- the number of what a name in the body names
+-- the number of the variable of a name in the body
 abbrev pub name_number : Source → List ℕ → ℕ
 name_number source name = slot_in (global_words source.globals) (own_words source.locals) name
 
--- what a name in the body names, if anything
+-- the entry of the variable of a name in the body
 abbrev pub entry_named : Source → List ℕ → Option Entry
 entry_named source name = slice_get (entries_of source.globals source.locals) (name_number source name)
 
@@ -67,6 +70,7 @@ abbrev pub name_is_unknown : Source → Bool
 name_is_unknown source = not (all_pass (is_known source) (meant_of source))
 
 module _ {V : Type 0} (look : V → Option Entry) where
+  -- the kind of a variable
   abbrev pub kind_named : V → Option Kind
   kind_named v = option_map (λ (entry : Entry). entry.kind) (look v)
 
@@ -78,16 +82,17 @@ module _ {V : Type 0} (look : V → Option Entry) where
   abbrev pub is_of : Kind → PlainExpr V → Bool
   is_of k e = is_kind k (kind_of_expr kind_named output_named e)
 
+  -- an expression is of a kind, if there is one
   abbrev pub option_is_of : Kind → Option (PlainExpr V) → Bool
   option_is_of k None = true
   option_is_of k (Some e) = is_of k e
 
-  -- a variable takes a right side of its own kind, and an input none; the integers 0 and 1 may be given for a BOOL
+  -- an expression may be assigned to a variable of its kind, and the integers 0 and 1 to a BOOL; nothing may be assigned to an input
   abbrev pub takes : Option Entry → PlainExpr V → Bool
   takes None e = false
   takes (Some entry) e = not entry.is_input && fits_kind kind_named output_named entry.kind e
 
-  -- each right side, test, selector, bound and step is of its kind, and nothing is called
+  -- each right side, test, selector, bound and step has the kind that it must have, and nothing is called
   abbrev mutual
     pub stmt_fits : PlainStmt V → Bool
     stmt_fits (empty number) = true
@@ -109,6 +114,7 @@ module _ {V : Type 0} (look : V → Option Entry) where
     choices_fit no_choice = true
     choices_fit (choice labels body rest) = all_fit body && choices_fit rest
 
+-- an expression of the body has a wrong kind, or an input is assigned, or something is called
 abbrev pub kinds_misfit : Source → Bool
 kinds_misfit source = not (all_fit (entry_named source) (meant_of source))
 
@@ -120,7 +126,7 @@ loops_wrong source = not (all_allowed (entry_named source) (λ a b. name_number 
 abbrev pub loops_long : Source → Bool
 loops_long source = not (all_short (meant_of source))
 
--- the first fault, where the globals' names clash, the program's names are wrong, its kinds, its control variables and bounds, or the count of turns
+-- the first fault, by whether the globals' names clash, the program's names are wrong, its kinds, its control variables and bounds, or its turns
 abbrev pub which_fault : Bool → Bool → Bool → Bool → Bool → Option FirstFault
 which_fault true names kinds loops long = Some (fault.Name true)
 which_fault false true kinds loops long = Some (fault.Name false)
@@ -129,12 +135,12 @@ which_fault false false false true long = Some fault.Constant
 which_fault false false false false true = Some fault.Turns
 which_fault false false false false false = None
 
--- the fault of least number, in the first unit that has it: names, kinds, constants, the limit of turns; the globals before the program
+-- the first fault: that of least number (names, kinds, constants, turns), in the first unit that has it (the globals before the program)
 abbrev pub first_fault : Source → Option FirstFault
 first_fault source =
     which_fault (globals_clash source.globals) (program_clashes source || (locals_clash source || name_is_unknown source)) (kinds_misfit source) (loops_wrong source) (loops_long source)
 
--- a fault is the one that there is; memory may be refused at any time
+-- a fault is the one that was found; memory may be refused at any time
 abbrev pub Refuses : Option FirstFault → FirstFault → Type 0
 Refuses found fault.Memory = Unit {0}
 Refuses found (fault.Name globals) = found ≡ Some (fault.Name globals)

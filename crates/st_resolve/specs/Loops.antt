@@ -1,4 +1,4 @@
--- Control variables, bounds and steps.
+-- Control variables, bounds, steps and turns.
 use Rattle.std.specs.Prelude.{ℕ, pos, Bool, true, false, not, ◌&&◌, ◌||◌, nat_lt, List, [], ◌∷◌, length, Option, Some, None, Result, Ok, Err}
 use Rattle.std.specs.Ordering.{int_eq}
 use Rattle.plant_types.specs.declared.values.Kind.TheVariants as kind
@@ -11,7 +11,7 @@ use Rattle.st_tree.specs.Constants.{constant_of}
 use Rattle.st_tree.specs.Kinds.{same_kind}
 use Rattle.st_resolve.specs.declared.scope.Entry.{Entry}
 
--- the outcome of a step; it is 1 where none is written
+-- the outcome of a constant step, which is 1 if none is written; none if it isn't constant
 abbrev pub constant_step : {V : Type 0} → Option (PlainExpr V) → Option Outcome
 constant_step None = Some (Ok (pos 1))
 constant_step (Some e) = constant_of e
@@ -34,12 +34,13 @@ is_control None = false
 is_control (Some entry) = entry.is_own && same_kind kind.Dint entry.kind
 
 module _ {V : Type 0} (same : V → V → Bool) (v : V) where
+  -- an output of a call is given to the variable
   abbrev pub outputs_assign : List (PlainArgument V) → Bool
   outputs_assign [] = false
   outputs_assign (input name e ∷ rest) = outputs_assign rest
   outputs_assign (output name u ∷ rest) = same v u || outputs_assign rest
 
-  -- a body assigns the variable, be it as the control variable of a FOR
+  -- a body assigns the variable, also as the control variable of a FOR
   abbrev mutual
     pub assigns : PlainStmt V → Bool
     assigns (empty number) = false
@@ -62,7 +63,7 @@ module _ {V : Type 0} (same : V → V → Bool) (v : V) where
     choices_assign (choice labels body rest) = body_assigns body || choices_assign rest
 
 module _ {V : Type 0} (look : V → Option Entry) (same : V → V → Bool) where
-  -- each control variable is allowed and not assigned in its FOR, and bounds and steps are constant
+  -- each control variable is allowed and not assigned in its FOR, and each bound and step is constant and allowed
   abbrev mutual
     pub allowed : PlainStmt V → Bool
     allowed (empty number) = true
@@ -85,11 +86,12 @@ module _ {V : Type 0} (look : V → Option Entry) (same : V → V → Bool) wher
     choices_allowed no_choice = true
     choices_allowed (choice labels body rest) = all_allowed body && choices_allowed rest
 
+-- the number of turns of a span; 0 if it has a trap in its place
 abbrev pub turns_in : Result Span Trap → ℕ
 turns_in (Ok span) = length (control_values span)
 turns_in (Err trap) = 0
 
--- how many turns a FOR of constant bounds has
+-- the number of turns of a FOR with constant bounds and step; 0 for any other
 abbrev pub turns_of : Option Outcome → Option Outcome → Option Outcome → ℕ
 turns_of (Some from) (Some to) (Some step) = turns_in (span_of from to step)
 turns_of _ _ _ = 0

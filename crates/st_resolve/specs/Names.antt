@@ -1,4 +1,4 @@
--- Names and what they name.
+-- Names, and the variables that they name.
 use Rattle.std.specs.Prelude.{ℕ, ◌+◌, Bool, true, false, ◌&&◌, ◌||◌, List, [], ◌∷◌, Option, Some, None, unwrap_or, position, codes, map, length, slice_get}
 use Rattle.std.specs.List.{list_any}
 use Rattle.std.specs.Str.{bytes_eq}
@@ -15,57 +15,62 @@ use Rattle.st_resolve.specs.declared.scope.Entry.{Entry}
 abbrev pub global_words : List Variable → List (List ℕ)
 global_words globals = map (λ (global : Variable). folded global.name) globals
 
--- the same of the names of a program's own variables
+-- the names of a program's own variables in small letters, in order of declaration
 abbrev pub own_words : List Local → List (List ℕ)
 own_words locals = map (λ (local : Local). folded local.name) locals
 
--- where a name in any letter case first stands in a list of names in small letters
+-- the index of a name, in any letter case, in a list of names in small letters
 abbrev pub find_word : List (List ℕ) → List ℕ → Option ℕ
 find_word words name = position (bytes_eq (folded name)) words
 
--- the number of the first global of a name, from 0
+-- the number, from 0, of the first global of a name
 abbrev pub find_global : List Variable → List ℕ → Option ℕ
 find_global globals name = find_word (global_words globals) name
 
--- the block types that exist from the start
+-- a name is that of a standard block (IEC 61131-3)
 abbrev pub is_standard : List ℕ → Bool
 is_standard name = same_word name (codes "TON") || same_word name (codes "TOF") || same_word name (codes "R_TRIG")
 
--- a word stands among words
+-- a word is in a list of words
 abbrev pub is_among : List (List ℕ) → List ℕ → Bool
 is_among words word = list_any (bytes_eq word) words
 
--- a word stands twice
+-- a name is that of a standard block, or is in a list of words
+abbrev pub is_taken : List (List ℕ) → List ℕ → Bool
+is_taken words name = is_standard name || is_among words (folded name)
+
+-- a word is in the list twice
 abbrev pub repeats : List (List ℕ) → Bool
 repeats [] = false
 repeats (w ∷ ws) = is_among ws w || repeats ws
 
--- a place behind others
+-- an index in a list that comes after n others, or else another index
 abbrev pub shifted : ℕ → Option ℕ → Option ℕ → Option ℕ
 shifted n (Some i) other = Some (n + i)
 shifted n None other = other
 
--- the number of what a name names, the globals counted first: a program's own variable hides a global
+-- the number of the variable of a name, the globals counted first: a program's own variable hides a global
 abbrev pub find_in : List (List ℕ) → List (List ℕ) → List ℕ → Option ℕ
 find_in words own name = shifted (length words) (find_word own name) (find_word words name)
 
--- the same; a name of nothing has the number behind all
+-- the number of the variable of a name; if there is none, the count of the variables
 abbrev pub slot_in : List (List ℕ) → List (List ℕ) → List ℕ → ℕ
 slot_in words own name = unwrap_or (find_in words own name) (length words + length own)
 
+-- the kind of an entry; BOOL if there is none
 abbrev pub kind_or : Option Entry → Kind
 kind_or None = kind.Bool
 kind_or (Some entry) = entry.kind
 
--- the kind of a variable; BOOL stands for that of none
+-- the kind of the variable of a number; BOOL if there is none
 abbrev pub kind_at : List Entry → ℕ → Kind
 kind_at entries slot = kind_or (slice_get entries slot)
 
--- no variable is an instance: BOOL stands for the kind of its outputs
+-- no variable is an instance: BOOL stands for the kind of an output
 abbrev pub no_output : {V : Type 0} → V → V → Kind
 no_output instance name = kind.Bool
 
--- each variable that an expression reads passes a test; no output does
+-- each variable that an expression reads passes a test; an output never does
 abbrev pub reads_pass : {V : Type 0} → (V → Bool) → PlainExpr V → Bool
 reads_pass test (literal n) = true
 reads_pass test (read v) = test v
@@ -80,7 +85,7 @@ option_passes test (Some e) = reads_pass test e
 abbrev pub bounds_pass : {V : Type 0} → (V → Bool) → V → (from to : PlainExpr V) → Option (PlainExpr V) → Bool
 bounds_pass test v from to by = test v && (reads_pass test from && (reads_pass test to && option_passes test by))
 
--- the names of a call's inputs and outputs are those of its block
+-- each variable of a call's arguments passes a test; the names of inputs and outputs are the block's, and are not looked at
 abbrev pub arguments_pass : {V : Type 0} → (V → Bool) → List (PlainArgument V) → Bool
 arguments_pass test [] = true
 arguments_pass test (input name e ∷ rest) = reads_pass test e && arguments_pass test rest

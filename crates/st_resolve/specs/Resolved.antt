@@ -47,15 +47,16 @@ module _ {V W : Type 0} (f : V → W) where
     renamed_choices no_choice = no_choice
     renamed_choices (choice labels body rest) = choice labels (renamed body) (renamed_choices rest)
 
--- the number and the kind of a name
+-- the number of the variable of a name in a scope
 abbrev pub slot_of : Scope → List ℕ → ℕ
 slot_of scope name = slot_in scope.globals scope.own name
 
+-- the kind of the variable of a name in a scope
 abbrev pub scope_kind : Scope → List ℕ → Kind
 scope_kind scope name = kind_at scope.entries.items (slot_of scope name)
 
 module _ (scope : Scope) where
-  -- an expression over numbers, in which each operator is the one that is meant
+  -- an expression over numbers, each operator chosen by the kind of its operands
   abbrev pub flat_expr : PlainExpr (List ℕ) → PlainExpr ℕ
   flat_expr e = renamed_expr (slot_of scope) (resolved_expr (scope_kind scope) no_output e)
 
@@ -66,7 +67,7 @@ module _ (scope : Scope) where
   abbrev pub flat_argument : PlainArgument (List ℕ) → PlainArgument ℕ
   flat_argument a = renamed_argument (slot_of scope) (resolved_argument (scope_kind scope) no_output a)
 
-  -- a statement over numbers of variables, whose statements are numbered from a number on
+  -- a statement over numbers of variables, each operator chosen by the kind of its operands, the statements numbered from n on
   abbrev pub flat_stmt : ℕ → PlainStmt (List ℕ) → PlainStmt ℕ
   flat_stmt n s = renamed_stmt (slot_of scope) (resolved_stmt (scope_kind scope) no_output (numbered_stmt n s))
 

@@ -1,4 +1,4 @@
--- What is made ready to run, as contracts see it.
+-- A source, as contracts see it.
 use Rattle.std.specs.Prelude.{ℕ, List}
 use Rattle.st_resolve.specs.declared.logic.Logic.{Logic}
 use Rattle.st_resolve.specs.declared.logic.Variable.{Variable}
@@ -13,5 +13,6 @@ pub record Source : Type 0 where
   pub locals : List Local
   pub body : PlainBody (List ℕ)
 
+-- the source of a Logic
 abbrev pub source_of : Logic → Source
 source_of logic = record { globals = logic.globals.items; name = logic.program.name; locals = logic.program.locals.items; body = view_body logic.program.body.items }

@@ -2,18 +2,18 @@
 
 use std::alloc::{AllocError, AllocFailed};
 
-/// The first fault of a program: names come before kinds, kinds before constants and these before the limit of turns, and the globals
-/// before the program.
+/// The first fault of a program, in this order: the names of the globals, the names of the program, its kinds, its constants, and the
+/// limit of turns.
 #[derive(Clone, Copy, Debug, PartialEq, Eq, Drop)]
 pub enum FirstFault {
-    /// A growth of memory was refused.
+    /// Memory was refused.
     Memory,
-    /// A name is unknown, declared twice or taken (C6): in the list of globals, or else in the program.
+    /// A name is unknown, declared twice or taken (C6): in the list of globals, or in the program.
     Name { globals: bool },
-    /// An input is assigned, something is called that is no instance, or an operand, right side, test, selector, bound or step is of
-    /// another kind (C7), in the program.
+    /// In the program an input is assigned, something other than an instance is called, or an operand, right side, test, selector, bound
+    /// or step is of the wrong kind (C7).
     Kind,
-    /// A bound or step of a FOR reads a variable or traps, a step is 0, or a control variable is no DINT of the program's own or is
+    /// A bound or step of a FOR reads a variable or traps, a step is 0, or a control variable is not a DINT of the program's own or is
     /// assigned in the body of its FOR (C9).
     Constant,
     /// A FOR has more than 10,000 turns (C10 TURNS).

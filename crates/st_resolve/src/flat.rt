@@ -5,7 +5,7 @@ ghost use Rattle.st_resolve.specs.Source.{source_of};
 ghost use Rattle.st_resolve.specs.Names.{find_global};
 ghost use Rattle.st_resolve.specs.Faults.{first_fault, Refuses, name_number, meant_of};
 ghost use Rattle.st_resolve.specs.Resolved.{renamed};
-ghost use Rattle.st_resolve.specs.Kept.{IsScope, IsFlat};
+ghost use Rattle.st_resolve.specs.Flats.{IsScope, IsFlat};
 ghost use Rattle.st_tree.specs.View.{view_body};
 
 use crate::faults::FirstFault;
@@ -20,8 +20,8 @@ use st_tree::{Stmt, copy_body};
 use std::alloc::{AllocError, Global};
 use std::marker::Model;
 
-/// A source without faults, its names numbered. Contracts see the source: its globals and the program's own variables in order of
-/// declaration with their names as declared, and the program's name and plain body.
+/// A source without a fault, and its body over the numbers of its variables. Contracts see the source: its globals and the program's own
+/// variables in order of declaration, with their names as declared, and the program's name and plain body.
 #[derive(Drop)]
 pub struct Flat {
     globals: Vec<Variable>,
@@ -41,14 +41,14 @@ impl Model for Flat {
 
     ghost coded = { source_code };
 
-    ghost use Rattle.st_resolve.specs.Kept.{IsFlat};
+    ghost use Rattle.st_resolve.specs.Flats.{IsFlat};
 
     ghost view = { λ flat. record { globals = flat.globals.items; name = flat.program; locals = flat.locals.items; body = view_body flat.source.items } };
 
     ghost invariant = { λ flat. IsFlat (record { globals = flat.globals.items; name = flat.program; locals = flat.locals.items; body = view_body flat.source.items }) flat.scope (view_body flat.body.items) };
 }
 
-/// The same globals. The error is a refused growth.
+/// Copies the globals. Fails if memory was refused.
 fn copy_globals(alloc: Global, globals: &[Variable]) -> Result<Vec<Variable>, AllocError>
     ensures { IfOk result (λ copy. copy.items ≡ globals.now) }
 {
@@ -62,7 +62,7 @@ fn copy_globals(alloc: Global, globals: &[Variable]) -> Result<Vec<Variable>, Al
     Ok(copies)
 }
 
-/// The same variables of a program's own. The error is a refused growth.
+/// Copies a program's own variables. Fails if memory was refused.
 fn copy_locals(alloc: Global, locals: &[Local]) -> Result<Vec<Local>, AllocError>
     ensures { IfOk result (λ copy. copy.items ≡ locals.now) }
 {
@@ -75,7 +75,7 @@ fn copy_locals(alloc: Global, locals: &[Local]) -> Result<Vec<Local>, AllocError
     Ok(copies)
 }
 
-/// The body of a program over the numbers of its variables, if it has no fault.
+/// Returns the program's body over the numbers of its variables, or its first fault. The declared names were checked already.
 fn checked(alloc: Global, logic: &Logic, scope: &Scope) -> Result<Vec<Stmt<usize>>, FirstFault>
     requires { IsScope (source_of logic.now) scope.now }
     ensures { MatchResult result (λ body. IsFlat (source_of logic.now) scope.now (view_body body.items)) (Refuses (first_fault (source_of logic.now))) }
@@ -98,10 +98,9 @@ fn checked(alloc: Global, logic: &Logic, scope: &Scope) -> Result<Vec<Stmt<usize
 }
 
 impl Flat {
-    /// A program made ready to run, if it has no fault. The fault is the first one that holds: a name of a global that is taken, then
-    /// one of the program that is unknown or taken (C6), then a misfit of kinds or an assigned input (C7), then a control variable,
-    /// bound or step that isn't allowed (C9), then a FOR of more than 10,000 turns (C10); Memory comes only where a growth was
-    /// refused.
+    /// Makes a program ready to run, or returns its first fault: a name of a global that is taken, then a name of the program that is
+    /// unknown or taken (C6), then a wrong kind or an assigned input (C7), then a control variable, bound or step that isn't allowed
+    /// (C9), then a FOR of more than 10,000 turns (C10). `Memory` only if memory was refused.
     pub fn of(alloc: Global, logic: &Logic) -> Result<Flat, FirstFault>
         ensures { MatchResult result (λ flat. (first_fault (source_of logic.now) ≡ None) × (flat ≡ source_of logic.now)) (Refuses (first_fault (source_of logic.now))) }
     {
@@ -121,15 +120,15 @@ impl Flat {
         })
     }
 
-    /// The globals in order of declaration, each at its number from 0, with its name as declared.
+    /// The globals in order of declaration, numbered from 0, with their names as declared.
     pub fn globals(&self) -> &[Variable]
         ensures globals { result.now ≡ self.now.globals }
-        ensures sound { first_fault self.now ≡ None }
+        ensures no_fault { first_fault self.now ≡ None }
     {
         self.globals.as_slice()
     }
 
-    /// The program's own variables in order of declaration, numbered behind the globals.
+    /// The program's own variables in order of declaration, numbered after the globals.
     pub fn locals(&self) -> &[Local]
         ensures { result.now ≡ self.now.locals }
     {
@@ -143,7 +142,7 @@ impl Flat {
         self.program.as_str()
     }
 
-    /// The number of the global of a name in any letter case. The error is a refused growth.
+    /// The number of the global of a name, in any letter case; `None` if there is none. Fails if memory was refused.
     pub fn slot(&self, alloc: Global, name: &str) -> Result<Option<usize>, AllocError>
         ensures { IfOk result (λ slot. slot ≡ find_global self.now.globals name.now) }
     {
@@ -153,7 +152,7 @@ impl Flat {
     /// The program's body over the numbers of its variables.
     pub fn body(&self) -> &[Stmt<usize>]
         ensures body { view_body result.now ≡ renamed (name_number self.now) (meant_of self.now) }
-        ensures sound { first_fault self.now ≡ None }
+        ensures no_fault { first_fault self.now ≡ None }
     {
         self.body.as_slice()
     }

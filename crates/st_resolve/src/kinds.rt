@@ -1,4 +1,4 @@
-//! Whether each expression of a body is of the kind that its place asks for.
+//! The kinds of the expressions of a body (C7).
 
 ghost use Rattle.std.specs.Prelude.{◌≡◌, slice_get, option_copied};
 ghost use Rattle.st_tree.specs.View.{view_expr, view_option, view_stmt, view_body, view_branches, view_choices};
@@ -15,8 +15,8 @@ fn entry_at(entries: &[Entry], slot: usize) -> Option<Entry>
     entries.get(slot).copied()
 }
 
-/// The kind of an expression, if its operators take their operands.
-fn judge(entries: &[Entry], expr: &Expr<usize>) -> Option<Kind>
+/// The kind of an expression; `None` if an operator doesn't take its operands, or a variable doesn't exist.
+fn kind_of_expr(entries: &[Entry], expr: &Expr<usize>) -> Option<Kind>
     ensures { result ≡ kind_of_expr (kind_named (slice_get entries.now)) (output_named (slice_get entries.now)) (view_expr expr.now) }
 {
     match expr {
@@ -27,12 +27,12 @@ fn judge(entries: &[Entry], expr: &Expr<usize>) -> Option<Kind>
         },
         Expr::Output(_, _) => None,
         Expr::Unary(op, a) => {
-            let kind = judge(entries, a)?;
+            let kind = kind_of_expr(entries, a)?;
             unary_kind(*op, kind)
         }
         Expr::Binary(op, a, b) => {
-            let left = judge(entries, a)?;
-            let right = judge(entries, b)?;
+            let left = kind_of_expr(entries, a)?;
+            let right = kind_of_expr(entries, b)?;
             binary_kind(*op, left, right)
         }
     }
@@ -53,7 +53,7 @@ fn is_kind(kind: Kind, found: Option<Kind>) -> bool
 fn is_of(entries: &[Entry], kind: Kind, expr: &Expr<usize>) -> bool
     ensures { result ≡ is_of (slice_get entries.now) kind (view_expr expr.now) }
 {
-    is_kind(kind, judge(entries, expr))
+    is_kind(kind, kind_of_expr(entries, expr))
 }
 
 fn option_is_of(entries: &[Entry], kind: Kind, expr: &Option<Expr<usize>>) -> bool
@@ -65,7 +65,8 @@ fn option_is_of(entries: &[Entry], kind: Kind, expr: &Option<Expr<usize>>) -> bo
     }
 }
 
-/// Whether a variable takes a right side: one of its own kind, the integers 0 and 1 for a BOOL (this profile), and an input none.
+/// Whether an expression may be assigned to a variable: it has the variable's kind, or is the integer 0 or 1 for a BOOL (this profile).
+/// Nothing may be assigned to an input.
 fn takes(entries: &[Entry], slot: usize, expr: &Expr<usize>) -> bool
     ensures { result ≡ takes (slice_get entries.now) (slice_get entries.now slot) (view_expr expr.now) }
 {
@@ -132,7 +133,7 @@ fn choices_fit(entries: &[Entry], choices: &[Choice<usize>]) -> bool
     true
 }
 
-/// Whether each right side, test, selector, bound and step of a body is of its kind, and nothing is called.
+/// Whether each right side, test, selector, bound and step of a body has the kind that it must have, and nothing is called.
 #[cycle(fits)]
 pub fn all_fit(entries: &[Entry], body: &[Stmt<usize>]) -> bool
     ensures { result ≡ all_fit (slice_get entries.now) (view_body body.now) }

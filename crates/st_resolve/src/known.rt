@@ -1,4 +1,4 @@
-//! Whether each variable of a body is there.
+//! Whether each variable of a body exists (C6).
 
 ghost use Rattle.std.specs.Prelude.{◌≡◌, nat_lt, map};
 ghost use Rattle.st_tree.specs.View.{view_expr, view_option, view_argument, view_stmt, view_body, view_branches, view_choices};
@@ -6,7 +6,7 @@ ghost use Rattle.st_resolve.specs.Names.{reads_pass, option_passes, bounds_pass,
 
 use st_tree::{Argument, Branch, Choice, Expr, Stmt};
 
-/// Whether each variable that an expression reads has a number below the count; no output is there.
+/// Whether an expression reads only variables with a number below the count. It may read no output, since no instance exists.
 fn reads_known(count: usize, expr: &Expr<usize>) -> bool
     ensures { result ≡ reads_pass (λ slot. nat_lt slot count) (view_expr expr.now) }
 {
@@ -28,7 +28,7 @@ fn option_known(count: usize, expr: &Option<Expr<usize>>) -> bool
     }
 }
 
-/// The same of the control variable, the bounds and the step of a FOR.
+/// Whether the control variable, the bounds and the step of a FOR have only such variables.
 fn bounds_known(
     count: usize,
     slot: usize,
@@ -106,7 +106,7 @@ fn choices_known(count: usize, choices: &[Choice<usize>]) -> bool
     true
 }
 
-/// Whether each variable of a body has a number below the count.
+/// Whether each variable that a body reads, assigns or calls has a number below the count.
 #[cycle(known)]
 pub fn all_known(count: usize, body: &[Stmt<usize>]) -> bool
     ensures { result ≡ all_pass (λ slot. nat_lt slot count) (view_body body.now) }

@@ -1,8 +1,7 @@
-//! A program made ready to run, or its first fault.
+//! Makes a program ready to run, or finds its first fault.
 //!
-//! A program and the global variables are checked: their names, their kinds, their loops and the turns of these. Of a program without
-//! a fault the names become numbers, one for each variable: the globals in order of declaration, then the program's own. Nothing
-//! here runs a program.
+//! The names, the kinds and the loops of a program over global variables are checked. In a program without a fault each name becomes a
+//! number, one for each variable: the globals in order of declaration, then the program's own. Nothing here runs a program.
 #![tactic(auto)]
 
 mod faults;

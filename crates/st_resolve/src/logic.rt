@@ -1,4 +1,4 @@
-//! What is made ready to run: global variables, and a program with its own variables.
+//! A source that was parsed: global variables, and a program with its own variables.
 
 use plant_types::{Kind, Region, Text};
 use st_tree::Stmt;
@@ -11,16 +11,16 @@ pub struct Logic {
     pub program: Program,
 }
 
-/// A global variable. Its name stands as it is spelled.
+/// A global variable, with its name as declared.
 #[derive(Drop)]
 pub struct Variable {
     pub name: Text,
-    /// Where its address lies; a variable without an address has none.
+    /// The region of its address; `None` for a variable without an address.
     pub region: Option<Region>,
     pub kind: Kind,
 }
 
-/// A variable of a program's own.
+/// A program's own variable, with its name as declared.
 #[derive(Drop)]
 pub struct Local {
     pub name: Text,

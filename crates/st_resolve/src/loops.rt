@@ -1,4 +1,4 @@
-//! Whether the control variables, bounds and steps of a body are right.
+//! The control variables, bounds and steps of a body's FOR statements (C9), and their turns (C10).
 
 ghost use Rattle.std.specs.Prelude.{◌≡◌, ◌==◌, slice_get, map};
 ghost use Rattle.st_tree.specs.View.{view_expr, view_option, view_argument, view_stmt, view_body, view_branches, view_choices};
@@ -9,10 +9,10 @@ use crate::scope::Entry;
 use plant_types::{Kind, Trap};
 use st_tree::{Argument, Branch, Choice, Expr, Stmt, constant, count_turns, span_of};
 
-/// How many turns a FOR may have.
+/// The most turns that a FOR may have (this profile).
 const TURNS: u128 = 10000;
 
-/// The outcome of a step, which is 1 where none is written.
+/// The outcome of a constant step, which is 1 if none is written; `None` if it isn't constant.
 fn constant_step(by: &Option<Expr<usize>>) -> Option<Result<i64, Trap>>
     ensures { result ≡ constant_step (view_option by.now) }
 {
@@ -108,7 +108,7 @@ fn choices_assign(slot: usize, choices: &[Choice<usize>]) -> bool
     false
 }
 
-/// Whether a body assigns a variable, be it as the control variable of a FOR.
+/// Whether a body assigns a variable, also as the control variable of a FOR.
 #[cycle(assigns)]
 fn body_assigns(slot: usize, body: &[Stmt<usize>]) -> bool
     ensures { result ≡ body_assigns (λ a b. a == b) slot (view_body body.now) }
@@ -175,7 +175,7 @@ fn choices_allowed(entries: &[Entry], choices: &[Choice<usize>]) -> bool
     true
 }
 
-/// Whether each control variable of a body is allowed and not assigned in its FOR, and bounds and steps are constant.
+/// Whether each control variable of a body is allowed and not assigned in its FOR, and each bound and step is constant and allowed.
 #[cycle(allowed)]
 pub fn all_allowed(entries: &[Entry], body: &[Stmt<usize>]) -> bool
     ensures { result ≡ all_allowed (slice_get entries.now) (λ a b. a == b) (view_body body.now) }
@@ -188,7 +188,7 @@ pub fn all_allowed(entries: &[Entry], body: &[Stmt<usize>]) -> bool
     true
 }
 
-/// How many turns a FOR of constant bounds has.
+/// The number of turns of a FOR with constant bounds and step; 0 for any other.
 fn turns_of(from: &Expr<usize>, to: &Expr<usize>, by: &Option<Expr<usize>>) -> u128
     ensures { result ≡ turns_of (constant_of (view_expr from.now)) (constant_of (view_expr to.now)) (constant_step (view_option by.now)) }
 {

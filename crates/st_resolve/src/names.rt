@@ -1,11 +1,10 @@
-//! The names of the globals, to be found without a look at each.
+//! Names of variables, in an index.
 
 ghost use Rattle.std.specs.Prelude.{◌≡◌, ◌++◌, ◌∷◌, [], IfOk, IfErr, not, if◌then◌else◌, Some, None, true, false, MatchResult, string_bytes, ◌||◌, ◌<◌, ◌^◌, length, IfSome};
 ghost use Rattle.std.specs.List.{list_any};
 ghost use Rattle.plant_types.specs.Words.{folded};
-ghost use Rattle.st_resolve.specs.Names.{find_word, is_standard, is_among, global_words, own_words, repeats};
+ghost use Rattle.st_resolve.specs.Names.{find_word, is_standard, is_taken, is_among, global_words, own_words, repeats};
 ghost use Rattle.st_resolve.specs.Faults.{globals_clash, Refuses};
-ghost use Rattle.st_resolve.specs.Taken.{is_taken};
 
 use crate::faults::FirstFault;
 use crate::logic::{Local, Variable};
@@ -14,7 +13,7 @@ use plant_types::same_word;
 use std::alloc::{AllocError, Global};
 use std::marker::Model;
 
-/// Names, numbered in the order in which they were added. Contracts see them in small letters.
+/// Names, numbered from 0 in the order in which they were added. Contracts see a list of names in small letters.
 #[derive(Drop)]
 pub struct Names {
     words: IndexSet<String>,
@@ -38,7 +37,7 @@ impl Names {
         }
     }
 
-    /// The number of a name in any letter case.
+    /// The number of a name, in any letter case; `None` if there is none. Fails if memory was refused.
     pub fn find(&self, alloc: Global, name: &str) -> Result<Option<usize>, AllocError>
         ensures slot { IfOk result (λ slot. slot ≡ find_word self.now name.now) }
         ensures small { IfOk result (λ slot. IfSome slot (λ i. i < 2 ^ 63)) }
@@ -48,7 +47,7 @@ impl Names {
         Ok(self.words.get_index_of(word.as_str()))
     }
 
-    /// How many there are.
+    /// The number of names.
     pub fn len(&self) -> usize
         ensures count { result ≡ length self.now }
         ensures small { result < 2 ^ 63 }
@@ -56,7 +55,7 @@ impl Names {
         self.words.len()
     }
 
-    /// Adds a name. False where it was there, whatever the letter case.
+    /// Adds a name if it isn't there yet, in any letter case. Returns whether it was added. The only fault is `Memory`.
     pub fn add(&mut self, alloc: Global, name: &str) -> Result<bool, FirstFault>
         ensures added { IfOk result (λ added. added ≡ not (is_among self.old (folded name.now))) }
         ensures names { IfOk result (λ added. self.new ≡ (if added then self.old ++ folded name.now ∷ [] else self.old)) }
@@ -68,7 +67,7 @@ impl Names {
     }
 }
 
-/// A name in small letters.
+/// The name in small letters. Fails if memory was refused.
 fn small_letters(alloc: Global, name: &str) -> Result<String, AllocError>
     ensures { IfOk result (λ word. string_bytes word ≡ folded name.now) }
 {
@@ -77,14 +76,14 @@ fn small_letters(alloc: Global, name: &str) -> Result<String, AllocError>
     Ok(word)
 }
 
-/// Whether a name is that of a standard block (IEC 61131-3's TON, TOF and R_TRIG).
+/// Whether a name is that of a standard block (TON, TOF and R_TRIG of IEC 61131-3), in any letter case.
 pub fn is_standard(name: &[u8]) -> bool
     ensures { result ≡ is_standard name.now }
 {
     same_word(name, b"TON") || same_word(name, b"TOF") || same_word(name, b"R_TRIG")
 }
 
-/// Adds the name of a global, where it isn't taken.
+/// Adds the name of a global. Fails if it is taken.
 fn add_global(alloc: Global, names: &mut Names, global: &Variable) -> Result<(), FirstFault>
     ensures { MatchResult result (λ _. (is_taken names.old global.now.name ≡ false) × (names.new ≡ names.old ++ folded global.now.name ∷ [])) (Refuses (if is_taken names.old global.now.name then Some (FirstFault.Name true) else None)) }
 {
@@ -98,7 +97,7 @@ fn add_global(alloc: Global, names: &mut Names, global: &Variable) -> Result<(),
     }
 }
 
-/// The names of the globals in order, where none is a standard block's and none stands twice.
+/// The names of the globals in order. Fails if one is a standard block's, or is declared twice.
 pub fn names_of(alloc: Global, globals: &[Variable]) -> Result<Names, FirstFault>
     ensures { MatchResult result (λ names. (globals_clash globals.now ≡ false) × (names ≡ global_words globals.now)) (Refuses (if globals_clash globals.now then Some (FirstFault.Name true) else None)) }
 {
@@ -109,7 +108,7 @@ pub fn names_of(alloc: Global, globals: &[Variable]) -> Result<Names, FirstFault
     Ok(names)
 }
 
-/// Adds the name of a program's own variable, where none has it.
+/// Adds the name of a program's own variable. Fails if it is declared already.
 fn add_own(alloc: Global, names: &mut Names, local: &Local) -> Result<(), FirstFault>
     ensures { MatchResult result (λ _. (is_among names.old (folded local.now.name) ≡ false) × (names.new ≡ names.old ++ folded local.now.name ∷ [])) (Refuses (if is_among names.old (folded local.now.name) then Some (FirstFault.Name false) else None)) }
 {
@@ -120,7 +119,7 @@ fn add_own(alloc: Global, names: &mut Names, local: &Local) -> Result<(), FirstF
     }
 }
 
-/// The names of a program's own variables in order, where none stands twice.
+/// The names of a program's own variables in order. Fails if one is declared twice.
 pub fn own_names_of(alloc: Global, locals: &[Local]) -> Result<Names, FirstFault>
     ensures { MatchResult result (λ names. (repeats (own_words locals.now) ≡ false) × (names ≡ own_words locals.now)) (Refuses (if repeats (own_words locals.now) then Some (FirstFault.Name false) else None)) }
 {

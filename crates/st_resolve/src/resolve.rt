@@ -1,4 +1,5 @@
-//! A body over names made one over numbers of variables, its statements numbered and each operator the one that is meant.
+//! Turns a body over names into one over numbers of variables: it numbers the statements, and chooses the operators of TIME by the kinds
+//! of their operands. Each function fails only if memory was refused.
 
 ghost use Rattle.std.specs.Prelude.{◌≡◌, ◌+◌, IfOk, map};
 ghost use Rattle.st_tree.specs.View.{view_expr, view_option, view_argument, view_stmt, view_body, view_branches, view_choices};
@@ -15,7 +16,7 @@ use st_tree::{
 };
 use std::alloc::{AllocError, Global};
 
-/// The kind of a variable; BOOL stands for that of none.
+/// The kind of a variable; BOOL if there is none of this number.
 fn kind_at(entries: &[Entry], slot: usize) -> Kind
     ensures { result ≡ kind_at entries.now slot }
 {
@@ -25,7 +26,7 @@ fn kind_at(entries: &[Entry], slot: usize) -> Kind
     }
 }
 
-/// The kind of what an operator gives of an operand that it takes.
+/// The kind of an operator's result, for an operand that it takes.
 fn unary_result(op: Unary, a: Kind) -> Kind
     ensures { result ≡ unary_result op a }
 {
@@ -36,7 +37,7 @@ fn unary_result(op: Unary, a: Kind) -> Kind
     }
 }
 
-/// The kind of what an operator gives of operands that it takes, the left one of a kind.
+/// The kind of an operator's result, for operands that it takes, by the kind of the left one.
 fn binary_result(op: Binary, a: Kind) -> Kind
     ensures { result ≡ binary_result op a }
 {
@@ -48,7 +49,7 @@ fn binary_result(op: Binary, a: Kind) -> Kind
     }
 }
 
-/// The expression over numbers, and its kind where its operators take their operands.
+/// Resolves an expression. Returns its kind too, which is right if its operators take their operands.
 fn resolve_kinded(
     alloc: Global,
     scope: &Scope,
@@ -89,7 +90,7 @@ fn resolve_kinded(
     }
 }
 
-/// The expression over numbers.
+/// Resolves an expression.
 fn resolve_expr(alloc: Global, scope: &Scope, expr: &Expr<Text>) -> Result<Expr<usize>, AllocError>
     ensures { IfOk result (λ e. view_expr e ≡ flat_expr scope.now (view_expr expr.now)) }
 {
@@ -97,7 +98,7 @@ fn resolve_expr(alloc: Global, scope: &Scope, expr: &Expr<Text>) -> Result<Expr<
     Ok(expr)
 }
 
-/// The same, if there is one.
+/// Resolves an expression, if there is one.
 fn resolve_option(
     alloc: Global,
     scope: &Scope,
@@ -130,7 +131,7 @@ fn resolve_argument(
     }
 }
 
-/// The arguments over numbers, in their order.
+/// Resolves the arguments of a call, in their order.
 fn resolve_arguments(
     alloc: Global,
     scope: &Scope,
@@ -145,7 +146,7 @@ fn resolve_arguments(
     Ok(resolved)
 }
 
-/// Takes a statement's number, and leaves the one behind it. The error is that there is none, which no memory has room for.
+/// Takes the next statement's number. Fails after 2^32 - 1 statements, for which no memory has room.
 fn take(number: &mut u32) -> Result<u32, AllocError>
     ensures own { IfOk result (λ own. own ≡ number.old) }
     ensures next { IfOk result (λ own. number.new ≡ number.old + 1) }
@@ -160,7 +161,7 @@ fn take(number: &mut u32) -> Result<u32, AllocError>
     }
 }
 
-/// The statement over numbers. The first number of its statements is given, and the one behind its last is left.
+/// Resolves a statement. `number` is that of its first statement, and then that after its last.
 #[cycle(resolve)]
 fn resolve_stmt(
     alloc: Global,
@@ -217,7 +218,7 @@ fn resolve_stmt(
     }
 }
 
-/// The branches over numbers, in their order.
+/// Resolves the branches of an IF, in their order.
 #[cycle(resolve)]
 fn resolve_branches(
     alloc: Global,
@@ -237,7 +238,7 @@ fn resolve_branches(
     Ok(resolved)
 }
 
-/// The choices over numbers, in their order.
+/// Resolves the choices of a CASE, in their order.
 #[cycle(resolve)]
 fn resolve_choices(
     alloc: Global,
@@ -257,7 +258,7 @@ fn resolve_choices(
     Ok(resolved)
 }
 
-/// The body over numbers. The first number of its statements is given, and the one behind its last is left.
+/// Resolves a body. `number` is that of its first statement, and then that after its last.
 #[cycle(resolve)]
 pub fn resolve_body(
     alloc: Global,

@@ -1,10 +1,10 @@
-//! What the names of a program's body name.
+//! The names that a program's body may use.
 
 ghost use Rattle.std.specs.Prelude.{◌≡◌, ◌++◌, map, IfOk, IfErr, MatchResult, true, false, length};
 ghost use Rattle.st_resolve.specs.Names.{find_in};
 ghost use Rattle.st_resolve.specs.Source.{source_of};
 ghost use Rattle.st_resolve.specs.Faults.{entry_of, own_entry, entries_of, first_fault, Refuses};
-ghost use Rattle.st_resolve.specs.Kept.{IsScope};
+ghost use Rattle.st_resolve.specs.Flats.{IsScope};
 ghost use Rattle.st_resolve.specs.Resolved.{slot_of};
 
 use crate::faults::FirstFault;
@@ -13,17 +13,17 @@ use crate::names::{Names, is_standard, names_of, own_names_of};
 use plant_types::{Kind, Region};
 use std::alloc::{AllocError, Global};
 
-/// What a variable is.
+/// The kind of a variable, and whose it is.
 #[derive(Clone, Copy, Debug, PartialEq, Eq, Drop)]
 pub struct Entry {
     pub kind: Kind,
-    /// Whether it is an input of the plant, which is never assigned.
+    /// Whether it is an input of the plant, to which nothing may be assigned.
     pub is_input: bool,
-    /// Whether it is the program's own.
+    /// Whether it is the program's own, and not a global.
     pub is_own: bool,
 }
 
-/// The names that a body may use, and what each variable is: the globals are numbered first, then the program's own.
+/// The names that a body may use, and an entry for each variable: the globals come first, then the program's own.
 #[derive(Drop)]
 pub struct Scope {
     pub globals: Names,
@@ -32,7 +32,7 @@ pub struct Scope {
 }
 
 impl Scope {
-    /// The number of what a name names, in any letter case: a program's own variable hides a global.
+    /// The number of the variable of a name, in any letter case; `None` if there is none. A program's own variable hides a global.
     pub fn find(&self, alloc: Global, name: &str) -> Result<Option<usize>, AllocError>
         ensures { IfOk result (λ slot. slot ≡ find_in self.now.globals self.now.own name.now) }
     {
@@ -42,7 +42,7 @@ impl Scope {
         }
     }
 
-    /// The same; a name of nothing has the number behind all.
+    /// The number of the variable of a name, in any letter case; if there is none, the count of the variables.
     pub fn slot(&self, alloc: Global, name: &str) -> Result<usize, AllocError>
         ensures { IfOk result (λ slot. slot ≡ slot_of self.now name.now) }
     {
@@ -67,7 +67,7 @@ fn entry_of(global: &Variable) -> Entry
     }
 }
 
-/// What the globals are, in order.
+/// The entries of the globals, in order.
 fn global_entries(alloc: Global, globals: &[Variable]) -> Result<Vec<Entry>, AllocError>
     ensures { IfOk result (λ entries. entries.items ≡ map entry_of globals.now) }
 {
@@ -78,7 +78,7 @@ fn global_entries(alloc: Global, globals: &[Variable]) -> Result<Vec<Entry>, All
     Ok(entries)
 }
 
-/// What the variables are: the globals, then the program's own.
+/// The entries of the variables: the globals, then the program's own.
 fn entries_of(
     alloc: Global,
     globals: &[Variable],
@@ -97,7 +97,7 @@ fn entries_of(
     Ok(entries)
 }
 
-/// The names that a program's body may use, where none of them is taken. The fault is the first of the names that are declared.
+/// The names that a program's body may use, or the first fault of the declared names.
 pub fn scope_of(alloc: Global, logic: &Logic) -> Result<Scope, FirstFault>
     ensures { MatchResult result (λ scope. IsScope (source_of logic.now) scope) (Refuses (first_fault (source_of logic.now))) }
 {

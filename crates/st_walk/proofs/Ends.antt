@@ -10,7 +10,7 @@ use Rattle.st_resolve.specs.Source.{Source}
 use Rattle.st_resolve.specs.Names.{global_words, own_words, repeats, is_standard}
 use Rattle.st_resolve.specs.Faults.{name_number, meant_of, first_fault}
 use Rattle.st_resolve.specs.Resolved.{renamed}
-use Rattle.st_resolve.proofs.Judged.{sound_parts}
+use Rattle.st_resolve.proofs.Judged.{names_right}
 use Rattle.st_walk.specs.Worlds.{World, Stands, run_program}
 use Rattle.st_walk.specs.Slots.{cell_space}
 use Rattle.st_walk.specs.Runs.{Agree, place_spot}
@@ -28,14 +28,14 @@ module _ (source : Source) (globals_once : repeats (global_words source.globals)
 
 module _ (source : Source) (sound : first_fault source ≡ None) (w : World) (cells later : List ℤ) (stands : Stands source cells w) (body : PlainBody ℕ) (is : body ≡ renamed (name_number source) (meant_of source)) where
   globals_once : repeats (global_words source.globals) ≡ false
-  globals_once = (or_parts (list_any (λ (g : Variable). is_standard g.name) source.globals) (repeats (global_words source.globals)) (sound_parts source sound).apart).1
+  globals_once = (or_parts (list_any (λ (g : Variable). is_standard g.name) source.globals) (repeats (global_words source.globals)) (names_right source sound).globals_apart).1
 
   own_once : repeats (own_words source.locals) ≡ false
-  own_once = (sound_parts source sound).own_apart
+  own_once = (names_right source sound).own_apart
 
   runs_alike : (q : Ran (List ℤ)) → q ≡ run_all cell_space body cells → Alike source globals_once own_once (run_program source w) q
   runs_alike q ran =
-      subst (Alike source globals_once own_once (run_program source w)) (sym (ran ∙ ap (λ b. run_all cell_space b cells) is)) (body_alike source globals_once own_once (meant_of source) w cells stands (sound_parts source sound).known_all)
+      subst (Alike source globals_once own_once (run_program source w)) (sym (ran ∙ ap (λ b. run_all cell_space b cells) is)) (body_alike source globals_once own_once (meant_of source) w cells stands (names_right source sound).all_known)
 
   pub walk_done : Done later ≡ run_all cell_space body cells → Agree source (run_program source w) (Done later)
   walk_done ran = done_agrees source globals_once own_once (run_program source w) later (runs_alike (Done later) ran)

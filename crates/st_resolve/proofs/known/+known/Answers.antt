@@ -13,4 +13,4 @@ branches_known-loop-branch-preserved t c =
 pub stmt_known-returns-then-bounds_known : goal.stmt_known-returns-then-bounds_known
 stmt_known-returns-then-bounds_known t c =
     let f = c.in-For in
-    for_passes (λ slot. nat_lt slot c.args.count) c.args.stmt.now f.field-0 f.slot f.from f.to f.by f.body c.deref-then-bounds_known.result.now _ f.is c.deref-then-bounds_known.ensures.value (sym c.bounds_known.ensures ∙ c.if-bounds_known.true) c.all_known-then-bounds_known.ensures
+    for_passes (λ slot. nat_lt slot c.args.count) c.args.stmt.now f.number f.slot f.from f.to f.by f.body c.deref-then-bounds_known.result.now _ f.is c.deref-then-bounds_known.ensures.value (sym c.bounds_known.ensures ∙ c.if-bounds_known.true) c.all_known-then-bounds_known.ensures

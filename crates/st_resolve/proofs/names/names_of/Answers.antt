@@ -1,6 +1,6 @@
 use Rattle.std.proofs.Common.{true}
 use Rattle.std.proofs.lemmas.Result.{err_from_is_err_and}
-use Rattle.st_resolve.specs.Taken.{is_taken}
+use Rattle.st_resolve.specs.Names.{is_taken}
 use Rattle.st_resolve.specs.Faults.{globals_clash}
 use Rattle.st_resolve.proofs.Clashes.{gone_more, gone_taken}
 use Rattle.st_resolve.proofs.Found.{refused_where}

@@ -8,7 +8,7 @@ invariant_of-result c =
     let few : length c.args.plant.source.globals < 4294967296 = omega (arith, ap length globals) in
     rw c.new.ensures.items (opening_agrees _ _
     c.flat.ensures.plant
-    (rw c.flat.ensures.source at c.globals-globals.ensures.sound)
+    (rw c.flat.ensures.source at c.globals-globals.ensures.no_fault)
     few
     (rw c.flat-2.ensures.source at c.in_ok-cells.ensures)
     (c.in_ok-push.ensures.items ∙ ap (λ l. l ++ false ∷ []) c.new-faulted.ensures.items)
