@@ -9,10 +9,10 @@ use Rattle.std.proofs.lemmas.Option.{same_Some, none-some, option_and_then_some}
 use Rattle.std.proofs.lemmas.Slice.Eq.{bytes_eq-Decides}
 use Rattle.plant_types.specs.declared.values.Region.{Region}
 use Rattle.plant_types.specs.declared.values.Region.TheVariants as r
-use Rattle.st_lexer.specs.Bytes.{begins_by, linked, is_grouped}
+use Rattle.st_lexer.specs.Bytes.{begins_by, is_linked, is_grouped}
 use Rattle.st_lexer.specs.Addresses.{same_letter, letter_of, is_size, is_place, is_address}
 use Rattle.st_lexer.specs.ReadingLiterals.{linked_len, ◌>>=◌}
-use Rattle.st_lexer.specs.Reading.{place_len, region_by, placed, address_by}
+use Rattle.st_lexer.specs.Reading.{place_len, region_of, placed, parse_address}
 use Rattle.st_lexer.proofs.WordLaws.{one_and}
 
 abbrev digit : ℕ → Bool
@@ -28,10 +28,10 @@ begins_less test zero bs some h = absurd (omega arith)
 begins_less test (suc n) [] some h = h
 begins_less test (suc n) (b ∷ bs) some h = h
 
-pub linked_reach : (test : ℕ → Bool) (mark : ℕ) (bs rest : List ℕ) → linked test mark bs ≡ true → length bs ≤ linked_len test mark (bs ++ rest)
+pub linked_reach : (test : ℕ → Bool) (mark : ℕ) (bs rest : List ℕ) → is_linked test mark bs ≡ true → length bs ≤ linked_len test mark (bs ++ rest)
 linked_reach test mark [] rest h = omega arith
 linked_reach test mark (b ∷ bs) rest h =
-    let parts = and_parts (test b || (b == mark && begins_by test bs)) (linked test mark bs) h in
+    let parts = and_parts (test b || (b == mark && begins_by test bs)) (is_linked test mark bs) h in
     let more = linked_reach test mark bs rest parts.1 in
     let on : (test b || (b == mark && begins_by test (bs ++ rest))) ≡ true = further parts.0 in
     rw on (omega arith)
@@ -54,9 +54,9 @@ pub linked_begins : (test : ℕ → Bool) (mark : ℕ) (bs : List ℕ) → begin
 linked_begins test mark [] h = absurd (let e : false ≡ true = h in cc)
 linked_begins test mark (b ∷ bs) h = rw h (omega arith)
 
-pub linked_is : (test : ℕ → Bool) (mark : ℕ) (bs : List ℕ) → linked test mark (take (linked_len test mark bs) bs) ≡ true
+pub linked_is : (test : ℕ → Bool) (mark : ℕ) (bs : List ℕ) → is_linked test mark (take (linked_len test mark bs) bs) ≡ true
 linked_is test mark [] = refl
-linked_is test mark (b ∷ bs) = elim (cases_Bool (test b || (b == mark && begins_by test bs))) as (λ _. linked test mark (take (linked_len test mark (b ∷ bs)) (b ∷ bs)) ≡ true) [
+linked_is test mark (b ∷ bs) = elim (cases_Bool (test b || (b == mark && begins_by test bs))) as (λ _. is_linked test mark (take (linked_len test mark (b ∷ bs)) (b ∷ bs)) ≡ true) [
   | inl yes' ↦ rw yes' (rw (one_and (linked_len test mark bs)) (and_from _ _ (kept yes') (linked_is test mark bs)))
   | inr no' ↦ rw no' refl
 ]
@@ -109,7 +109,7 @@ place_reach [] rest h = omega arith
 place_reach (b ∷ bs) rest h = elim (place_cases (b ∷ bs) h) [
   | inl star ↦ (let size = ap length star in let first : b ≡ 42 = cc in let n = place_star b (bs ++ rest) (eq-eqb b 42 first) in omega arith)
   | inr digits ↦
-      let parts = and_parts (digit b) (linked digit 46 (b ∷ bs)) digits in
+      let parts = and_parts (digit b) (is_linked digit 46 (b ∷ bs)) digits in
       subst (λ n. length (b ∷ bs) ≤ n) (sym (place_digits b (bs ++ rest) parts.0)) (linked_reach digit 46 (b ∷ bs) rest parts.1)
 ]
 
@@ -130,20 +130,20 @@ place_is (b ∷ bs) some = elim (place_next b bs) [
   | inr other ↦ elim other [
     | inl first ↦ subst (λ n. is_place (take n (b ∷ bs)) ≡ true) (sym (place_digits b bs first))
         (or_right (bytes_eq (take (linked_len digit 46 (b ∷ bs)) (b ∷ bs)) (42 ∷ [])) (is_grouped digit 46 (take (linked_len digit 46 (b ∷ bs)) (b ∷ bs)))
-        (and_from (begins_by digit (take (linked_len digit 46 (b ∷ bs)) (b ∷ bs))) (linked digit 46 (take (linked_len digit 46 (b ∷ bs)) (b ∷ bs))) (begins_less digit (linked_len digit 46 (b ∷ bs)) (b ∷ bs) (linked_begins digit 46 (b ∷ bs) first) first) (linked_is digit 46 (b ∷ bs))))
+        (and_from (begins_by digit (take (linked_len digit 46 (b ∷ bs)) (b ∷ bs))) (is_linked digit 46 (take (linked_len digit 46 (b ∷ bs)) (b ∷ bs))) (begins_less digit (linked_len digit 46 (b ∷ bs)) (b ∷ bs) (linked_begins digit 46 (b ∷ bs) first) first) (linked_is digit 46 (b ∷ bs))))
     | inr none ↦ absurd (let n = none in omega arith)
   ]
 ]
 
 -- ---- regions
-pub region_found : (l : ℕ) (region : Region) → same_letter l (letter_of region) ≡ true → region_by l ≡ Some region
-unfolding region_by
+pub region_found : (l : ℕ) (region : Region) → same_letter l (letter_of region) ≡ true → region_of l ≡ Some region
+unfolding region_of
 region_found l r.Input h = ap (λ x. cond (x == 105) (Some r.Input) (cond (x == 113) (Some r.Output) (cond (x == 109) (Some r.Plain) None))) (eqb-true (to_ascii_lowercase l) 105 h)
 region_found l r.Output h = ap (λ x. cond (x == 105) (Some r.Input) (cond (x == 113) (Some r.Output) (cond (x == 109) (Some r.Plain) None))) (eqb-true (to_ascii_lowercase l) 113 h)
 region_found l r.Plain h = ap (λ x. cond (x == 105) (Some r.Input) (cond (x == 113) (Some r.Output) (cond (x == 109) (Some r.Plain) None))) (eqb-true (to_ascii_lowercase l) 109 h)
 
-pub region_is : (l : ℕ) (region : Region) → region_by l ≡ Some region → same_letter l (letter_of region) ≡ true
-unfolding region_by
+pub region_is : (l : ℕ) (region : Region) → region_of l ≡ Some region → same_letter l (letter_of region) ≡ true
+unfolding region_of
 region_is l region h = elim (cases_Bool (same_letter l 73)) [
   | inl input ↦ (let e = same_Some r.Input region (sym (rw input refl) ∙ h) in subst (λ z. same_letter l (letter_of z) ≡ true) e input)
   | inr no_input ↦ elim (cases_Bool (same_letter l 81)) [
@@ -170,14 +170,14 @@ size_not_digit l d h = let s = size_letter l h in grind (arith, nat_tests)
 size_no_place : (l : ℕ) (bs : List ℕ) → is_size l ≡ true → is_place (l ∷ bs) ≡ false
 size_no_place l bs h = false_from_ne_true (is_place (l ∷ bs)) (λ place. elim (place_cases (l ∷ bs) place) [
   | inl star ↦ (let first : l ≡ 42 = cc in size_not_star l first h)
-  | inr digits ↦ size_not_digit l (and_parts (digit l) (linked digit 46 (l ∷ bs)) digits).0 h
+  | inr digits ↦ size_not_digit l (and_parts (digit l) (is_linked digit 46 (l ∷ bs)) digits).0 h
 ])
 
 place_no_size : (bs : List ℕ) → is_place bs ≡ true → begins_by is_size bs ≡ false
 place_no_size [] h = refl
 place_no_size (l ∷ bs) h = false_from_ne_true (is_size l) (λ size. absurd (let e : false ≡ true = sym (size_no_place l bs size) ∙ h in cc))
 
--- an address: its region, and its place behind the size
+-- an address: its region, and its place after_letter the size
 pub data Parted (region : Region) (l : ℕ) (bs : List ℕ) : Type 0 where
   unsized : same_letter l (letter_of region) ≡ true → begins_by is_size bs ≡ false → is_place bs ≡ true → Parted region l bs
   sized : same_letter l (letter_of region) ≡ true → begins_by is_size bs ≡ true → is_place (drop 1 bs) ≡ true → Parted region l bs
@@ -210,15 +210,15 @@ placed_is region k bs a h = elim (cases_Bool (place_len bs == 0)) [
 -- an address reaches no further than what is read
 pub record Reaches (region : Region) (far : ℕ) (text : List ℕ) : Type 0 where
   pub n : ℕ
-  pub read : address_by text ≡ Some (region, n)
+  pub read : parse_address text ≡ Some (region, n)
   pub reach : far ≤ n
 
 place_some : (bs : List ℕ) → is_place bs ≡ true → 0 < length bs
 place_some [] h = absurd (let e : false ≡ true = h in cc)
 place_some (b ∷ bs) h = omega arith
 
-abbrev behind : ℕ → List ℕ → Region → Option (Region × ℕ)
-behind l bs region = if begins_by is_size bs then placed region 2 (drop 1 bs) else placed region 1 bs
+abbrev after_letter : ℕ → List ℕ → Region → Option (Region × ℕ)
+after_letter l bs region = if begins_by is_size bs then placed region 2 (drop 1 bs) else placed region 1 bs
 
 address_reach_at : (region : Region) (l : ℕ) (bs rest : List ℕ) → Parted region l bs → Reaches region (suc (length bs)) (l ∷ (bs ++ rest))
 address_reach_at region l bs rest (unsized letter size place) =
@@ -227,7 +227,7 @@ address_reach_at region l bs rest (unsized letter size place) =
     let no_size : begins_by is_size (bs ++ rest) ≡ false = same_beginning bs place size in
     record {
       n = 1 + place_len (bs ++ rest);
-      read = ap (λ o. o >>= behind l (bs ++ rest)) (region_found l region letter) ∙ cond-false (begins_by is_size (bs ++ rest)) (placed region 2 (drop 1 (bs ++ rest))) (placed region 1 (bs ++ rest)) no_size ∙ placed_found region 1 (bs ++ rest) (omega arith);
+      read = ap (λ o. o >>= after_letter l (bs ++ rest)) (region_found l region letter) ∙ cond-false (begins_by is_size (bs ++ rest)) (placed region 2 (drop 1 (bs ++ rest))) (placed region 1 (bs ++ rest)) no_size ∙ placed_found region 1 (bs ++ rest) (omega arith);
       reach = omega arith;
     }
   where
@@ -240,7 +240,7 @@ address_reach_at region l (b ∷ bs) rest (sized letter size place) =
     let some = place_some bs place in
     record {
       n = 2 + place_len (bs ++ rest);
-      read = ap (λ o. o >>= behind l (b ∷ (bs ++ rest))) (region_found l region letter) ∙ cond-true (is_size b) (placed region 2 (bs ++ rest)) (placed region 1 (b ∷ (bs ++ rest))) size ∙ placed_found region 2 (bs ++ rest) (omega arith);
+      read = ap (λ o. o >>= after_letter l (b ∷ (bs ++ rest))) (region_found l region letter) ∙ cond-true (is_size b) (placed region 2 (bs ++ rest)) (placed region 1 (b ∷ (bs ++ rest))) size ∙ placed_found region 2 (bs ++ rest) (omega arith);
       reach = omega arith;
     }
 
@@ -271,12 +271,12 @@ first_same x y i j e = ap (λ (a : Region × ℕ). a.0) e
 second_same : (x y : Region) (i j : ℕ) → (let a : Region × ℕ = (x, i) in a) ≡ (y, j) → i ≡ j
 second_same x y i j e = ap (λ (a : Region × ℕ). a.1) e
 
-behind_is : (l : ℕ) (bs : List ℕ) (found region : Region) (n : ℕ) → same_letter l (letter_of found) ≡ true → behind l bs found ≡ Some (region, n) → Addresses region n (l ∷ bs)
-behind_is l [] found region n letter h =
+after_letter_is : (l : ℕ) (bs : List ℕ) (found region : Region) (n : ℕ) → same_letter l (letter_of found) ≡ true → after_letter l bs found ≡ Some (region, n) → Addresses region n (l ∷ bs)
+after_letter_is l [] found region n letter h =
     let p = placed_is found 1 [] (region, n) h in
     let none = place_within [] in
     absurd (let some = p.0 in omega arith)
-behind_is l (b ∷ bs) found region n letter h = elim (cases_Bool (is_size b)) [
+after_letter_is l (b ∷ bs) found region n letter h = elim (cases_Bool (is_size b)) [
   | inl size ↦
       let p = placed_is found 2 bs (region, n) (sym (cond-true (is_size b) (placed found 2 bs) (placed found 1 (b ∷ bs)) size) ∙ h) in
       let count = second_same found region (2 + place_len bs) n p.1 in
@@ -287,6 +287,6 @@ behind_is l (b ∷ bs) found region n letter h = elim (cases_Bool (is_size b)) [
       unsized_is region l n (b ∷ bs) (subst (λ z. same_letter l (letter_of z) ≡ true) (first_same found region (1 + place_len (b ∷ bs)) n p.1) letter) p.0 (omega arith)
 ]
 
-pub address_is : (region : Region) (n : ℕ) (text : List ℕ) → address_by text ≡ Some (region, n) → Addresses region n text
+pub address_is : (region : Region) (n : ℕ) (text : List ℕ) → parse_address text ≡ Some (region, n) → Addresses region n text
 address_is region n [] h = absurd (none-some (region, n) h)
-address_is region n (l ∷ bs) h = option_and_then_some (behind l bs) (region_by l) (region, n) h (λ found e rest. behind_is l bs found region n (region_is l found e) rest)
+address_is region n (l ∷ bs) h = option_and_then_some (after_letter l bs) (region_of l) (region, n) h (λ found e rest. after_letter_is l bs found region n (region_is l found e) rest)

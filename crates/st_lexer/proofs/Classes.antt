@@ -1,11 +1,13 @@
--- What the first byte of a piece tells of its kind.
-use Rattle.std.proofs.Common.{ℤ, ◌≡◌, ℕ, ◌==◌, Bool, true, false, ◌&&◌, ◌||◌, cond, List, [], ◌∷◌, length, take, drop, refl, sym, ap, ◌∙◌, subst, arith, ◌⊎◌, inl, inr, codes, nat_eq, bytes_eq}
+-- The kind of piece that a first byte begins.
+use Rattle.std.proofs.Common.{ℤ, ◌≡◌, ℕ, ◌==◌, Bool, true, false, ◌&&◌, ◌||◌, cond, List, [], ◌∷◌, length, take, drop, refl, sym, ap, ◌∙◌, subst, arith, ◌⊎◌, inl, inr, codes, nat_eq, bytes_eq, Option, Some, None}
 use Rattle.std.specs.Char.{is_ascii_digit, is_digit, to_ascii_lowercase}
 use Rattle.std.specs.List.{list_all, starts_with}
 use Rattle.std.specs.Cmp.Lexicographic.{pointwise}
 use Rattle.std.proofs.lemmas.Bool.{and_parts, or_cases, eqb-true, cases_Bool}
 use Rattle.std.proofs.lemmas.Bool.Decides.{nat_tests}
+use Rattle.std.proofs.lemmas.Option.{same_Some, none-some}
 use Rattle.std.proofs.lemmas.Slice.Eq.{bytes_eq-Decides}
+use Rattle.std.specs.Option.{option_map}
 use Rattle.plant_types.specs.Words.{is_letter, is_name_byte, is_name, folded, same_word}
 use Rattle.st_lexer.specs.declared.bytes.First.{First}
 use Rattle.st_lexer.specs.declared.bytes.First.TheVariants as f
@@ -18,15 +20,24 @@ use Rattle.st_lexer.specs.declared.token.TokenKind.{TokenKind}
 use Rattle.st_lexer.specs.declared.token.TokenKind.TheVariants as t
 use Rattle.st_lexer.specs.declared.piece.Piece.{Piece}
 use Rattle.st_lexer.specs.declared.piece.Piece.TheVariants as p
-use Rattle.st_lexer.specs.Bytes.{is_blank, begins_by, first_of, linked}
+use Rattle.st_lexer.specs.Bytes.{is_blank, begins_by, first_of, is_linked}
 use Rattle.st_lexer.specs.Tables.{spelling, bytes_of}
 use Rattle.st_lexer.specs.Numbers.{base_of, digits_of, is_number, IsInteger}
 use Rattle.st_lexer.specs.Addresses.{is_address, is_place, is_size, same_letter, letter_of}
-use Rattle.st_lexer.specs.Comments.{is_comment, closed, one_line}
+use Rattle.st_lexer.specs.Comments.{is_comment, is_closed, is_one_line}
 use Rattle.st_lexer.specs.Literals.{begins_word, is_truth}
 use Rattle.st_lexer.specs.Durations.{IsDuration, short, long}
 use Rattle.st_lexer.specs.Spellings.{SpellsToken}
-use Rattle.st_lexer.specs.Pieces.{IsPiece, one_blank}
+use Rattle.st_lexer.specs.Pieces.{IsPiece, is_one_blank}
+
+-- false is not true
+pub no_truth : {X : Type 0} → false ≡ true → X
+no_truth e = absurd (cc)
+
+-- what a map of an option comes from
+pub map_some : {A B : Type 0} (g : A → B) (o : Option A) (y : B) → option_map g o ≡ Some y → (x : A) × (o ≡ Some x) × (g x ≡ y)
+map_some g None y h = absurd (none-some y h)
+map_some g (Some x) y h = (x, refl, same_Some (g x) y h)
 
 -- the class of first bytes that a kind of token has
 abbrev pub class_of_token : TokenKind → First
@@ -131,13 +142,13 @@ name_first b bs h = letter_first b (and_parts (is_letter b) (list_all is_name_by
 -- ---- pieces
 -- a comment is of one of three kinds
 pub comment_cases : (a b : ℕ) (inner : List ℕ) → is_comment (a ∷ b ∷ inner) ≡ true →
-    ((a ≡ 40) × (b ≡ 42) × (closed 41 inner ≡ true)) ⊎ (((a ≡ 47) × (b ≡ 42) × (closed 47 inner ≡ true)) ⊎ ((a ≡ 47) × (b ≡ 47) × (one_line inner ≡ true)))
-comment_cases a b inner h = elim (or_cases ((a == 40 && b == 42 && closed 41 inner) || (a == 47 && b == 42 && closed 47 inner)) (a == 47 && b == 47 && one_line inner) h) [
-  | inl first ↦ elim (or_cases (a == 40 && b == 42 && closed 41 inner) (a == 47 && b == 42 && closed 47 inner) first) [
-    | inl round ↦ inl (parts 40 42 (closed 41 inner) round)
-    | inr slashed ↦ inr (inl (parts 47 42 (closed 47 inner) slashed))
+    ((a ≡ 40) × (b ≡ 42) × (is_closed 41 inner ≡ true)) ⊎ (((a ≡ 47) × (b ≡ 42) × (is_closed 47 inner ≡ true)) ⊎ ((a ≡ 47) × (b ≡ 47) × (is_one_line inner ≡ true)))
+comment_cases a b inner h = elim (or_cases ((a == 40 && b == 42 && is_closed 41 inner) || (a == 47 && b == 42 && is_closed 47 inner)) (a == 47 && b == 47 && is_one_line inner) h) [
+  | inl first ↦ elim (or_cases (a == 40 && b == 42 && is_closed 41 inner) (a == 47 && b == 42 && is_closed 47 inner) first) [
+    | inl round ↦ inl (parts 40 42 (is_closed 41 inner) round)
+    | inr slashed ↦ inr (inl (parts 47 42 (is_closed 47 inner) slashed))
   ]
-  | inr line ↦ inr (inr (parts 47 47 (one_line inner) line))
+  | inr line ↦ inr (inr (parts 47 47 (is_one_line inner) line))
 ]
   where
     parts : (c d : ℕ) (t : Bool) → (a == c && b == d && t) ≡ true → (a ≡ c) × (b ≡ d) × (t ≡ true)
@@ -180,7 +191,7 @@ symbol_first b bs s.Equal e = same_heads b 61 bs ([]) e refl
 symbol_first b bs s.Less e = same_heads b 60 bs ([]) e refl
 symbol_first b bs s.Greater e = same_heads b 62 bs ([]) e refl
 
--- the beginning of an integer tells its base
+-- the beginning of an integer shows its base
 pub data Based (bs : List ℕ) : Type 0 where
   binary : starts_with nat_eq bs (codes "2#") ≡ true → base_of bs ≡ 2 → digits_of bs ≡ drop 2 bs → Based bs
   octal : starts_with nat_eq bs (codes "8#") ≡ true → base_of bs ≡ 8 → digits_of bs ≡ drop 2 bs → Based bs
@@ -202,18 +213,18 @@ based bs = elim (cases_Bool (starts_with nat_eq bs (codes "2#"))) [
 decimal_digit : (b : ℕ) → is_digit b 10 ≡ true → is_ascii_digit b ≡ true
 decimal_digit b h = grind (arith, nat_tests)
 
-begins_with : (b c : ℕ) (bs cs : List ℕ) → starts_with nat_eq (b ∷ bs) (c ∷ cs) ≡ true → b ≡ c
-begins_with b c bs cs h = sym (eqb-true c b (and_parts (c == b) (pointwise nat_eq cs (take (length cs) bs)) h).0)
+starts_head : (b c : ℕ) (bs cs : List ℕ) → starts_with nat_eq (b ∷ bs) (c ∷ cs) ≡ true → b ≡ c
+starts_head b c bs cs h = sym (eqb-true c b (and_parts (c == b) (pointwise nat_eq cs (take (length cs) bs)) h).0)
 
 integer_first : (b : ℕ) (bs : List ℕ) (n : ℕ) → IsInteger (b ∷ bs) n → first_of b ≡ f.Digit
 unfolding first_of is_blank
 integer_first b bs n h = elim (based (b ∷ bs)) [
-  | binary starts base digits ↦ ap first_of (begins_with b 50 bs (35 ∷ []) starts)
-  | octal starts base digits ↦ ap first_of (begins_with b 56 bs (35 ∷ []) starts)
-  | hexadecimal starts base digits ↦ ap first_of (begins_with b 49 bs (54 ∷ 35 ∷ []) starts)
+  | binary starts base digits ↦ ap first_of (starts_head b 50 bs (35 ∷ []) starts)
+  | octal starts base digits ↦ ap first_of (starts_head b 56 bs (35 ∷ []) starts)
+  | hexadecimal starts base digits ↦ ap first_of (starts_head b 49 bs (54 ∷ 35 ∷ []) starts)
   | decimal base digits ↦
       let number : is_number 10 (b ∷ bs) ≡ true = subst (λ d. is_number 10 d ≡ true) digits (subst (λ x. is_number x (digits_of (b ∷ bs)) ≡ true) base h.digits) in
-      digit_first b (decimal_digit b (and_parts (is_digit b 10) (linked (λ c. is_digit c 10) 95 (b ∷ bs)) number).0)
+      digit_first b (decimal_digit b (and_parts (is_digit b 10) (is_linked (λ c. is_digit c 10) 95 (b ∷ bs)) number).0)
 ]
 
 address_first : (b : ℕ) (bs : List ℕ) (region : Region) → is_address region (b ∷ bs) ≡ true → first_of b ≡ f.Percent
@@ -221,7 +232,7 @@ unfolding first_of is_blank
 address_first b [] region h = absurd (let e : false ≡ true = h in cc)
 address_first b (l ∷ bs) region h = ap first_of (eqb-true b 37 (and_parts (b == 37) (same_letter l (letter_of region)) (and_parts (b == 37 && same_letter l (letter_of region)) (is_place bs || (begins_by is_size bs && is_place (drop 1 bs))) h).0).0)
 
-blank_is_first : (b : ℕ) (bs : List ℕ) → one_blank (b ∷ bs) ≡ true → first_of b ≡ f.Blank
+blank_is_first : (b : ℕ) (bs : List ℕ) → is_one_blank (b ∷ bs) ≡ true → first_of b ≡ f.Blank
 blank_is_first b [] h = blank_first b h
 blank_is_first b (c ∷ bs) h = absurd (let e : false ≡ true = h in cc)
 

@@ -14,10 +14,10 @@ use Rattle.st_lexer.specs.declared.token.TokenKind.{TokenKind}
 use Rattle.st_lexer.specs.declared.token.TokenKind.TheVariants as t
 use Rattle.st_lexer.specs.declared.token.Token.{Token}
 use Rattle.st_lexer.specs.Spellings.{SpellsToken}
-use Rattle.st_lexer.specs.Pieces.{IsNext, IsOver, Cut, total}
+use Rattle.st_lexer.specs.Pieces.{IsNext, IsOver, Cut, total_len}
 use Rattle.st_lexer.specs.Lexes.{tokens_of, mark_len, unmarked, Lexes, Stops, IsTokenOf}
 use Rattle.st_lexer.specs.Places.{line_at, column_at}
-use Rattle.st_lexer.specs.Reading.{next_of}
+use Rattle.st_lexer.specs.Reading.{next_piece}
 use Rattle.st_lexer.proofs.LiteralLaws.{name_bytes}
 use Rattle.st_lexer.proofs.Longest.{one_next, fits_some, found_of, none_of}
 
@@ -25,32 +25,32 @@ pub cut_push : (text rest : List ℕ) (ps : List (Piece × ℕ)) (piece : Piece)
 cut_push text rest [] piece n c x = (subst (λ t. IsNext t piece n) (sym c) x, ap (drop n) c)
 cut_push text rest (p ∷ ps) piece n c x = (c.0, cut_push (drop p.1 text) rest ps piece n c.1 x)
 
-pub total_push : (ps : List (Piece × ℕ)) (piece : Piece) (n : ℕ) → total (ps ++ (piece, n) ∷ []) ≡ total ps + n
+pub total_push : (ps : List (Piece × ℕ)) (piece : Piece) (n : ℕ) → total_len (ps ++ (piece, n) ∷ []) ≡ total_len ps + n
 total_push [] piece n = omega arith
 total_push (p ∷ ps) piece n = let q = total_push ps piece n in omega arith
 
-pub tokens_push : (at : ℕ) (ps : List (Piece × ℕ)) (piece : Piece) (n : ℕ) → tokens_of at (ps ++ (piece, n) ∷ []) ≡ tokens_of at ps ++ tokens_of (at + total ps) ((piece, n) ∷ [])
+pub tokens_push : (at : ℕ) (ps : List (Piece × ℕ)) (piece : Piece) (n : ℕ) → tokens_of at (ps ++ (piece, n) ∷ []) ≡ tokens_of at ps ++ tokens_of (at + total_len ps) ((piece, n) ∷ [])
 tokens_push at [] piece n = ap (λ i. tokens_of i ((piece, n) ∷ [])) (let e : at ≡ at + 0 = omega arith in e)
-tokens_push at ((p.Blank, m) ∷ ps) piece n = tokens_push (at + m) ps piece n ∙ ap (λ i. tokens_of (at + m) ps ++ tokens_of i ((piece, n) ∷ [])) (let e : at + m + total ps ≡ at + (m + total ps) = omega arith in e)
-tokens_push at ((p.Comment, m) ∷ ps) piece n = tokens_push (at + m) ps piece n ∙ ap (λ i. tokens_of (at + m) ps ++ tokens_of i ((piece, n) ∷ [])) (let e : at + m + total ps ≡ at + (m + total ps) = omega arith in e)
-tokens_push at ((p.Token kind, m) ∷ ps) piece n = ap (λ l. record { kind = kind; from = at; until = at + m } ∷ l) (tokens_push (at + m) ps piece n ∙ ap (λ i. tokens_of (at + m) ps ++ tokens_of i ((piece, n) ∷ [])) (let e : at + m + total ps ≡ at + (m + total ps) = omega arith in e))
+tokens_push at ((p.Blank, m) ∷ ps) piece n = tokens_push (at + m) ps piece n ∙ ap (λ i. tokens_of (at + m) ps ++ tokens_of i ((piece, n) ∷ [])) (let e : at + m + total_len ps ≡ at + (m + total_len ps) = omega arith in e)
+tokens_push at ((p.Comment, m) ∷ ps) piece n = tokens_push (at + m) ps piece n ∙ ap (λ i. tokens_of (at + m) ps ++ tokens_of i ((piece, n) ∷ [])) (let e : at + m + total_len ps ≡ at + (m + total_len ps) = omega arith in e)
+tokens_push at ((p.Token kind, m) ∷ ps) piece n = ap (λ l. record { kind = kind; from = at; until = at + m } ∷ l) (tokens_push (at + m) ps piece n ∙ ap (λ i. tokens_of (at + m) ps ++ tokens_of i ((piece, n) ∷ [])) (let e : at + m + total_len ps ≡ at + (m + total_len ps) = omega arith in e))
 
 -- the body of a text, cut up to this place, has these tokens so far
 pub record SoFar (text body : List ℕ) (skipped at : ℕ) (rest : List ℕ) (tokens : List Token) : Type 0 where
   pub pieces : List (Piece × ℕ)
   pub cut : Cut body pieces rest
-  pub told : tokens ≡ tokens_of skipped pieces
-  pub place : at ≡ total pieces
+  pub listed : tokens ≡ tokens_of skipped pieces
+  pub place : at ≡ total_len pieces
   pub whole : at + length rest ≡ length body
 
 pub none_yet : (text body : List ℕ) (skipped : ℕ) → SoFar text body skipped 0 body []
-none_yet text body skipped = record { pieces = []; cut = refl; told = refl; place = refl; whole = omega arith }
+none_yet text body skipped = record { pieces = []; cut = refl; listed = refl; place = refl; whole = omega arith }
 
 pub one_on : (text body : List ℕ) (skipped at : ℕ) (rest : List ℕ) (tokens : List Token) (piece : Piece) (n : ℕ) → SoFar text body skipped at rest tokens → IsNext rest piece n → SoFar text body skipped (at + n) (drop n rest) (tokens ++ tokens_of (skipped + at) ((piece, n) ∷ []))
 one_on text body skipped at rest tokens piece n s x = record {
   pieces = s.pieces ++ (piece, n) ∷ [];
   cut = cut_push body rest s.pieces piece n s.cut x;
-  told = ap (λ l. l ++ tokens_of (skipped + at) ((piece, n) ∷ [])) s.told ∙ ap (λ i. tokens_of skipped s.pieces ++ tokens_of i ((piece, n) ∷ [])) (let p = s.place in let e : skipped + at ≡ skipped + total s.pieces = omega arith in e) ∙ sym (tokens_push skipped s.pieces piece n);
+  listed = ap (λ l. l ++ tokens_of (skipped + at) ((piece, n) ∷ [])) s.listed ∙ ap (λ i. tokens_of skipped s.pieces ++ tokens_of i ((piece, n) ∷ [])) (let p = s.place in let e : skipped + at ≡ skipped + total_len s.pieces = omega arith in e) ∙ sym (tokens_push skipped s.pieces piece n);
   place = (let p = s.place in let q = total_push s.pieces piece n in omega arith);
   whole = (let w = s.whole in let p = x.within in let q = length-drop n rest in omega arith);
 }
@@ -99,12 +99,12 @@ nothing_over piece n x = let some = fits_some piece n [] x.is in let w = x.withi
 pub one_list : (text : List ℕ) (tokens others : List Token) → Lexes text tokens → Lexes text others → tokens ≡ others
 one_list text tokens others a b =
     let same = one_cut (unmarked text) [] [] a.pieces b.pieces a.cut nothing_over b.cut nothing_over in
-    a.told ∙ ap (tokens_of (mark_len text)) same.0 ∙ sym b.told
+    a.listed ∙ ap (tokens_of (mark_len text)) same.0 ∙ sym b.listed
 
 pub one_place : (text : List ℕ) (line column other_line other_column : ℕ) → Stops text line column → Stops text other_line other_column → (line ≡ other_line) × (column ≡ other_column)
 one_place text line column other_line other_column a b =
     let same = one_cut (unmarked text) a.rest b.rest a.pieces b.pieces a.cut a.over b.cut b.over in
-    (a.line_is ∙ ap (λ ps. line_at (unmarked text) (total ps)) same.0 ∙ sym b.line_is, a.column_is ∙ ap (λ ps. column_at (unmarked text) (total ps)) same.0 ∙ sym b.column_is)
+    (a.line_is ∙ ap (λ ps. line_at (unmarked text) (total_len ps)) same.0 ∙ sym b.line_is, a.column_is ∙ ap (λ ps. column_at (unmarked text) (total_len ps)) same.0 ∙ sym b.column_is)
 
 pub never_both : (text : List ℕ) (tokens : List Token) (line column : ℕ) → Lexes text tokens → Stops text line column → ⊥
 never_both text tokens line column a b =
@@ -122,7 +122,7 @@ record CutUp (text : List ℕ) : Type 0 where
   over : IsOver rest
 
 -- at most so many pieces, where the next one is known
-cut_up : (fuel : ℕ) (text : List ℕ) (next : Option (Piece × ℕ)) → next ≡ next_of text → length text ≤ fuel → CutUp text
+cut_up : (fuel : ℕ) (text : List ℕ) (next : Option (Piece × ℕ)) → next ≡ next_piece text → length text ≤ fuel → CutUp text
 cut_up fuel text None is w = record { pieces = []; rest = text; cut = refl; over = none_of text None is }
 cut_up zero text (Some q) is w =
     let found : IsNext text q.0 q.1 = found_of text (Some q) is in
@@ -133,16 +133,16 @@ cut_up (suc fuel) text (Some q) is w =
     let found : IsNext text q.0 q.1 = found_of text (Some q) is in
     let some = fits_some q.0 q.1 text found.is in
     let size = length-drop q.1 text in
-    let more = cut_up fuel (drop q.1 text) (next_of (drop q.1 text)) refl (omega arith) in
+    let more = cut_up fuel (drop q.1 text) (next_piece (drop q.1 text)) refl (omega arith) in
     record { pieces = q ∷ more.pieces; rest = more.rest; cut = (found, more.cut); over = more.over }
 
 answer_by : (text : List ℕ) (pieces : List (Piece × ℕ)) (rest : List ℕ) → Cut (unmarked text) pieces rest → IsOver rest → ((tokens : List Token) × Lexes text tokens) ⊎ ((line : ℕ) × (column : ℕ) × Stops text line column)
-answer_by text pieces [] cut over = inl (tokens_of (mark_len text) pieces, record { pieces = pieces; cut = cut; told = refl })
-answer_by text pieces (b ∷ bs) cut over = inr (line_at (unmarked text) (total pieces), column_at (unmarked text) (total pieces), record { pieces = pieces; rest = b ∷ bs; cut = cut; some = omega arith; over = over; line_is = refl; column_is = refl })
+answer_by text pieces [] cut over = inl (tokens_of (mark_len text) pieces, record { pieces = pieces; cut = cut; listed = refl })
+answer_by text pieces (b ∷ bs) cut over = inr (line_at (unmarked text) (total_len pieces), column_at (unmarked text) (total_len pieces), record { pieces = pieces; rest = b ∷ bs; cut = cut; some = omega arith; over = over; line_is = refl; column_is = refl })
 
 pub some_answer : (text : List ℕ) → ((tokens : List Token) × Lexes text tokens) ⊎ ((line : ℕ) × (column : ℕ) × Stops text line column)
 some_answer text =
-    let all = cut_up (length (unmarked text)) (unmarked text) (next_of (unmarked text)) refl (omega arith) in
+    let all = cut_up (length (unmarked text)) (unmarked text) (next_piece (unmarked text)) refl (omega arith) in
     answer_by text all.pieces all.rest all.cut all.over
 
 -- ---- words

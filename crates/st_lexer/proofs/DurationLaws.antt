@@ -11,18 +11,15 @@ use Rattle.std.proofs.lemmas.Option.{same_Some}
 use Rattle.plant_types.specs.Words.{is_name_byte, folded, same_word}
 use Rattle.st_lexer.specs.declared.durations.TimeUnit.{TimeUnit}
 use Rattle.st_lexer.specs.declared.durations.TimeUnit.TheVariants as u
-use Rattle.st_lexer.specs.Bytes.{is_tied, begins_by, stands_apart, linked}
+use Rattle.st_lexer.specs.Bytes.{is_tied, begins_by, stands_apart, is_linked}
 use Rattle.st_lexer.specs.Numbers.{is_number}
-use Rattle.st_lexer.specs.Durations.{name_of, units, without, last, pointed, followed, Lasts, IsTimed, ahead, back, IsDuration, short, long}
+use Rattle.st_lexer.specs.Durations.{unit_spelling, units, without, last, pointed, followed, Lasts, IsTimed, forward, backward, IsDuration, short, long}
 use Rattle.st_lexer.specs.ReadingLiterals.{tied_len, pointed_len, timed_len, lettered_len}
-use Rattle.st_lexer.proofs.Classes.{same_folded}
+use Rattle.st_lexer.proofs.Classes.{same_folded, no_truth}
 use Rattle.st_lexer.proofs.WordLaws.{tied_over, apart_none, name_byte_tied}
 use Rattle.st_lexer.proofs.NumberLaws.{digit_tied, linked_tied, number_tied}
 use Rattle.st_lexer.proofs.AddressLaws.{begins_more}
 use Rattle.st_lexer.proofs.LiteralLaws.{fronted, begins_on, tied_no_minus, dot, pointed_point, pointed_on, pointed_stop, timed_back, timed_ahead, short_len, long_len}
-
-no_truth : {X : Type 0} → false ≡ true → X
-no_truth e = absurd (cc)
 
 abbrev pub digit : ℕ → Bool
 digit b = is_digit b 10
@@ -61,40 +58,40 @@ letters_folded : (bs : List ℕ) → list_all letter (folded bs) ≡ list_all le
 letters_folded [] = refl
 letters_folded (b ∷ bs) = ap (λ x. x && list_all letter (folded bs)) (letter_folded b) ∙ ap (λ x. letter b && x) (letters_folded bs)
 
-name_letters : (unit : TimeUnit) → list_all letter (folded (name_of unit)) ≡ true
+name_letters : (unit : TimeUnit) → list_all letter (folded (unit_spelling unit)) ≡ true
 name_letters u.Day = refl
 name_letters u.Hour = refl
 name_letters u.Minute = refl
 name_letters u.Second = refl
 name_letters u.Millisecond = refl
 
-pub unit_letters : (name : List ℕ) (unit : TimeUnit) → same_word name (name_of unit) ≡ true → list_all letter name ≡ true
-unit_letters name unit h = sym (letters_folded name) ∙ ap (list_all letter) (same_folded name (name_of unit) h) ∙ name_letters unit
+pub unit_letters : (name : List ℕ) (unit : TimeUnit) → same_word name (unit_spelling unit) ≡ true → list_all letter name ≡ true
+unit_letters name unit h = sym (letters_folded name) ∙ ap (list_all letter) (same_folded name (unit_spelling unit) h) ∙ name_letters unit
 
-no_empty_unit : (unit : TimeUnit) → same_word [] (name_of unit) ≡ true → ⊥
+no_empty_unit : (unit : TimeUnit) → same_word [] (unit_spelling unit) ≡ true → ⊥
 no_empty_unit u.Day h = no_truth h
 no_empty_unit u.Hour h = no_truth h
 no_empty_unit u.Minute h = no_truth h
 no_empty_unit u.Second h = no_truth h
 no_empty_unit u.Millisecond h = no_truth h
 
-pub unit_begins : (name ys : List ℕ) (unit : TimeUnit) → same_word name (name_of unit) ≡ true → begins_by letter (name ++ ys) ≡ true
+pub unit_begins : (name ys : List ℕ) (unit : TimeUnit) → same_word name (unit_spelling unit) ≡ true → begins_by letter (name ++ ys) ≡ true
 unit_begins [] ys unit h = absurd (no_empty_unit unit h)
 unit_begins (b ∷ name) ys unit h = (and_parts (letter b) (list_all letter name) (unit_letters (b ∷ name) unit h)).0
 
 -- the unit of this name
 abbrev unit_of : List ℕ → Option TimeUnit
-unit_of w = cond (bytes_eq w (folded (name_of u.Day))) (Some u.Day) (cond (bytes_eq w (folded (name_of u.Hour))) (Some u.Hour) (cond (bytes_eq w (folded (name_of u.Minute))) (Some u.Minute) (cond (bytes_eq w (folded (name_of u.Second))) (Some u.Second) (cond (bytes_eq w (folded (name_of u.Millisecond))) (Some u.Millisecond) None))))
+unit_of w = cond (bytes_eq w (folded (unit_spelling u.Day))) (Some u.Day) (cond (bytes_eq w (folded (unit_spelling u.Hour))) (Some u.Hour) (cond (bytes_eq w (folded (unit_spelling u.Minute))) (Some u.Minute) (cond (bytes_eq w (folded (unit_spelling u.Second))) (Some u.Second) (cond (bytes_eq w (folded (unit_spelling u.Millisecond))) (Some u.Millisecond) None))))
 
-unit_self : (unit : TimeUnit) → unit_of (folded (name_of unit)) ≡ Some unit
+unit_self : (unit : TimeUnit) → unit_of (folded (unit_spelling unit)) ≡ Some unit
 unit_self u.Day = refl
 unit_self u.Hour = refl
 unit_self u.Minute = refl
 unit_self u.Second = refl
 unit_self u.Millisecond = refl
 
-pub one_unit : (name : List ℕ) (a b : TimeUnit) → same_word name (name_of a) ≡ true → same_word name (name_of b) ≡ true → a ≡ b
-one_unit name a b h g = same_Some a b (sym (unit_self a) ∙ ap unit_of (sym (same_folded name (name_of a) h) ∙ same_folded name (name_of b) g) ∙ unit_self b)
+pub one_unit : (name : List ℕ) (a b : TimeUnit) → same_word name (unit_spelling a) ≡ true → same_word name (unit_spelling b) ≡ true → a ≡ b
+one_unit name a b h g = same_Some a b (sym (unit_self a) ∙ ap unit_of (sym (same_folded name (unit_spelling a) h) ∙ same_folded name (unit_spelling b) g) ∙ unit_self b)
 
 -- ---- how far parts go
 pub begins_not : (test other : ℕ → Bool) (ys : List ℕ) → ((b : ℕ) → test b ≡ true → other b ≡ false) → begins_by test ys ≡ true → begins_by other ys ≡ false
@@ -125,13 +122,13 @@ letters_tied : (xs : List ℕ) → list_all letter xs ≡ true → list_all is_t
 letters_tied [] h = refl
 letters_tied (x ∷ xs) h = let parts = and_parts (letter x) (list_all letter xs) h in and_from (is_tied x) (list_all is_tied xs) (letter_tied x parts.0) (letters_tied xs parts.1)
 
-only_digit : (x : ℕ) → linked digit 95 (x ∷ []) ≡ true → digit x ≡ true
+only_digit : (x : ℕ) → is_linked digit 95 (x ∷ []) ≡ true → digit x ≡ true
 only_digit x h = elim (or_cases (digit x) (x == 95 && false) (and_parts (digit x || (x == 95 && false)) true h).0) [
   | inl d ↦ d
   | inr m ↦ no_truth (and_parts (x == 95) false m).1
 ]
 
-point_pass : (xs ys : List ℕ) → 0 < length xs → linked digit 95 xs ≡ true → pointed_len (xs ++ 46 ∷ ys) ≡ length xs + (1 + tied_len ys)
+point_pass : (xs ys : List ℕ) → 0 < length xs → is_linked digit 95 xs ≡ true → pointed_len (xs ++ 46 ∷ ys) ≡ length xs + (1 + tied_len ys)
 point_pass [] ys some h = absurd (omega arith)
 point_pass (x ∷ []) ys some h =
     let d = only_digit x h in
@@ -142,7 +139,7 @@ point_pass (x ∷ z ∷ zs) ys some h =
     let one = and_parts (is_tied x) (list_all is_tied (z ∷ zs)) tied in
     let two = and_parts (is_tied z) (list_all is_tied zs) one.1 in
     let on = pointed_on x (z ∷ (zs ++ 46 ∷ ys)) one.0 (and_right (digit x) (dot z) (tied_no_dot z two.0)) in
-    let more = point_pass (z ∷ zs) ys (omega arith) (and_parts (digit x || (x == 95 && begins_by digit (z ∷ zs))) (linked digit 95 (z ∷ zs)) h).1 in
+    let more = point_pass (z ∷ zs) ys (omega arith) (and_parts (digit x || (x == 95 && begins_by digit (z ∷ zs))) (is_linked digit 95 (z ∷ zs)) h).1 in
     omega arith
 
 pointed_none : (rest : List ℕ) → stands_apart rest ≡ true → pointed_len rest ≡ 0
@@ -159,32 +156,32 @@ pub number_some : (base : ℕ) (bs : List ℕ) → is_number base bs ≡ true �
 number_some base [] h = no_truth h
 number_some base (b ∷ bs) h = omega arith
 
-pub number_linked : (bs : List ℕ) → is_number 10 bs ≡ true → linked digit 95 bs ≡ true
-number_linked bs h = (and_parts (begins_by digit bs) (linked digit 95 bs) h).1
+pub number_linked : (bs : List ℕ) → is_number 10 bs ≡ true → is_linked digit 95 bs ≡ true
+number_linked bs h = (and_parts (begins_by digit bs) (is_linked digit 95 bs) h).1
 
 pub number_begins : (bs : List ℕ) → is_number 10 bs ≡ true → begins_by digit bs ≡ true
-number_begins bs h = (and_parts (begins_by digit bs) (linked digit 95 bs) h).0
+number_begins bs h = (and_parts (begins_by digit bs) (is_linked digit 95 bs) h).0
 
 -- a whole number and a unit
-part_pass : (whole name ys : List ℕ) (unit : TimeUnit) → is_number 10 whole ≡ true → same_word name (name_of unit) ≡ true → pointed_len (whole ++ (name ++ ys)) ≡ length whole + (length name + pointed_len ys)
-part_pass whole name ys unit num named =
-    tied_pass whole (name ++ ys) (number_tied 10 whole (omega arith) num) (begins_not letter dot (name ++ ys) letter_no_dot (unit_begins name ys unit named))
-    ∙ ap (λ n. length whole + n) (letters_pass name ys (unit_letters name unit named))
+part_pass : (whole name ys : List ℕ) (unit : TimeUnit) → is_number 10 whole ≡ true → same_word name (unit_spelling unit) ≡ true → pointed_len (whole ++ (name ++ ys)) ≡ length whole + (length name + pointed_len ys)
+part_pass whole name ys unit num is_unit =
+    tied_pass whole (name ++ ys) (number_tied 10 whole (omega arith) num) (begins_not letter dot (name ++ ys) letter_no_dot (unit_begins name ys unit is_unit))
+    ∙ ap (λ n. length whole + n) (letters_pass name ys (unit_letters name unit is_unit))
 
 length_of : (xs ys : List ℕ) → length (xs ++ ys) ≡ length xs + length ys
 length_of [] ys = omega arith
 length_of (x ∷ xs) ys = let more = length_of xs ys in omega arith
 
-last_pass : (whole name rest : List ℕ) (unit : TimeUnit) → is_number 10 whole ≡ true → same_word name (name_of unit) ≡ true → Passes pointed_len (whole ++ name) rest
-last_pass whole name rest unit num named = record {
+last_pass : (whole name rest : List ℕ) (unit : TimeUnit) → is_number 10 whole ≡ true → same_word name (unit_spelling unit) ≡ true → Passes pointed_len (whole ++ name) rest
+last_pass whole name rest unit num is_unit = record {
   beyond = pointed_len rest;
-  is = ap pointed_len (append_assoc whole name rest) ∙ part_pass whole name rest unit num named ∙ (let size = length_of whole name in let e : length whole + (length name + pointed_len rest) ≡ length (whole ++ name) + pointed_len rest = omega arith in e);
+  is = ap pointed_len (append_assoc whole name rest) ∙ part_pass whole name rest unit num is_unit ∙ (let size = length_of whole name in let e : length whole + (length name + pointed_len rest) ≡ length (whole ++ name) + pointed_len rest = omega arith in e);
   apart = pointed_none rest;
 }
 
-pointed_pass : (whole fraction name rest : List ℕ) (unit : TimeUnit) → is_number 10 whole ≡ true → is_number 10 fraction ≡ true → same_word name (name_of unit) ≡ true → Passes pointed_len (whole ++ 46 ∷ (fraction ++ name)) rest
-pointed_pass whole fraction name rest unit num frac named =
-    let tied : list_all is_tied (fraction ++ name) ≡ true = list_all-append is_tied fraction name ∙ and_from _ _ (number_tied 10 fraction (omega arith) frac) (letters_tied name (unit_letters name unit named)) in
+pointed_pass : (whole fraction name rest : List ℕ) (unit : TimeUnit) → is_number 10 whole ≡ true → is_number 10 fraction ≡ true → same_word name (unit_spelling unit) ≡ true → Passes pointed_len (whole ++ 46 ∷ (fraction ++ name)) rest
+pointed_pass whole fraction name rest unit num frac is_unit =
+    let tied : list_all is_tied (fraction ++ name) ≡ true = list_all-append is_tied fraction name ∙ and_from _ _ (number_tied 10 fraction (omega arith) frac) (letters_tied name (unit_letters name unit is_unit)) in
     let over = tied_over (fraction ++ name) rest tied in
     let point = point_pass whole ((fraction ++ name) ++ rest) (number_some 10 whole num) (number_linked whole num) in
     let size = length_of whole (46 ∷ (fraction ++ name)) in
@@ -194,45 +191,45 @@ pointed_pass whole fraction name rest unit num frac named =
       apart = apart_none rest;
     }
 
-followed_pass : (whole name behind rest : List ℕ) (unit : TimeUnit) → is_number 10 whole ≡ true → same_word name (name_of unit) ≡ true → Passes pointed_len behind rest → Passes pointed_len (whole ++ (name ++ behind)) rest
-followed_pass whole name behind rest unit num named later =
+followed_pass : (whole name tail rest : List ℕ) (unit : TimeUnit) → is_number 10 whole ≡ true → same_word name (unit_spelling unit) ≡ true → Passes pointed_len tail rest → Passes pointed_len (whole ++ (name ++ tail)) rest
+followed_pass whole name tail rest unit num is_unit later =
     let more = later.is in
-    let size = length_of whole (name ++ behind) in
-    let size' = length_of name behind in
-    let pass = part_pass whole name (behind ++ rest) unit num named in
+    let size = length_of whole (name ++ tail) in
+    let size' = length_of name tail in
+    let pass = part_pass whole name (tail ++ rest) unit num is_unit in
     record {
       beyond = later.beyond;
-      is = ap pointed_len (append_assoc whole (name ++ behind) rest ∙ ap (λ x. whole ++ x) (append_assoc name behind rest)) ∙ pass ∙ (let e : length whole + (length name + pointed_len (behind ++ rest)) ≡ length (whole ++ (name ++ behind)) + later.beyond = omega arith in e);
+      is = ap pointed_len (append_assoc whole (name ++ tail) rest ∙ ap (λ x. whole ++ x) (append_assoc name tail rest)) ∙ pass ∙ (let e : length whole + (length name + pointed_len (tail ++ rest)) ≡ length (whole ++ (name ++ tail)) + later.beyond = omega arith in e);
       apart = later.apart;
     }
 
-mark_pass : (behind rest : List ℕ) → Passes pointed_len behind rest → Passes pointed_len (95 ∷ behind) rest
+underscore_pass : (tail rest : List ℕ) → Passes pointed_len tail rest → Passes pointed_len (95 ∷ tail) rest
 unfolding is_tied
-mark_pass behind rest later =
+underscore_pass tail rest later =
     let more = later.is in
-    let on = pointed_on 95 (behind ++ rest) refl refl in
-    record { beyond = later.beyond; is = (let e : pointed_len (95 ∷ (behind ++ rest)) ≡ suc (length behind) + later.beyond = omega arith in e); apart = later.apart }
+    let on = pointed_on 95 (tail ++ rest) refl refl in
+    record { beyond = later.beyond; is = (let e : pointed_len (95 ∷ (tail ++ rest)) ≡ suc (length tail) + later.beyond = omega arith in e); apart = later.apart }
 
 pub parts_pass : (us : List TimeUnit) (bs rest : List ℕ) (n : ℕ) → Lasts us bs n → Passes pointed_len bs rest
 parts_pass [] bs rest n h = absurd h
 parts_pass (unit ∷ us) bs rest n (without h) = parts_pass us bs rest n h
-parts_pass (unit ∷ us) bs rest n (last whole name is num named e) = subst (λ x. Passes pointed_len x rest) (sym is) (last_pass whole name rest unit num named)
-parts_pass (unit ∷ us) bs rest n (pointed whole fraction name is num frac named e) = subst (λ x. Passes pointed_len x rest) (sym is) (pointed_pass whole fraction name rest unit num frac named)
-parts_pass (unit ∷ us) bs rest n (followed whole name behind later m is num named joined h e) =
+parts_pass (unit ∷ us) bs rest n (last whole name is num is_unit e) = subst (λ x. Passes pointed_len x rest) (sym is) (last_pass whole name rest unit num is_unit)
+parts_pass (unit ∷ us) bs rest n (pointed whole fraction name is num frac is_unit e) = subst (λ x. Passes pointed_len x rest) (sym is) (pointed_pass whole fraction name rest unit num frac is_unit)
+parts_pass (unit ∷ us) bs rest n (followed whole name tail later m is num is_unit joined h e) =
     let pass = parts_pass us later rest m h in
-    let whole_pass : Passes pointed_len behind rest = elim joined [
+    let whole_pass : Passes pointed_len tail rest = elim joined [
       | inl same ↦ subst (λ x. Passes pointed_len x rest) (sym same) pass
-      | inr marked ↦ subst (λ x. Passes pointed_len x rest) (sym marked) (mark_pass later rest pass)
+      | inr underscored ↦ subst (λ x. Passes pointed_len x rest) (sym underscored) (underscore_pass later rest pass)
     ] in
-    subst (λ x. Passes pointed_len x rest) (sym is) (followed_pass whole name behind rest unit num named whole_pass)
+    subst (λ x. Passes pointed_len x rest) (sym is) (followed_pass whole name tail rest unit num is_unit whole_pass)
 
 -- parts begin with a digit
 pub lasts_digit : (us : List TimeUnit) (bs : List ℕ) (n : ℕ) → Lasts us bs n → begins_by digit bs ≡ true
 lasts_digit [] bs n h = absurd h
 lasts_digit (unit ∷ us) bs n (without h) = lasts_digit us bs n h
-lasts_digit (unit ∷ us) bs n (last whole name is num named e) = subst (λ x. begins_by digit x ≡ true) (sym is) (begins_more digit whole name (number_begins whole num))
-lasts_digit (unit ∷ us) bs n (pointed whole fraction name is num frac named e) = subst (λ x. begins_by digit x ≡ true) (sym is) (begins_more digit whole (46 ∷ (fraction ++ name)) (number_begins whole num))
-lasts_digit (unit ∷ us) bs n (followed whole name behind later m is num named joined h e) = subst (λ x. begins_by digit x ≡ true) (sym is) (begins_more digit whole (name ++ behind) (number_begins whole num))
+lasts_digit (unit ∷ us) bs n (last whole name is num is_unit e) = subst (λ x. begins_by digit x ≡ true) (sym is) (begins_more digit whole name (number_begins whole num))
+lasts_digit (unit ∷ us) bs n (pointed whole fraction name is num frac is_unit e) = subst (λ x. begins_by digit x ≡ true) (sym is) (begins_more digit whole (46 ∷ (fraction ++ name)) (number_begins whole num))
+lasts_digit (unit ∷ us) bs n (followed whole name tail later m is num is_unit joined h e) = subst (λ x. begins_by digit x ≡ true) (sym is) (begins_more digit whole (name ++ tail) (number_begins whole num))
 
 pub digit_no_minus : (b : ℕ) → digit b ≡ true → (b == 45) ≡ false
 digit_no_minus b h = tied_no_minus b (digit_tied b 10 (omega arith) h)
@@ -248,8 +245,8 @@ back_pass parts rest pass =
     record { beyond = pass.beyond; is = (let e : timed_len (45 ∷ (parts ++ rest)) ≡ suc (length parts) + pass.beyond = omega arith in e); apart = pass.apart }
 
 timed_pass : (xs rest : List ℕ) (v : ℤ) → IsTimed xs v → Passes timed_len xs rest
-timed_pass xs rest v (ahead n h e) = ahead_pass xs rest (lasts_digit units xs n h) (parts_pass units xs rest n h)
-timed_pass xs rest v (back parts n is h e) = subst (λ x. Passes timed_len x rest) (sym is) (back_pass parts rest (parts_pass units parts rest n h))
+timed_pass xs rest v (forward n h e) = ahead_pass xs rest (lasts_digit units xs n h) (parts_pass units xs rest n h)
+timed_pass xs rest v (backward parts n is h e) = subst (λ x. Passes timed_len x rest) (sym is) (back_pass parts rest (parts_pass units parts rest n h))
 
 pub duration_pass : (bs rest : List ℕ) (v : ℤ) → IsDuration bs v → Passes lettered_len bs rest
 duration_pass bs rest v (short begins timed fits) =

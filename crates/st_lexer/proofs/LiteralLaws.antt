@@ -1,4 +1,4 @@
--- Typed literals: the words that begin them, how far they go, and their values.
+-- Typed literals: the words that begin them, how many bytes they have, and their values.
 use Rattle.std.proofs.Common.{◌≡◌, ℕ, zero, suc, ◌+◌, ◌^◌, ◌<◌, ◌≤◌, ◌==◌, nat_le, nat_lt, ℤ, Bool, true, false, not, ◌&&◌, ◌||◌, cond, List, [], ◌∷◌, ◌++◌, length, take, drop, Option, Some, None, refl, sym, ap, ◌∙◌, subst, arith, inl, inr, codes, FitsSigned, w32, length-take, length-take-le, length-drop}
 use Rattle.std.specs.Char.{is_digit, to_ascii_lowercase}
 use Rattle.std.specs.List.{list_all, list_any}
@@ -12,13 +12,10 @@ use Rattle.plant_types.specs.Words.{is_letter, is_name_byte, is_name, folded, sa
 use Rattle.st_lexer.specs.Bytes.{is_tied, begins_by, stands_apart}
 use Rattle.st_lexer.specs.Numbers.{IsInteger}
 use Rattle.st_lexer.specs.Literals.{begins_word, signed, IsSigned, unsigned, plus, minus, IsDint, is_truth}
-use Rattle.st_lexer.specs.ReadingLiterals.{integer_by, signed_by, dint_by, truth_by, tied_len, signed_len, pointed_len, timed_len, lettered_len, ◌>>=◌}
-use Rattle.st_lexer.proofs.Classes.{same_folded, name_byte_folded, first_lower, truth_first}
+use Rattle.st_lexer.specs.ReadingLiterals.{parse_integer, signed_within, parse_dint, parse_truth, tied_len, signed_len, pointed_len, timed_len, lettered_len, ◌>>=◌}
+use Rattle.st_lexer.proofs.Classes.{same_folded, name_byte_folded, first_lower, truth_first, no_truth}
 use Rattle.st_lexer.proofs.WordLaws.{tied_over, apart_none, tied_apart, name_tied}
 use Rattle.st_lexer.proofs.NumberLaws.{integer_tied, integer_some, integer_sound, integer_complete}
-
-no_truth : {X : Type 0} → false ≡ true → X
-no_truth e = absurd (cc)
 
 abbrev hash : ℕ → Bool
 hash b = b == 35
@@ -168,8 +165,8 @@ tied_shift zero text = omega arith
 tied_shift (suc k) [] = omega arith
 tied_shift (suc k) (b ∷ bs) = let one = tied_one b bs in let more = tied_shift k bs in omega arith
 
-behind_end : (k : ℕ) (text : List ℕ) (n : ℕ) → k ≤ length text → IsEnd (drop k text) n → IsEnd text (k + n)
-behind_end k text n w e =
+after_end : (k : ℕ) (text : List ℕ) (n : ℕ) → k ≤ length text → IsEnd (drop k text) n → IsEnd text (k + n)
+after_end k text n w e =
     let shift = tied_shift k text in
     let least = e.least in
     let within = e.within in
@@ -214,7 +211,7 @@ signed_nil = refl
 signed_end : (text : List ℕ) → IsEnd text (signed_len text)
 signed_end [] = subst (λ n. IsEnd [] n) (sym signed_nil) (tied_end [])
 signed_end (b ∷ bs) = elim (cases_Bool (sign b)) [
-  | inl yes' ↦ subst (λ n. IsEnd (b ∷ bs) n) (sym (signed_over b bs yes')) (behind_end 1 (b ∷ bs) (tied_len bs) (omega arith) (tied_end bs))
+  | inl yes' ↦ subst (λ n. IsEnd (b ∷ bs) n) (sym (signed_over b bs yes')) (after_end 1 (b ∷ bs) (tied_len bs) (omega arith) (tied_end bs))
   | inr no' ↦ subst (λ n. IsEnd (b ∷ bs) n) (sym (signed_none b bs no')) (tied_end (b ∷ bs))
 ]
 
@@ -247,8 +244,8 @@ pointed_end (b ∷ bs) = elim (cases_Bool (is_tied b)) [
   | inl tied ↦ elim (cases_Bool (is_digit b 10 && begins_by dot bs)) [
     | inl point ↦
         let some = begins_some bs (and_parts (is_digit b 10) (begins_by dot bs) point).1 in
-        subst (λ n. IsEnd (b ∷ bs) n) (sym (pointed_point b bs tied point)) (behind_end 2 (b ∷ bs) (tied_len (drop 1 bs)) (omega arith) (tied_end (drop 1 bs)))
-    | inr none ↦ subst (λ n. IsEnd (b ∷ bs) n) (sym (pointed_on b bs tied none)) (behind_end 1 (b ∷ bs) (pointed_len bs) (omega arith) (pointed_end bs))
+        subst (λ n. IsEnd (b ∷ bs) n) (sym (pointed_point b bs tied point)) (after_end 2 (b ∷ bs) (tied_len (drop 1 bs)) (omega arith) (tied_end (drop 1 bs)))
+    | inr none ↦ subst (λ n. IsEnd (b ∷ bs) n) (sym (pointed_on b bs tied none)) (after_end 1 (b ∷ bs) (pointed_len bs) (omega arith) (pointed_end bs))
   ]
   | inr no' ↦ subst (λ n. IsEnd (b ∷ bs) n) (sym (pointed_stop b bs no')) (zero_end b bs no')
 ]
@@ -268,17 +265,17 @@ timed_nil = refl
 timed_end : (text : List ℕ) → IsEnd text (timed_len text)
 timed_end [] = subst (λ n. IsEnd [] n) (sym timed_nil) (tied_end [])
 timed_end (b ∷ bs) = elim (cases_Bool (b == 45)) [
-  | inl yes' ↦ subst (λ n. IsEnd (b ∷ bs) n) (sym (timed_back b bs yes')) (behind_end 1 (b ∷ bs) (pointed_len bs) (omega arith) (pointed_end bs))
+  | inl yes' ↦ subst (λ n. IsEnd (b ∷ bs) n) (sym (timed_back b bs yes')) (after_end 1 (b ∷ bs) (pointed_len bs) (omega arith) (pointed_end bs))
   | inr no' ↦ subst (λ n. IsEnd (b ∷ bs) n) (sym (timed_ahead b bs no')) (pointed_end (b ∷ bs))
 ]
 
 pub lettered_end : (text : List ℕ) → IsEnd text (lettered_len text)
 lettered_end text = elim (cases_Bool (begins_word (codes "DINT#") text)) [
-  | inl d ↦ subst (λ n. IsEnd text n) (sym (dint_len text d)) (behind_end 5 text (signed_len (drop 5 text)) (fronted (codes "DINT#") text d).long (signed_end (drop 5 text)))
+  | inl d ↦ subst (λ n. IsEnd text n) (sym (dint_len text d)) (after_end 5 text (signed_len (drop 5 text)) (fronted (codes "DINT#") text d).long (signed_end (drop 5 text)))
   | inr no_d ↦ elim (cases_Bool (begins_word (codes "T#") text)) [
-    | inl s ↦ subst (λ n. IsEnd text n) (sym (short_len text s)) (behind_end 2 text (timed_len (drop 2 text)) (fronted (codes "T#") text s).long (timed_end (drop 2 text)))
+    | inl s ↦ subst (λ n. IsEnd text n) (sym (short_len text s)) (after_end 2 text (timed_len (drop 2 text)) (fronted (codes "T#") text s).long (timed_end (drop 2 text)))
     | inr no_s ↦ elim (cases_Bool (begins_word (codes "TIME#") text)) [
-      | inl l ↦ subst (λ n. IsEnd text n) (sym (long_len text l)) (behind_end 5 text (timed_len (drop 5 text)) (fronted (codes "TIME#") text l).long (timed_end (drop 5 text)))
+      | inl l ↦ subst (λ n. IsEnd text n) (sym (long_len text l)) (after_end 5 text (timed_len (drop 5 text)) (fronted (codes "TIME#") text l).long (timed_end (drop 5 text)))
       | inr no_l ↦ subst (λ n. IsEnd text n) (sym (plain_len text no_d no_s no_l)) (tied_end text)
     ]
   ]
@@ -307,7 +304,7 @@ dint_goes bs rest v h =
     let long = (fronted (codes "DINT#") bs h.prefix).long in
     let on = dint_len (bs ++ rest) (begins_on (codes "DINT#") bs rest h.prefix) in
     let cut = ap signed_len (drop-append-le 5 bs rest long) in
-    let over = signed_goes (drop 5 bs) rest v h.number in
+    let over = signed_goes (drop 5 bs) rest v h.is_signed in
     let size = length-drop 5 bs in
     on ∙ ap (λ n. 5 + n) (cut ∙ over) ∙ (let e : 5 + (length (drop 5 bs) + tied_len rest) ≡ length bs + tied_len rest = omega arith in e)
 
@@ -369,48 +366,48 @@ below_bound : (n : ℕ) → FitsSigned w32 (signed true n) → n ≤ 2147483648
 below_bound zero h = omega arith
 below_bound (suc n) h = let s = h.sfits in omega arith
 
-dint_signed : (negative : Bool) (n : ℕ) (v : ℤ) → signed_by (2 ^ 31) negative n ≡ Some v → (v ≡ signed negative n) × FitsSigned w32 v
-unfolding signed_by
+dint_signed : (negative : Bool) (n : ℕ) (v : ℤ) → signed_within (2 ^ 31) negative n ≡ Some v → (v ≡ signed negative n) × FitsSigned w32 v
+unfolding signed_within
 dint_signed true n v h = let parts = cond_some (nat_le n 2147483648) (signed true n) v h in (sym parts.1, subst (λ z. FitsSigned w32 z) parts.1 (below_fits n (leb-true n 2147483648 parts.0)))
 dint_signed false n v h = let parts = cond_some (nat_lt n 2147483648) (signed false n) v h in (sym parts.1, subst (λ z. FitsSigned w32 z) parts.1 (above_fits n (ltb-true n 2147483648 parts.0)))
 
-dint_found : (negative : Bool) (n : ℕ) (v : ℤ) → v ≡ signed negative n → FitsSigned w32 v → signed_by (2 ^ 31) negative n ≡ Some v
-unfolding signed_by
+dint_found : (negative : Bool) (n : ℕ) (v : ℤ) → v ≡ signed negative n → FitsSigned w32 v → signed_within (2 ^ 31) negative n ≡ Some v
+unfolding signed_within
 dint_found true n v e fits = cond-true (nat_le n 2147483648) (Some (signed true n)) None (le-leb n 2147483648 (below_bound n (subst (λ z. FitsSigned w32 z) e fits))) ∙ ap Some (sym e)
 dint_found false n v e fits = cond-true (nat_lt n 2147483648) (Some (signed false n)) None (lt-ltb n 2147483648 (above_bound n (subst (λ z. FitsSigned w32 z) e fits))) ∙ ap Some (sym e)
 
 -- the three ways in which a signed integer begins
 abbrev minus_by : List ℕ → Option ℤ
-minus_by digits = integer_by digits >>= signed_by (2 ^ 31) true
+minus_by digits = parse_integer digits >>= signed_within (2 ^ 31) true
 
 abbrev plus_by : List ℕ → Option ℤ
-plus_by digits = integer_by digits >>= signed_by (2 ^ 31) false
+plus_by digits = parse_integer digits >>= signed_within (2 ^ 31) false
 
-by_minus : (x : ℕ) (xs : List ℕ) → (x == 45) ≡ true → dint_by (x ∷ xs) ≡ minus_by xs
-unfolding dint_by
+by_minus : (x : ℕ) (xs : List ℕ) → (x == 45) ≡ true → parse_dint (x ∷ xs) ≡ minus_by xs
+unfolding parse_dint
 by_minus x xs h = cond-true (x == 45) (minus_by xs) (cond (x == 43) (plus_by xs) (plus_by (x ∷ xs))) h
 
-by_plus : (x : ℕ) (xs : List ℕ) → (x == 45) ≡ false → (x == 43) ≡ true → dint_by (x ∷ xs) ≡ plus_by xs
-unfolding dint_by
+by_plus : (x : ℕ) (xs : List ℕ) → (x == 45) ≡ false → (x == 43) ≡ true → parse_dint (x ∷ xs) ≡ plus_by xs
+unfolding parse_dint
 by_plus x xs no' h = cond-false (x == 45) (minus_by xs) (cond (x == 43) (plus_by xs) (plus_by (x ∷ xs))) no' ∙ cond-true (x == 43) (plus_by xs) (plus_by (x ∷ xs)) h
 
-by_none : (x : ℕ) (xs : List ℕ) → (x == 45) ≡ false → (x == 43) ≡ false → dint_by (x ∷ xs) ≡ plus_by (x ∷ xs)
-unfolding dint_by
+by_none : (x : ℕ) (xs : List ℕ) → (x == 45) ≡ false → (x == 43) ≡ false → parse_dint (x ∷ xs) ≡ plus_by (x ∷ xs)
+unfolding parse_dint
 by_none x xs no' none = cond-false (x == 45) (minus_by xs) (cond (x == 43) (plus_by xs) (plus_by (x ∷ xs))) no' ∙ cond-false (x == 43) (plus_by xs) (plus_by (x ∷ xs)) none
 
-by_nil : dint_by [] ≡ plus_by []
-unfolding dint_by
+by_nil : parse_dint [] ≡ plus_by []
+unfolding parse_dint
 by_nil = refl
 
-integer_signed : (negative : Bool) (digits : List ℕ) (v : ℤ) → (integer_by digits >>= signed_by (2 ^ 31) negative) ≡ Some v → (n : ℕ) × IsInteger digits n × (v ≡ signed negative n) × FitsSigned w32 v
-integer_signed negative digits v h = option_and_then_some (signed_by (2 ^ 31) negative) (integer_by digits) v h (λ n e rest.
+integer_signed : (negative : Bool) (digits : List ℕ) (v : ℤ) → (parse_integer digits >>= signed_within (2 ^ 31) negative) ≡ Some v → (n : ℕ) × IsInteger digits n × (v ≡ signed negative n) × FitsSigned w32 v
+integer_signed negative digits v h = option_and_then_some (signed_within (2 ^ 31) negative) (parse_integer digits) v h (λ n e rest.
     let s = dint_signed negative n v rest in
     (n, integer_sound digits n e, s.0, s.1))
 
-integer_found : (negative : Bool) (digits : List ℕ) (n : ℕ) (v : ℤ) → IsInteger digits n → v ≡ signed negative n → FitsSigned w32 v → (integer_by digits >>= signed_by (2 ^ 31) negative) ≡ Some v
-integer_found negative digits n v int e fits = ap (λ o. o >>= signed_by (2 ^ 31) negative) (integer_complete digits n int) ∙ dint_found negative n v e fits
+integer_found : (negative : Bool) (digits : List ℕ) (n : ℕ) (v : ℤ) → IsInteger digits n → v ≡ signed negative n → FitsSigned w32 v → (parse_integer digits >>= signed_within (2 ^ 31) negative) ≡ Some v
+integer_found negative digits n v int e fits = ap (λ o. o >>= signed_within (2 ^ 31) negative) (integer_complete digits n int) ∙ dint_found negative n v e fits
 
-pub dint_sound : (bs : List ℕ) (v : ℤ) → dint_by bs ≡ Some v → IsSigned bs v × FitsSigned w32 v
+pub dint_sound : (bs : List ℕ) (v : ℤ) → parse_dint bs ≡ Some v → IsSigned bs v × FitsSigned w32 v
 dint_sound [] v h = let s = integer_signed false [] v (sym by_nil ∙ h) in absurd (integer_some s.0 s.1)
 dint_sound (x ∷ xs) v h = elim (cases_Bool (x == 45)) [
   | inl is_minus ↦
@@ -426,26 +423,26 @@ dint_sound (x ∷ xs) v h = elim (cases_Bool (x == 45)) [
   ]
 ]
 
-unsigned_found : (bs : List ℕ) (n : ℕ) (v : ℤ) → IsInteger bs n → v ≡ signed false n → FitsSigned w32 v → dint_by bs ≡ Some v
+unsigned_found : (bs : List ℕ) (n : ℕ) (v : ℤ) → IsInteger bs n → v ≡ signed false n → FitsSigned w32 v → parse_dint bs ≡ Some v
 unsigned_found [] n v int e fits = absurd (integer_some n int)
 unsigned_found (x ∷ xs) n v int e fits =
     let tied = (and_parts (is_tied x) (list_all is_tied xs) (integer_tied (x ∷ xs) n int)).0 in
     by_none x xs (tied_no_minus x tied) (tied_no_plus x tied) ∙ integer_found false (x ∷ xs) n v int e fits
 
-pub dint_complete : (bs : List ℕ) (v : ℤ) → IsSigned bs v → FitsSigned w32 v → dint_by bs ≡ Some v
+pub dint_complete : (bs : List ℕ) (v : ℤ) → IsSigned bs v → FitsSigned w32 v → parse_dint bs ≡ Some v
 dint_complete bs v (unsigned n int e) fits = unsigned_found bs n v int e fits
-dint_complete bs v (plus digits n is int e) fits = ap dint_by is ∙ by_plus 43 digits refl refl ∙ integer_found false digits n v int e fits
-dint_complete bs v (minus digits n is int e) fits = ap dint_by is ∙ by_minus 45 digits refl ∙ integer_found true digits n v int e fits
+dint_complete bs v (plus digits n is int e) fits = ap parse_dint is ∙ by_plus 43 digits refl refl ∙ integer_found false digits n v int e fits
+dint_complete bs v (minus digits n is int e) fits = ap parse_dint is ∙ by_minus 45 digits refl ∙ integer_found true digits n v int e fits
 
 -- ---- truths
 abbrev truth_of : List ℕ → Option Bool
 truth_of word = cond (bytes_eq word (folded (codes "BOOL#1")) || bytes_eq word (folded (codes "BOOL#TRUE"))) (Some true) (cond (bytes_eq word (folded (codes "BOOL#0")) || bytes_eq word (folded (codes "BOOL#FALSE"))) (Some false) None)
 
-truth_is : (bs : List ℕ) → truth_by bs ≡ truth_of (folded bs)
-unfolding truth_by
+truth_is : (bs : List ℕ) → parse_truth bs ≡ truth_of (folded bs)
+unfolding parse_truth
 truth_is bs = refl
 
-pub truth_complete : (bs : List ℕ) (value : Bool) → is_truth value bs ≡ true → truth_by bs ≡ Some value
+pub truth_complete : (bs : List ℕ) (value : Bool) → is_truth value bs ≡ true → parse_truth bs ≡ Some value
 truth_complete bs true h = truth_is bs ∙ elim (or_cases (same_word bs (codes "BOOL#1")) (same_word bs (codes "BOOL#TRUE")) h) as (λ _. truth_of (folded bs) ≡ Some true) [
   | inl one ↦ ap truth_of (same_folded bs (codes "BOOL#1") one)
   | inr word ↦ ap truth_of (same_folded bs (codes "BOOL#TRUE") word)
@@ -458,8 +455,8 @@ truth_complete bs false h = truth_is bs ∙ elim (or_cases (same_word bs (codes 
 abbrev false_by : List ℕ → Option Bool
 false_by bs = cond (is_truth false bs) (Some false) None
 
-pub truth_sound : (bs : List ℕ) (value : Bool) → truth_by bs ≡ Some value → is_truth value bs ≡ true
-unfolding truth_by
+pub truth_sound : (bs : List ℕ) (value : Bool) → parse_truth bs ≡ Some value → is_truth value bs ≡ true
+unfolding parse_truth
 truth_sound bs value h = elim (cases_Bool (is_truth true bs)) [
   | inl yes' ↦ subst (λ z. is_truth z bs ≡ true) (same_Some true value (sym (cond-true (is_truth true bs) (Some true) (false_by bs) yes') ∙ h)) yes'
   | inr no' ↦

@@ -1,4 +1,4 @@
--- What the reader finds is the next piece, and where it finds none there is none.
+-- What the code finds is the next piece, and where it finds none there is none.
 use Rattle.std.proofs.Common.{ℤ, ◌≡◌, ℕ, zero, suc, ◌+◌, ◌<◌, ◌≤◌, ◌==◌, Bool, true, false, not, ◌&&◌, ◌||◌, cond, IsTrue, List, [], ◌∷◌, ◌++◌, length, take, drop, Option, Some, None, refl, sym, ap, ◌∙◌, subst, arith, ◌⊎◌, inl, inr, length-take-le, IfSome, IfNone}
 use Rattle.std.specs.Char.{is_ascii_digit}
 use Rattle.std.specs.Option.{option_map}
@@ -19,13 +19,13 @@ use Rattle.st_lexer.specs.declared.piece.Piece.TheVariants as p
 use Rattle.st_lexer.specs.Bytes.{is_blank, is_tied, stands_apart, first_of}
 use Rattle.st_lexer.specs.Tables.{bytes_of}
 use Rattle.st_lexer.specs.Addresses.{is_address}
-use Rattle.st_lexer.specs.Comments.{closed, one_line, is_comment, begins_comment}
+use Rattle.st_lexer.specs.Comments.{is_closed, is_one_line, is_comment, begins_comment}
 use Rattle.st_lexer.specs.Durations.{IsDuration, short, long}
 use Rattle.st_lexer.specs.Spellings.{SpellsToken}
-use Rattle.st_lexer.specs.Pieces.{one_blank, IsPiece, token_may_precede, may_precede, IsNext, IsOver}
-use Rattle.st_lexer.specs.ReadingLiterals.{integer_by, tied_len, lettered_len, ◌>>=◌}
-use Rattle.st_lexer.specs.Reading.{lettered, integer_token, address_by, addressed, closing_len, line_len, single_by, double_by, symbol_by, as_symbol, as_comment, first_some, mark_piece, spread, begun, next_of}
-use Rattle.st_lexer.proofs.Classes.{class_of, class_of_token, opens, comment_cases, keyword_is_name}
+use Rattle.st_lexer.specs.Pieces.{is_one_blank, IsPiece, token_may_precede, may_precede, IsNext, IsOver}
+use Rattle.st_lexer.specs.ReadingLiterals.{parse_integer, tied_len, lettered_len, ◌>>=◌}
+use Rattle.st_lexer.specs.Reading.{word_or_literal, integer_token, parse_address, next_address, closing_len, line_len, single_symbol, double_symbol, symbol_piece, as_symbol, as_comment, first_some, next_mark, front_token, next_by_class, next_piece}
+use Rattle.st_lexer.proofs.Classes.{class_of, class_of_token, opens, comment_cases, keyword_is_name, no_truth, map_some}
 use Rattle.st_lexer.proofs.WordLaws.{tied_over, apart_none, tied_apart}
 use Rattle.st_lexer.proofs.NumberLaws.{integer_tied, integer_some, integer_sound, integer_complete}
 use Rattle.st_lexer.proofs.LiteralLaws.{lettered_end, truth_some}
@@ -35,14 +35,6 @@ use Rattle.st_lexer.proofs.MarkLaws.{closing_found, closing_is, line_reach, line
 
 abbrev pub Found : Type 0
 Found = Piece × ℕ
-
--- ---- tools
-no_truth : {X : Type 0} → false ≡ true → X
-no_truth e = absurd (cc)
-
-map_some : {A B : Type 0} (g : A → B) (o : Option A) (y : B) → option_map g o ≡ Some y → (x : A) × (o ≡ Some x) × (g x ≡ y)
-map_some g None y h = absurd (none-some y h)
-map_some g (Some x) y h = (x, refl, same_Some (g x) y h)
 
 -- ---- a piece has bytes
 duration_some : (value : ℤ) → IsDuration [] value → ⊥
@@ -91,7 +83,7 @@ blank_class (p.Token (t.Address region)) e = absurd (cc)
 blank_class (p.Token (t.Symbol symbol)) e = absurd (cc)
 blank_class (p.Token _) e = absurd (cc)
 
-one_at : (b : ℕ) (bs : List ℕ) (m : ℕ) → one_blank (take m (b ∷ bs)) ≡ true → m ≤ length (b ∷ bs) → m ≡ 1
+one_at : (b : ℕ) (bs : List ℕ) (m : ℕ) → is_one_blank (take m (b ∷ bs)) ≡ true → m ≤ length (b ∷ bs) → m ≡ 1
 one_at b bs zero h w = no_truth h
 one_at b bs (suc zero) h w = refl
 one_at b [] (suc (suc m)) h w = absurd (omega arith)
@@ -159,7 +151,7 @@ letter_solid = record { token = letter_token; apart = letter_apart; no_mark = λ
 digit_solid : IsSolid f.Digit
 digit_solid = record { token = digit_token; apart = digit_apart; no_mark = λ e. absurd (cc) }
 
--- how far the tokens of a class go, and which they are
+-- how many bytes the tokens of a class have, and which they are
 pub record IsReader (class : First) (extent : List ℕ → ℕ) (classify : List ℕ → Option TokenKind) : Type 0 where
   pub solid : IsSolid class
   pub sound : (bs : List ℕ) (kind : TokenKind) → classify bs ≡ Some kind → SpellsToken kind bs
@@ -187,8 +179,8 @@ module _ (class : First) (extent : List ℕ → ℕ) (classify : List ℕ → Op
       let near : length (take m text) ≤ extent text = subst (λ x. length (take m text) ≤ extent x) (take-append-drop m text) far in
       omega arith
 
-  spread_next : (b : ℕ) (bs : List ℕ) (kind : TokenKind) → first_of b ≡ class → classify (take (extent (b ∷ bs)) (b ∷ bs)) ≡ Some kind → IsNext (b ∷ bs) (p.Token kind) (extent (b ∷ bs))
-  spread_next b bs kind is h =
+  front_token_next : (b : ℕ) (bs : List ℕ) (kind : TokenKind) → first_of b ≡ class → classify (take (extent (b ∷ bs)) (b ∷ bs)) ≡ Some kind → IsNext (b ∷ bs) (p.Token kind) (extent (b ∷ bs))
+  front_token_next b bs kind is h =
       let spells = reader.sound (take (extent (b ∷ bs)) (b ∷ bs)) kind h in
       let same = sym (opens_at (p.Token kind) b bs (extent (b ∷ bs)) spells) ∙ is in
       record {
@@ -199,15 +191,15 @@ module _ (class : First) (extent : List ℕ → ℕ) (classify : List ℕ → Op
         comment = λ c. absurd (reader.solid.no_mark (sym (comment_mark b bs c) ∙ is));
       }
 
-  pub spread_sound : (b : ℕ) (bs : List ℕ) (piece : Piece) (n : ℕ) → first_of b ≡ class → spread extent classify (b ∷ bs) ≡ Some (piece, n) → IsNext (b ∷ bs) piece n
-  unfolding spread
-  spread_sound b bs piece n is h =
+  pub front_token_sound : (b : ℕ) (bs : List ℕ) (piece : Piece) (n : ℕ) → first_of b ≡ class → front_token extent classify (b ∷ bs) ≡ Some (piece, n) → IsNext (b ∷ bs) piece n
+  unfolding front_token
+  front_token_sound b bs piece n is h =
       let found = map_some (λ kind. (p.Token kind, extent (b ∷ bs))) (classify (take (extent (b ∷ bs)) (b ∷ bs))) (piece, n) h in
-      subst (λ (q : Found). IsNext (b ∷ bs) q.0 q.1) found.2 (spread_next b bs found.0 is found.1)
+      subst (λ (q : Found). IsNext (b ∷ bs) q.0 q.1) found.2 (front_token_next b bs found.0 is found.1)
 
-  pub spread_complete : (b : ℕ) (bs : List ℕ) (piece : Piece) (n : ℕ) → first_of b ≡ class → IsNext (b ∷ bs) piece n → spread extent classify (b ∷ bs) ≡ Some (piece, n)
-  unfolding spread
-  spread_complete b bs piece n is x =
+  pub front_token_complete : (b : ℕ) (bs : List ℕ) (piece : Piece) (n : ℕ) → first_of b ≡ class → IsNext (b ∷ bs) piece n → front_token extent classify (b ∷ bs) ≡ Some (piece, n)
+  unfolding front_token
+  front_token_complete b bs piece n is x =
       let text = b ∷ bs in
       let token = token_at b bs piece n is x.is in
       let spells : SpellsToken token.0 (take n text) = subst (λ z. IsPiece z (take n text)) token.1 x.is in
@@ -233,7 +225,7 @@ digit_tied _ bs e h = absurd (cc)
 
 digit_sound : (bs : List ℕ) (kind : TokenKind) → integer_token bs ≡ Some kind → SpellsToken kind bs
 digit_sound bs kind h =
-    let found = map_some (λ n. t.Integer n) (integer_by bs) kind h in
+    let found = map_some (λ n. t.Integer n) (parse_integer bs) kind h in
     subst (λ z. SpellsToken z bs) found.2 (integer_sound bs found.0 found.1)
 
 digit_complete : (bs : List ℕ) (kind : TokenKind) → class_of_token kind ≡ f.Digit → SpellsToken kind bs → integer_token bs ≡ Some kind
@@ -242,7 +234,7 @@ digit_complete bs (t.Address region) e h = absurd (cc)
 digit_complete bs (t.Symbol symbol) e h = absurd (cc)
 digit_complete bs _ e h = absurd (cc)
 
-letters : IsReader f.Letter lettered_len lettered
+letters : IsReader f.Letter lettered_len word_or_literal
 letters = record {
   solid = letter_solid;
   sound = letter_sound;
@@ -293,9 +285,9 @@ percent_token (p.Token _) e = absurd (cc)
 record AddressAt (bs : List ℕ) (piece : Piece) (m : ℕ) : Type 0 where
   region : Region
   same : piece ≡ p.Token (t.Address region)
-  behind : ℕ
-  size : m ≡ suc behind
-  reaches : Reaches region behind bs
+  len : ℕ
+  size : m ≡ suc len
+  reaches : Reaches region len bs
 
 address_at : (b : ℕ) (bs : List ℕ) (piece : Piece) (m : ℕ) → first_of b ≡ f.Percent → m ≤ length (b ∷ bs) → IsPiece piece (take m (b ∷ bs)) → AddressAt bs piece m
 address_at b bs piece zero is w h = absurd (fits_none piece h)
@@ -306,7 +298,7 @@ address_at b bs piece (suc j) is w h =
     record {
       region = token.0;
       same = token.1;
-      behind = j;
+      len = j;
       size = refl;
       reaches = subst (λ i. Reaches token.0 i bs) size (subst (λ x. Reaches token.0 (length (take j bs)) x) (take-append-drop j bs) (address_reach token.0 b (take j bs) (drop j bs) address));
     }
@@ -314,7 +306,7 @@ address_at b bs piece (suc j) is w h =
 same_read : (x y : Region) (i j : ℕ) → (let s : Option (Region × ℕ) = Some (x, i) in s) ≡ Some (y, j) → (x ≡ y) × (i ≡ j)
 same_read x y i j e = some_pair_parts x y i j e
 
-address_next : (b : ℕ) (bs : List ℕ) (region : Region) (k : ℕ) → first_of b ≡ f.Percent → address_by bs ≡ Some (region, k) → stands_apart (drop k bs) ≡ true → IsNext (b ∷ bs) (p.Token (t.Address region)) (suc k)
+address_next : (b : ℕ) (bs : List ℕ) (region : Region) (k : ℕ) → first_of b ≡ f.Percent → parse_address bs ≡ Some (region, k) → stands_apart (drop k bs) ≡ true → IsNext (b ∷ bs) (p.Token (t.Address region)) (suc k)
 address_next b bs region k is read apart =
     let addresses = address_is region k bs read in
     let within = addresses.within in
@@ -337,14 +329,14 @@ one_more k = omega arith
 abbrev address_piece : List ℕ → Region × ℕ → Option Found
 address_piece bs a = cond (stands_apart (drop a.1 bs)) (Some (p.Token (t.Address a.0), a.1 + 1)) None
 
-pub address_sound : (b : ℕ) (bs : List ℕ) (piece : Piece) (n : ℕ) → first_of b ≡ f.Percent → addressed bs ≡ Some (piece, n) → IsNext (b ∷ bs) piece n
-unfolding addressed
-address_sound b bs piece n is h = option_and_then_some (address_piece bs) (address_by bs) (piece, n) h (λ a read rest.
+pub address_sound : (b : ℕ) (bs : List ℕ) (piece : Piece) (n : ℕ) → first_of b ≡ f.Percent → next_address bs ≡ Some (piece, n) → IsNext (b ∷ bs) piece n
+unfolding next_address
+address_sound b bs piece n is h = option_and_then_some (address_piece bs) (parse_address bs) (piece, n) h (λ a read rest.
     let parts = cond_some (stands_apart (drop a.1 bs)) (p.Token (t.Address a.0), a.1 + 1) (piece, n) rest in
     subst (λ (q : Found). IsNext (b ∷ bs) q.0 q.1) parts.1 (subst (λ i. IsNext (b ∷ bs) (p.Token (t.Address a.0)) i) (sym (one_more a.1)) (address_next b bs a.0 a.1 is read parts.0)))
 
 -- what stands where the reader's address ends is that address
-address_whole : (b : ℕ) (bs : List ℕ) (region : Region) (k j : ℕ) → first_of b ≡ f.Percent → address_by bs ≡ Some (region, k) → j ≤ k → IsNext (b ∷ bs) (p.Token (t.Address region)) (suc j) → k ≡ j
+address_whole : (b : ℕ) (bs : List ℕ) (region : Region) (k j : ℕ) → first_of b ≡ f.Percent → parse_address bs ≡ Some (region, k) → j ≤ k → IsNext (b ∷ bs) (p.Token (t.Address region)) (suc j) → k ≡ j
 address_whole b bs region k j is read far x = elim (cases_lt j k) [
   | inl shorter ↦
       let addresses = address_is region k bs read in
@@ -354,12 +346,12 @@ address_whole b bs region k j is read far x = elim (cases_lt j k) [
   | inr longer ↦ omega arith
 ]
 
-pub address_complete : (b : ℕ) (bs : List ℕ) (piece : Piece) (n : ℕ) → first_of b ≡ f.Percent → IsNext (b ∷ bs) piece n → addressed bs ≡ Some (piece, n)
-unfolding addressed
+pub address_complete : (b : ℕ) (bs : List ℕ) (piece : Piece) (n : ℕ) → first_of b ≡ f.Percent → IsNext (b ∷ bs) piece n → next_address bs ≡ Some (piece, n)
+unfolding next_address
 address_complete b bs piece n is x =
     let at = address_at b bs piece n is x.within x.is in
-    let moved : IsNext (b ∷ bs) (p.Token (t.Address at.region)) (suc at.behind) = subst (λ i. IsNext (b ∷ bs) (p.Token (t.Address at.region)) i) at.size (subst (λ z. IsNext (b ∷ bs) z n) at.same x) in
-    let end = address_whole b bs at.region at.reaches.n at.behind is at.reaches.read at.reaches.reach moved in
+    let moved : IsNext (b ∷ bs) (p.Token (t.Address at.region)) (suc at.len) = subst (λ i. IsNext (b ∷ bs) (p.Token (t.Address at.region)) i) at.size (subst (λ z. IsNext (b ∷ bs) z n) at.same x) in
+    let end = address_whole b bs at.region at.reaches.n at.len is at.reaches.read at.reaches.reach moved in
     let apart : stands_apart (drop at.reaches.n bs) ≡ true = ap (λ i. stands_apart (drop i bs)) end ∙ moved.follows in
     let size : at.reaches.n + 1 ≡ n = (let s = at.size in omega arith) in
     ap (λ o. o >>= address_piece bs) at.reaches.read ∙ cond-true (stands_apart (drop at.reaches.n bs)) (Some (p.Token (t.Address at.region), at.reaches.n + 1)) None apart ∙ ap (λ z. Some (z, at.reaches.n + 1)) (sym at.same) ∙ ap (λ i. Some (piece, i)) size
@@ -449,16 +441,16 @@ module _ (a b : ℕ) (form : List ℕ → Bool) (read : List ℕ → Option ℕ)
       ap (λ o. option_map as_comment o) far.1 ∙ ap (λ z. Some (z, far.0 + 2)) (sym comment) ∙ ap (λ i. Some (piece, i)) size
 
 -- the three forms
-block_sound : (mark : ℕ) (text : List ℕ) (n : ℕ) → closing_len 0 mark text ≡ Some n → (n ≤ length text) × (closed mark (take n text) ≡ true)
+block_sound : (mark : ℕ) (text : List ℕ) (n : ℕ) → closing_len 0 mark text ≡ Some n → (n ≤ length text) × (is_closed mark (take n text) ≡ true)
 block_sound mark text n h =
     let c = closing_is mark 0 text n h in
     let same : c.0 ≡ n = (let e = c.1 in omega arith) in
-    (subst (λ i. i ≤ length text) same c.2.within, subst (λ i. closed mark (take i text) ≡ true) same c.2.is)
+    (subst (λ i. i ≤ length text) same c.2.within, subst (λ i. is_closed mark (take i text) ≡ true) same c.2.is)
 
-block_reach : (mark : ℕ) (bs rest : List ℕ) → closed mark bs ≡ true → (n : ℕ) × (closing_len 0 mark (bs ++ rest) ≡ Some n) × (length bs ≤ n)
+block_reach : (mark : ℕ) (bs rest : List ℕ) → is_closed mark bs ≡ true → (n : ℕ) × (closing_len 0 mark (bs ++ rest) ≡ Some n) × (length bs ≤ n)
 block_reach mark bs rest h = (0 + length bs, closing_found mark 0 bs rest h, omega arith)
 
-round_form : IsForm 40 42 (closed 41) (closing_len 0 41)
+round_form : IsForm 40 42 (is_closed 41) (closing_len 0 41)
 unfolding first_of is_blank
 round_form = record {
   mark = refl;
@@ -467,12 +459,12 @@ round_form = record {
     | inl round ↦ round.2
     | inr other ↦ elim other [ inl slashed ↦ absurd (let e = slashed.0 in omega arith) | inr line ↦ absurd (let e = line.0 in omega arith) ]
   ];
-  comment_of = λ xs h. or_left (closed 41 xs || false) false (or_left (closed 41 xs) false h);
+  comment_of = λ xs h. or_left (is_closed 41 xs || false) false (or_left (is_closed 41 xs) false h);
   sound = block_sound 41;
   reach = block_reach 41;
 }
 
-slashed_form : IsForm 47 42 (closed 47) (closing_len 0 47)
+slashed_form : IsForm 47 42 (is_closed 47) (closing_len 0 47)
 unfolding first_of is_blank
 slashed_form = record {
   mark = refl;
@@ -481,7 +473,7 @@ slashed_form = record {
     | inl round ↦ absurd (let e = round.0 in omega arith)
     | inr other ↦ elim other [ inl slashed ↦ slashed.2 | inr line ↦ absurd (let e = line.1 in omega arith) ]
   ];
-  comment_of = λ xs h. or_left (closed 47 xs) false h;
+  comment_of = λ xs h. or_left (is_closed 47 xs) false h;
   sound = block_sound 47;
   reach = block_reach 47;
 }
@@ -493,7 +485,7 @@ line_within : (text : List ℕ) → line_len text ≤ length text
 unfolding line_len
 line_within text = prefix_len-le-length (λ b. not (b == 10)) text
 
-line_form : IsForm 47 47 one_line line_read
+line_form : IsForm 47 47 is_one_line line_read
 unfolding first_of is_blank
 line_form = record {
   mark = refl;
@@ -503,7 +495,7 @@ line_form = record {
     | inr other ↦ elim other [ inl slashed ↦ absurd (let e = slashed.1 in omega arith) | inr line ↦ line.2 ]
   ];
   comment_of = λ xs h. h;
-  sound = λ text n h. (let same = same_Some (line_len text) n h in (subst (λ i. i ≤ length text) same (line_within text), subst (λ i. one_line (take i text) ≡ true) same (line_is text)));
+  sound = λ text n h. (let same = same_Some (line_len text) n h in (subst (λ i. i ≤ length text) same (line_within text), subst (λ i. is_one_line (take i text) ≡ true) same (line_is text)));
   reach = λ bs rest h. (line_len (bs ++ rest), refl, line_reach bs rest h);
 }
 
@@ -526,13 +518,13 @@ symbol_at a b inner piece m is none w h = elim (comment_or_symbol piece (sym (op
       record { symbol = symbol.0; same = symbol.1; bytes = bytes; short = symbol_short symbol.0 (a ∷ b ∷ inner) m w bytes; some = fits_some piece m (a ∷ b ∷ inner) h }
 ]
 
-two_bytes : (a b : ℕ) (inner : List ℕ) (piece : Piece) (m : ℕ) (at : SymbolAt (a ∷ b ∷ inner) piece m) → 1 < m → (m ≡ 2) × (double_by a b ≡ Some at.symbol)
+two_bytes : (a b : ℕ) (inner : List ℕ) (piece : Piece) (m : ℕ) (at : SymbolAt (a ∷ b ∷ inner) piece m) → 1 < m → (m ≡ 2) × (double_symbol a b ≡ Some at.symbol)
 two_bytes a b inner piece zero at more = absurd (omega arith)
 two_bytes a b inner piece (suc zero) at more = absurd (omega arith)
 two_bytes a b inner piece (suc (suc zero)) at more = (refl, double_found a b at.symbol at.bytes)
 two_bytes a b inner piece (suc (suc (suc m))) at more = absurd (let s = at.short in omega arith)
 
-one_or_two : (a b : ℕ) (inner : List ℕ) (piece : Piece) (m : ℕ) (at : SymbolAt (a ∷ b ∷ inner) piece m) → ((m ≡ 1) × (single_by a ≡ Some at.symbol)) ⊎ ((m ≡ 2) × (double_by a b ≡ Some at.symbol))
+one_or_two : (a b : ℕ) (inner : List ℕ) (piece : Piece) (m : ℕ) (at : SymbolAt (a ∷ b ∷ inner) piece m) → ((m ≡ 1) × (single_symbol a ≡ Some at.symbol)) ⊎ ((m ≡ 2) × (double_symbol a b ≡ Some at.symbol))
 one_or_two a b inner piece zero at = absurd (let s = at.some in omega arith)
 one_or_two a b inner piece (suc zero) at = inl (refl, single_found a at.symbol at.bytes)
 one_or_two a b inner piece (suc (suc m)) at = inr (two_bytes a b inner piece (suc (suc m)) at (omega arith))
@@ -540,7 +532,7 @@ one_or_two a b inner piece (suc (suc m)) at = inr (two_bytes a b inner piece (su
 no_mark_comment : (a b : ℕ) (inner : List ℕ) → begins_comment (a ∷ b ∷ inner) ≡ false → (symbol : Symbol) → IsTrue (begins_comment (a ∷ b ∷ inner)) → p.Token (t.Symbol symbol) ≡ p.Comment
 no_mark_comment a b inner none symbol h = no_truth (sym none ∙ h)
 
-double_next : (a b : ℕ) (inner : List ℕ) (symbol : Symbol) → first_of a ≡ f.Mark → begins_comment (a ∷ b ∷ inner) ≡ false → double_by a b ≡ Some symbol → IsNext (a ∷ b ∷ inner) (p.Token (t.Symbol symbol)) 2
+double_next : (a b : ℕ) (inner : List ℕ) (symbol : Symbol) → first_of a ≡ f.Mark → begins_comment (a ∷ b ∷ inner) ≡ false → double_symbol a b ≡ Some symbol → IsNext (a ∷ b ∷ inner) (p.Token (t.Symbol symbol)) 2
 double_next a b inner symbol is none h = record {
   within = omega arith;
   is = sym (double_is a b symbol h);
@@ -549,7 +541,7 @@ double_next a b inner symbol is none h = record {
   comment = no_mark_comment a b inner none symbol;
 }
 
-single_next : (a b : ℕ) (inner : List ℕ) (symbol : Symbol) → first_of a ≡ f.Mark → begins_comment (a ∷ b ∷ inner) ≡ false → double_by a b ≡ None → single_by a ≡ Some symbol → IsNext (a ∷ b ∷ inner) (p.Token (t.Symbol symbol)) 1
+single_next : (a b : ℕ) (inner : List ℕ) (symbol : Symbol) → first_of a ≡ f.Mark → begins_comment (a ∷ b ∷ inner) ≡ false → double_symbol a b ≡ None → single_symbol a ≡ Some symbol → IsNext (a ∷ b ∷ inner) (p.Token (t.Symbol symbol)) 1
 single_next a b inner symbol is none no_double h = record {
   within = omega arith;
   is = sym (single_is a symbol h);
@@ -558,34 +550,34 @@ single_next a b inner symbol is none no_double h = record {
   comment = no_mark_comment a b inner none symbol;
 }
 
-symbol_sound_by : (a b : ℕ) (inner : List ℕ) (piece : Piece) (n : ℕ) (o : Option Symbol) → first_of a ≡ f.Mark → begins_comment (a ∷ b ∷ inner) ≡ false → double_by a b ≡ o → first_some (option_map (as_symbol 2) o) (option_map (as_symbol 1) (single_by a)) ≡ Some (piece, n) → IsNext (a ∷ b ∷ inner) piece n
+symbol_sound_by : (a b : ℕ) (inner : List ℕ) (piece : Piece) (n : ℕ) (o : Option Symbol) → first_of a ≡ f.Mark → begins_comment (a ∷ b ∷ inner) ≡ false → double_symbol a b ≡ o → first_some (option_map (as_symbol 2) o) (option_map (as_symbol 1) (single_symbol a)) ≡ Some (piece, n) → IsNext (a ∷ b ∷ inner) piece n
 symbol_sound_by a b inner piece n (Some symbol) is none double h = subst (λ (q : Found). IsNext (a ∷ b ∷ inner) q.0 q.1) (same_Some (as_symbol 2 symbol) (piece, n) h) (double_next a b inner symbol is none double)
 symbol_sound_by a b inner piece n None is none double h =
-    let found = map_some (as_symbol 1) (single_by a) (piece, n) h in
+    let found = map_some (as_symbol 1) (single_symbol a) (piece, n) h in
     subst (λ (q : Found). IsNext (a ∷ b ∷ inner) q.0 q.1) found.2 (single_next a b inner found.0 is none double found.1)
 
-symbol_sound : (a b : ℕ) (inner : List ℕ) (piece : Piece) (n : ℕ) → first_of a ≡ f.Mark → begins_comment (a ∷ b ∷ inner) ≡ false → symbol_by a b ≡ Some (piece, n) → IsNext (a ∷ b ∷ inner) piece n
-unfolding symbol_by
-symbol_sound a b inner piece n is none h = symbol_sound_by a b inner piece n (double_by a b) is none refl h
+symbol_sound : (a b : ℕ) (inner : List ℕ) (piece : Piece) (n : ℕ) → first_of a ≡ f.Mark → begins_comment (a ∷ b ∷ inner) ≡ false → symbol_piece a b ≡ Some (piece, n) → IsNext (a ∷ b ∷ inner) piece n
+unfolding symbol_piece
+symbol_sound a b inner piece n is none h = symbol_sound_by a b inner piece n (double_symbol a b) is none refl h
 
 -- where a single symbol is the longest, no double one is there
-no_double : (a b : ℕ) (inner : List ℕ) (piece : Piece) (o : Option Symbol) → IsNext (a ∷ b ∷ inner) piece 1 → double_by a b ≡ o → o ≡ None
+no_double : (a b : ℕ) (inner : List ℕ) (piece : Piece) (o : Option Symbol) → IsNext (a ∷ b ∷ inner) piece 1 → double_symbol a b ≡ o → o ≡ None
 no_double a b inner piece None x is = refl
 no_double a b inner piece (Some symbol) x is = absurd (x.longest (p.Token (t.Symbol symbol)) 2 (omega arith) (omega arith) (sym (double_is a b symbol is)))
 
-symbol_complete : (a b : ℕ) (inner : List ℕ) (piece : Piece) (n : ℕ) → first_of a ≡ f.Mark → begins_comment (a ∷ b ∷ inner) ≡ false → IsNext (a ∷ b ∷ inner) piece n → symbol_by a b ≡ Some (piece, n)
-unfolding symbol_by
+symbol_complete : (a b : ℕ) (inner : List ℕ) (piece : Piece) (n : ℕ) → first_of a ≡ f.Mark → begins_comment (a ∷ b ∷ inner) ≡ false → IsNext (a ∷ b ∷ inner) piece n → symbol_piece a b ≡ Some (piece, n)
+unfolding symbol_piece
 symbol_complete a b inner piece n is none x =
     let at = symbol_at a b inner piece n is none x.within x.is in
     elim (one_or_two a b inner piece n at) [
       | inl one ↦
-          let alone = no_double a b inner piece (double_by a b) (subst (λ i. IsNext (a ∷ b ∷ inner) piece i) one.0 x) refl in
-          ap (λ o. first_some (option_map (as_symbol 2) o) (option_map (as_symbol 1) (single_by a))) alone ∙ ap (λ o. option_map (as_symbol 1) o) one.1 ∙ ap (λ z. Some (z, 1)) (sym at.same) ∙ ap (λ i. Some (piece, i)) (sym one.0)
-      | inr two ↦ ap (λ o. first_some (option_map (as_symbol 2) o) (option_map (as_symbol 1) (single_by a))) two.1 ∙ ap (λ z. Some (z, 2)) (sym at.same) ∙ ap (λ i. Some (piece, i)) (sym two.0)
+          let alone = no_double a b inner piece (double_symbol a b) (subst (λ i. IsNext (a ∷ b ∷ inner) piece i) one.0 x) refl in
+          ap (λ o. first_some (option_map (as_symbol 2) o) (option_map (as_symbol 1) (single_symbol a))) alone ∙ ap (λ o. option_map (as_symbol 1) o) one.1 ∙ ap (λ z. Some (z, 1)) (sym at.same) ∙ ap (λ i. Some (piece, i)) (sym one.0)
+      | inr two ↦ ap (λ o. first_some (option_map (as_symbol 2) o) (option_map (as_symbol 1) (single_symbol a))) two.1 ∙ ap (λ z. Some (z, 2)) (sym at.same) ∙ ap (λ i. Some (piece, i)) (sym two.0)
     ]
 
--- one byte alone
-alone_symbol : (a : ℕ) (piece : Piece) (m : ℕ) → first_of a ≡ f.Mark → m ≤ 1 → IsPiece piece (take m (a ∷ [])) → (symbol : Symbol) × (piece ≡ p.Token (t.Symbol symbol)) × (m ≡ 1) × (single_by a ≡ Some symbol)
+-- a text of one byte
+alone_symbol : (a : ℕ) (piece : Piece) (m : ℕ) → first_of a ≡ f.Mark → m ≤ 1 → IsPiece piece (take m (a ∷ [])) → (symbol : Symbol) × (piece ≡ p.Token (t.Symbol symbol)) × (m ≡ 1) × (single_symbol a ≡ Some symbol)
 alone_symbol a piece zero is w h = absurd (fits_none piece h)
 alone_symbol a piece (suc (suc m)) is w h = absurd (omega arith)
 alone_symbol a piece (suc zero) is w h = elim (comment_or_symbol piece (sym (opens_at piece a [] 1 h) ∙ is)) [
@@ -593,9 +585,9 @@ alone_symbol a piece (suc zero) is w h = elim (comment_or_symbol piece (sym (ope
   | inr symbol ↦ (symbol.0, symbol.1, refl, single_found a symbol.0 (subst (λ z. IsPiece z (a ∷ [])) symbol.1 h))
 ]
 
-alone_sound : (a : ℕ) (piece : Piece) (n : ℕ) → option_map (as_symbol 1) (single_by a) ≡ Some (piece, n) → IsNext (a ∷ []) piece n
+alone_sound : (a : ℕ) (piece : Piece) (n : ℕ) → option_map (as_symbol 1) (single_symbol a) ≡ Some (piece, n) → IsNext (a ∷ []) piece n
 alone_sound a piece n h =
-    let found = map_some (as_symbol 1) (single_by a) (piece, n) h in
+    let found = map_some (as_symbol 1) (single_symbol a) (piece, n) h in
     subst (λ (q : Found). IsNext (a ∷ []) q.0 q.1) found.2 record {
       within = omega arith;
       is = sym (single_is a found.0 found.1);
@@ -604,24 +596,24 @@ alone_sound a piece n h =
       comment = λ c. no_truth c;
     }
 
-alone_complete : (a : ℕ) (piece : Piece) (n : ℕ) → first_of a ≡ f.Mark → IsNext (a ∷ []) piece n → option_map (as_symbol 1) (single_by a) ≡ Some (piece, n)
+alone_complete : (a : ℕ) (piece : Piece) (n : ℕ) → first_of a ≡ f.Mark → IsNext (a ∷ []) piece n → option_map (as_symbol 1) (single_symbol a) ≡ Some (piece, n)
 alone_complete a piece n is x =
     let s = alone_symbol a piece n is x.within x.is in
     ap (λ o. option_map (as_symbol 1) o) s.3 ∙ ap (λ z. Some (z, 1)) (sym s.1) ∙ ap (λ i. Some (piece, i)) (sym s.2)
 
 -- ---- what begins with a mark
 abbrev third : ℕ → ℕ → List ℕ → Option Found
-third a b inner = cond (a == 47 && b == 47) (Some (as_comment (line_len inner))) (symbol_by a b)
+third a b inner = cond (a == 47 && b == 47) (Some (as_comment (line_len inner))) (symbol_piece a b)
 
 abbrev second : ℕ → ℕ → List ℕ → Option Found
 second a b inner = cond (a == 47 && b == 42) (option_map as_comment (closing_len 0 47 inner)) (third a b inner)
 
 -- the four ways in which a mark goes on
-pub data Marked (a b : ℕ) (inner : List ℕ) : Type 0 where
-  round : a ≡ 40 → b ≡ 42 → mark_piece a (b ∷ inner) ≡ option_map as_comment (closing_len 0 41 inner) → Marked a b inner
-  slashed : a ≡ 47 → b ≡ 42 → mark_piece a (b ∷ inner) ≡ option_map as_comment (closing_len 0 47 inner) → Marked a b inner
-  line : a ≡ 47 → b ≡ 47 → mark_piece a (b ∷ inner) ≡ option_map as_comment (line_read inner) → Marked a b inner
-  plain : begins_comment (a ∷ b ∷ inner) ≡ false → mark_piece a (b ∷ inner) ≡ symbol_by a b → Marked a b inner
+pub data MarkCases (a b : ℕ) (inner : List ℕ) : Type 0 where
+  round : a ≡ 40 → b ≡ 42 → next_mark a (b ∷ inner) ≡ option_map as_comment (closing_len 0 41 inner) → MarkCases a b inner
+  slashed : a ≡ 47 → b ≡ 42 → next_mark a (b ∷ inner) ≡ option_map as_comment (closing_len 0 47 inner) → MarkCases a b inner
+  line : a ≡ 47 → b ≡ 47 → next_mark a (b ∷ inner) ≡ option_map as_comment (line_read inner) → MarkCases a b inner
+  plain : begins_comment (a ∷ b ∷ inner) ≡ false → next_mark a (b ∷ inner) ≡ symbol_piece a b → MarkCases a b inner
 
 begins_none : (a b : ℕ) (inner : List ℕ) → (a == 40 && b == 42) ≡ false → (a == 47 && b == 42) ≡ false → (a == 47 && b == 47) ≡ false → begins_comment (a ∷ b ∷ inner) ≡ false
 begins_none a b inner one two three = false_from_ne_true (begins_comment (a ∷ b ∷ inner)) (λ h. elim (or_cases (a == 40 && b == 42) (a == 47 && (b == 42 || b == 47)) h) [
@@ -631,14 +623,14 @@ begins_none a b inner one two three = false_from_ne_true (begins_comment (a ∷ 
       elim (or_cases (b == 42) (b == 47) parts.1) [ inl star ↦ no_truth (sym two ∙ and_from (a == 47) (b == 42) parts.0 star) | inr other ↦ no_truth (sym three ∙ and_from (a == 47) (b == 47) parts.0 other) ]
 ])
 
-mark_cases : (a b : ℕ) (inner : List ℕ) → Marked a b inner
+mark_cases : (a b : ℕ) (inner : List ℕ) → MarkCases a b inner
 mark_cases a b inner = elim (cases_Bool (a == 40 && b == 42)) [
   | inl one ↦ (let parts = and_parts (a == 40) (b == 42) one in round (eqb-true a 40 parts.0) (eqb-true b 42 parts.1) (cond-true (a == 40 && b == 42) (option_map as_comment (closing_len 0 41 inner)) (second a b inner) one))
   | inr no_one ↦ elim (cases_Bool (a == 47 && b == 42)) [
     | inl two ↦ (let parts = and_parts (a == 47) (b == 42) two in slashed (eqb-true a 47 parts.0) (eqb-true b 42 parts.1) (cond-false (a == 40 && b == 42) (option_map as_comment (closing_len 0 41 inner)) (second a b inner) no_one ∙ cond-true (a == 47 && b == 42) (option_map as_comment (closing_len 0 47 inner)) (third a b inner) two))
     | inr no_two ↦ elim (cases_Bool (a == 47 && b == 47)) [
-      | inl three ↦ (let parts = and_parts (a == 47) (b == 47) three in line (eqb-true a 47 parts.0) (eqb-true b 47 parts.1) (cond-false (a == 40 && b == 42) (option_map as_comment (closing_len 0 41 inner)) (second a b inner) no_one ∙ cond-false (a == 47 && b == 42) (option_map as_comment (closing_len 0 47 inner)) (third a b inner) no_two ∙ cond-true (a == 47 && b == 47) (Some (as_comment (line_len inner))) (symbol_by a b) three))
-      | inr no_three ↦ plain (begins_none a b inner no_one no_two no_three) (cond-false (a == 40 && b == 42) (option_map as_comment (closing_len 0 41 inner)) (second a b inner) no_one ∙ cond-false (a == 47 && b == 42) (option_map as_comment (closing_len 0 47 inner)) (third a b inner) no_two ∙ cond-false (a == 47 && b == 47) (Some (as_comment (line_len inner))) (symbol_by a b) no_three)
+      | inl three ↦ (let parts = and_parts (a == 47) (b == 47) three in line (eqb-true a 47 parts.0) (eqb-true b 47 parts.1) (cond-false (a == 40 && b == 42) (option_map as_comment (closing_len 0 41 inner)) (second a b inner) no_one ∙ cond-false (a == 47 && b == 42) (option_map as_comment (closing_len 0 47 inner)) (third a b inner) no_two ∙ cond-true (a == 47 && b == 47) (Some (as_comment (line_len inner))) (symbol_piece a b) three))
+      | inr no_three ↦ plain (begins_none a b inner no_one no_two no_three) (cond-false (a == 40 && b == 42) (option_map as_comment (closing_len 0 41 inner)) (second a b inner) no_one ∙ cond-false (a == 47 && b == 42) (option_map as_comment (closing_len 0 47 inner)) (third a b inner) no_two ∙ cond-false (a == 47 && b == 47) (Some (as_comment (line_len inner))) (symbol_piece a b) no_three)
     ]
   ]
 ]
@@ -646,44 +638,44 @@ mark_cases a b inner = elim (cases_Bool (a == 40 && b == 42)) [
 both_same : (P : ℕ → ℕ → Type 0) (a b c d : ℕ) → a ≡ c → b ≡ d → P c d → P a b
 both_same P a b c d e g h = subst (λ x. P x b) (sym e) (subst (λ y. P c y) (sym g) h)
 
-pub mark_sound : (a : ℕ) (bs : List ℕ) (piece : Piece) (n : ℕ) → first_of a ≡ f.Mark → mark_piece a bs ≡ Some (piece, n) → IsNext (a ∷ bs) piece n
+pub mark_sound : (a : ℕ) (bs : List ℕ) (piece : Piece) (n : ℕ) → first_of a ≡ f.Mark → next_mark a bs ≡ Some (piece, n) → IsNext (a ∷ bs) piece n
 mark_sound a [] piece n is h = alone_sound a piece n h
 mark_sound a (b ∷ inner) piece n is h = elim (mark_cases a b inner) [
-  | round e g eq ↦ both_same (λ x y. IsNext (x ∷ y ∷ inner) piece n) a b 40 42 e g (form_sound 40 42 (closed 41) (closing_len 0 41) round_form inner piece n (sym eq ∙ h))
-  | slashed e g eq ↦ both_same (λ x y. IsNext (x ∷ y ∷ inner) piece n) a b 47 42 e g (form_sound 47 42 (closed 47) (closing_len 0 47) slashed_form inner piece n (sym eq ∙ h))
-  | line e g eq ↦ both_same (λ x y. IsNext (x ∷ y ∷ inner) piece n) a b 47 47 e g (form_sound 47 47 one_line line_read line_form inner piece n (sym eq ∙ h))
+  | round e g eq ↦ both_same (λ x y. IsNext (x ∷ y ∷ inner) piece n) a b 40 42 e g (form_sound 40 42 (is_closed 41) (closing_len 0 41) round_form inner piece n (sym eq ∙ h))
+  | slashed e g eq ↦ both_same (λ x y. IsNext (x ∷ y ∷ inner) piece n) a b 47 42 e g (form_sound 47 42 (is_closed 47) (closing_len 0 47) slashed_form inner piece n (sym eq ∙ h))
+  | line e g eq ↦ both_same (λ x y. IsNext (x ∷ y ∷ inner) piece n) a b 47 47 e g (form_sound 47 47 is_one_line line_read line_form inner piece n (sym eq ∙ h))
   | plain none eq ↦ symbol_sound a b inner piece n is none (sym eq ∙ h)
 ]
 
-pub mark_complete : (a : ℕ) (bs : List ℕ) (piece : Piece) (n : ℕ) → first_of a ≡ f.Mark → IsNext (a ∷ bs) piece n → mark_piece a bs ≡ Some (piece, n)
+pub mark_complete : (a : ℕ) (bs : List ℕ) (piece : Piece) (n : ℕ) → first_of a ≡ f.Mark → IsNext (a ∷ bs) piece n → next_mark a bs ≡ Some (piece, n)
 mark_complete a [] piece n is x = alone_complete a piece n is x
 mark_complete a (b ∷ inner) piece n is x = elim (mark_cases a b inner) [
-  | round e g eq ↦ eq ∙ form_complete 40 42 (closed 41) (closing_len 0 41) round_form inner piece n (both_same (λ y z. IsNext (y ∷ z ∷ inner) piece n) 40 42 a b (sym e) (sym g) x)
-  | slashed e g eq ↦ eq ∙ form_complete 47 42 (closed 47) (closing_len 0 47) slashed_form inner piece n (both_same (λ y z. IsNext (y ∷ z ∷ inner) piece n) 47 42 a b (sym e) (sym g) x)
-  | line e g eq ↦ eq ∙ form_complete 47 47 one_line line_read line_form inner piece n (both_same (λ y z. IsNext (y ∷ z ∷ inner) piece n) 47 47 a b (sym e) (sym g) x)
+  | round e g eq ↦ eq ∙ form_complete 40 42 (is_closed 41) (closing_len 0 41) round_form inner piece n (both_same (λ y z. IsNext (y ∷ z ∷ inner) piece n) 40 42 a b (sym e) (sym g) x)
+  | slashed e g eq ↦ eq ∙ form_complete 47 42 (is_closed 47) (closing_len 0 47) slashed_form inner piece n (both_same (λ y z. IsNext (y ∷ z ∷ inner) piece n) 47 42 a b (sym e) (sym g) x)
+  | line e g eq ↦ eq ∙ form_complete 47 47 is_one_line line_read line_form inner piece n (both_same (λ y z. IsNext (y ∷ z ∷ inner) piece n) 47 47 a b (sym e) (sym g) x)
   | plain none eq ↦ eq ∙ symbol_complete a b inner piece n is none x
 ]
 
 -- ---- the next piece
-sound_by : (b : ℕ) (bs : List ℕ) (class : First) (piece : Piece) (n : ℕ) → first_of b ≡ class → begun class b bs ≡ Some (piece, n) → IsNext (b ∷ bs) piece n
+sound_by : (b : ℕ) (bs : List ℕ) (class : First) (piece : Piece) (n : ℕ) → first_of b ≡ class → next_by_class class b bs ≡ Some (piece, n) → IsNext (b ∷ bs) piece n
 sound_by b bs f.Blank piece n is h = subst (λ (q : Found). IsNext (b ∷ bs) q.0 q.1) (same_Some (p.Blank, 1) (piece, n) h) (blank_next b bs is)
-sound_by b bs f.Letter piece n is h = spread_sound f.Letter lettered_len lettered letters b bs piece n is h
-sound_by b bs f.Digit piece n is h = spread_sound f.Digit tied_len integer_token digits b bs piece n is h
+sound_by b bs f.Letter piece n is h = front_token_sound f.Letter lettered_len word_or_literal letters b bs piece n is h
+sound_by b bs f.Digit piece n is h = front_token_sound f.Digit tied_len integer_token digits b bs piece n is h
 sound_by b bs f.Percent piece n is h = address_sound b bs piece n is h
 sound_by b bs f.Mark piece n is h = mark_sound b bs piece n is h
 
-complete_by : (b : ℕ) (bs : List ℕ) (class : First) (piece : Piece) (n : ℕ) → first_of b ≡ class → IsNext (b ∷ bs) piece n → begun class b bs ≡ Some (piece, n)
+complete_by : (b : ℕ) (bs : List ℕ) (class : First) (piece : Piece) (n : ℕ) → first_of b ≡ class → IsNext (b ∷ bs) piece n → next_by_class class b bs ≡ Some (piece, n)
 complete_by b bs f.Blank piece n is x = blank_only b bs piece n is x
-complete_by b bs f.Letter piece n is x = spread_complete f.Letter lettered_len lettered letters b bs piece n is x
-complete_by b bs f.Digit piece n is x = spread_complete f.Digit tied_len integer_token digits b bs piece n is x
+complete_by b bs f.Letter piece n is x = front_token_complete f.Letter lettered_len word_or_literal letters b bs piece n is x
+complete_by b bs f.Digit piece n is x = front_token_complete f.Digit tied_len integer_token digits b bs piece n is x
 complete_by b bs f.Percent piece n is x = address_complete b bs piece n is x
 complete_by b bs f.Mark piece n is x = mark_complete b bs piece n is x
 
-pub next_sound : (text : List ℕ) (piece : Piece) (n : ℕ) → next_of text ≡ Some (piece, n) → IsNext text piece n
+pub next_sound : (text : List ℕ) (piece : Piece) (n : ℕ) → next_piece text ≡ Some (piece, n) → IsNext text piece n
 next_sound [] piece n h = absurd (none-some (piece, n) h)
 next_sound (b ∷ bs) piece n h = sound_by b bs (first_of b) piece n refl h
 
-pub next_complete : (text : List ℕ) (piece : Piece) (n : ℕ) → IsNext text piece n → next_of text ≡ Some (piece, n)
+pub next_complete : (text : List ℕ) (piece : Piece) (n : ℕ) → IsNext text piece n → next_piece text ≡ Some (piece, n)
 next_complete [] piece n x = absurd (let some = fits_some piece n [] x.is in let w = x.within in omega arith)
 next_complete (b ∷ bs) piece n x = complete_by b bs (first_of b) piece n refl x
 
@@ -691,14 +683,14 @@ next_complete (b ∷ bs) piece n x = complete_by b bs (first_of b) piece n refl 
 pub one_next : (text : List ℕ) (a b : Piece) (n m : ℕ) → IsNext text a n → IsNext text b m → (a ≡ b) × (n ≡ m)
 one_next text a b n m x y = some_pair_parts a b n m (sym (next_complete text a n x) ∙ next_complete text b m y)
 
-pub found_of : (text : List ℕ) (r : Option Found) → r ≡ next_of text → IfSome r (λ q. IsNext text q.0 q.1)
+pub found_of : (text : List ℕ) (r : Option Found) → r ≡ next_piece text → IfSome r (λ q. IsNext text q.0 q.1)
 found_of text None h = tt
 found_of text (Some q) h = next_sound text q.0 q.1 (sym h)
 
-pub none_of : (text : List ℕ) (r : Option Found) → r ≡ next_of text → IfNone r (IsOver text)
+pub none_of : (text : List ℕ) (r : Option Found) → r ≡ next_piece text → IfNone r (IsOver text)
 none_of text None h = λ piece n x. none-some (piece, n) (h ∙ next_complete text piece n x)
 none_of text (Some q) h = tt
 
-pub some_of : (text : List ℕ) (r : Option Found) → r ≡ next_of text → IfSome r (λ q. 0 < q.1)
+pub some_of : (text : List ℕ) (r : Option Found) → r ≡ next_piece text → IfSome r (λ q. 0 < q.1)
 some_of text None h = tt
 some_of text (Some q) h = fits_some q.0 q.1 text (next_sound text q.0 q.1 (sym h)).is

@@ -1,4 +1,4 @@
--- Comments and symbols: what is read is the longest one.
+-- Comments and symbols: what is found is the longest one.
 use Rattle.std.proofs.Common.{◌≡◌, ℕ, zero, suc, ◌+◌, ◌<◌, ◌≤◌, ◌==◌, Bool, true, false, not, ◌&&◌, cond, List, [], ◌∷◌, ◌++◌, length, take, Option, Some, refl, sym, ap, ◌∙◌, subst, arith, inl, inr}
 use Rattle.std.specs.List.{prefix_len}
 use Rattle.std.proofs.lemmas.Bool.{and_parts, and_from, cases_Bool, eqb-true}
@@ -7,18 +7,18 @@ use Rattle.st_lexer.specs.declared.token.Symbol.{Symbol}
 use Rattle.st_lexer.specs.declared.token.Symbol.TheVariants as s
 use Rattle.st_lexer.specs.Bytes.{begins_by}
 use Rattle.st_lexer.specs.Tables.{bytes_of}
-use Rattle.st_lexer.specs.Comments.{closed, one_line, is_comment, begins_comment}
-use Rattle.st_lexer.specs.Reading.{closing_len, line_len, look, singles, single_by, double_by}
+use Rattle.st_lexer.specs.Comments.{is_closed, is_one_line, is_comment, begins_comment}
+use Rattle.st_lexer.specs.Reading.{closing_len, line_len, paired_with, single_symbols, single_symbol, double_symbol}
 use Rattle.st_lexer.proofs.Classes.{comment_cases}
 use Rattle.st_lexer.proofs.WordLaws.{one_and}
 
 -- ---- comments
 -- what is closed is closed there
-pub closing_found : (mark n : ℕ) (bs rest : List ℕ) → closed mark bs ≡ true → closing_len n mark (bs ++ rest) ≡ Some (n + length bs)
+pub closing_found : (mark n : ℕ) (bs rest : List ℕ) → is_closed mark bs ≡ true → closing_len n mark (bs ++ rest) ≡ Some (n + length bs)
 closing_found mark n [] rest h = absurd (let e : false ≡ true = h in cc)
 closing_found mark n (b ∷ []) rest h = absurd (last b h)
   where
-    last : (c : ℕ) → closed mark (c ∷ []) ≡ true → ⊥
+    last : (c : ℕ) → is_closed mark (c ∷ []) ≡ true → ⊥
     last c e = elim (cases_Bool (c == 42)) [
       | inl yes' ↦ (let f : false ≡ true = sym (rw yes' refl) ∙ e in cc)
       | inr no' ↦ (let f : false ≡ true = sym (rw no' refl) ∙ e in cc)
@@ -30,7 +30,7 @@ closing_found mark n (b ∷ c ∷ bs) rest h = elim (cases_Bool (b == 42 && c ==
       let same : n + 2 ≡ n + suc (suc (length bs)) = omega arith in
       rw yes' (ap Some same)
   | inr no' ↦
-      let more : closed mark (c ∷ bs) ≡ true = sym (rw no' refl) ∙ h in
+      let more : is_closed mark (c ∷ bs) ≡ true = sym (rw no' refl) ∙ h in
       let same : n + 1 + suc (length bs) ≡ n + suc (suc (length bs)) = omega arith in
       rw no' (closing_found mark (n + 1) (c ∷ bs) rest more ∙ ap Some same)
 ]
@@ -38,7 +38,7 @@ closing_found mark n (b ∷ c ∷ bs) rest h = elim (cases_Bool (b == 42 && c ==
 -- where it closes, it is closed
 pub record Closes (mark : ℕ) (text : List ℕ) (k : ℕ) : Type 0 where
   pub within : k ≤ length text
-  pub is : closed mark (take k text) ≡ true
+  pub is : is_closed mark (take k text) ≡ true
 
 closes_more : (mark b : ℕ) (bs : List ℕ) (k : ℕ) → (b == 42 && begins_by (λ c. c == mark) bs) ≡ false → Closes mark bs k → Closes mark (b ∷ bs) (suc k)
 closes_more mark b bs zero no' h = absurd (let e : false ≡ true = h.is in cc)
@@ -60,18 +60,18 @@ closing_is mark n (b ∷ bs) m h = elim (cases_Bool (b == 42 && begins_by (λ c.
       (suc rest.0, omega arith, closes_more mark b bs rest.0 no' rest.2)
 ]
 
-pub line_reach : (bs rest : List ℕ) → one_line bs ≡ true → length bs ≤ line_len (bs ++ rest)
+pub line_reach : (bs rest : List ℕ) → is_one_line bs ≡ true → length bs ≤ line_len (bs ++ rest)
 unfolding line_len
 line_reach [] rest h = omega arith
 line_reach (b ∷ bs) rest h =
-    let parts = and_parts (not (b == 10)) (one_line bs) h in
+    let parts = and_parts (not (b == 10)) (is_one_line bs) h in
     let more = line_reach bs rest parts.1 in
     rw parts.0 (omega arith)
 
-pub line_is : (text : List ℕ) → one_line (take (line_len text) text) ≡ true
+pub line_is : (text : List ℕ) → is_one_line (take (line_len text) text) ≡ true
 unfolding line_len
 line_is [] = refl
-line_is (b ∷ bs) = elim (cases_Bool (not (b == 10))) as (λ _. one_line (take (prefix_len (λ c. not (c == 10)) (b ∷ bs)) (b ∷ bs)) ≡ true) [
+line_is (b ∷ bs) = elim (cases_Bool (not (b == 10))) as (λ _. is_one_line (take (prefix_len (λ c. not (c == 10)) (b ∷ bs)) (b ∷ bs)) ≡ true) [
   | inl yes' ↦ rw yes' (rw (one_and (prefix_len (λ c. not (c == 10)) bs)) (and_from _ _ yes' (line_is bs)))
   | inr no' ↦ rw no' refl
 ]
@@ -91,38 +91,38 @@ seconds : (a b c d : ℕ) (as' bs : List ℕ) → a ∷ b ∷ as' ≡ c ∷ d �
 seconds a b c d as' bs e = cc
 
 -- a symbol of one byte is found
-pub single_found : (a : ℕ) (symbol : Symbol) → a ∷ [] ≡ bytes_of symbol → single_by a ≡ Some symbol
-unfolding single_by
+pub single_found : (a : ℕ) (symbol : Symbol) → a ∷ [] ≡ bytes_of symbol → single_symbol a ≡ Some symbol
+unfolding single_symbol
 single_found a s.Becomes e = absurd (let l = ap length e in omega arith)
 single_found a s.Gives e = absurd (let l = ap length e in omega arith)
 single_found a s.AtMost e = absurd (let l = ap length e in omega arith)
 single_found a s.AtLeast e = absurd (let l = ap length e in omega arith)
 single_found a s.Unequal e = absurd (let l = ap length e in omega arith)
 single_found a s.Range e = absurd (let l = ap length e in omega arith)
-single_found a s.Colon e = ap single_by (heads a 58 [] [] e)
-single_found a s.Semicolon e = ap single_by (heads a 59 [] [] e)
-single_found a s.Comma e = ap single_by (heads a 44 [] [] e)
-single_found a s.Open e = ap single_by (heads a 40 [] [] e)
-single_found a s.Close e = ap single_by (heads a 41 [] [] e)
-single_found a s.Point e = ap single_by (heads a 46 [] [] e)
-single_found a s.Plus e = ap single_by (heads a 43 [] [] e)
-single_found a s.Minus e = ap single_by (heads a 45 [] [] e)
-single_found a s.Times e = ap single_by (heads a 42 [] [] e)
-single_found a s.Divide e = ap single_by (heads a 47 [] [] e)
-single_found a s.Ampersand e = ap single_by (heads a 38 [] [] e)
-single_found a s.Equal e = ap single_by (heads a 61 [] [] e)
-single_found a s.Less e = ap single_by (heads a 60 [] [] e)
-single_found a s.Greater e = ap single_by (heads a 62 [] [] e)
+single_found a s.Colon e = ap single_symbol (heads a 58 [] [] e)
+single_found a s.Semicolon e = ap single_symbol (heads a 59 [] [] e)
+single_found a s.Comma e = ap single_symbol (heads a 44 [] [] e)
+single_found a s.Open e = ap single_symbol (heads a 40 [] [] e)
+single_found a s.Close e = ap single_symbol (heads a 41 [] [] e)
+single_found a s.Point e = ap single_symbol (heads a 46 [] [] e)
+single_found a s.Plus e = ap single_symbol (heads a 43 [] [] e)
+single_found a s.Minus e = ap single_symbol (heads a 45 [] [] e)
+single_found a s.Times e = ap single_symbol (heads a 42 [] [] e)
+single_found a s.Divide e = ap single_symbol (heads a 47 [] [] e)
+single_found a s.Ampersand e = ap single_symbol (heads a 38 [] [] e)
+single_found a s.Equal e = ap single_symbol (heads a 61 [] [] e)
+single_found a s.Less e = ap single_symbol (heads a 60 [] [] e)
+single_found a s.Greater e = ap single_symbol (heads a 62 [] [] e)
 
 -- and one of two bytes
-pub double_found : (a b : ℕ) (symbol : Symbol) → a ∷ b ∷ [] ≡ bytes_of symbol → double_by a b ≡ Some symbol
-unfolding double_by
-double_found a b s.Becomes e = ap (λ x. double_by x b) (heads a 58 (b ∷ []) (61 ∷ []) e) ∙ ap (λ x. double_by 58 x) (seconds a b 58 61 [] [] e)
-double_found a b s.Gives e = ap (λ x. double_by x b) (heads a 61 (b ∷ []) (62 ∷ []) e) ∙ ap (λ x. double_by 61 x) (seconds a b 61 62 [] [] e)
-double_found a b s.AtMost e = ap (λ x. double_by x b) (heads a 60 (b ∷ []) (61 ∷ []) e) ∙ ap (λ x. double_by 60 x) (seconds a b 60 61 [] [] e)
-double_found a b s.AtLeast e = ap (λ x. double_by x b) (heads a 62 (b ∷ []) (61 ∷ []) e) ∙ ap (λ x. double_by 62 x) (seconds a b 62 61 [] [] e)
-double_found a b s.Unequal e = ap (λ x. double_by x b) (heads a 60 (b ∷ []) (62 ∷ []) e) ∙ ap (λ x. double_by 60 x) (seconds a b 60 62 [] [] e)
-double_found a b s.Range e = ap (λ x. double_by x b) (heads a 46 (b ∷ []) (46 ∷ []) e) ∙ ap (λ x. double_by 46 x) (seconds a b 46 46 [] [] e)
+pub double_found : (a b : ℕ) (symbol : Symbol) → a ∷ b ∷ [] ≡ bytes_of symbol → double_symbol a b ≡ Some symbol
+unfolding double_symbol
+double_found a b s.Becomes e = ap (λ x. double_symbol x b) (heads a 58 (b ∷ []) (61 ∷ []) e) ∙ ap (λ x. double_symbol 58 x) (seconds a b 58 61 [] [] e)
+double_found a b s.Gives e = ap (λ x. double_symbol x b) (heads a 61 (b ∷ []) (62 ∷ []) e) ∙ ap (λ x. double_symbol 61 x) (seconds a b 61 62 [] [] e)
+double_found a b s.AtMost e = ap (λ x. double_symbol x b) (heads a 60 (b ∷ []) (61 ∷ []) e) ∙ ap (λ x. double_symbol 60 x) (seconds a b 60 61 [] [] e)
+double_found a b s.AtLeast e = ap (λ x. double_symbol x b) (heads a 62 (b ∷ []) (61 ∷ []) e) ∙ ap (λ x. double_symbol 62 x) (seconds a b 62 61 [] [] e)
+double_found a b s.Unequal e = ap (λ x. double_symbol x b) (heads a 60 (b ∷ []) (62 ∷ []) e) ∙ ap (λ x. double_symbol 60 x) (seconds a b 60 62 [] [] e)
+double_found a b s.Range e = ap (λ x. double_symbol x b) (heads a 46 (b ∷ []) (46 ∷ []) e) ∙ ap (λ x. double_symbol 46 x) (seconds a b 46 46 [] [] e)
 double_found a b s.Colon e = absurd (let l = ap length e in omega arith)
 double_found a b s.Semicolon e = absurd (let l = ap length e in omega arith)
 double_found a b s.Comma e = absurd (let l = ap length e in omega arith)
@@ -166,18 +166,18 @@ abbrev AllRight : List (ℕ × Symbol) → Type 0
 AllRight [] = Unit {0}
 AllRight (e ∷ es) = (bytes_of e.1 ≡ e.0 ∷ []) × AllRight es
 
-look_right : (n : ℕ) (es : List (ℕ × Symbol)) (symbol : Symbol) → AllRight es → look n es ≡ Some symbol → bytes_of symbol ≡ n ∷ []
-look_right n [] symbol right h = absurd (none-some symbol h)
-look_right n (e ∷ es) symbol right h = elim (cases_Bool (n == e.0)) [
+paired_right : (n : ℕ) (es : List (ℕ × Symbol)) (symbol : Symbol) → AllRight es → paired_with n es ≡ Some symbol → bytes_of symbol ≡ n ∷ []
+paired_right n [] symbol right h = absurd (none-some symbol h)
+paired_right n (e ∷ es) symbol right h = elim (cases_Bool (n == e.0)) [
   | inl yes' ↦
       let same = same_Some e.1 symbol (sym (rw yes' refl) ∙ h) in
       subst (λ z. bytes_of z ≡ n ∷ []) same (right.0 ∙ ap (λ x. x ∷ []) (sym (eqb-true n e.0 yes')))
-  | inr no' ↦ look_right n es symbol right.1 (sym (rw no' refl) ∙ h)
+  | inr no' ↦ paired_right n es symbol right.1 (sym (rw no' refl) ∙ h)
 ]
 
-pub single_is : (a : ℕ) (symbol : Symbol) → single_by a ≡ Some symbol → bytes_of symbol ≡ a ∷ []
-unfolding single_by
-single_is a symbol h = look_right a singles symbol (refl, (refl, (refl, (refl, (refl, (refl, (refl, (refl, (refl, (refl, (refl, (refl, (refl, (refl, tt)))))))))))))) h
+pub single_is : (a : ℕ) (symbol : Symbol) → single_symbol a ≡ Some symbol → bytes_of symbol ≡ a ∷ []
+unfolding single_symbol
+single_is a symbol h = paired_right a single_symbols symbol (refl, (refl, (refl, (refl, (refl, (refl, (refl, (refl, (refl, (refl, (refl, (refl, (refl, (refl, tt)))))))))))))) h
 
 -- one test of the two bytes
 abbrev test : ℕ → ℕ → ℕ → ℕ → Bool
@@ -192,7 +192,7 @@ tested a b c d symbol found other is rest h = elim (cases_Bool (test a b c d)) [
   | inr no' ↦ rest (sym (rw no' refl) ∙ h)
 ]
 
-pub double_is : (a b : ℕ) (symbol : Symbol) → double_by a b ≡ Some symbol → bytes_of symbol ≡ a ∷ b ∷ []
-unfolding double_by
+pub double_is : (a b : ℕ) (symbol : Symbol) → double_symbol a b ≡ Some symbol → bytes_of symbol ≡ a ∷ b ∷ []
+unfolding double_symbol
 double_is a b symbol h =
     tested a b 58 61 symbol s.Becomes _ refl (λ e5861. tested a b 61 62 symbol s.Gives _ refl (λ e6162. tested a b 60 61 symbol s.AtMost _ refl (λ e6061. tested a b 62 61 symbol s.AtLeast _ refl (λ e6261. tested a b 60 62 symbol s.Unequal _ refl (λ e6062. tested a b 46 46 symbol s.Range _ refl (λ e4646. absurd (none-some symbol e4646)) e6062) e6261) e6061) e6162) e5861) h

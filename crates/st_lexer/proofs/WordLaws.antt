@@ -13,7 +13,7 @@ use Rattle.st_lexer.specs.declared.tables.TheConstants.{KEYWORDS}
 use Rattle.st_lexer.specs.Bytes.{is_tied, stands_apart}
 use Rattle.st_lexer.specs.Tables.{spelling}
 use Rattle.st_lexer.specs.Spellings.{IsWord, SpellsToken}
-use Rattle.st_lexer.specs.Reading.{keyword_by, word_or, lettered}
+use Rattle.st_lexer.specs.Reading.{keyword_of, keyword_or_word, word_or_literal}
 use Rattle.st_lexer.proofs.Classes.{same_folded, keyword_is_name}
 
 -- ---- what is tied together
@@ -99,31 +99,31 @@ keyword_self k.VarOutput = refl
 keyword_self k.Xor = refl
 
 -- the keyword that a word is, is found
-pub keyword_found : (bs : List ℕ) (k : Keyword) → same_word bs (spelling k) ≡ true → keyword_by bs ≡ Some k
+pub keyword_found : (bs : List ℕ) (k : Keyword) → same_word bs (spelling k) ≡ true → keyword_of bs ≡ Some k
 keyword_found bs k h = ap (λ word. find (λ j. bytes_eq word (folded (spelling j))) KEYWORDS) (same_folded bs (spelling k) h) ∙ keyword_self k
 
 -- what is found is the word
-keyword_is : (bs : List ℕ) (k : Keyword) → keyword_by bs ≡ Some k → same_word bs (spelling k) ≡ true
+keyword_is : (bs : List ℕ) (k : Keyword) → keyword_of bs ≡ Some k → same_word bs (spelling k) ≡ true
 keyword_is bs k h = find_passes (λ j. same_word bs (spelling j)) KEYWORDS k h
 
-none_free : (bs : List ℕ) → keyword_by bs ≡ None → (k : Keyword) → same_word bs (spelling k) ≡ false
+none_free : (bs : List ℕ) → keyword_of bs ≡ None → (k : Keyword) → same_word bs (spelling k) ≡ false
 none_free bs none k = false_from_ne_true (same_word bs (spelling k)) (λ yes'. none-some k (sym none ∙ keyword_found bs k yes'))
 
-sound_by : (bs : List ℕ) (kind : TokenKind) (o : Option Keyword) → is_name bs ≡ true → keyword_by bs ≡ o → word_or o ≡ kind → SpellsToken kind bs
+sound_by : (bs : List ℕ) (kind : TokenKind) (o : Option Keyword) → is_name bs ≡ true → keyword_of bs ≡ o → keyword_or_word o ≡ kind → SpellsToken kind bs
 sound_by bs kind None form is same = subst (λ z. SpellsToken z bs) same record { form = form; free = none_free bs is }
 sound_by bs kind (Some k) form is same = subst (λ z. SpellsToken z bs) same (keyword_is bs k is)
 
-pub word_sound : (bs : List ℕ) (kind : TokenKind) → is_name bs ≡ true → word_or (keyword_by bs) ≡ kind → SpellsToken kind bs
-word_sound bs kind form same = sound_by bs kind (keyword_by bs) form refl same
+pub word_sound : (bs : List ℕ) (kind : TokenKind) → is_name bs ≡ true → keyword_or_word (keyword_of bs) ≡ kind → SpellsToken kind bs
+word_sound bs kind form same = sound_by bs kind (keyword_of bs) form refl same
 
-free_none : (bs : List ℕ) (o : Option Keyword) → keyword_by bs ≡ o → ((k : Keyword) → same_word bs (spelling k) ≡ false) → word_or o ≡ t.Word
+free_none : (bs : List ℕ) (o : Option Keyword) → keyword_of bs ≡ o → ((k : Keyword) → same_word bs (spelling k) ≡ false) → keyword_or_word o ≡ t.Word
 free_none bs None is free = refl
 free_none bs (Some k) is free = absurd (let e : false ≡ true = sym (free k) ∙ keyword_is bs k is in cc)
 
-pub lettered_word : (bs : List ℕ) → IsWord bs → lettered bs ≡ Some t.Word
-unfolding lettered
-lettered_word bs h = rw h.form (ap Some (free_none bs (keyword_by bs) refl h.free))
+pub lettered_word : (bs : List ℕ) → IsWord bs → word_or_literal bs ≡ Some t.Word
+unfolding word_or_literal
+lettered_word bs h = rw h.form (ap Some (free_none bs (keyword_of bs) refl h.free))
 
-pub lettered_keyword : (bs : List ℕ) (k : Keyword) → same_word bs (spelling k) ≡ true → lettered bs ≡ Some (t.Keyword k)
-unfolding lettered
-lettered_keyword bs k h = rw (keyword_is_name bs k h) (ap (λ o. Some (word_or o)) (keyword_found bs k h))
+pub lettered_keyword : (bs : List ℕ) (k : Keyword) → same_word bs (spelling k) ≡ true → word_or_literal bs ≡ Some (t.Keyword k)
+unfolding word_or_literal
+lettered_keyword bs k h = rw (keyword_is_name bs k h) (ap (λ o. Some (keyword_or_word o)) (keyword_found bs k h))

@@ -9,7 +9,7 @@ use Rattle.st_lexer.specs.declared.bytes.First.TheVariants as f
 unfoldable pub is_blank : ℕ → Bool
 is_blank b = b == 32 || b == 9 || b == 10 || b == 12 || b == 13
 
--- what may not stand directly behind a word, literal or address: a letter, digit, underscore or `#`
+-- a letter, digit, underscore or `#`, which may not directly follow a word, literal or address
 unfoldable pub is_tied : ℕ → Bool
 is_tied b = is_name_byte b || b == 35
 
@@ -18,20 +18,20 @@ abbrev pub begins_by : (ℕ → Bool) → List ℕ → Bool
 begins_by test [] = false
 begins_by test (b ∷ bs) = test b
 
--- no letter, digit, underscore or `#` is next
+-- the bytes begin with no letter, digit, underscore or `#`
 abbrev pub stands_apart : List ℕ → Bool
 stands_apart rest = not (begins_by is_tied rest)
 
 -- each byte passes, or is a mark directly before one that passes
-abbrev pub linked : (ℕ → Bool) → ℕ → List ℕ → Bool
-linked test mark [] = true
-linked test mark (b ∷ bs) = (test b || (b == mark && begins_by test bs)) && linked test mark bs
+abbrev pub is_linked : (ℕ → Bool) → ℕ → List ℕ → Bool
+is_linked test mark [] = true
+is_linked test mark (b ∷ bs) = (test b || (b == mark && begins_by test bs)) && is_linked test mark bs
 
 -- bytes that pass, with single marks between them
 abbrev pub is_grouped : (ℕ → Bool) → ℕ → List ℕ → Bool
-is_grouped test mark bs = begins_by test bs && linked test mark bs
+is_grouped test mark bs = begins_by test bs && is_linked test mark bs
 
--- what the first byte of a piece tells of it
+-- the kind of piece that a byte begins
 unfoldable pub first_of : ℕ → First
 first_of b =
     if is_blank b then f.Blank

@@ -4,7 +4,7 @@ use Rattle.std.specs.Int.{w32}
 use Rattle.plant_types.specs.Words.{same_word}
 use Rattle.st_lexer.specs.Numbers.{IsInteger}
 
--- this word begins the bytes, in any letter case
+-- the bytes begin with this word, in any letter case
 abbrev pub begins_word : List ℕ → List ℕ → Bool
 begins_word word bs = same_word (take (length word) bs) word
 
@@ -22,7 +22,7 @@ pub data IsSigned (bs : List ℕ) (value : ℤ) : Type 0 where
 -- `DINT#`, an optional sign and an integer, in the range of 32 bits
 pub record IsDint (bs : List ℕ) (value : ℤ) : Type 0 where
   pub prefix : IsTrue (begins_word (codes "DINT#") bs)
-  pub number : IsSigned (drop 5 bs) value
+  pub is_signed : IsSigned (drop 5 bs) value
   pub range : FitsSigned w32 value
 
 -- `BOOL#` and 1 or TRUE, 0 or FALSE

@@ -9,14 +9,14 @@ use Rattle.st_lexer.specs.Comments.{is_comment, begins_comment}
 use Rattle.st_lexer.specs.Spellings.{SpellsToken}
 
 -- one space, tab, line feed, form feed or carriage return
-abbrev pub one_blank : List ℕ → Bool
-one_blank [] = false
-one_blank (b ∷ []) = is_blank b
-one_blank (b ∷ c ∷ bs) = false
+abbrev pub is_one_blank : List ℕ → Bool
+is_one_blank [] = false
+is_one_blank (b ∷ []) = is_blank b
+is_one_blank (b ∷ c ∷ bs) = false
 
 -- the bytes are a piece of this kind: a separator or a token
 abbrev pub IsPiece : Piece → List ℕ → Type 0
-IsPiece p.Blank bs = IsTrue (one_blank bs)
+IsPiece p.Blank bs = IsTrue (is_one_blank bs)
 IsPiece p.Comment bs = IsTrue (is_comment bs)
 IsPiece (p.Token kind) bs = SpellsToken kind bs
 
@@ -25,6 +25,7 @@ abbrev pub token_may_precede : TokenKind → List ℕ → Bool
 token_may_precede (t.Symbol symbol) rest = true
 token_may_precede _ rest = stands_apart rest
 
+-- these bytes may directly follow a piece
 abbrev pub may_precede : Piece → List ℕ → Bool
 may_precede p.Blank rest = true
 may_precede p.Comment rest = true
@@ -42,12 +43,12 @@ pub record IsNext (text : List ℕ) (piece : Piece) (n : ℕ) : Type 0 where
 abbrev pub IsOver : List ℕ → Type 0
 IsOver text = (piece : Piece) (n : ℕ) → IsNext text piece n → ⊥
 
--- each is the next piece of what is left, and this rest is left behind them
+-- each is the next piece of what is left, and this rest is left after them
 abbrev pub Cut : List ℕ → List (Piece × ℕ) → List ℕ → Type 0
 Cut text [] rest = text ≡ rest
 Cut text (p ∷ ps) rest = IsNext text p.0 p.1 × Cut (drop p.1 text) ps rest
 
--- the bytes of pieces
-abbrev pub total : List (Piece × ℕ) → ℕ
-total [] = 0
-total (p ∷ ps) = p.1 + total ps
+-- how many bytes pieces have
+abbrev pub total_len : List (Piece × ℕ) → ℕ
+total_len [] = 0
+total_len (p ∷ ps) = p.1 + total_len ps

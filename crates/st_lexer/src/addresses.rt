@@ -4,14 +4,15 @@ ghost use Rattle.std.specs.Prelude.{◌≡◌, ◌≤◌, ◌+◌, length, IfSom
 ghost use Rattle.std.specs.Char.{is_ascii_digit};
 ghost use Rattle.st_lexer.specs.Addresses.{is_size};
 ghost use Rattle.st_lexer.specs.Bytes.{begins_by};
-ghost use Rattle.st_lexer.specs.Reading.{region_by, place_len, placed, address_by};
+ghost use Rattle.st_lexer.specs.Reading.{region_of, place_len, placed, parse_address};
 ghost use Rattle.st_lexer.specs.ReadingLiterals.{linked_len};
 
 use plant_types::Region;
 
-#[tactic(auto, unfolding(crate::specs::Reading::region_by))]
-fn region(letter: u8) -> Option<Region>
-    ensures { result ≡ region_by letter }
+// The region of a letter: I, Q or M in any case (IEC 61131-3).
+#[tactic(auto, unfolding(crate::specs::Reading::region_of))]
+fn region_of(letter: u8) -> Option<Region>
+    ensures { result ≡ region_of letter }
 {
     match letter.to_ascii_lowercase() {
         b'i' => Some(Region::Input),
@@ -21,6 +22,7 @@ fn region(letter: u8) -> Option<Region>
     }
 }
 
+// Whether a byte is the letter of a size: X, B, W, D or L in any case.
 #[tactic(auto, unfolding(crate::specs::Addresses::is_size))]
 fn is_size(byte: u8) -> bool
     ensures { result ≡ is_size byte }
@@ -31,7 +33,8 @@ fn is_size(byte: u8) -> bool
     }
 }
 
-fn begins_by_digit(text: &[u8]) -> bool
+// Whether a text begins with a decimal digit.
+fn begins_by_decimal(text: &[u8]) -> bool
     ensures { result ≡ begins_by is_ascii_digit text.now }
 {
     match text.first() {
@@ -40,6 +43,7 @@ fn begins_by_digit(text: &[u8]) -> bool
     }
 }
 
+// Whether a text begins with the letter of a size.
 fn begins_by_size(text: &[u8]) -> bool
     ensures { result ≡ begins_by is_size text.now }
 {
@@ -49,19 +53,20 @@ fn begins_by_size(text: &[u8]) -> bool
     }
 }
 
-// Digits, and points directly before digits.
+// How many bytes at the front are digits, or points directly before digits.
 fn dotted_len(text: &[u8]) -> usize
     ensures found { result ≡ linked_len is_ascii_digit 46 text.now }
     ensures within { result ≤ length text.now }
 {
     for (i, byte) in text.iter().enumerate() {
-        if !(byte.is_ascii_digit() || *byte == b'.' && begins_by_digit(&text[i + 1..])) {
+        if !(byte.is_ascii_digit() || *byte == b'.' && begins_by_decimal(&text[i + 1..])) {
             return i;
         }
     }
     text.len()
 }
 
+// How many bytes at the front are a place: `*`, or groups of digits with points between them.
 #[tactic(auto, unfolding(crate::specs::Reading::place_len))]
 fn place_len(text: &[u8]) -> usize
     ensures found { result ≡ place_len text.now }
@@ -74,6 +79,7 @@ fn place_len(text: &[u8]) -> usize
     }
 }
 
+// The address of this region, if a place is next: so many bytes were skipped before it.
 #[tactic(auto, unfolding(crate::specs::Reading::placed))]
 fn placed(region: Region, skipped: usize, text: &[u8]) -> Option<(Region, usize)>
     requires { skipped ≤ 2 }
@@ -88,13 +94,13 @@ fn placed(region: Region, skipped: usize, text: &[u8]) -> Option<(Region, usize)
     }
 }
 
-/// The region of the address that goes on behind `%`, and how many bytes it has behind `%`.
-pub fn address(text: &[u8]) -> Option<(Region, usize)>
-    ensures found { result ≡ address_by text.now }
+/// Parses what follows `%` in an address: its region, and how many bytes follow `%`; `None` where no address does.
+pub fn parse_address(text: &[u8]) -> Option<(Region, usize)>
+    ensures found { result ≡ parse_address text.now }
     ensures within { IfSome result (λ a. a.1 ≤ length text.now) }
 {
     let (letter, rest) = text.split_first()?;
-    let region = region(*letter)?;
+    let region = region_of(*letter)?;
     if begins_by_size(rest) {
         placed(region, 2, &rest[1..])
     } else {

@@ -4,7 +4,7 @@ ghost use Rattle.std.specs.Prelude.{◌≡◌, ◌==◌, ◌≤◌, length};
 ghost use Rattle.std.specs.List.{prefix_len};
 ghost use Rattle.st_lexer.specs.Bytes.{begins_by, is_blank, is_tied, stands_apart, first_of};
 
-/// What the first byte of a piece tells of it.
+/// The kind of piece that a first byte begins.
 #[derive(Clone, Copy, Debug, PartialEq, Eq, Drop)]
 pub enum First {
     Blank,
@@ -14,6 +14,7 @@ pub enum First {
     Mark,
 }
 
+// Space, tab, line feed, form feed or carriage return.
 #[tactic(auto, unfolding(crate::specs::Bytes::is_blank))]
 fn is_blank(byte: u8) -> bool
     ensures { result ≡ is_blank byte }
@@ -21,7 +22,7 @@ fn is_blank(byte: u8) -> bool
     byte == b' ' || byte == b'\t' || byte == b'\n' || byte == 12 || byte == b'\r'
 }
 
-/// Whether a byte may not stand directly behind a word, literal or address.
+/// Whether a byte is a letter, digit, underscore or `#`, and so may not directly follow a word, literal or address.
 #[tactic(auto, unfolding(crate::specs::Bytes::is_tied))]
 pub fn is_tied(byte: u8) -> bool
     ensures { result ≡ is_tied byte }
@@ -29,7 +30,7 @@ pub fn is_tied(byte: u8) -> bool
     byte.is_ascii_alphanumeric() || byte == b'_' || byte == b'#'
 }
 
-/// What the first byte of a piece tells of it.
+/// The kind of piece that this byte begins.
 #[tactic(auto, unfolding(crate::specs::Bytes::first_of))]
 pub fn first_of(byte: u8) -> First
     ensures { result ≡ first_of byte }
@@ -57,7 +58,7 @@ pub fn begins_with(mark: u8, text: &[u8]) -> bool
     }
 }
 
-/// Whether no letter, digit, underscore or `#` is next.
+/// Whether a text begins with no letter, digit, underscore or `#`.
 pub fn stands_apart(rest: &[u8]) -> bool
     ensures { result ≡ stands_apart rest.now }
 {

@@ -5,7 +5,8 @@ ghost use Rattle.st_lexer.specs.Reading.{closing_len, line_len};
 
 use crate::bytes::begins_with;
 
-/// How many bytes a comment has behind its opening mark, where `*` and this byte close it.
+/// How many bytes a comment has after its two opening bytes, up to the first `*` that this byte follows; `None` where
+/// it stays open.
 pub fn closing_len(mark: u8, inner: &[u8]) -> Option<usize>
     ensures found { result ≡ closing_len 0 mark inner.now }
     ensures within { IfSome result (λ n. n ≤ length inner.now) }
@@ -18,7 +19,7 @@ pub fn closing_len(mark: u8, inner: &[u8]) -> Option<usize>
     None
 }
 
-/// How many bytes a comment of one line has behind `//`.
+/// How many bytes a comment has after `//`: up to the next LF, or the end of the text.
 #[tactic(auto, unfolding(crate::specs::Reading::line_len))]
 pub fn line_len(inner: &[u8]) -> usize
     ensures found { result ≡ line_len inner.now }

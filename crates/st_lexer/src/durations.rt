@@ -1,15 +1,15 @@
-//! Durations: parts of a number and a unit, added up in milliseconds.
+//! Durations: the sum of their parts, each a number and a unit, in milliseconds.
 
 ghost use Rattle.std.specs.Prelude.{◌≡◌, ◌≤◌, ◌<◌, ◌+◌, ◌*◌, ◌^◌, ◌==◌, ℕ, Some, None, IfSome, IfNone, length};
 ghost use Rattle.std.specs.Char.{is_digit, is_ascii_alphabetic};
-ghost use Rattle.st_lexer.specs.Durations.{name_of, milliseconds_in};
-ghost use Rattle.st_lexer.specs.ReadingLiterals.{digits_len, linked_len, decimal_step, decimals_by, letters_len, fraction_by, leading, part_by, part_added, behind_mark, parts_after, parts_by};
+ghost use Rattle.st_lexer.specs.Durations.{unit_spelling, milliseconds_in};
+ghost use Rattle.st_lexer.specs.ReadingLiterals.{digits_len, linked_len, decimal_step, parse_decimals, letters_len, parse_fraction, leading_number, parse_part, part_added, after_underscore, parts_after, parse_parts};
 
 use crate::bytes::begins_with;
-use crate::numbers::{begins_by_digit, number};
+use crate::numbers::{begins_by_digit, parse_number};
 use plant_types::same_word;
 
-/// A unit of time, the longest first.
+/// A unit of time, longest first.
 #[derive(Clone, Copy, Debug, PartialEq, Eq, Drop)]
 pub enum TimeUnit {
     Day,
@@ -19,7 +19,7 @@ pub enum TimeUnit {
     Millisecond,
 }
 
-/// The units in their order.
+/// The units in the order in which a duration may have them.
 pub const UNITS: [TimeUnit; 5] = [
     TimeUnit::Day,
     TimeUnit::Hour,
@@ -28,10 +28,10 @@ pub const UNITS: [TimeUnit; 5] = [
     TimeUnit::Millisecond,
 ];
 
-/// How many parts a fraction is counted in: ten decimals, as many as a whole number of milliseconds can need.
-const PARTS: u64 = 10_000_000_000;
+/// What a decimal fraction is counted in: ten decimal places, as many as a whole number of milliseconds can need.
+const FRACTIONS_OF_ONE: u64 = 10_000_000_000;
 
-/// A number of a part, and its digits behind a point as so many of ten thousand million.
+/// The number of a part: its digits before a point, and those after it as a multiple of 10 ^ -10.
 #[derive(Clone, Copy, Debug, PartialEq, Eq, Drop)]
 pub struct Number {
     pub whole: u64,
@@ -39,8 +39,9 @@ pub struct Number {
     pub is_pointed: bool,
 }
 
-fn name(unit: TimeUnit) -> &'static [u8]
-    ensures { result.now ≡ name_of unit }
+// How a unit is written, in capitals.
+fn unit_spelling(unit: TimeUnit) -> &'static [u8]
+    ensures { result.now ≡ unit_spelling unit }
 {
     match unit {
         TimeUnit::Day => b"D",
@@ -51,7 +52,8 @@ fn name(unit: TimeUnit) -> &'static [u8]
     }
 }
 
-fn milliseconds(unit: TimeUnit) -> u64
+// The length of a unit in milliseconds.
+fn milliseconds_in(unit: TimeUnit) -> u64
     ensures is { result ≡ milliseconds_in unit }
     ensures most { result ≤ 86400000 }
 {
@@ -64,8 +66,8 @@ fn milliseconds(unit: TimeUnit) -> u64
     }
 }
 
-// Digits, and underscores directly before digits.
-fn linked_digits(text: &[u8]) -> usize
+// How many bytes at the front are digits, or underscores directly before digits.
+fn linked_digits_len(text: &[u8]) -> usize
     ensures found { result ≡ linked_len (λ b. is_digit b 10) 95 text.now }
     ensures within { result ≤ length text.now }
 {
@@ -86,7 +88,7 @@ fn digits_len(text: &[u8]) -> usize
     ensures within { result ≤ length text.now }
 {
     if begins_by_digit(10, text) {
-        linked_digits(text)
+        linked_digits_len(text)
     } else {
         0
     }
@@ -108,9 +110,10 @@ fn letters_len(text: &[u8]) -> usize
     n
 }
 
-// One digit more behind a point.
+// One digit more after a point: the sum so far, and what the last digit counted; `None` where the digit is not a whole
+// multiple of 10 ^ -10.
 #[tactic(auto, unfolding(crate::specs::ReadingLiterals::decimal_step))]
-fn decimal(sum: u64, weight: u64, byte: u8) -> Option<(u64, u64)>
+fn decimal_step(sum: u64, weight: u64, byte: u8) -> Option<(u64, u64)>
     requires { sum + weight ≤ 10 ^ 10 }
     ensures found { result ≡ decimal_step sum weight byte }
     ensures room { IfSome result (λ s. s.0 + s.1 ≤ 10 ^ 10) }
@@ -128,35 +131,36 @@ fn decimal(sum: u64, weight: u64, byte: u8) -> Option<(u64, u64)>
     }
 }
 
-// The digits behind a point as so many parts; None where they need more than ten decimals.
-#[tactic(auto, unfolding(crate::specs::ReadingLiterals::decimals_by))]
-fn decimals(digits: &[u8]) -> Option<u64>
-    ensures found { result ≡ decimals_by digits.now }
+// Parses the digits after a point, as a multiple of 10 ^ -10; `None` where they need more than ten places.
+#[tactic(auto, unfolding(crate::specs::ReadingLiterals::parse_decimals))]
+fn parse_decimals(digits: &[u8]) -> Option<u64>
+    ensures found { result ≡ parse_decimals digits.now }
     ensures room { IfSome result (λ d. d ≤ 10 ^ 10) }
 {
     let mut sum = 0;
-    let mut weight = PARTS;
+    let mut weight = FRACTIONS_OF_ONE;
     for byte in digits {
-        let step = decimal(sum, weight, *byte)?;
+        let step = decimal_step(sum, weight, *byte)?;
         sum = step.0;
         weight = step.1;
     }
     Some(sum)
 }
 
-// The number with its digits behind a point, if there are any, and what is behind them.
-#[tactic(auto, unfolding(crate::specs::ReadingLiterals::fraction_by))]
-fn fraction(whole: u64, text: &[u8]) -> Option<(Number, &[u8])>
-    ensures found { IfSome result (λ r. fraction_by whole text.now ≡ Some (r.0, r.1.now)) }
-    ensures none { IfNone result (fraction_by whole text.now ≡ None) }
+// The number with the digits after a point, if there are any, and the rest of the text; `None` where they need more
+// than ten places.
+#[tactic(auto, unfolding(crate::specs::ReadingLiterals::parse_fraction))]
+fn parse_fraction(whole: u64, text: &[u8]) -> Option<(Number, &[u8])>
+    ensures found { IfSome result (λ r. parse_fraction whole text.now ≡ Some (r.0, r.1.now)) }
+    ensures none { IfNone result (parse_fraction whole text.now ≡ None) }
     ensures room { IfSome result (λ r. r.0.decimals ≤ 10 ^ 10) }
 {
     if begins_with(b'.', text) {
-        let behind = &text[1..];
-        let n = digits_len(behind);
+        let after = &text[1..];
+        let n = digits_len(after);
         if n > 0 {
-            let (digits, rest) = behind.split_at(n);
-            let decimals = decimals(digits)?;
+            let (digits, rest) = after.split_at(n);
+            let decimals = parse_decimals(digits)?;
             return Some((
                 Number {
                     whole,
@@ -177,49 +181,50 @@ fn fraction(whole: u64, text: &[u8]) -> Option<(Number, &[u8])>
     ))
 }
 
-// The number at the front, and what is behind it.
-#[tactic(auto, unfolding(crate::specs::ReadingLiterals::leading))]
-fn leading(text: &[u8]) -> Option<(Number, &[u8])>
-    ensures found { IfSome result (λ r. leading text.now ≡ Some (r.0, r.1.now)) }
-    ensures none { IfNone result (leading text.now ≡ None) }
+// The number at the front, and the rest of the text; `None` where no digit is there or the number is too long.
+#[tactic(auto, unfolding(crate::specs::ReadingLiterals::leading_number))]
+fn leading_number(text: &[u8]) -> Option<(Number, &[u8])>
+    ensures found { IfSome result (λ r. leading_number text.now ≡ Some (r.0, r.1.now)) }
+    ensures none { IfNone result (leading_number text.now ≡ None) }
     ensures room { IfSome result (λ r. r.0.decimals ≤ 10 ^ 10) }
 {
-    let (digits, behind) = text.split_at(digits_len(text));
-    fraction(number(10, digits)?, behind)
+    let (digits, after) = text.split_at(digits_len(text));
+    parse_fraction(parse_number(10, digits)?, after)
 }
 
-// The number at the front, the letters behind it, and what is behind them.
-#[tactic(auto, unfolding(crate::specs::ReadingLiterals::part_by))]
-fn part(text: &[u8]) -> Option<(Number, &[u8], &[u8])>
-    ensures found { IfSome result (λ r. part_by text.now ≡ Some (r.0, r.1.now, r.2.now)) }
-    ensures none { IfNone result (part_by text.now ≡ None) }
+// The number at the front, the letters after it, and the rest of the text; `None` where no number is there.
+#[tactic(auto, unfolding(crate::specs::ReadingLiterals::parse_part))]
+fn parse_part(text: &[u8]) -> Option<(Number, &[u8], &[u8])>
+    ensures found { IfSome result (λ r. parse_part text.now ≡ Some (r.0, r.1.now, r.2.now)) }
+    ensures none { IfNone result (parse_part text.now ≡ None) }
     ensures room { IfSome result (λ r. r.0.decimals ≤ 10 ^ 10) }
 {
-    let (number, behind) = leading(text)?;
-    let (name, rest) = behind.split_at(letters_len(behind));
+    let (number, after) = leading_number(text)?;
+    let (name, rest) = after.split_at(letters_len(after));
     Some((number, name, rest))
 }
 
-// The sum and what a number is worth in a unit; None where that isn't whole, or the sum is above 64 bits.
+// The sum with a number of a unit; `None` where that is no whole number of milliseconds, or the sum is above 64 bits.
 #[tactic(auto, unfolding(crate::specs::ReadingLiterals::part_added))]
-fn added(sum: u64, number: Number, unit: TimeUnit) -> Option<u64>
+fn part_added(sum: u64, number: Number, unit: TimeUnit) -> Option<u64>
     requires { number.decimals ≤ 10 ^ 10 }
     ensures { result ≡ part_added sum number unit }
 {
-    let length = milliseconds(unit);
-    let parts = number.decimals * length;
-    if parts % PARTS != 0 {
+    let length = milliseconds_in(unit);
+    let fractions = number.decimals * length;
+    if fractions % FRACTIONS_OF_ONE != 0 {
         return None;
     }
-    let worth = number
+    let more = number
         .whole
         .checked_mul(length)?
-        .checked_add(parts / PARTS)?;
-    sum.checked_add(worth)
+        .checked_add(fractions / FRACTIONS_OF_ONE)?;
+    sum.checked_add(more)
 }
 
-fn behind_mark(text: &[u8]) -> &[u8]
-    ensures { result.now ≡ behind_mark text.now }
+// The text after one underscore, if it begins with one.
+fn after_underscore(text: &[u8]) -> &[u8]
+    ensures { result.now ≡ after_underscore text.now }
 {
     if begins_with(b'_', text) {
         &text[1..]
@@ -228,7 +233,8 @@ fn behind_mark(text: &[u8]) -> &[u8]
     }
 }
 
-// The sum with the parts of these units; their next number is read, with the letters behind it. Goes down the five units.
+// The sum with the parts of these units, of which the next number and its letters are split off already; `None` where
+// the letters are no unit of these, or the parts are none. It recurses over the units, at most five.
 fn parts_after(
     units: &[TimeUnit],
     sum: u64,
@@ -240,25 +246,26 @@ fn parts_after(
     ensures { result ≡ parts_after units.now sum number letters.now rest.now }
 {
     let (unit, later) = units.split_first()?;
-    if !same_word(letters, name(*unit)) {
+    if !same_word(letters, unit_spelling(*unit)) {
         return parts_after(later, sum, number, letters, rest);
     }
-    let more = added(sum, number, *unit)?;
+    let more = part_added(sum, number, *unit)?;
     if rest.is_empty() {
         return Some(more);
     }
     if number.is_pointed {
         return None;
     }
-    let (next, next_letters, next_rest) = part(behind_mark(rest))?;
+    let (next, next_letters, next_rest) = parse_part(after_underscore(rest))?;
     parts_after(later, more, next, next_letters, next_rest)
 }
 
-/// The exact sum of parts with units in their order, each at most once; None where they are none, aren't whole or exceed 64 bits.
-#[tactic(auto, unfolding(crate::specs::ReadingLiterals::parts_by))]
-pub fn parts(text: &[u8]) -> Option<u64>
-    ensures { result ≡ parts_by text.now }
+/// Parses the parts of a duration, with units in their order and each at most once, as milliseconds; `None` for other
+/// bytes, where the sum is no whole number, and above 64 bits.
+#[tactic(auto, unfolding(crate::specs::ReadingLiterals::parse_parts))]
+pub fn parse_parts(text: &[u8]) -> Option<u64>
+    ensures { result ≡ parse_parts text.now }
 {
-    let (number, letters, rest) = part(text)?;
+    let (number, letters, rest) = parse_part(text)?;
     parts_after(&UNITS, 0, number, letters, rest)
 }

@@ -15,8 +15,8 @@ use std::alloc::{AllocFailed, Global};
 pub enum LexFault {
     /// Memory was refused.
     Memory,
-    /// What stands at this line and column, both from 1 and the column in bytes, begins no token: a byte that begins nothing,
-    /// a literal that isn't allowed, or an open comment.
+    /// What stands at this line and column begins no token and no separator: another byte, a literal that is not allowed,
+    /// or an open comment. Both count from 1, and the column in bytes.
     Bad { line: usize, column: usize },
 }
 
@@ -31,7 +31,8 @@ impl<T: Drop> From<AllocFailed<T>> for LexFault {
     }
 }
 
-fn keep(tokens: &mut Vec<Token>, piece: Piece, from: usize, n: usize) -> Result<(), LexFault>
+// Adds the token that a piece is, if it is one.
+fn push_piece(tokens: &mut Vec<Token>, piece: Piece, from: usize, n: usize) -> Result<(), LexFault>
     requires { from + n < 2 ^ 64 }
     ensures kept { OnOk result (tokens.new.items ≡ tokens.old.items ++ tokens_of from ((piece, n) ∷ [])) }
     ensures fault { IfErr result (λ e. e ≡ LexFault.Memory) }
@@ -47,7 +48,7 @@ fn keep(tokens: &mut Vec<Token>, piece: Piece, from: usize, n: usize) -> Result<
     Ok(())
 }
 
-// The fault of a text whose pieces can't go on behind these bytes.
+// The fault of a text in which no piece follows these bytes.
 fn bad(before: &[u8]) -> LexFault
     ensures { result ≡ LexFault.Bad (count_by (λ b. b == 10) before.now + 1) (suffix_len (λ b. not (b == 10)) before.now + 1) }
 {
@@ -55,17 +56,17 @@ fn bad(before: &[u8]) -> LexFault
     LexFault::Bad { line, column }
 }
 
-/// The tokens of a text, or the place where it has none.
+/// The tokens of a text, or the place where no piece is next.
 ///
 /// A text is separators and tokens in turn, each the longest that fits; a byte order mark at its start is skipped.
-/// A token's place is counted in bytes of the text as it was handed in. `Bad` is answered exactly where the text isn't so,
-/// `Memory` only where a growth was refused.
+/// A token's place is counted in bytes of the text as it was passed in. `Bad` is returned exactly where the text is not so,
+/// `Memory` only where memory was refused.
 pub fn lex(alloc: Global, text: &[u8]) -> Result<Vec<Token>, LexFault>
     // The text is a list of pieces, and these are its tokens.
     ensures found { IfOk result (λ tokens. Lexes text.now tokens.items) }
     // Each token's bytes are a slice of the text, and spell its kind.
     ensures each { IfOk result (λ tokens. All (IsTokenOf text.now) tokens.items) }
-    // Taken from the start, the pieces can't go on at this place.
+    // Taken from the start, no piece is next at this place.
     ensures bad { IfBad result (Stops text.now) }
 {
     let skipped = mark_len(text);
@@ -77,10 +78,10 @@ pub fn lex(alloc: Global, text: &[u8]) -> Result<Vec<Token>, LexFault>
         let Some((piece, n)) = next(rest) else {
             return Err(bad(&body[..at]));
         };
-        let (_, behind) = rest.split_at(n);
-        keep(&mut tokens, piece, skipped + at, n)?;
+        let (_, after) = rest.split_at(n);
+        push_piece(&mut tokens, piece, skipped + at, n)?;
         at += n;
-        rest = behind;
+        rest = after;
     }
     Ok(tokens)
 }

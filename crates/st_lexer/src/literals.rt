@@ -1,19 +1,19 @@
-//! Typed literals and durations: how far they go, and their values.
+//! Typed literals: how many bytes they have, and their values.
 
 ghost use Rattle.std.specs.Prelude.{◌≡◌, ◌≤◌, ◌+◌, ◌^◌, ◌<◌, ◌==◌, true, false, length, take, drop, IfSome};
 ghost use Rattle.st_lexer.specs.Literals.{begins_word};
-ghost use Rattle.st_lexer.specs.ReadingLiterals.{signed_by, dint_by, truth_by, timed_by, signed_len, pointed_len, timed_len, lettered_len, literal_by};
+ghost use Rattle.st_lexer.specs.ReadingLiterals.{signed_within, parse_dint, parse_truth, parse_time, signed_len, pointed_len, timed_len, lettered_len, parse_literal};
 
 use crate::bytes::{begins_with, is_tied, tied_len};
-use crate::durations::parts;
-use crate::numbers::integer;
+use crate::durations::parse_parts;
+use crate::numbers::parse_integer;
 use crate::token::TokenKind;
 use plant_types::same_word;
 
 // A number with its sign; `None` where it doesn't fit 32 bits.
-#[tactic(auto, unfolding(crate::specs::ReadingLiterals::signed_by))]
+#[tactic(auto, unfolding(crate::specs::ReadingLiterals::signed_within))]
 fn dint_from(n: u32, is_negative: bool) -> Option<i32>
-    ensures { result ≡ signed_by (2 ^ 31) is_negative n }
+    ensures { result ≡ signed_within (2 ^ 31) is_negative n }
 {
     if is_negative {
         0i32.checked_sub_unsigned(n)
@@ -23,9 +23,9 @@ fn dint_from(n: u32, is_negative: bool) -> Option<i32>
 }
 
 // A number with its sign; `None` where it doesn't fit 64 bits.
-#[tactic(auto, unfolding(crate::specs::ReadingLiterals::signed_by))]
+#[tactic(auto, unfolding(crate::specs::ReadingLiterals::signed_within))]
 fn time_from(n: u64, is_negative: bool) -> Option<i64>
-    ensures { result ≡ signed_by (2 ^ 63) is_negative n }
+    ensures { result ≡ signed_within (2 ^ 63) is_negative n }
 {
     if is_negative {
         0i64.checked_sub_unsigned(n)
@@ -34,23 +34,24 @@ fn time_from(n: u64, is_negative: bool) -> Option<i64>
     }
 }
 
-// An optional sign and an integer.
-#[tactic(auto, unfolding(crate::specs::ReadingLiterals::dint_by))]
-fn dint(text: &[u8]) -> Option<i32>
-    ensures { result ≡ dint_by text.now }
+// Parses an optional sign and a whole number; `None` for other bytes and outside 32 bits.
+#[tactic(auto, unfolding(crate::specs::ReadingLiterals::parse_dint))]
+fn parse_dint(text: &[u8]) -> Option<i32>
+    ensures { result ≡ parse_dint text.now }
 {
     if begins_with(b'-', text) {
-        dint_from(integer(&text[1..])?, true)
+        dint_from(parse_integer(&text[1..])?, true)
     } else if begins_with(b'+', text) {
-        dint_from(integer(&text[1..])?, false)
+        dint_from(parse_integer(&text[1..])?, false)
     } else {
-        dint_from(integer(text)?, false)
+        dint_from(parse_integer(text)?, false)
     }
 }
 
-#[tactic(auto, unfolding(crate::specs::ReadingLiterals::truth_by))]
-fn truth(piece: &[u8]) -> Option<bool>
-    ensures { result ≡ truth_by piece.now }
+// Parses `BOOL#` and 1 or TRUE, 0 or FALSE; `None` for other bytes.
+#[tactic(auto, unfolding(crate::specs::ReadingLiterals::parse_truth))]
+fn parse_truth(piece: &[u8]) -> Option<bool>
+    ensures { result ≡ parse_truth piece.now }
 {
     if same_word(piece, b"BOOL#1") || same_word(piece, b"BOOL#TRUE") {
         Some(true)
@@ -61,15 +62,15 @@ fn truth(piece: &[u8]) -> Option<bool>
     }
 }
 
-// An optional minus and parts.
-#[tactic(auto, unfolding(crate::specs::ReadingLiterals::timed_by))]
-fn timed(text: &[u8]) -> Option<i64>
-    ensures { result ≡ timed_by text.now }
+// Parses an optional minus and the parts of a duration; `None` for other bytes and outside 64 bits of milliseconds.
+#[tactic(auto, unfolding(crate::specs::ReadingLiterals::parse_time))]
+fn parse_time(text: &[u8]) -> Option<i64>
+    ensures { result ≡ parse_time text.now }
 {
     if begins_with(b'-', text) {
-        time_from(parts(&text[1..])?, true)
+        time_from(parse_parts(&text[1..])?, true)
     } else {
-        time_from(parts(text)?, false)
+        time_from(parse_parts(text)?, false)
     }
 }
 
@@ -84,7 +85,7 @@ fn begins_word(word: &[u8], text: &[u8]) -> bool
     same_word(&text[..word.len()], word)
 }
 
-// An optional sign and what is tied together behind it.
+// How many bytes an optional sign and what is tied together after it have.
 #[tactic(auto, unfolding(crate::specs::ReadingLiterals::signed_len))]
 fn signed_len(text: &[u8]) -> usize
     ensures found { result ≡ signed_len text.now }
@@ -96,7 +97,8 @@ fn signed_len(text: &[u8]) -> usize
     }
 }
 
-// What is tied together; where a digit stands before a point, the point and what is tied together behind it.
+// How many bytes at the front are tied together; from a digit before a point on, also the point and what is tied
+// together after it.
 fn pointed_len(text: &[u8]) -> usize
     ensures found { result ≡ pointed_len text.now }
     ensures within { result ≤ length text.now }
@@ -105,15 +107,15 @@ fn pointed_len(text: &[u8]) -> usize
         if !is_tied(*byte) {
             return i;
         }
-        let behind = &text[i + 1..];
-        if char::from(*byte).is_digit(10) && begins_with(b'.', behind) {
-            return i + 2 + tied_len(&behind[1..]);
+        let after = &text[i + 1..];
+        if char::from(*byte).is_digit(10) && begins_with(b'.', after) {
+            return i + 2 + tied_len(&after[1..]);
         }
     }
     text.len()
 }
 
-// An optional minus and the parts of a duration.
+// How many bytes an optional minus and the parts of a duration have.
 #[tactic(auto, unfolding(crate::specs::ReadingLiterals::timed_len))]
 fn timed_len(text: &[u8]) -> usize
     ensures found { result ≡ timed_len text.now }
@@ -126,7 +128,7 @@ fn timed_len(text: &[u8]) -> usize
     }
 }
 
-/// How far a word or a literal goes that begins with a letter.
+/// How many bytes the word or the literal has that a letter begins.
 #[tactic(auto, unfolding(crate::specs::ReadingLiterals::lettered_len))]
 pub fn lettered_len(text: &[u8]) -> usize
     ensures found { result ≡ lettered_len text.now }
@@ -143,18 +145,18 @@ pub fn lettered_len(text: &[u8]) -> usize
     }
 }
 
-/// The literal that a piece is which begins with a letter.
-#[tactic(auto, unfolding(crate::specs::ReadingLiterals::literal_by))]
-pub fn literal(piece: &[u8]) -> Option<TokenKind>
-    ensures { result ≡ literal_by piece.now }
+/// Parses a literal that begins with a letter: `DINT#`, `T#`, `TIME#` or `BOOL#` and a value; `None` for other bytes.
+#[tactic(auto, unfolding(crate::specs::ReadingLiterals::parse_literal))]
+pub fn parse_literal(piece: &[u8]) -> Option<TokenKind>
+    ensures { result ≡ parse_literal piece.now }
 {
     if begins_word(b"DINT#", piece) {
-        Some(TokenKind::Dint(dint(&piece[5..])?))
+        Some(TokenKind::Dint(parse_dint(&piece[5..])?))
     } else if begins_word(b"T#", piece) {
-        Some(TokenKind::Duration(timed(&piece[2..])?))
+        Some(TokenKind::Duration(parse_time(&piece[2..])?))
     } else if begins_word(b"TIME#", piece) {
-        Some(TokenKind::Duration(timed(&piece[5..])?))
+        Some(TokenKind::Duration(parse_time(&piece[5..])?))
     } else {
-        Some(TokenKind::Truth(truth(piece)?))
+        Some(TokenKind::Truth(parse_truth(piece)?))
     }
 }

@@ -9,5 +9,6 @@ pub enum Piece {
     Blank,
     /// From `(*` to the first `*)`, from `/*` to the first `*/`, or from `//` to the end of the line.
     Comment,
+    /// Anything else, by its kind.
     Token(TokenKind),
 }

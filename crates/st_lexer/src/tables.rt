@@ -1,8 +1,7 @@
 //! How keywords and symbols are spelled.
 
-ghost use Rattle.std.specs.Prelude.{◌≡◌, find};
-ghost use Rattle.plant_types.specs.Words.{same_word};
-ghost use Rattle.st_lexer.specs.Reading.{single_by, double_by};
+ghost use Rattle.std.specs.Prelude.{◌≡◌};
+ghost use Rattle.st_lexer.specs.Reading.{keyword_of, single_symbol, double_symbol};
 ghost use Rattle.st_lexer.specs.Tables.{spelling};
 
 use crate::token::{Keyword, Symbol};
@@ -88,9 +87,9 @@ pub fn spelling(keyword: Keyword) -> &'static [u8]
     }
 }
 
-/// The keyword that a word is.
+/// The keyword that a word is, in any letter case; `None` for any other word.
 pub fn keyword_of(word: &[u8]) -> Option<Keyword>
-    ensures { result ≡ find (λ k. same_word word.now (spelling k)) KEYWORDS }
+    ensures { result ≡ keyword_of word.now }
 {
     KEYWORDS
         .iter()
@@ -98,10 +97,10 @@ pub fn keyword_of(word: &[u8]) -> Option<Keyword>
         .find(|k| same_word(word, spelling(*k)))
 }
 
-/// The symbol of one byte.
-#[tactic(auto, unfolding(crate::specs::Reading::single_by))]
-pub fn single(byte: u8) -> Option<Symbol>
-    ensures { result ≡ single_by byte }
+/// The symbol of one byte; `None` for any other byte.
+#[tactic(auto, unfolding(crate::specs::Reading::single_symbol))]
+pub fn single_symbol(byte: u8) -> Option<Symbol>
+    ensures { result ≡ single_symbol byte }
 {
     match byte {
         b':' => Some(Symbol::Colon),
@@ -122,10 +121,10 @@ pub fn single(byte: u8) -> Option<Symbol>
     }
 }
 
-/// The symbol of two bytes.
-#[tactic(auto, unfolding(crate::specs::Reading::double_by))]
-pub fn double(first: u8, second: u8) -> Option<Symbol>
-    ensures { result ≡ double_by first second }
+/// The symbol of two bytes; `None` for any others.
+#[tactic(auto, unfolding(crate::specs::Reading::double_symbol))]
+pub fn double_symbol(first: u8, second: u8) -> Option<Symbol>
+    ensures { result ≡ double_symbol first second }
 {
     match (first, second) {
         (b':', b'=') => Some(Symbol::Becomes),

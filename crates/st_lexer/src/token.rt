@@ -41,7 +41,7 @@ pub enum Keyword {
     Xor,
 }
 
-/// A mark of one byte or two.
+/// A symbol of one byte or two.
 #[derive(Clone, Copy, Debug, PartialEq, Eq, Drop)]
 pub enum Symbol {
     /// `:=`
@@ -86,7 +86,7 @@ pub enum Symbol {
     Greater,
 }
 
-/// The kind of a token; that of a literal has its value.
+/// The kind of a token, with the value of a literal.
 #[derive(Clone, Copy, Debug, PartialEq, Eq, Drop)]
 pub enum TokenKind {
     /// A word that is no keyword.
@@ -96,7 +96,7 @@ pub enum TokenKind {
     Integer(u32),
     /// `DINT#` and a number of 32 bits with its sign.
     Dint(i32),
-    /// `BOOL#` and a truth.
+    /// `BOOL#` and 1 or TRUE, 0 or FALSE.
     Truth(bool),
     /// `T#` or `TIME#` and a duration, in milliseconds.
     Duration(i64),
@@ -104,7 +104,7 @@ pub enum TokenKind {
     Symbol(Symbol),
 }
 
-/// A token, whose text is the slice from one byte until the other.
+/// A token: its kind, and its bytes in the text, from `from` to before `until`.
 #[derive(Clone, Copy, Debug, PartialEq, Eq, Drop)]
 pub struct Token {
     pub kind: TokenKind,

@@ -1,6 +1,6 @@
 use Rattle.std.proofs.Common.{◌≡◌, ◌+◌, ◌≤◌, ◌^◌, drop}
 use Rattle.st_lexer.specs.ReadingLiterals.{decimals_after}
-use Rattle.st_lexer.proofs.durations.decimals.Given as goal
+use Rattle.st_lexer.proofs.durations.parse_decimals.Given as goal
 
 abbrev pub invariant-loop-byte : goal.invariant-loop-byte
 invariant-loop-byte l = record {
