@@ -1,13 +1,14 @@
 -- What a turn of a loop did.
 use Rattle.std.proofs.Common.{◌≡◌, ℕ, ℤ, pos, negsuc, subst, ◌≤ℤ◌, FitsSigned, to_z, of_z, w64, arith, List, ap, sym, ◌∙◌}
 use Rattle.std.proofs.lemmas.Int.{ints, to_z-of_z}
+use Rattle.std.specs.Prelude.{Result}
 use Rattle.st_tree.specs.Plain.{PlainBody}
 use Rattle.st_tree.specs.Meaning.{run_all, turns}
 use Rattle.st_tree.specs.Controls.{up, down}
-use Rattle.st_walk.specs.declared.walker.Ended.{Ended}
+use Rattle.st_walk.specs.declared.walker.Stop.{Stop}
 use Rattle.st_walk.specs.Slots.{cell_space, ended_run}
 
-pub ran_body : (slot : ℕ) (body : PlainBody ℕ) (at cast : ℤ) (w w1 w2 : List ℤ) (r s : Ended) → cast ≡ at → w1 ≡ cell_space.put w slot cast → ended_run r w2 ≡ run_all cell_space body w1 → r ≡ s → run_all cell_space body (cell_space.put w slot at) ≡ ended_run s w2
+pub ran_body : (slot : ℕ) (body : PlainBody ℕ) (at cast : ℤ) (w w1 w2 : List ℤ) (r s : Result (Unit {0}) Stop) → cast ≡ at → w1 ≡ cell_space.put w slot cast → ended_run r w2 ≡ run_all cell_space body w1 → r ≡ s → run_all cell_space body (cell_space.put w slot at) ≡ ended_run s w2
 ran_body slot body at cast w w1 w2 r s e f g is = ap (λ n. run_all cell_space body (cell_space.put w slot n)) (sym e) ∙ ap (run_all cell_space body) (sym f) ∙ sym g ∙ ap (λ x. ended_run x w2) is
 
 -- the same turns where the numbers are the same

@@ -1,8 +1,7 @@
 -- Bodies over numbers of cells in place of names.
-use Rattle.std.specs.Prelude.{ℕ, ℤ, pos, List, [], Option, Some, None, slice_index_or, slice_set}
+use Rattle.std.specs.Prelude.{ℕ, ℤ, pos, Bool, true, false, List, [], Result, Ok, Err, slice_index_or, slice_set}
 use Rattle.st_tree.specs.Meaning.{Space, Ran, Done, Trapped, Chosen, Took, Passed}
-use Rattle.st_walk.specs.declared.walker.Ended.{Ended}
-use Rattle.st_walk.specs.declared.walker.Ended.TheVariants as end
+use Rattle.st_walk.specs.declared.walker.Stop.{Stop}
 
 -- the value of a cell: what isn't there is 0
 abbrev pub cell : List ℤ → ℕ → ℤ
@@ -19,12 +18,13 @@ cell_space = record {
   enter = λ cells slot. Done cells;
 }
 
--- how a run ends, with the cells that it leaves
-abbrev pub ended_run : Ended → List ℤ → Ran (List ℤ)
-ended_run end.Done cells = Done cells
-ended_run (end.Trapped number trap) cells = Trapped cells (record { path = []; statement = number }) trap
+-- how a run of a body ends, with the cells that it leaves
+abbrev pub ended_run : Result (Unit {0}) Stop → List ℤ → Ran (List ℤ)
+ended_run (Ok _) cells = Done cells
+ended_run (Err stop) cells = Trapped cells (record { path = []; statement = stop.statement }) stop.trap
 
--- the run of a branch that was taken, or none
-abbrev pub chosen : Option Ended → List ℤ → Chosen (List ℤ)
-chosen None cells = Passed cells
-chosen (Some r) cells = Took (ended_run r cells)
+-- how a choice among branches ends, by whether one of them was run
+abbrev pub chosen : Result Bool Stop → List ℤ → Chosen (List ℤ)
+chosen (Ok true) cells = Took (Done cells)
+chosen (Ok false) cells = Passed cells
+chosen (Err stop) cells = Took (Trapped cells (record { path = []; statement = stop.statement }) stop.trap)

@@ -7,7 +7,8 @@ use st_resolve::{Flat, Local, Variable};
 use std::alloc::{AllocError, Global};
 use std::marker::Model;
 
-/// The plain list of values, one for each variable: 0 or 1 for a BOOL, milliseconds for a TIME. Contracts see the list.
+/// The values of a program's variables, one cell each: the globals in order of declaration, then the program's own. A BOOL is 0 or 1,
+/// a TIME is in milliseconds. Contracts see the list of values.
 #[derive(Drop)]
 pub struct Cells {
     values: Vec<i64>,
@@ -21,7 +22,7 @@ impl Model for Cells {
     ghost view = { λ cells. cells.values.items };
 }
 
-/// A value of 0 for each global, and then for each variable of the program's own.
+/// Returns a 0 for each global, then for each of the program's own variables.
 fn zeros(alloc: Global, globals: &[Variable], locals: &[Local]) -> Result<Vec<i64>, AllocError>
     ensures { IfOk result (λ values. values.items ≡ map (λ _. pos 0) globals.now ++ map (λ _. pos 0) locals.now) }
 {
@@ -30,7 +31,7 @@ fn zeros(alloc: Global, globals: &[Variable], locals: &[Local]) -> Result<Vec<i6
 }
 
 impl Cells {
-    /// The cells before a program's first run: each value is FALSE or 0. The error is a refused growth.
+    /// The cells before a program's first run: each value is FALSE or 0. Fails if memory was refused.
     #[tactic(auto, using(crate::proofs::Worlds::zeros_stand))]
     pub fn opening(alloc: Global, flat: &Flat) -> Result<Cells, AllocError>
         ensures { IfOk result (λ cells. Stands flat.now cells opening_world) }
@@ -39,28 +40,28 @@ impl Cells {
         Ok(Cells::new(values))
     }
 
-    /// The cells of a list of values.
+    /// Cells with the given values.
     pub fn new(values: Vec<i64>) -> Cells
         ensures { result ≡ values.items }
     {
         Cells { values }
     }
 
-    /// How many there are.
+    /// The number of cells.
     pub fn len(&self) -> usize
         ensures { result ≡ length self.now }
     {
         self.values.len()
     }
 
-    /// Whether there are none.
+    /// Whether there are no cells.
     pub fn is_empty(&self) -> bool
         ensures { result ≡ (length self.now == 0) }
     {
         self.values.is_empty()
     }
 
-    /// The value of a cell.
+    /// The value of the cell of a number, from 0.
     pub fn get(&self, slot: usize) -> i64
         requires { slot < length self.now }
         ensures { result ≡ slice_index_or self.now slot (pos 0) }
@@ -68,7 +69,7 @@ impl Cells {
         self.values[slot]
     }
 
-    /// Gives a cell a value.
+    /// Gives the cell of a number a value.
     pub fn set(&mut self, slot: usize, value: i64)
         requires { slot < length self.old }
         ensures { self.new ≡ slice_set self.old slot value }
@@ -83,7 +84,7 @@ impl Cells {
         self.values.as_slice()
     }
 
-    /// The same values in cells of their own. The error is a refused growth.
+    /// A copy of the cells. Fails if memory was refused.
     pub fn copy(&self, alloc: Global) -> Result<Cells, AllocError>
         ensures { IfOk result (λ copy. copy ≡ self.now) }
     {
@@ -92,7 +93,7 @@ impl Cells {
         })
     }
 
-    /// Takes over the values of other cells, as many as these. No memory is asked for.
+    /// Copies the values of other cells, as many as these. It allocates nothing.
     pub fn copy_from(&mut self, other: &Cells)
         requires { length self.old ≡ length other.now }
         ensures { self.new ≡ other.now }

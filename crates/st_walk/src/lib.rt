@@ -2,7 +2,7 @@
 //! program's own.
 //!
 //! A world gives each path a whole number: a path is a list of names in small letters, the innermost first. That of a global
-//! is its name alone, that of a program's own variable its name and then the program's. What a program does is defined over worlds
+//! is only its name, that of a program's own variable its name and then the program's. What a program does is defined over worlds
 //! and names. The walk runs over numbered cells, and leaves them standing for the world that the definition reaches.
 #![tactic(auto)]
 

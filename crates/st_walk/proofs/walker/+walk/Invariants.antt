@@ -11,7 +11,7 @@ invariant-run_body-loop-stmt l = run_all cell_space (view_body (drop l.stmt-inde
 
 abbrev pub invariant-run_first_true-loop-branch : goal.invariant-run_first_true-loop-branch
 invariant-run_first_true-loop-branch l =
-    first_true cell_space l.number (view_branches (drop l.branch-index l.branches)) l.cells ≡ first_true cell_space l.number (view_branches l.branches) l.initial.cells
+    first_true cell_space l.statement (view_branches (drop l.branch-index l.branches)) l.cells ≡ first_true cell_space l.statement (view_branches l.branches) l.initial.cells
 
 abbrev pub invariant-run_first_fit-loop-choice : goal.invariant-run_first_fit-loop-choice
 invariant-run_first_fit-loop-choice l =

@@ -6,4 +6,4 @@ use Rattle.st_walk.proofs.walker.give_outputs.Given as goal
 
 abbrev pub invariant-loop-argument : goal.invariant-loop-argument
 invariant-loop-argument l =
-    give_outputs cell_space l.instance (map view_argument (drop l.argument-index l.arguments)) l.cells ≡ give_outputs cell_space l.instance (map view_argument l.arguments) l.initial.cells
+    give_outputs cell_space l.fn.instance (map view_argument (drop l.argument-index l.arguments)) l.cells ≡ give_outputs cell_space l.fn.instance (map view_argument l.arguments) l.initial.cells

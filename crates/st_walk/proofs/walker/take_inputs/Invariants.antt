@@ -6,4 +6,4 @@ use Rattle.st_walk.proofs.walker.take_inputs.Given as goal
 
 abbrev pub invariant-loop-argument : goal.invariant-loop-argument
 invariant-loop-argument l =
-    take_inputs cell_space l.number l.instance (map view_argument (drop l.argument-index l.arguments)) l.cells ≡ take_inputs cell_space l.number l.instance (map view_argument l.arguments) l.cells
+    take_inputs cell_space l.statement l.fn.instance (map view_argument (drop l.argument-index l.arguments)) l.cells ≡ take_inputs cell_space l.statement l.fn.instance (map view_argument l.arguments) l.cells
