@@ -1,0 +1,83 @@
+//! What a text spells.
+
+use crate::tree::show_unit;
+use st_lexer::{LexFault, Token, lex};
+use st_parser::{ParseFault, Unit, parse};
+use std::alloc::{AllocError, Global};
+
+/// What is printed of a text.
+#[derive(Clone, Copy, Drop)]
+pub enum Wanted {
+    Tokens,
+    Count,
+    Tree,
+    Accepted,
+}
+
+fn push_tokens(alloc: Global, out: &mut String, tokens: &[Token]) -> Result<(), AllocError> {
+    for token in tokens {
+        let (from, until, kind) = (token.from, token.until, token.kind);
+        let line = format!(in alloc; "{from}..{until} {kind:?}\n")?;
+        out.push_str(line.as_str())?;
+    }
+    Ok(())
+}
+
+fn push_count(alloc: Global, out: &mut String, tokens: &[Token]) -> Result<(), AllocError> {
+    let count = tokens.len();
+    let line = format!(in alloc; "{count}\n")?;
+    out.push_str(line.as_str())
+}
+
+fn push_unit(
+    alloc: Global,
+    out: &mut String,
+    wanted: Wanted,
+    unit: &Unit,
+) -> Result<(), AllocError> {
+    if let Wanted::Accepted = wanted {
+        return out.push_str("ACCEPTED\n");
+    }
+    let shown = show_unit(alloc, unit)?;
+    out.push_str(shown.as_str().trim_end())?;
+    out.push_str("\n")
+}
+
+fn push_tree(
+    alloc: Global,
+    out: &mut String,
+    wanted: Wanted,
+    text: &[u8],
+    tokens: &[Token],
+) -> Result<(), AllocError> {
+    match parse(alloc, text, tokens) {
+        Ok(unit) => push_unit(alloc, out, wanted, &unit),
+        Err(ParseFault::At { token }) => {
+            let line = format!(in alloc; "NO TREE {token}\n")?;
+            out.push_str(line.as_str())
+        }
+        Err(ParseFault::Memory) => Err(AllocError),
+    }
+}
+
+/// Adds what is wanted of a text.
+pub fn push_spelled(
+    alloc: Global,
+    out: &mut String,
+    wanted: Wanted,
+    text: &[u8],
+) -> Result<(), AllocError> {
+    let tokens = match lex(alloc, text) {
+        Ok(tokens) => tokens,
+        Err(LexFault::Bad { line, column }) => {
+            let line = format!(in alloc; "NO TOKEN {line} {column}\n")?;
+            return out.push_str(line.as_str());
+        }
+        Err(LexFault::Memory) => return Err(AllocError),
+    };
+    match wanted {
+        Wanted::Tokens => push_tokens(alloc, out, tokens.as_slice()),
+        Wanted::Count => push_count(alloc, out, tokens.as_slice()),
+        Wanted::Tree | Wanted::Accepted => push_tree(alloc, out, wanted, text, tokens.as_slice()),
+    }
+}
