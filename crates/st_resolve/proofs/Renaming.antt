@@ -11,7 +11,7 @@ use Rattle.st_tree.specs.Constants.{constant_of}
 use Rattle.st_tree.specs.Kinds.{kind_of_expr, is_kind, same_kind, is_bit, unary_kind, binary_kind}
 use Rattle.st_resolve.specs.declared.scope.Entry.{Entry}
 use Rattle.st_resolve.specs.Names.{reads_pass, option_passes, arguments_pass, passes, all_pass, branches_pass, choices_pass}
-use Rattle.st_resolve.specs.Loops.{constant_step, is_bound, is_step, is_control, outputs_assign, assigns, body_assigns, branches_assign, choices_assign, allowed, all_allowed, branches_allowed, choices_allowed, turns_of, is_short, all_short, branches_short, choices_short}
+use Rattle.st_resolve.specs.Loops.{constant_step, is_bound, is_step, is_control, outputs_assign, stmt_assigns, body_assigns, branches_assign, choices_assign, stmt_allowed, all_allowed, branches_allowed, choices_allowed, turns_of, stmt_short, all_short, branches_short, choices_short}
 use Rattle.st_resolve.specs.Faults.{kind_named, output_named, is_of, option_is_of, takes, stmt_fits, all_fit, branches_fit, choices_fit}
 use Rattle.st_resolve.specs.Resolved.{renamed_expr, renamed_option, renamed_argument, renamed_stmt, renamed, renamed_branches, renamed_choices}
 
@@ -116,7 +116,7 @@ module _ {V W : Type 0} (f : V → W) (same : W → W → Bool) (v : V) where
   outputs_assign_same (output name u ∷ rest) = λ i. same (f v) (f u) || outputs_assign_same rest i
 
   mutual
-    assigns_same : (s : PlainStmt V) → assigns same_before v s ≡ assigns same (f v) (renamed_stmt f s)
+    assigns_same : (s : PlainStmt V) → stmt_assigns same_before v s ≡ stmt_assigns same (f v) (renamed_stmt f s)
     assigns_same (empty number) = refl
     assigns_same (assign number u e) = refl
     assigns_same (call number instance arguments) = outputs_assign_same arguments
@@ -149,7 +149,7 @@ module _ {V W : Type 0} (f : V → W) where
   step_same (Some e) = constant_same e
 
   mutual
-    shorts_same : (s : PlainStmt V) → is_short s ≡ is_short (renamed_stmt f s)
+    shorts_same : (s : PlainStmt V) → stmt_short s ≡ stmt_short (renamed_stmt f s)
     shorts_same (empty number) = refl
     shorts_same (assign number v e) = refl
     shorts_same (call number instance arguments) = refl
@@ -177,7 +177,7 @@ module _ {V W : Type 0} (f : V → W) (look : W → Option Entry) (same : W → 
   one_variable a b = same (f a) (f b)
 
   mutual
-    allowed_same : (s : PlainStmt V) → allowed looked one_variable s ≡ allowed look same (renamed_stmt f s)
+    allowed_same : (s : PlainStmt V) → stmt_allowed looked one_variable s ≡ stmt_allowed look same (renamed_stmt f s)
     allowed_same (empty number) = refl
     allowed_same (assign number v e) = refl
     allowed_same (call number instance arguments) = refl

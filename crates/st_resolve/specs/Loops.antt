@@ -42,17 +42,17 @@ module _ {V : Type 0} (same : V → V → Bool) (v : V) where
 
   -- a body assigns the variable, also as the control variable of a FOR
   abbrev mutual
-    pub assigns : PlainStmt V → Bool
-    assigns (empty number) = false
-    assigns (assign number u e) = same v u
-    assigns (call number instance arguments) = outputs_assign arguments
-    assigns (choose number branches last) = branches_assign branches || body_assigns last
-    assigns (select number e choices last) = choices_assign choices || body_assigns last
-    assigns (repeat number u from to by body) = same v u || body_assigns body
+    pub stmt_assigns : PlainStmt V → Bool
+    stmt_assigns (empty number) = false
+    stmt_assigns (assign number u e) = same v u
+    stmt_assigns (call number instance arguments) = outputs_assign arguments
+    stmt_assigns (choose number branches last) = branches_assign branches || body_assigns last
+    stmt_assigns (select number e choices last) = choices_assign choices || body_assigns last
+    stmt_assigns (repeat number u from to by body) = same v u || body_assigns body
 
     pub body_assigns : PlainBody V → Bool
     body_assigns done = false
-    body_assigns (next s rest) = assigns s || body_assigns rest
+    body_assigns (next s rest) = stmt_assigns s || body_assigns rest
 
     pub branches_assign : Branches V → Bool
     branches_assign no_branch = false
@@ -65,18 +65,18 @@ module _ {V : Type 0} (same : V → V → Bool) (v : V) where
 module _ {V : Type 0} (look : V → Option Entry) (same : V → V → Bool) where
   -- each control variable is allowed and not assigned in its FOR, and each bound and step is constant and allowed
   abbrev mutual
-    pub allowed : PlainStmt V → Bool
-    allowed (empty number) = true
-    allowed (assign number v e) = true
-    allowed (call number instance arguments) = true
-    allowed (choose number branches last) = branches_allowed branches && all_allowed last
-    allowed (select number e choices last) = choices_allowed choices && all_allowed last
-    allowed (repeat number v from to by body) =
+    pub stmt_allowed : PlainStmt V → Bool
+    stmt_allowed (empty number) = true
+    stmt_allowed (assign number v e) = true
+    stmt_allowed (call number instance arguments) = true
+    stmt_allowed (choose number branches last) = branches_allowed branches && all_allowed last
+    stmt_allowed (select number e choices last) = choices_allowed choices && all_allowed last
+    stmt_allowed (repeat number v from to by body) =
         is_control (look v) && (is_bound (constant_of from) && (is_bound (constant_of to) && (is_step (constant_step by) && (not (body_assigns same v body) && all_allowed body))))
 
     pub all_allowed : PlainBody V → Bool
     all_allowed done = true
-    all_allowed (next s rest) = allowed s && all_allowed rest
+    all_allowed (next s rest) = stmt_allowed s && all_allowed rest
 
     pub branches_allowed : Branches V → Bool
     branches_allowed no_branch = true
@@ -98,17 +98,17 @@ turns_of _ _ _ = 0
 
 -- each FOR has at most 10,000 turns
 abbrev mutual
-  pub is_short : {V : Type 0} → PlainStmt V → Bool
-  is_short (empty number) = true
-  is_short (assign number v e) = true
-  is_short (call number instance arguments) = true
-  is_short (choose number branches last) = branches_short branches && all_short last
-  is_short (select number e choices last) = choices_short choices && all_short last
-  is_short (repeat number v from to by body) = not (nat_lt 10000 (turns_of (constant_of from) (constant_of to) (constant_step by))) && all_short body
+  pub stmt_short : {V : Type 0} → PlainStmt V → Bool
+  stmt_short (empty number) = true
+  stmt_short (assign number v e) = true
+  stmt_short (call number instance arguments) = true
+  stmt_short (choose number branches last) = branches_short branches && all_short last
+  stmt_short (select number e choices last) = choices_short choices && all_short last
+  stmt_short (repeat number v from to by body) = not (nat_lt 10000 (turns_of (constant_of from) (constant_of to) (constant_step by))) && all_short body
 
   pub all_short : {V : Type 0} → PlainBody V → Bool
   all_short done = true
-  all_short (next s rest) = is_short s && all_short rest
+  all_short (next s rest) = stmt_short s && all_short rest
 
   pub branches_short : {V : Type 0} → Branches V → Bool
   branches_short no_branch = true

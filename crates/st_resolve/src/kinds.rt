@@ -21,10 +21,7 @@ fn kind_of_expr(entries: &[Entry], expr: &Expr<usize>) -> Option<Kind>
 {
     match expr {
         Expr::Literal(literal) => Some(literal.kind()),
-        Expr::Read(slot) => match entry_at(entries, *slot) {
-            Some(entry) => Some(entry.kind),
-            None => None,
-        },
+        Expr::Read(slot) => Some(entry_at(entries, *slot)?.kind),
         Expr::Output(_, _) => None,
         Expr::Unary(op, a) => {
             let kind = kind_of_expr(entries, a)?;

@@ -3,7 +3,7 @@
 ghost use Rattle.std.specs.Prelude.{◌≡◌, ◌==◌, slice_get, map};
 ghost use Rattle.st_tree.specs.View.{view_expr, view_option, view_argument, view_stmt, view_body, view_branches, view_choices};
 ghost use Rattle.st_tree.specs.Constants.{constant_of};
-ghost use Rattle.st_resolve.specs.Loops.{constant_step, is_bound, is_step, is_control, outputs_assign, assigns, body_assigns, branches_assign, choices_assign, allowed, all_allowed, branches_allowed, choices_allowed, turns_of, is_short, all_short, branches_short, choices_short};
+ghost use Rattle.st_resolve.specs.Loops.{constant_step, is_bound, is_step, is_control, outputs_assign, stmt_assigns, body_assigns, branches_assign, choices_assign, stmt_allowed, all_allowed, branches_allowed, choices_allowed, turns_of, stmt_short, all_short, branches_short, choices_short};
 
 use crate::scope::Entry;
 use plant_types::{Kind, Trap};
@@ -26,10 +26,7 @@ fn constant_step(by: &Option<Expr<usize>>) -> Option<Result<i64, Trap>>
 fn is_bound(expr: &Expr<usize>) -> bool
     ensures { result ≡ is_bound (constant_of (view_expr expr.now)) }
 {
-    match constant(expr) {
-        Some(Ok(_)) => true,
-        _ => false,
-    }
+    matches!(constant(expr), Some(Ok(_)))
 }
 
 /// Whether a step is constant, doesn't trap and isn't 0.
@@ -67,7 +64,7 @@ fn outputs_assign(slot: usize, arguments: &[Argument<usize>]) -> bool
 
 #[cycle(assigns)]
 fn stmt_assigns(slot: usize, stmt: &Stmt<usize>) -> bool
-    ensures { result ≡ assigns (λ a b. a == b) slot (view_stmt stmt.now) }
+    ensures { result ≡ stmt_assigns (λ a b. a == b) slot (view_stmt stmt.now) }
 {
     match stmt {
         Stmt::Empty(_) => false,
@@ -123,7 +120,7 @@ fn body_assigns(slot: usize, body: &[Stmt<usize>]) -> bool
 
 #[cycle(allowed)]
 fn stmt_allowed(entries: &[Entry], stmt: &Stmt<usize>) -> bool
-    ensures { result ≡ allowed (slice_get entries.now) (λ a b. a == b) (view_stmt stmt.now) }
+    ensures { result ≡ stmt_allowed (slice_get entries.now) (λ a b. a == b) (view_stmt stmt.now) }
 {
     match stmt {
         Stmt::Empty(_) | Stmt::Assign(_, _, _) | Stmt::Call(_, _, _) => true,
@@ -203,7 +200,7 @@ fn turns_of(from: &Expr<usize>, to: &Expr<usize>, by: &Option<Expr<usize>>) -> u
 
 #[cycle(short)]
 fn stmt_short(stmt: &Stmt<usize>) -> bool
-    ensures { result ≡ is_short (view_stmt stmt.now) }
+    ensures { result ≡ stmt_short (view_stmt stmt.now) }
 {
     match stmt {
         Stmt::Empty(_) | Stmt::Assign(_, _, _) | Stmt::Call(_, _, _) => true,

@@ -146,8 +146,8 @@ fn resolve_arguments(
     Ok(resolved)
 }
 
-/// Takes the next statement's number. Fails after 2^32 - 1 statements, for which no memory has room.
-fn take(number: &mut u32) -> Result<u32, AllocError>
+/// Takes the next statement's number, and counts it. Fails after 2^32 - 1 statements, for which no memory has room.
+fn next_number(number: &mut u32) -> Result<u32, AllocError>
     ensures own { IfOk result (λ own. own ≡ number.old) }
     ensures next { IfOk result (λ own. number.new ≡ number.old + 1) }
 {
@@ -172,7 +172,7 @@ fn resolve_stmt(
     ensures stmt { IfOk result (λ s. view_stmt s ≡ flat_stmt scope.now number.old (view_stmt stmt.now)) }
     ensures count { IfOk result (λ s. number.new ≡ number.old + count (view_stmt stmt.now)) }
 {
-    let own = take(number)?;
+    let own = next_number(number)?;
     match stmt {
         Stmt::Empty(_) => Ok(Stmt::Empty(own)),
         Stmt::Assign(_, variable, expr) => {

@@ -56,13 +56,9 @@ impl Scope {
 fn entry_of(global: &Variable) -> Entry
     ensures { result ≡ entry_of global.now }
 {
-    let is_input = match global.region {
-        Some(Region::Input) => true,
-        _ => false,
-    };
     Entry {
         kind: global.kind,
-        is_input,
+        is_input: matches!(global.region, Some(Region::Input)),
         is_own: false,
     }
 }

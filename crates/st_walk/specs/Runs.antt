@@ -11,7 +11,7 @@ use Rattle.st_walk.specs.Worlds.{Path, World, Stands}
 abbrev pub paths_of : Source → List Path
 paths_of source = (source.name ∷ []) ∷ []
 
--- the spot of a place
+-- the spot of a place: the path of its body, and the statement's number
 abbrev pub place_spot : Source → Place → Spot
 place_spot source place = record { path = slice_index_or (paths_of source) place.path []; statement = place.statement }
 

@@ -3,11 +3,11 @@ use Rattle.std.specs.Prelude.{ℕ, ℤ, pos, Bool, true, false, List, [], Result
 use Rattle.st_tree.specs.Meaning.{Space, Ran, Done, Trapped, Chosen, Took, Passed}
 use Rattle.st_walk.specs.declared.walker.Stop.{Stop}
 
--- the value of a cell: what isn't there is 0
+-- the value of the cell of a number; 0 if there is none
 abbrev pub cell : List ℤ → ℕ → ℤ
 cell cells slot = slice_index_or cells slot (pos 0)
 
--- the cells of a body; no cell is an instance of a block
+-- what the numbers of a body's variables mean in cells; no cell is an instance of a block
 abbrev pub cell_space : Space ℕ (List ℤ)
 cell_space = record {
   path = [];

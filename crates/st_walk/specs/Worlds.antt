@@ -11,6 +11,7 @@ use Rattle.st_resolve.specs.Faults.{meant_of}
 abbrev pub Path : Type 0
 Path = List (List ℕ)
 
+-- two paths have the same names
 abbrev pub same_path : Path → Path → Bool
 same_path [] [] = true
 same_path [] (b ∷ q) = false
@@ -21,11 +22,11 @@ same_path (a ∷ p) (b ∷ q) = same_path p q && bytes_eq a b
 abbrev pub World : Type 0
 World = Path → ℤ
 
--- the world in which a path has a value, and all others what they had
+-- the world after a path was assigned a value; every other path keeps its value
 abbrev pub assign : World → Path → ℤ → World
 assign w path n q = if same_path path q then n else w q
 
--- before anything is assigned each value is FALSE or 0
+-- the world before the first run: each value is FALSE or 0
 abbrev pub opening_world : World
 opening_world path = pos 0
 
@@ -41,7 +42,7 @@ own_path source name = folded name ∷ folded source.name ∷ []
 abbrev pub path_in : Source → List ℕ → Path
 path_in source name = if is_some (find_word (own_words source.locals) name) then own_path source name else path_of name
 
--- the names of the program's body; none is that of an instance
+-- what the names of the program's body mean in worlds; none is that of an instance
 abbrev pub name_space : Source → Space (List ℕ) World
 name_space source = record {
   path = source.name ∷ [];
