@@ -1,4 +1,4 @@
--- What the stages answer is what the text is answered.
+-- What the stages return is what the text gets.
 use Rattle.std.proofs.Common.{◌≡◌, ℕ, List, Some, None, Option, Result, Ok, Err, IfOk, IfErr, refl, sym, ap, ◌∙◌, subst}
 use Rattle.std.specs.Prelude.{option_map}
 use Rattle.st_lexer.specs.declared.token.Token.{Token}
@@ -16,8 +16,8 @@ use Rattle.plant_config.specs.Example.{IsExample}
 use Rattle.plant_config.specs.Accepted.{HasUnit, Spelled, Accepted, IsUnfit, IsRefused}
 
 -- the unit that a text's tokens spell
-pub tells : (text : List ℕ) (tokens slice : List Token) (unit : PlainUnit) → slice ≡ tokens → Lexes text tokens → SpellsUnit (lexemes text slice) unit → HasUnit text unit
-tells text tokens slice unit same lexed spelled = record { tokens = tokens; lexed = lexed; spelled = subst (λ (ts : List Token). SpellsUnit (lexemes text ts) unit) same spelled }
+pub unit_of_tokens : (text : List ℕ) (tokens slice : List Token) (unit : PlainUnit) → slice ≡ tokens → Lexes text tokens → SpellsUnit (lexemes text slice) unit → HasUnit text unit
+unit_of_tokens text tokens slice unit same lexed spelled = record { tokens = tokens; lexed = lexed; spelled = subst (λ (ts : List Token). SpellsUnit (lexemes text ts) unit) same spelled }
 
 -- a source is refused where its text is
 pub unfit_is_refused : (text : List ℕ) (source : Source) (f : ConfigFault) → Spelled text source → IsUnfit source f → IsRefused text f

@@ -1,3 +1,4 @@
 pub mod Answered
+pub mod Decided
 pub mod Examples
 pub mod Refusals

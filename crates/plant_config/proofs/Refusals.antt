@@ -25,24 +25,24 @@ none_some : {A : Type 0} (x : A) → None ≡ Some x → ⊥
 none_some x e = cc
 
 -- ---- one unit, one source
--- a text tells one unit
+-- a text spells one unit
 same_unit : (text : List ℕ) (a b : PlainUnit) → HasUnit text a → HasUnit text b → a ≡ b
 same_unit text a b x y = one_unit _ a b (subst (λ (tokens : List Token). SpellsUnit (lexemes text tokens) a) (one_list text _ _ x.lexed y.lexed) x.spelled) y.spelled
 
 -- a text spells one source
 one_source : (text : List ℕ) (a b : Source) → Spelled text a → Spelled text b → a ≡ b
-one_source text a b x y = same_some a b (sym x.built ∙ ap logic_of (same_unit text x.unit y.unit x.told y.told) ∙ y.built)
+one_source text a b x y = same_some a b (sym x.built ∙ ap logic_of (same_unit text x.unit y.unit x.has_unit y.has_unit) ∙ y.built)
 
--- a text whose tokens spell no unit tells none
-told_or_not : (text : List ℕ) (unit : PlainUnit) (line column : ℕ) → HasUnit text unit → Unspelled text line column → ⊥
-told_or_not text unit line column a b = b.no_unit unit (subst (λ (tokens : List Token). SpellsUnit (lexemes text tokens) unit) (one_list text _ _ a.lexed b.lexed) a.spelled)
+-- a text whose tokens spell no unit has none
+unit_or_not : (text : List ℕ) (unit : PlainUnit) (line column : ℕ) → HasUnit text unit → Unspelled text line column → ⊥
+unit_or_not text unit line column a b = b.no_unit unit (subst (λ (tokens : List Token). SpellsUnit (lexemes text tokens) unit) (one_list text _ _ a.lexed b.lexed) a.spelled)
 
 -- a unit has a source or none
 built_or_not : (text : List ℕ) (source : Source) (unit : PlainUnit) → Spelled text source → HasUnit text unit → logic_of unit ≡ None → ⊥
-built_or_not text source unit a told none = none_some source (sym none ∙ ap logic_of (same_unit text unit a.unit told a.told) ∙ a.built)
+built_or_not text source unit a has none = none_some source (sym none ∙ ap logic_of (same_unit text unit a.unit has a.has_unit) ∙ a.built)
 
 -- ---- the refusal of a source
--- how the first fault is told, else whether there is a condition
+-- the refusal by the first fault, else whether there is a condition
 abbrev refusal_by : Source → Option FirstFault → Option ℕ → Option ConfigFault
 refusal_by source (Some first.Memory) condition = Some fault.Memory
 refusal_by source (Some (first.Name globals)) condition = Some (fault.Name (unit_of globals source))
@@ -61,7 +61,7 @@ by_first source found e = ap (λ o. refusal_by source o (condition_of source)) e
 without_fault : (source : Source) (condition : Option ℕ) → first_fault source ≡ None → condition_of source ≡ condition → refusal_of source ≡ refusal_by source None condition
 without_fault source condition e h = ap (λ o. refusal_by source o (condition_of source)) e ∙ ap (refusal_by source None) h
 
--- a refusal of a source is memory, or the one that it has
+-- a refusal of a source is Memory, or the one that it has
 its_refusal : (source : Source) (f : ConfigFault) → IsUnfit source f → (f ≡ fault.Memory) ⊎ (refusal_of source ≡ Some f)
 its_refusal source fault.Memory h = inl refl
 its_refusal source (fault.Spelling line column) h = absurd h
@@ -97,19 +97,19 @@ reason text fault.Turns h = of_source text fault.Turns h
 reason text fault.Condition h = of_source text fault.Condition h
 
 -- ---- what is accepted
--- what is accepted is refused by memory alone
+-- what is accepted is refused only for Memory
 taken : (text : List ℕ) (plant : PlainPlant) (f : ConfigFault) → Accepted text plant → Reason text f → f ≡ fault.Memory
 taken text plant f a (memory is) = is
-taken text plant f a (stopped line column is stops) = absurd (never_both text _ _ _ a.spelled.told.lexed stops)
-taken text plant f a (unspelled line column is none) = absurd (told_or_not text _ line column a.spelled.told none)
-taken text plant f a (unbuilt unit is told none) = absurd (built_or_not text plant.source unit a.spelled told none)
+taken text plant f a (stopped line column is stops) = absurd (never_both text _ _ _ a.spelled.has_unit.lexed stops)
+taken text plant f a (unspelled line column is none) = absurd (unit_or_not text _ line column a.spelled.has_unit none)
+taken text plant f a (unbuilt unit is has none) = absurd (built_or_not text plant.source unit a.spelled has none)
 taken text plant f a (unfit source spelled is) =
     absurd (none_some f (sym (without_fault plant.source (Some a.example.number) a.sound a.example.condition) ∙ ap refusal_of (one_source text plant.source source a.spelled spelled) ∙ is))
 
 pub accepted_is_taken : (text : List ℕ) (plant : PlainPlant) (f : ConfigFault) → Accepted text plant → IsRefused text f → f ≡ fault.Memory
 accepted_is_taken text plant f a r = taken text plant f a (reason text f r)
 
--- where something is accepted, the refusal is memory
+-- where something is accepted, the refusal is Memory
 pub refusal_is_memory : (text : List ℕ) (r : Result PlainPlant ConfigFault) → IfErr r (IsRefused text) → (plant : PlainPlant) → Accepted text plant → IfErr r (λ f. f ≡ fault.Memory)
 refusal_is_memory text (Ok built) h plant accepted = tt
 refusal_is_memory text (Err f) h plant accepted = accepted_is_taken text plant f accepted h
@@ -155,22 +155,22 @@ one_reason text f g (memory is) b = first_is f fault.Memory g is tt
 one_reason text f g (stopped l c is s) (memory too) = both_are f g f fault.Memory refl too (memory_too f)
 one_reason text f g (stopped l c is s) (stopped k d too t) = both_are f g (fault.Spelling l c) (fault.Spelling k d) is too (one_place text l c k d s t)
 one_reason text f g (stopped l c is s) (unspelled k d too t) = absurd (never_both text _ _ _ t.lexed s)
-one_reason text f g (stopped l c is s) (unbuilt unit too told none) = absurd (never_both text _ _ _ told.lexed s)
-one_reason text f g (stopped l c is s) (unfit source spelled too) = absurd (never_both text _ _ _ spelled.told.lexed s)
+one_reason text f g (stopped l c is s) (unbuilt unit too has none) = absurd (never_both text _ _ _ has.lexed s)
+one_reason text f g (stopped l c is s) (unfit source spelled too) = absurd (never_both text _ _ _ spelled.has_unit.lexed s)
 one_reason text f g (unspelled l c is s) (memory too) = both_are f g f fault.Memory refl too (memory_too f)
 one_reason text f g (unspelled l c is s) (stopped k d too t) = absurd (never_both text _ _ _ s.lexed t)
 one_reason text f g (unspelled l c is s) (unspelled k d too t) = both_are f g (fault.Grammar l c) (fault.Grammar k d) is too tt
-one_reason text f g (unspelled l c is s) (unbuilt unit too told none) = absurd (told_or_not text unit l c told s)
-one_reason text f g (unspelled l c is s) (unfit source spelled too) = absurd (told_or_not text _ l c spelled.told s)
-one_reason text f g (unbuilt unit is told none) (memory too) = both_are f g f fault.Memory refl too (memory_too f)
-one_reason text f g (unbuilt unit is told none) (stopped k d too t) = absurd (never_both text _ _ _ told.lexed t)
-one_reason text f g (unbuilt unit is told none) (unspelled k d too t) = absurd (told_or_not text unit k d told t)
-one_reason text f g (unbuilt unit is told none) (unbuilt other too t n) = both_are f g fault.NotYet fault.NotYet is too tt
-one_reason text f g (unbuilt unit is told none) (unfit source spelled too) = absurd (built_or_not text source unit spelled told none)
+one_reason text f g (unspelled l c is s) (unbuilt unit too has none) = absurd (unit_or_not text unit l c has s)
+one_reason text f g (unspelled l c is s) (unfit source spelled too) = absurd (unit_or_not text _ l c spelled.has_unit s)
+one_reason text f g (unbuilt unit is has none) (memory too) = both_are f g f fault.Memory refl too (memory_too f)
+one_reason text f g (unbuilt unit is has none) (stopped k d too t) = absurd (never_both text _ _ _ has.lexed t)
+one_reason text f g (unbuilt unit is has none) (unspelled k d too t) = absurd (unit_or_not text unit k d has t)
+one_reason text f g (unbuilt unit is has none) (unbuilt other too t n) = both_are f g fault.NotYet fault.NotYet is too tt
+one_reason text f g (unbuilt unit is has none) (unfit source spelled too) = absurd (built_or_not text source unit spelled has none)
 one_reason text f g (unfit source spelled is) (memory too) = both_are f g f fault.Memory refl too (memory_too f)
-one_reason text f g (unfit source spelled is) (stopped k d too t) = absurd (never_both text _ _ _ spelled.told.lexed t)
-one_reason text f g (unfit source spelled is) (unspelled k d too t) = absurd (told_or_not text _ k d spelled.told t)
-one_reason text f g (unfit source spelled is) (unbuilt unit too told none) = absurd (built_or_not text source unit spelled told none)
+one_reason text f g (unfit source spelled is) (stopped k d too t) = absurd (never_both text _ _ _ spelled.has_unit.lexed t)
+one_reason text f g (unfit source spelled is) (unspelled k d too t) = absurd (unit_or_not text _ k d spelled.has_unit t)
+one_reason text f g (unfit source spelled is) (unbuilt unit too has none) = absurd (built_or_not text source unit spelled has none)
 one_reason text f g (unfit source spelled is) (unfit other s too) =
     first_is f g g (same_some f g (sym is ∙ ap refusal_of (one_source text source other spelled s) ∙ too)) (itself g)
 

@@ -21,10 +21,10 @@ pub record HasUnit (text : List ℕ) (unit : PlainUnit) : Type 0 where
   pub lexed : Lexes text tokens
   pub spelled : SpellsUnit (lexemes text tokens) unit
 
--- a text tells a unit, all of it is built, and this is the unit's source
+-- a text spells a unit, all of it is built, and this is the unit's source
 pub record Spelled (text : List ℕ) (source : Source) : Type 0 where
   pub unit : PlainUnit
-  pub told : HasUnit text unit
+  pub has_unit : HasUnit text unit
   pub built : logic_of unit ≡ Some source
 
 -- a text spells a source without faults, and the plant is the one that is built in, around this source and its condition
@@ -47,7 +47,7 @@ pub record Unspelled (text : List ℕ) (line column : ℕ) : Type 0 where
 abbrev pub unit_of : Bool → Source → List ℕ
 unit_of globals source = if globals then codes "VAR_GLOBAL" else source.name
 
--- why a source is refused, memory apart: its first fault, or else that it has no condition
+-- why a source is refused, Memory apart: its first fault, or else that it has no condition
 abbrev pub IsUnfit : Source → ConfigFault → Type 0
 IsUnfit source fault.Memory = ⊤
 IsUnfit source (fault.Spelling line column) = ⊥
@@ -59,7 +59,7 @@ IsUnfit source (fault.Constant unit) = (first_fault source ≡ Some first.Consta
 IsUnfit source fault.Turns = first_fault source ≡ Some first.Turns
 IsUnfit source fault.Condition = (first_fault source ≡ None) × (condition_of source ≡ None)
 
--- why a text is refused, memory apart: it has no tokens, or these spell no unit, or not all of the unit is built, or its source is refused
+-- why a text is refused, Memory apart: it has no tokens, or these spell no unit, or not all of the unit is built, or its source is refused
 abbrev pub IsRefused : List ℕ → ConfigFault → Type 0
 IsRefused text fault.Memory = ⊤
 IsRefused text (fault.Spelling line column) = Stops text line column
@@ -67,7 +67,7 @@ IsRefused text (fault.Grammar line column) = Unspelled text line column
 IsRefused text fault.NotYet = (unit : PlainUnit) × HasUnit text unit × (logic_of unit ≡ None)
 IsRefused text fault = (source : Source) × Spelled text source × IsUnfit source fault
 
--- two refusals are the same, memory and the place of a C5 apart
+-- two refusals are the same, Memory and the place of a C5 apart
 abbrev pub SameRefusal : ConfigFault → ConfigFault → Type 0
 SameRefusal fault.Memory g = ⊤
 SameRefusal (fault.Spelling line column) fault.Memory = ⊤

@@ -11,13 +11,13 @@ use Rattle.st_resolve.specs.Source.{Source}
 use Rattle.plant_config.specs.Built.{section_built, program_built}
 
 -- names that are declared together: each is a variable of this region and kind; an instance is none
-abbrev pub declared : Sort → Option Region → List (List ℕ) → List Variable
-declared (sort.Kind kind) region names = map (λ name. record { name = name; region = region; kind = kind }) names
-declared (sort.Block block) region names = []
+abbrev pub declared_variables : Sort → Option Region → List (List ℕ) → List Variable
+declared_variables (sort.Kind kind) region names = map (λ name. record { name = name; region = region; kind = kind }) names
+declared_variables (sort.Block block) region names = []
 
 -- the variables of a declaration
 abbrev pub variables_of : PlainDeclaration → List Variable
-variables_of d = declared d.sort d.region d.names
+variables_of d = declared_variables d.sort d.region d.names
 
 -- the variables of a section, in order of text
 abbrev pub section_variables : PlainSection → List Variable
@@ -28,14 +28,14 @@ abbrev pub variables_in : List PlainSection → List Variable
 variables_in sections = flat_map section_variables sections
 
 -- a variable of a program's own
-abbrev pub own : Variable → Local
-own variable = record { name = variable.name; kind = variable.kind }
+abbrev pub own_variable : Variable → Local
+own_variable variable = record { name = variable.name; kind = variable.kind }
 
 -- the source of sections of globals and a program
 abbrev pub source_with : List PlainSection → PlainPou → Source
-source_with globals p = record { globals = variables_in globals; name = p.name; locals = map own (variables_in p.sections); body = p.body }
+source_with globals p = record { globals = variables_in globals; name = p.name; locals = map own_variable (variables_in p.sections); body = p.body }
 
--- the source of sections of globals and of what is declared behind them: this has to be one program, and all of it built
+-- the source of sections of globals and of what is declared after them: this has to be one program, and all of it built
 abbrev pub logic_with : List PlainSection → List PlainPou → Option Source
 logic_with globals [] = None
 logic_with globals (p ∷ []) = if list_all section_built globals && program_built p then Some (source_with globals p) else None

@@ -10,7 +10,7 @@ use plant_types::Text;
 use st_parser::{Declaration, Pou, PouKind, Section, SectionKind, Sort};
 use st_tree::{Branch, Choice, Expr, Stmt};
 
-/// Whether an expression takes no output of an instance.
+/// Whether an expression reads no output of an instance.
 fn expr_built(expr: &Expr<Text>) -> bool
     ensures { result ≡ expr_built (view_expr expr.now) }
 {
@@ -23,6 +23,7 @@ fn expr_built(expr: &Expr<Text>) -> bool
     }
 }
 
+/// The same of an expression that may be left out.
 fn option_built(expr: &Option<Expr<Text>>) -> bool
     ensures { result ≡ option_built (view_option expr.now) }
 {
@@ -39,7 +40,7 @@ fn bounds_built(from: &Expr<Text>, to: &Expr<Text>, by: &Option<Expr<Text>>) -> 
     expr_built(from) && expr_built(to) && option_built(by)
 }
 
-/// Whether a statement calls nothing and takes no output of an instance, and those inside it don't either.
+/// Whether a statement, with those inside it, calls nothing and reads no output of an instance.
 #[cycle(built)]
 fn stmt_built(stmt: &Stmt<Text>) -> bool
     ensures { result ≡ stmt_built (view_stmt stmt.now) }
@@ -62,6 +63,7 @@ fn stmt_built(stmt: &Stmt<Text>) -> bool
     }
 }
 
+/// The same of the branches of an IF.
 #[cycle(built)]
 fn branches_built(branches: &[Branch<Text>]) -> bool
     ensures { result ≡ branches_built (view_branches branches.now) }
@@ -77,6 +79,7 @@ fn branches_built(branches: &[Branch<Text>]) -> bool
     true
 }
 
+/// The same of the choices of a CASE.
 #[cycle(built)]
 fn choices_built(choices: &[Choice<Text>]) -> bool
     ensures { result ≡ choices_built (view_choices choices.now) }
@@ -89,6 +92,7 @@ fn choices_built(choices: &[Choice<Text>]) -> bool
     true
 }
 
+/// The same of the statements of a body.
 #[cycle(built)]
 fn body_built(body: &[Stmt<Text>]) -> bool
     ensures { result ≡ body_built (view_body body.now) }
@@ -101,7 +105,7 @@ fn body_built(body: &[Stmt<Text>]) -> bool
     true
 }
 
-/// Whether the variables of a declaration are of a kind, and have no initial value.
+/// Whether the variables of a declaration have a kind and no initial value.
 fn declaration_built(declaration: &Declaration) -> bool
     ensures { result ≡ declaration_built (view_declaration declaration.now) }
 {
@@ -120,7 +124,7 @@ fn section_built(section: &Section) -> bool
     true
 }
 
-/// Whether sections of global variables are built.
+/// Whether each section of globals is built.
 pub fn globals_built(sections: &[Section]) -> bool
     ensures { result ≡ list_all section_built (map view_section sections.now) }
 {
@@ -151,7 +155,7 @@ fn own_sections_built(sections: &[Section]) -> bool
     true
 }
 
-/// Whether a program is built. A function block isn't.
+/// Whether a program is built; a function block isn't.
 pub fn program_built(pou: &Pou) -> bool
     ensures { result ≡ program_built (view_pou pou.now) }
 {

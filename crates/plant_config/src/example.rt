@@ -8,7 +8,7 @@ use plant_types::{Items, Kind, Text, same_word};
 use st_resolve::Variable;
 use std::alloc::{AllocError, Global};
 
-/// The areas.
+/// The areas: north and south. Fails if allocation fails.
 pub fn areas(alloc: Global) -> Result<Vec<Text>, AllocError>
     ensures { IfOk result (λ areas. areas.items ≡ example_areas) }
 {
@@ -17,7 +17,7 @@ pub fn areas(alloc: Global) -> Result<Vec<Text>, AllocError>
     Ok(vec![in alloc; north, south]?)
 }
 
-/// The consoles: each of the two orders in one area.
+/// The consoles: 1 for north, 2 for south. Fails if allocation fails.
 pub fn consoles(alloc: Global) -> Result<Vec<Console>, AllocError>
     ensures { IfOk result (λ consoles. consoles.items ≡ example_consoles) }
 {
@@ -32,7 +32,7 @@ pub fn consoles(alloc: Global) -> Result<Vec<Console>, AllocError>
     Ok(vec![in alloc; north, south]?)
 }
 
-/// The alarms: one, whose condition is the global of a number.
+/// The alarms: T1, whose condition is the global of a number. Fails if allocation fails.
 pub fn alarms(alloc: Global, condition: u32) -> Result<Vec<AlarmRow>, AllocError>
     ensures { IfOk result (λ alarms. alarms.items ≡ example_alarm condition ∷ []) }
 {
@@ -49,19 +49,21 @@ pub fn alarms(alloc: Global, condition: u32) -> Result<Vec<AlarmRow>, AllocError
     Ok(vec![in alloc; alarm]?)
 }
 
+/// Whether a kind is BOOL.
 fn is_bool(kind: Kind) -> bool
     ensures { result ≡ is_bool kind }
 {
     matches!(kind, Kind::Bool)
 }
 
+/// Whether a global is BOOL and named `c`, letter case ignored.
 fn is_condition(global: &Variable) -> bool
     ensures { result ≡ is_condition global.now }
 {
     same_word(global.name.as_bytes(), b"c") && is_bool(global.kind)
 }
 
-/// The number of the BOOL global that is the alarm's condition, if there is one.
+/// The number of the first global that can be the alarm's condition.
 pub fn condition_number(globals: &[Variable]) -> Option<usize>
     ensures { result ≡ position is_condition globals.now }
 {

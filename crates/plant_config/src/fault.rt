@@ -11,16 +11,16 @@ use std::alloc::{AllocError, Global};
 /// Why a plant isn't accepted. Lines of a source and bytes of a line count from 1.
 #[derive(Drop)]
 pub enum ConfigFault {
-    /// A growth was refused.
+    /// Allocation failed.
     Memory,
     /// C4: a byte that begins no token, a literal that isn't allowed, or an open comment.
     Spelling { line: usize, column: usize },
-    /// C5: a token with which no unit goes on, or the text's end.
+    /// C5: a token with which no unit can go on, or the text's end.
     Grammar { line: usize, column: usize },
-    /// The source has what isn't built yet: a function block, a word in a kind's place, a call, an output of an instance, an initial
-    /// value, VAR_EXTERNAL, or any number of programs but one.
+    /// The source has what isn't built yet: a function block, a variable of another type than BOOL, DINT and TIME, a call, an output of
+    /// an instance, an initial value, VAR_EXTERNAL, or not exactly one program.
     NotYet,
-    /// C6: a name that isn't there, is there twice or is a standard block's, in a unit: `VAR_GLOBAL`, or the program by its name.
+    /// C6: a name that isn't declared, is declared twice or is a standard block's, in a unit: `VAR_GLOBAL`, or the program by its name.
     Name { unit: Text },
     /// C7: an operand, right side, test, selector, bound or step of another kind, or an assigned input, in a unit.
     Kind { unit: Text },
@@ -41,7 +41,7 @@ impl From<AllocError> for ConfigFault {
 }
 
 impl ConfigFault {
-    /// The line that tells the fault, without its line feed. The error is a refused growth.
+    /// The line that reports the fault, without its line feed. Fails if allocation fails.
     pub fn line(&self, alloc: Global) -> Result<String, AllocError>
         requires { self.now ≢ fault.Memory }
         ensures { IfOk result (λ text. string_bytes text ≡ config_line self.now) }
@@ -49,23 +49,28 @@ impl ConfigFault {
         match self {
             ConfigFault::Memory => Ok(String::new(alloc)),
             ConfigFault::Spelling { line, column } => {
-                placed(alloc, "CONFIG C4 p.st ", *line, *column)
+                line_with_place(alloc, "CONFIG C4 p.st ", *line, *column)
             }
             ConfigFault::Grammar { line, column } => {
-                placed(alloc, "CONFIG C5 p.st ", *line, *column)
+                line_with_place(alloc, "CONFIG C5 p.st ", *line, *column)
             }
             ConfigFault::NotYet => String::from_str(alloc, "CONFIG NOTYET"),
-            ConfigFault::Name { unit } => named(alloc, "CONFIG C6 p.st ", unit),
-            ConfigFault::Kind { unit } => named(alloc, "CONFIG C7 p.st ", unit),
-            ConfigFault::Constant { unit } => named(alloc, "CONFIG C9 p.st ", unit),
+            ConfigFault::Name { unit } => line_with_unit(alloc, "CONFIG C6 p.st ", unit),
+            ConfigFault::Kind { unit } => line_with_unit(alloc, "CONFIG C7 p.st ", unit),
+            ConfigFault::Constant { unit } => line_with_unit(alloc, "CONFIG C9 p.st ", unit),
             ConfigFault::Turns => String::from_str(alloc, "CONFIG C10 TURNS"),
             ConfigFault::Condition => String::from_str(alloc, "CONFIG C14 1 condition"),
         }
     }
 }
 
-/// The words, and then a place.
-fn placed(alloc: Global, words: &str, line: usize, column: usize) -> Result<String, AllocError>
+/// The words, then a line and a column. Fails if allocation fails.
+fn line_with_place(
+    alloc: Global,
+    words: &str,
+    line: usize,
+    column: usize,
+) -> Result<String, AllocError>
     ensures { IfOk result (λ text. string_bytes text ≡ words.now ++ decimal line ++ codes " " ++ decimal column) }
 {
     let mut text = String::from_str(alloc, words)?;
@@ -77,8 +82,8 @@ fn placed(alloc: Global, words: &str, line: usize, column: usize) -> Result<Stri
     Ok(text)
 }
 
-/// The words, and then a unit's name.
-fn named(alloc: Global, words: &str, unit: &Text) -> Result<String, AllocError>
+/// The words, then the name of a unit. Fails if allocation fails.
+fn line_with_unit(alloc: Global, words: &str, unit: &Text) -> Result<String, AllocError>
     ensures { IfOk result (λ text. string_bytes text ≡ words.now ++ unit.now) }
 {
     let mut text = String::from_str(alloc, words)?;

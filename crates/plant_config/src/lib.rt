@@ -11,6 +11,6 @@ mod plant;
 mod rows;
 
 pub use fault::ConfigFault;
-pub use laws::one_plant;
+pub use laws::{accepted_or_refused, one_plant};
 pub use plant::Plant;
 pub use rows::{AlarmRow, Console};

@@ -3,7 +3,7 @@
 ghost use Rattle.std.specs.Prelude.{◌≡◌, ◌++◌, IfOk, map, option_map};
 ghost use Rattle.st_parser.specs.Units.{view_declaration, view_section, view_unit};
 ghost use Rattle.st_resolve.specs.Source.{source_of};
-ghost use Rattle.plant_config.specs.Logic.{variables_of, section_variables, variables_in, own, logic_of};
+ghost use Rattle.plant_config.specs.Logic.{variables_of, section_variables, variables_in, own_variable, logic_of};
 
 use crate::built::{globals_built, program_built};
 use st_parser::{Declaration, Section, Sort, Unit};
@@ -11,7 +11,7 @@ use st_resolve::{Local, Logic, Program, Variable};
 use st_tree::copy_body;
 use std::alloc::{AllocError, Global};
 
-/// Each name of a declaration becomes a variable, of the declaration's region and kind. Instances become none.
+/// Adds a variable for each name of a declaration, of the declaration's region and kind; none for instances. Fails if allocation fails.
 fn declare(
     alloc: Global,
     declaration: &Declaration,
@@ -31,7 +31,7 @@ fn declare(
     Ok(())
 }
 
-/// The same of the declarations of a section.
+/// Adds the variables of the declarations of a section. Fails if allocation fails.
 fn declare_all(
     alloc: Global,
     section: &Section,
@@ -45,7 +45,7 @@ fn declare_all(
     Ok(())
 }
 
-/// The variables of sections, in order of text.
+/// The variables of sections, in order of text. Fails if allocation fails.
 fn variables(alloc: Global, sections: &[Section]) -> Result<Vec<Variable>, AllocError>
     ensures { IfOk result (λ variables. variables.items ≡ variables_in (map view_section sections.now)) }
 {
@@ -56,9 +56,9 @@ fn variables(alloc: Global, sections: &[Section]) -> Result<Vec<Variable>, Alloc
     Ok(variables)
 }
 
-/// Variables of a program's own.
+/// Variables as a program's own. Fails if allocation fails.
 fn locals(alloc: Global, variables: Vec<Variable>) -> Result<Vec<Local>, AllocError>
-    ensures { IfOk result (λ locals. locals.items ≡ map own variables.items) }
+    ensures { IfOk result (λ locals. locals.items ≡ map own_variable variables.items) }
 {
     variables
         .into_iter()
@@ -69,8 +69,8 @@ fn locals(alloc: Global, variables: Vec<Variable>) -> Result<Vec<Local>, AllocEr
         .collect(alloc)
 }
 
-/// The logic of a unit, or None where something of the unit isn't built yet. The error is a refused growth.
-pub fn logic(alloc: Global, unit: &Unit) -> Result<Option<Logic>, AllocError>
+/// The logic of a unit; `None` if something of the unit isn't built yet. Fails if allocation fails.
+pub fn logic_of(alloc: Global, unit: &Unit) -> Result<Option<Logic>, AllocError>
     ensures { IfOk result (λ logic. option_map source_of logic ≡ logic_of (view_unit unit.now)) }
 {
     let [pou] = unit.pous.as_slice() else {

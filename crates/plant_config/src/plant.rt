@@ -1,4 +1,4 @@
-//! The plant, and what its parts are called.
+//! The plant, its parts and their names.
 
 ghost use Rattle.std.specs.Prelude.{◌≡◌, ◌<◌, length, position, IfSome, IfOk, IfErr, None};
 ghost use Rattle.std.specs.Str.{bytes_eq};
@@ -7,7 +7,7 @@ ghost use Rattle.plant_config.specs.Accepted.{Accepted, IsRefused, IsUnfit};
 ghost use Rattle.plant_config.specs.Example.{IsExample};
 ghost use Rattle.st_resolve.specs.Faults.{first_fault};
 ghost use Rattle.plant_config.specs.declared.fault.ConfigFault.TheVariants as fault;
-ghost use Rattle.plant_config.specs.Names.{alarm_number, program_number, tag_of, area_of, global_of, priority_of};
+ghost use Rattle.plant_config.specs.Names.{alarm_number, program_number, programs_of, body_paths, tag_of, area_of, global_of, priority_of};
 
 use crate::fault::ConfigFault;
 use crate::rows::{AlarmRow, Console};
@@ -45,21 +45,19 @@ impl Plant {
     /// The plant that is built in, around the logic of a source: areas north and south, console 1 for north and 2 for south, and
     /// the alarm T1 in north on the BOOL global `c`. The source is Structured Text (IEC 61131-3, this profile).
     ///
-    /// Every fault but `Memory` is the first that the source has, in the order of `ConfigFault`. `Memory` comes where a growth is
-    /// refused, and where the number of the global `c` is 2^32 or more.
+    /// Every fault but `Memory` is the first that the source has, in the order of `ConfigFault`. `Memory` comes if allocation fails, or if
+    /// the number of the global `c` is 2^32 or more.
     pub fn first(alloc: Global, source: &[u8]) -> Result<Plant, ConfigFault>
         ensures plant { IfOk result (Accepted source.now) }
         ensures refused { IfErr result (IsRefused source.now) }
-        // What is accepted is taken, memory apart.
+        // What is accepted is taken, unless allocation fails.
         ensures accepted { (plant : PlainPlant) → Accepted source.now plant → IfErr result (λ e. e ≡ fault.Memory) }
     {
-        match front::read(alloc, source) {
-            Ok(flat) => Plant::around(alloc, flat),
-            Err(fault) => Err(fault),
-        }
+        let flat = front::flat_of(alloc, source)?;
+        Plant::around(alloc, flat)
     }
 
-    /// The plant around a source's logic.
+    /// The plant that is built in, around a source's logic.
     fn around(alloc: Global, flat: Flat) -> Result<Plant, ConfigFault>
         ensures plant { IfOk result (λ plant. (plant.source ≡ flat) × IsExample plant) }
         ensures refused { IfErr result (IsUnfit flat) }
@@ -105,7 +103,7 @@ impl Plant {
         self.alarms.as_slice()
     }
 
-    /// How many alarms there are: at most 20,000.
+    /// How many alarms there are, at most 20,000.
     pub fn alarms(&self) -> u32
         ensures count { result ≡ length self.now.alarms }
         ensures plant { IsPlant self.now }
@@ -113,7 +111,7 @@ impl Plant {
         self.alarms.len() as u32
     }
 
-    /// How many areas there are: at most 64.
+    /// How many areas there are, at most 64.
     pub fn areas(&self) -> u32
         ensures { result ≡ length self.now.areas }
     {
@@ -122,22 +120,20 @@ impl Plant {
 
     /// How many programs there are: one.
     pub fn programs(&self) -> u32
-        ensures { result ≡ 1 }
+        ensures { result ≡ length (programs_of self.now) }
     {
         1
     }
 
-    /// The number of the alarm with a tag, if there is one. Letter case counts.
+    /// The number of the alarm with a tag; `None` if there is none. Letter case counts.
     pub fn alarm_number(&self, tag: &str) -> Option<u32>
         ensures { result ≡ alarm_number self.now tag.now }
     {
-        match row_number(self.alarms.as_slice(), tag) {
-            Some(number) => Some(number as u32),
-            None => None,
-        }
+        let number = row_number(self.alarms.as_slice(), tag)?;
+        Some(number as u32)
     }
 
-    /// The number of the program with a name, if there is one. Letter case has no meaning.
+    /// The number of the program with a name, letter case ignored; `None` if there is none.
     pub fn program_number(&self, name: &str) -> Option<u32>
         ensures { result ≡ program_number self.now name.now }
     {
@@ -182,24 +178,23 @@ impl Plant {
 
     /// The name of a program, as declared.
     pub fn program(&self, program: u32) -> &str
-        requires { program < 1 }
+        requires { program < length (programs_of self.now) }
         ensures { result.now ≡ self.now.source.name }
     {
-        let _number = program;
+        prove!(program == 0);
         self.flat.program()
     }
 
-    /// The path that a place of a trap names by its number, as a fault prints it: the names that lead there, with points between
-    /// them. It is the program's name, as declared.
+    /// The path of the body in which a trap occurred, as a fault prints it: the program's name, as declared.
     pub fn path(&self, path: u32) -> &str
-        requires { path < 1 }
+        requires { path < length (body_paths self.now) }
         ensures { result.now ≡ self.now.source.name }
     {
         self.program(path)
     }
 }
 
-/// The number of the first row with a tag.
+/// The number of the first row with a tag; `None` if there is none.
 fn row_number(rows: &[AlarmRow], tag: &str) -> Option<usize>
     ensures number { result ≡ position (λ row. bytes_eq row.tag tag.now) rows.now }
     ensures within { IfSome result (λ number. number < length rows.now) }
