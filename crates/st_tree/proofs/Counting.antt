@@ -3,7 +3,7 @@ use Rattle.std.specs.Prelude.{int_lt, nat_abs, true, false, if◌then◌else◌}
 use Rattle.std.proofs.Common.{length, ◌≡◌, ℕ, zero, suc, ℤ, pos, negsuc, ◌+◌, ◌/◌, ◌<◌, ◌+ℤ◌, ◌-ℤ◌, ◌<ℤ◌, ◌≤ℤ◌, [], ◌∷◌, ap, refl, sym, ◌∙◌, arith}
 use Rattle.std.proofs.lemmas.Int.{ints}
 use Rattle.std.proofs.Math.Nat.{add-div_right, div-eq_of_lt}
-use Rattle.st_tree.specs.Controls.{size, count_in, up, down, values_from, control_values}
+use Rattle.st_tree.specs.Controls.{count_in, up, down, values_from, control_values}
 use Rattle.st_tree.specs.declared.controls.Span.{Span}
 use Rattle.st_tree.specs.Meaning.{turns, Ran, Done, then_run}
 
@@ -26,41 +26,41 @@ count_more (pos n) (negsuc m) s h k is =
     let none : n / s ≡ 0 = few n s (omega (arith, ints)) in
     omega arith
 
-pub size_pos : (z : ℤ) → pos 0 ≤ℤ z → pos (size z) ≡ z
-size_pos (pos n) h = refl
-size_pos (negsuc n) h = absurd (omega (arith, ints))
+pub abs_pos : (z : ℤ) → pos 0 ≤ℤ z → pos (nat_abs z) ≡ z
+abs_pos (pos n) h = refl
+abs_pos (negsuc n) h = absurd (omega (arith, ints))
 
-pub size_neg : (z : ℤ) → z <ℤ pos 0 → (pos 0 -ℤ pos (size z)) ≡ z
-size_neg (pos n) h = absurd (omega (arith, ints))
-size_neg (negsuc n) h = omega (arith, ints)
+pub abs_neg : (z : ℤ) → z <ℤ pos 0 → (pos 0 -ℤ pos (nat_abs z)) ≡ z
+abs_neg (pos n) h = absurd (omega (arith, ints))
+abs_neg (negsuc n) h = omega (arith, ints)
 
 module _ (at to step next : ℤ) where
   -- the number of turns that are left falls by one
-  pub count_up : pos 0 <ℤ step → at ≤ℤ to → next ≡ at +ℤ step → count_in (to -ℤ at) (size step) ≡ suc (count_in (to -ℤ next) (size step))
-  count_up h k is = let s = size_pos step (omega (arith, ints)) in count_more (to -ℤ at) (to -ℤ next) (size step) (omega (arith, ints)) (omega (arith, ints)) (omega (arith, ints))
+  pub count_up : pos 0 <ℤ step → at ≤ℤ to → next ≡ at +ℤ step → count_in (to -ℤ at) (nat_abs step) ≡ suc (count_in (to -ℤ next) (nat_abs step))
+  count_up h k is = let s = abs_pos step (omega (arith, ints)) in count_more (to -ℤ at) (to -ℤ next) (nat_abs step) (omega (arith, ints)) (omega (arith, ints)) (omega (arith, ints))
 
-  pub count_down : step <ℤ pos 0 → to ≤ℤ at → next ≡ at +ℤ step → count_in (at -ℤ to) (size step) ≡ suc (count_in (next -ℤ to) (size step))
-  count_down h k is = let s = size_neg step h in count_more (at -ℤ to) (next -ℤ to) (size step) (omega (arith, ints)) (omega (arith, ints)) (omega (arith, ints))
+  pub count_down : step <ℤ pos 0 → to ≤ℤ at → next ≡ at +ℤ step → count_in (at -ℤ to) (nat_abs step) ≡ suc (count_in (next -ℤ to) (nat_abs step))
+  count_down h k is = let s = abs_neg step h in count_more (at -ℤ to) (next -ℤ to) (nat_abs step) (omega (arith, ints)) (omega (arith, ints)) (omega (arith, ints))
 
-  pub falls_up : pos 0 <ℤ step → at ≤ℤ to → next ≡ at +ℤ step → count_in (to -ℤ next) (size step) < count_in (to -ℤ at) (size step)
+  pub falls_up : pos 0 <ℤ step → at ≤ℤ to → next ≡ at +ℤ step → count_in (to -ℤ next) (nat_abs step) < count_in (to -ℤ at) (nat_abs step)
   falls_up h k is = let e = count_up h k is in omega arith
 
-  pub falls_down : step <ℤ pos 0 → to ≤ℤ at → next ≡ at +ℤ step → count_in (next -ℤ to) (size step) < count_in (at -ℤ to) (size step)
+  pub falls_down : step <ℤ pos 0 → to ≤ℤ at → next ≡ at +ℤ step → count_in (next -ℤ to) (nat_abs step) < count_in (at -ℤ to) (nat_abs step)
   falls_down h k is = let e = count_down h k is in omega arith
 
   -- the first control value, and those from the next one on
   pub up_more : pos 0 <ℤ step → at ≤ℤ to → next ≡ at +ℤ step → up at to step ≡ at ∷ up next to step
-  up_more h k is = ap (λ c. values_from c at step) (count_up h k is) ∙ ap (λ z. at ∷ values_from (count_in (to -ℤ next) (size step)) z step) (sym is)
+  up_more h k is = ap (λ c. values_from c at step) (count_up h k is) ∙ ap (λ z. at ∷ values_from (count_in (to -ℤ next) (nat_abs step)) z step) (sym is)
 
   pub down_more : step <ℤ pos 0 → to ≤ℤ at → next ≡ at +ℤ step → down at to step ≡ at ∷ down next to step
-  down_more h k is = ap (λ c. values_from c at step) (count_down h k is) ∙ ap (λ z. at ∷ values_from (count_in (next -ℤ to) (size step)) z step) (sym is)
+  down_more h k is = ap (λ c. values_from c at step) (count_down h k is) ∙ ap (λ z. at ∷ values_from (count_in (next -ℤ to) (nat_abs step)) z step) (sym is)
 
 module _ (at to step : ℤ) where
   pub up_none : to <ℤ at → up at to step ≡ []
-  up_none h = ap (λ c. values_from c at step) (count_none (to -ℤ at) (size step) (omega (arith, ints)))
+  up_none h = ap (λ c. values_from c at step) (count_none (to -ℤ at) (nat_abs step) (omega (arith, ints)))
 
   pub down_none : at <ℤ to → down at to step ≡ []
-  down_none h = ap (λ c. values_from c at step) (count_none (at -ℤ to) (size step) (omega (arith, ints)))
+  down_none h = ap (λ c. values_from c at step) (count_none (at -ℤ to) (nat_abs step) (omega (arith, ints)))
 
 -- a turn, and those after it; no turn
 module _ {W : Type 0} (set : W → ℤ → W) (body : W → Ran W) (at to step : ℤ) where
@@ -90,17 +90,13 @@ length_values : (n : ℕ) (at step : ℤ) → length (values_from n at step) ≡
 length_values zero at step = refl
 length_values (suc n) at step = let e = length_values n (at +ℤ step) step in omega arith
 
-size_abs : (z : ℤ) → nat_abs z ≡ size z
-size_abs (pos n) = refl
-size_abs (negsuc n) = omega arith
-
 module _ (span : Span) (way : ℤ) (s n : ℕ) where
   pub turns_up : int_lt (pos 0) span.step ≡ true → way ≡ span.to -ℤ span.from → s ≡ nat_abs span.step → n ≡ count_in way s → n ≡ length (control_values span)
   turns_up test w a e =
-      e ∙ (λ i. count_in (w i) (a i)) ∙ ap (count_in (span.to -ℤ span.from)) (size_abs span.step) ∙ sym (length_values (count_in (span.to -ℤ span.from) (size span.step)) span.from span.step)
+      e ∙ (λ i. count_in (w i) (a i)) ∙ sym (length_values (count_in (span.to -ℤ span.from) (nat_abs span.step)) span.from span.step)
       ∙ ap (λ b. length (if b then up span.from span.to span.step else if int_lt span.step (pos 0) then down span.from span.to span.step else [])) (sym test)
 
   pub turns_down : int_lt (pos 0) span.step ≡ false → int_lt span.step (pos 0) ≡ true → way ≡ span.from -ℤ span.to → s ≡ nat_abs span.step → n ≡ count_in way s → n ≡ length (control_values span)
   turns_down first test w a e =
-      e ∙ (λ i. count_in (w i) (a i)) ∙ ap (count_in (span.from -ℤ span.to)) (size_abs span.step) ∙ sym (length_values (count_in (span.from -ℤ span.to) (size span.step)) span.from span.step)
+      e ∙ (λ i. count_in (w i) (a i)) ∙ sym (length_values (count_in (span.from -ℤ span.to) (nat_abs span.step)) span.from span.step)
       ∙ (λ i. length (if sym first i then up span.from span.to span.step else if sym test i then down span.from span.to span.step else []))

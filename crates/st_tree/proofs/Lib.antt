@@ -2,6 +2,7 @@ pub mod Quotients
 pub mod Views
 pub mod Depth
 pub mod Counting
-pub mod Everywhere
-pub mod Judging
+pub mod ConstantLaws
+pub mod ControlLaws
+pub mod KindLaws
 pub mod CostExamples

@@ -4,7 +4,7 @@ use Rattle.st_tree.specs.Plain.{PlainExpr, literal, read, output_of, unary, bina
 use Rattle.st_tree.specs.Operators.{Outcome, eval_unary, eval_binary}
 use Rattle.st_tree.specs.Meaning.{literal_worth, then_one, then_two}
 
--- the outcome of a constant expression, which reads no variable and no output; none of any other
+-- the outcome of a constant expression; none for one that reads a variable or an output
 abbrev pub constant_of : {V : Type 0} → PlainExpr V → Option Outcome
 constant_of (literal n) = Some (Ok (literal_worth n))
 constant_of (read v) = None

@@ -23,13 +23,13 @@ then_one (Err trap) f = Err trap
 abbrev pub then_two : Outcome → Outcome → (ℤ → ℤ → Outcome) → Outcome
 then_two a b f = then_one a (λ x. then_one b (f x))
 
--- the outcome of an expression where each variable, and each output of an instance, has the value that is looked up for it
+-- the outcome of an expression, by the values of its variables and of the instances' outputs
 abbrev pub value_of : {V : Type 0} → (V → ℤ) → (V → V → ℤ) → PlainExpr V → Outcome
-value_of look peek (literal n) = Ok (literal_worth n)
-value_of look peek (read v) = Ok (look v)
-value_of look peek (output_of instance name) = Ok (peek instance name)
-value_of look peek (unary op a) = then_one (value_of look peek a) (eval_unary op)
-value_of look peek (binary op a b) = then_two (value_of look peek a) (value_of look peek b) (eval_binary op)
+value_of variable_value output_value (literal n) = Ok (literal_worth n)
+value_of variable_value output_value (read v) = Ok (variable_value v)
+value_of variable_value output_value (output_of instance name) = Ok (output_value instance name)
+value_of variable_value output_value (unary op a) = then_one (value_of variable_value output_value a) (eval_unary op)
+value_of variable_value output_value (binary op a b) = then_two (value_of variable_value output_value a) (value_of variable_value output_value b) (eval_binary op)
 
 -- where a run traps: the names of the program and the instances that lead there, the innermost first, each as declared, and the number of the statement in its body
 pub record Spot : Type 0 where

@@ -32,8 +32,8 @@ abbrev pub verdict : Bool → Outcome
 verdict b = Ok (truth b)
 
 -- exactly one of two is true
-abbrev pub either : Bool → Bool → Bool
-either a b = (a || b) && not (a && b)
+abbrev pub exactly_one : Bool → Bool → Bool
+exactly_one a b = (a || b) && not (a && b)
 
 -- a quotient is truncated toward zero; there is none by 0
 abbrev pub quotient : ℤ → ℤ → Outcome
@@ -52,7 +52,7 @@ eval_unary NegateTime x = time (neg_ℤ x)
 -- what an operator gives of its operands' values
 abbrev pub eval_binary : Binary → ℤ → ℤ → Outcome
 eval_binary And x y = verdict (is_true x && is_true y)
-eval_binary Xor x y = verdict (either (is_true x) (is_true y))
+eval_binary Xor x y = verdict (exactly_one (is_true x) (is_true y))
 eval_binary Or x y = verdict (is_true x || is_true y)
 eval_binary Equal x y = verdict (int_eq x y)
 eval_binary Unequal x y = verdict (not (int_eq x y))

@@ -2,15 +2,16 @@
 
 ghost use Rattle.std.specs.Prelude.{◌≡◌};
 ghost use Rattle.st_tree.specs.View.{view_expr};
-ghost use Rattle.st_tree.specs.Meaning.{literal_worth};
+ghost use Rattle.st_tree.specs.Meaning.{literal_worth, then_one, then_two};
+ghost use Rattle.st_tree.specs.Operators.{eval_unary, eval_binary};
 ghost use Rattle.st_tree.specs.Constants.{constant_of};
 
 use crate::operators::{eval_binary, eval_unary};
-use crate::tree::{Expr, Literal};
+use crate::tree::{Binary, Expr, Literal, Unary};
 use plant_types::Trap;
 
 impl Literal {
-    /// The literal as a whole number: 0 or 1 for a truth, milliseconds for a duration.
+    /// The literal's value as a whole number: 0 or 1 for a truth, milliseconds for a duration.
     pub fn worth(self) -> i64
         ensures { result ≡ literal_worth self }
     {
@@ -21,25 +22,32 @@ impl Literal {
     }
 }
 
-/// The outcome of a constant expression, which reads no variable and no output; None of any other.
+/// The outcome of an operator, by that of its operand.
+fn apply_unary(op: Unary, x: Result<i64, Trap>) -> Result<i64, Trap>
+    ensures { result ≡ then_one x (eval_unary op) }
+{
+    eval_unary(op, x?)
+}
+
+/// The outcome of an operator, by those of its operands; the left operand's trap wins (this profile).
+fn apply_binary(op: Binary, x: Result<i64, Trap>, y: Result<i64, Trap>) -> Result<i64, Trap>
+    ensures { result ≡ then_two x y (eval_binary op) }
+{
+    eval_binary(op, x?, y?)
+}
+
+/// The outcome of a constant expression; `None` for one that reads a variable or an output.
 pub fn constant<V>(expr: &Expr<V>) -> Option<Result<i64, Trap>>
     ensures { result ≡ constant_of (view_expr expr.now) }
 {
     match expr {
         Expr::Literal(literal) => Some(Ok(literal.worth())),
         Expr::Read(_) | Expr::Output(_, _) => None,
-        Expr::Unary(op, a) => Some(match constant(a)? {
-            Ok(x) => eval_unary(*op, x),
-            Err(trap) => Err(trap),
-        }),
+        Expr::Unary(op, a) => Some(apply_unary(*op, constant(a)?)),
         Expr::Binary(op, a, b) => {
             let left = constant(a)?;
             let right = constant(b)?;
-            Some(match (left, right) {
-                (Ok(x), Ok(y)) => eval_binary(*op, x, y),
-                (Err(trap), _) => Err(trap),
-                (_, Err(trap)) => Err(trap),
-            })
+            Some(apply_binary(*op, left, right))
         }
     }
 }

@@ -1,8 +1,8 @@
-//! The syntax tree of a body of Structured Text, over any kind of variable, and what it means.
+//! The syntax tree of a body of Structured Text, over any type of variable, and its meaning.
 //!
-//! A parser's tree has names in the variables' places, that of a run has numbers of cells. Contracts speak of a tree by its
-//! plain form: `view_expr` and `view_body` take a tree to it, and what it means is defined on it.
-//! A tree over `Text` is in contracts a tree over lists of bytes.
+//! The parser's tree has names as variables, the tree that runs has numbers of cells. Contracts speak of a tree's plain form,
+//! on which its meaning is defined: `view_expr` and `view_body` take a tree to it.
+//! In contracts, a tree over `Text` is one over lists of bytes.
 #![tactic(auto)]
 
 mod constants;
@@ -12,8 +12,6 @@ mod kinds;
 mod labels;
 mod laws;
 mod operators;
-#[cfg(test)]
-mod tests;
 mod tree;
 
 pub use constants::constant;
@@ -21,6 +19,6 @@ pub use controls::{Span, count_turns, span_of};
 pub use copy::{Duplicate, copy_body, copy_expr, copy_labels};
 pub use kinds::{binary_kind, is_bit, resolved_binary, resolved_unary, unary_kind};
 pub use labels::labels_fit;
-pub use laws::judged_kind;
+pub use laws::{constant_of_is_value_of, control_values_count_to_bound, kind_of_expr_is_kind_in};
 pub use operators::{eval_binary, eval_unary};
 pub use tree::{Argument, Binary, Branch, Choice, Expr, Label, Literal, Stmt, Unary};

@@ -1,7 +1,8 @@
 use Rattle.std.proofs.Common.{◌≡◌, drop, pos, neg_ℤ, ◌^◌, ◌-ℤ◌, ◌≤ℤ◌}
+use Rattle.std.specs.Prelude.{nat_abs}
 use Rattle.st_tree.specs.View.{view_body, view_branches, view_choices}
 use Rattle.st_tree.specs.Meaning.{run_all, turns, first_true, first_fit}
-use Rattle.st_tree.specs.Controls.{up, down, count_in, size}
+use Rattle.st_tree.specs.Controls.{up, down, count_in}
 use Rattle.st_walk.specs.Slots.{cell_space}
 use Rattle.st_walk.proofs.walker.+walk.Given as goal
 
@@ -23,7 +24,7 @@ invariant-count_up-loop-at l =
     (rest (up l.at l.to l.step) l.cells ≡ rest (up l.from l.to l.step) l.initial.cells) × (l.from ≤ℤ l.at) × (l.at ≤ℤ pos (2 ^ 65))
 
 abbrev pub decreases-count_up-loop-at : goal.decreases-count_up-loop-at
-decreases-count_up-loop-at l = count_in (l.to -ℤ l.at) (size l.step)
+decreases-count_up-loop-at l = count_in (l.to -ℤ l.at) (nat_abs l.step)
 
 abbrev pub invariant-count_down-loop-at : goal.invariant-count_down-loop-at
 invariant-count_down-loop-at l =
@@ -31,4 +32,4 @@ invariant-count_down-loop-at l =
     (rest (down l.at l.to l.step) l.cells ≡ rest (down l.from l.to l.step) l.initial.cells) × (l.at ≤ℤ l.from) × (neg_ℤ (pos (2 ^ 65)) ≤ℤ l.at)
 
 abbrev pub decreases-count_down-loop-at : goal.decreases-count_down-loop-at
-decreases-count_down-loop-at l = count_in (l.at -ℤ l.to) (size l.step)
+decreases-count_down-loop-at l = count_in (l.at -ℤ l.to) (nat_abs l.step)
