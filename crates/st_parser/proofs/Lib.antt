@@ -2,6 +2,7 @@ pub mod Steps
 pub mod Chain
 pub mod Complete
 pub mod Many
+pub mod Several
 pub mod Sound
 pub mod ReadStatements
 pub mod FoundStatements

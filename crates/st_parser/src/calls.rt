@@ -1,13 +1,13 @@
 //! Arguments of a call.
 
-ghost use Rattle.std.specs.Prelude.{◌≡◌, ◌∷◌, [], map};
+ghost use Rattle.std.specs.Prelude.{map};
 ghost use Rattle.st_parser.specs.Outcome.{Gives};
-ghost use Rattle.st_parser.specs.Reading.{with_first, others_at};
 ghost use Rattle.st_parser.specs.ReadingStatements.{argument_at, arguments_at};
 ghost use Rattle.st_tree.specs.View.{view_argument};
 
 use crate::expr::expression;
 use crate::fault::Stop;
+use crate::phrases::{Phrase, parse_after};
 use crate::reader::Reader;
 use plant_types::Text;
 use st_lexer::Symbol;
@@ -30,28 +30,35 @@ fn argument(alloc: Global, reader: &mut Reader) -> Result<Argument<Text>, Stop>
     Ok(Argument::Input(name, value))
 }
 
-/// Reads the arguments behind a first one, each with its comma.
-fn more_arguments(
-    alloc: Global,
-    first: Argument<Text>,
-    reader: &mut Reader,
-) -> Result<Vec<Argument<Text>>, Stop>
-    ensures { Gives (λ a. (map view_argument a.items, reader.new)) result (with_first (view_argument first ∷ []) (others_at argument_at reader.old)) }
-{
-    let mut arguments = Vec::new(alloc);
-    arguments.push(first)?;
-    // Each takes a token at least.
-    for _turn in 0..reader.left() {
+/// A comma and an argument.
+#[derive(Drop)]
+struct CommaArgument;
+
+impl Phrase for CommaArgument {
+    type Tree = Argument<Text>;
+
+    ghost use Rattle.std.specs.Prelude.{List, ℕ};
+    ghost use Rattle.st_lexer.specs.declared.token.Symbol.TheVariants.{Comma};
+    ghost use Rattle.st_parser.specs.Reading.{next_symbol, after_symbol};
+    ghost use Rattle.st_parser.specs.ReadingStatements.{argument_at};
+    ghost use Rattle.st_tree.specs.Plain.{PlainArgument};
+    ghost use Rattle.st_tree.specs.View.{view_argument};
+
+    ghost Plain = { PlainArgument (List ℕ) };
+
+    ghost view = { view_argument };
+
+    ghost starts = { λ _. next_symbol Comma };
+
+    ghost one_at = { λ _. after_symbol Comma argument_at };
+
+    fn parse(&self, alloc: Global, reader: &mut Reader) -> Result<Option<Argument<Text>>, Stop> {
         if !reader.is_symbol(Symbol::Comma) {
-            return Ok(arguments);
+            return Ok(None);
         }
         reader.symbol(Symbol::Comma)?;
-        arguments.push(argument(alloc, reader)?)?;
+        Ok(Some(argument(alloc, reader)?))
     }
-    if reader.is_symbol(Symbol::Comma) {
-        return Err(reader.stop());
-    }
-    Ok(arguments)
 }
 
 /// Reads the arguments of a call, up to its closing parenthesis.
@@ -63,5 +70,5 @@ pub fn arguments(alloc: Global, reader: &mut Reader) -> Result<Vec<Argument<Text
         return Ok(Vec::new(alloc));
     }
     let first = argument(alloc, reader)?;
-    more_arguments(alloc, first, reader)
+    parse_after(alloc, &CommaArgument, first, reader)
 }

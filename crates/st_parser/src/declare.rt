@@ -1,15 +1,16 @@
 //! Declarations and their sections.
 
-ghost use Rattle.std.specs.Prelude.{◌≡◌, ◌∷◌, [], map, option_map};
+ghost use Rattle.std.specs.Prelude.{◌≡◌, ◌∷◌, [], option_map};
 ghost use Rattle.st_parser.specs.Declarations.{kind_of_word, sort_of, section_of};
 ghost use Rattle.st_parser.specs.Outcome.{Gives};
-ghost use Rattle.st_parser.specs.Reading.{with_first, others_at, word_at, perhaps_at, next_symbol, after_symbol, expression_at, table_next, table_at, all_at, next_word};
+ghost use Rattle.st_parser.specs.Reading.{with_first, others_at, word_at, perhaps_at, next_symbol, after_symbol, expression_at, table_next, table_at};
 ghost use Rattle.st_parser.specs.ReadingUnits.{address_at, initial_at, declared_at, placed_at, declaration_at, global_at, globals_at, next_section as next_section_of, section_at};
 ghost use Rattle.st_parser.specs.Units.{view_declaration, view_section};
 ghost use Rattle.st_tree.specs.View.{view_expr};
 
 use crate::expr::expression;
 use crate::fault::Stop;
+use crate::phrases::{Phrase, parse_after, parse_all};
 use crate::reader::Reader;
 use crate::unit::{Declaration, PouKind, Section, SectionKind, Sort};
 use plant_types::{Kind, Region, Text};
@@ -114,24 +115,39 @@ fn end_of_declaration(
     })
 }
 
-/// Reads the names behind a first one, each with its comma.
+/// A comma and a name.
+#[derive(Drop)]
+struct CommaName;
+
+impl Phrase for CommaName {
+    type Tree = Text;
+
+    ghost use Rattle.std.specs.Prelude.{List, ℕ};
+    ghost use Rattle.st_lexer.specs.declared.token.Symbol.TheVariants.{Comma};
+    ghost use Rattle.st_parser.specs.Reading.{next_symbol, after_symbol, word_at};
+
+    ghost Plain = { List ℕ };
+
+    ghost view = { λ name. name };
+
+    ghost starts = { λ _. next_symbol Comma };
+
+    ghost one_at = { λ _. after_symbol Comma word_at };
+
+    fn parse(&self, alloc: Global, reader: &mut Reader) -> Result<Option<Text>, Stop> {
+        if !reader.is_symbol(Symbol::Comma) {
+            return Ok(None);
+        }
+        reader.symbol(Symbol::Comma)?;
+        Ok(Some(reader.word(alloc)?))
+    }
+}
+
+/// Parses the names after a first one, each with its comma.
 fn more_names(alloc: Global, first: Text, reader: &mut Reader) -> Result<Vec<Text>, Stop>
     ensures { Gives (λ names. (names.items, reader.new)) result (with_first (first ∷ []) (others_at word_at reader.old)) }
 {
-    let mut names = Vec::new(alloc);
-    names.push(first)?;
-    // Each takes a token at least.
-    for _turn in 0..reader.left() {
-        if !reader.is_symbol(Symbol::Comma) {
-            return Ok(names);
-        }
-        reader.symbol(Symbol::Comma)?;
-        names.push(reader.word(alloc)?)?;
-    }
-    if reader.is_symbol(Symbol::Comma) {
-        return Err(reader.stop());
-    }
-    Ok(names)
+    parse_after(alloc, &CommaName, first, reader)
 }
 
 /// Reads what is behind the first name of a declaration.
@@ -181,40 +197,58 @@ fn global(alloc: Global, reader: &mut Reader) -> Result<Declaration, Stop>
     }
 }
 
-/// Reads the declarations of a section.
-fn declarations(alloc: Global, reader: &mut Reader) -> Result<Vec<Declaration>, Stop>
-    ensures { Gives (λ all. (map view_declaration all.items, reader.new)) result (all_at next_word declaration_at reader.old) }
-{
-    let mut all = Vec::new(alloc);
-    // Each takes a token at least.
-    for _turn in 0..reader.left() {
+/// A declaration of a block or a program.
+#[derive(Drop)]
+struct LocalDeclaration;
+
+impl Phrase for LocalDeclaration {
+    type Tree = Declaration;
+
+    ghost use Rattle.st_parser.specs.Reading.{next_word};
+    ghost use Rattle.st_parser.specs.ReadingUnits.{declaration_at};
+    ghost use Rattle.st_parser.specs.Units.{PlainDeclaration, view_declaration};
+
+    ghost Plain = { PlainDeclaration };
+
+    ghost view = { view_declaration };
+
+    ghost starts = { λ _. next_word };
+
+    ghost one_at = { λ _. declaration_at };
+
+    fn parse(&self, alloc: Global, reader: &mut Reader) -> Result<Option<Declaration>, Stop> {
         if !reader.is_word() {
-            return Ok(all);
+            return Ok(None);
         }
-        all.push(declaration(alloc, reader)?)?;
+        Ok(Some(declaration(alloc, reader)?))
     }
-    if reader.is_word() {
-        return Err(reader.stop());
-    }
-    Ok(all)
 }
 
-/// Reads the declarations of a section of globals.
-fn global_declarations(alloc: Global, reader: &mut Reader) -> Result<Vec<Declaration>, Stop>
-    ensures { Gives (λ all. (map view_declaration all.items, reader.new)) result (all_at next_word global_at reader.old) }
-{
-    let mut all = Vec::new(alloc);
-    // Each takes a token at least.
-    for _turn in 0..reader.left() {
+/// A declaration of globals.
+#[derive(Drop)]
+struct GlobalDeclaration;
+
+impl Phrase for GlobalDeclaration {
+    type Tree = Declaration;
+
+    ghost use Rattle.st_parser.specs.Reading.{next_word};
+    ghost use Rattle.st_parser.specs.ReadingUnits.{global_at};
+    ghost use Rattle.st_parser.specs.Units.{PlainDeclaration, view_declaration};
+
+    ghost Plain = { PlainDeclaration };
+
+    ghost view = { view_declaration };
+
+    ghost starts = { λ _. next_word };
+
+    ghost one_at = { λ _. global_at };
+
+    fn parse(&self, alloc: Global, reader: &mut Reader) -> Result<Option<Declaration>, Stop> {
         if !reader.is_word() {
-            return Ok(all);
+            return Ok(None);
         }
-        all.push(global(alloc, reader)?)?;
+        Ok(Some(global(alloc, reader)?))
     }
-    if reader.is_word() {
-        return Err(reader.stop());
-    }
-    Ok(all)
 }
 
 /// Reads a section of globals.
@@ -223,7 +257,7 @@ pub fn globals(alloc: Global, reader: &mut Reader) -> Result<Section, Stop>
     ensures { Gives (λ s. (view_section s, reader.new)) result (globals_at reader.old) }
 {
     reader.keyword(Keyword::VarGlobal)?;
-    let declarations = global_declarations(alloc, reader)?;
+    let declarations = parse_all(alloc, &GlobalDeclaration, reader)?;
     reader.keyword(Keyword::EndVar)?;
     Ok(Section {
         kind: SectionKind::Global,
@@ -260,7 +294,7 @@ pub fn section(alloc: Global, pou: PouKind, reader: &mut Reader) -> Result<Secti
         return Err(reader.stop());
     };
     reader.advance();
-    let declarations = declarations(alloc, reader)?;
+    let declarations = parse_all(alloc, &LocalDeclaration, reader)?;
     reader.keyword(Keyword::EndVar)?;
     Ok(Section { kind, declarations })
 }

@@ -1,11 +1,12 @@
 //! Labels of a CASE.
 
-ghost use Rattle.std.specs.Prelude.{◌≡◌, ◌∷◌, []};
+ghost use Rattle.std.specs.Prelude.{◌≡◌};
 ghost use Rattle.st_parser.specs.Outcome.{Gives};
-ghost use Rattle.st_parser.specs.Reading.{with_first, listed_at, others_at, perhaps_at, next_symbol, after_symbol};
+ghost use Rattle.st_parser.specs.Reading.{listed_at, perhaps_at, next_symbol, after_symbol};
 ghost use Rattle.st_parser.specs.ReadingStatements.{number_at, label_at, next_label, negative_at};
 
 use crate::fault::Stop;
+use crate::phrases::{Phrase, parse_after};
 use crate::reader::Reader;
 use st_lexer::{Symbol, TokenKind};
 use st_tree::Label;
@@ -76,24 +77,33 @@ fn label(reader: &mut Reader) -> Result<Label, Stop>
     Ok(Label { low, high })
 }
 
-/// Reads the labels behind a first one, each with its comma.
-fn more_labels(alloc: Global, first: Label, reader: &mut Reader) -> Result<Vec<Label>, Stop>
-    ensures { Gives (λ labels. (labels.items, reader.new)) result (with_first (first ∷ []) (others_at label_at reader.old)) }
-{
-    let mut labels = Vec::new(alloc);
-    labels.push(first)?;
-    // Each takes a token at least.
-    for _turn in 0..reader.left() {
+/// A comma and a label.
+#[derive(Drop)]
+struct CommaLabel;
+
+impl Phrase for CommaLabel {
+    type Tree = Label;
+
+    ghost use Rattle.st_lexer.specs.declared.token.Symbol.TheVariants.{Comma};
+    ghost use Rattle.st_parser.specs.Reading.{next_symbol, after_symbol};
+    ghost use Rattle.st_parser.specs.ReadingStatements.{label_at};
+    ghost use Rattle.st_tree.specs.declared.tree.Label.{Label};
+
+    ghost Plain = { Label };
+
+    ghost view = { λ label. label };
+
+    ghost starts = { λ _. next_symbol Comma };
+
+    ghost one_at = { λ _. after_symbol Comma label_at };
+
+    fn parse(&self, _alloc: Global, reader: &mut Reader) -> Result<Option<Label>, Stop> {
         if !reader.is_symbol(Symbol::Comma) {
-            return Ok(labels);
+            return Ok(None);
         }
         reader.symbol(Symbol::Comma)?;
-        labels.push(label(reader)?)?;
+        Ok(Some(label(reader)?))
     }
-    if reader.is_symbol(Symbol::Comma) {
-        return Err(reader.stop());
-    }
-    Ok(labels)
 }
 
 /// Reads the labels of a branch.
@@ -101,5 +111,5 @@ pub fn labels(alloc: Global, reader: &mut Reader) -> Result<Vec<Label>, Stop>
     ensures { Gives (λ labels. (labels.items, reader.new)) result (listed_at label_at reader.old) }
 {
     let first = label(reader)?;
-    more_labels(alloc, first, reader)
+    parse_after(alloc, &CommaLabel, first, reader)
 }

@@ -8,6 +8,7 @@ mod declare;
 mod expr;
 mod fault;
 mod labels;
+mod phrases;
 mod reader;
 mod stmt;
 mod unit;

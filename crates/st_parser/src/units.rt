@@ -1,55 +1,76 @@
 //! Blocks, programs and units.
 
-ghost use Rattle.std.specs.Prelude.{◌≡◌, ◌-◌, List, map, length, IfErr, MatchResult};
+ghost use Rattle.std.specs.Prelude.{◌≡◌, ◌-◌, List, length, IfErr, MatchResult};
 ghost use Rattle.st_parser.specs.Declarations.{SpellsUnit, closing_keyword};
 ghost use Rattle.st_parser.specs.Lexemes.{Lexeme, lexemes};
 ghost use Rattle.st_parser.specs.Outcome.{Gives, SpellNone, NamesOneOf};
-ghost use Rattle.st_parser.specs.Reading.{all_at, table_next, next_keyword};
-ghost use Rattle.st_parser.specs.ReadingUnits.{globals_at, next_section as next_section_of, section_at, pou_of, next_pou, pou_at, unit_at};
-ghost use Rattle.st_parser.specs.Units.{PlainUnit, view_unit, view_section, view_pou};
+ghost use Rattle.st_parser.specs.Reading.{table_next};
+ghost use Rattle.st_parser.specs.ReadingUnits.{pou_of, next_pou, pou_at, unit_at};
+ghost use Rattle.st_parser.specs.Units.{PlainUnit, view_unit, view_pou};
 
 use crate::declare::{globals, is_section, section};
 use crate::fault::{ParseFault, Stop};
+use crate::phrases::{Phrase, parse_all};
 use crate::reader::Reader;
 use crate::stmt::statements;
 use crate::unit::{Pou, PouKind, Section, Unit};
 use st_lexer::{Keyword, Token, TokenKind};
 use std::alloc::Global;
 
-/// Reads the sections of globals.
-fn global_sections(alloc: Global, reader: &mut Reader) -> Result<Vec<Section>, Stop>
-    ensures { Gives (λ all. (map view_section all.items, reader.new)) result (all_at (next_keyword Keyword.VarGlobal) globals_at reader.old) }
-{
-    let mut all = Vec::new(alloc);
-    // Each takes a token at least.
-    for _turn in 0..reader.left() {
+/// A section of globals.
+#[derive(Drop)]
+struct GlobalSection;
+
+impl Phrase for GlobalSection {
+    type Tree = Section;
+
+    ghost use Rattle.st_lexer.specs.declared.token.Keyword.TheVariants.{VarGlobal};
+    ghost use Rattle.st_parser.specs.Reading.{next_keyword};
+    ghost use Rattle.st_parser.specs.ReadingUnits.{globals_at};
+    ghost use Rattle.st_parser.specs.Units.{PlainSection, view_section};
+
+    ghost Plain = { PlainSection };
+
+    ghost view = { view_section };
+
+    ghost starts = { λ _. next_keyword VarGlobal };
+
+    ghost one_at = { λ _. globals_at };
+
+    fn parse(&self, alloc: Global, reader: &mut Reader) -> Result<Option<Section>, Stop> {
         if !reader.is_keyword(Keyword::VarGlobal) {
-            return Ok(all);
+            return Ok(None);
         }
-        all.push(globals(alloc, reader)?)?;
+        Ok(Some(globals(alloc, reader)?))
     }
-    if reader.is_keyword(Keyword::VarGlobal) {
-        return Err(reader.stop());
-    }
-    Ok(all)
 }
 
-/// Reads the sections of a block or a program.
-fn sections(alloc: Global, pou: PouKind, reader: &mut Reader) -> Result<Vec<Section>, Stop>
-    ensures { Gives (λ all. (map view_section all.items, reader.new)) result (all_at (next_section_of pou) (section_at pou) reader.old) }
-{
-    let mut all = Vec::new(alloc);
-    // Each takes a token at least.
-    for _turn in 0..reader.left() {
-        if !is_section(pou, reader) {
-            return Ok(all);
+/// A section of a block or a program.
+#[derive(Drop)]
+struct LocalSection {
+    pou: PouKind,
+}
+
+impl Phrase for LocalSection {
+    type Tree = Section;
+
+    ghost use Rattle.st_parser.specs.ReadingUnits.{next_section, section_at};
+    ghost use Rattle.st_parser.specs.Units.{PlainSection, view_section};
+
+    ghost Plain = { PlainSection };
+
+    ghost view = { view_section };
+
+    ghost starts = { λ phrase. next_section phrase.pou };
+
+    ghost one_at = { λ phrase. section_at phrase.pou };
+
+    fn parse(&self, alloc: Global, reader: &mut Reader) -> Result<Option<Section>, Stop> {
+        if !is_section(self.pou, reader) {
+            return Ok(None);
         }
-        all.push(section(alloc, pou, reader)?)?;
+        Ok(Some(section(alloc, self.pou, reader)?))
     }
-    if is_section(pou, reader) {
-        return Err(reader.stop());
-    }
-    Ok(all)
 }
 
 /// What the next token opens.
@@ -90,7 +111,7 @@ fn pou(alloc: Global, reader: &mut Reader) -> Result<Pou, Stop>
     };
     reader.advance();
     let name = reader.word(alloc)?;
-    let sections = sections(alloc, kind, reader)?;
+    let sections = parse_all(alloc, &LocalSection { pou: kind }, reader)?;
     let body = statements(alloc, reader)?;
     reader.keyword(closing_keyword(kind))?;
     Ok(Pou {
@@ -101,22 +122,30 @@ fn pou(alloc: Global, reader: &mut Reader) -> Result<Pou, Stop>
     })
 }
 
-/// Reads the blocks and programs.
-fn pous(alloc: Global, reader: &mut Reader) -> Result<Vec<Pou>, Stop>
-    ensures { Gives (λ all. (map view_pou all.items, reader.new)) result (all_at next_pou pou_at reader.old) }
-{
-    let mut all = Vec::new(alloc);
-    // Each takes a token at least.
-    for _turn in 0..reader.left() {
+/// A block or a program.
+#[derive(Drop)]
+struct AnyPou;
+
+impl Phrase for AnyPou {
+    type Tree = Pou;
+
+    ghost use Rattle.st_parser.specs.ReadingUnits.{next_pou, pou_at};
+    ghost use Rattle.st_parser.specs.Units.{PlainPou, view_pou};
+
+    ghost Plain = { PlainPou };
+
+    ghost view = { view_pou };
+
+    ghost starts = { λ _. next_pou };
+
+    ghost one_at = { λ _. pou_at };
+
+    fn parse(&self, alloc: Global, reader: &mut Reader) -> Result<Option<Pou>, Stop> {
         if !is_pou(reader) {
-            return Ok(all);
+            return Ok(None);
         }
-        all.push(pou(alloc, reader)?)?;
+        Ok(Some(pou(alloc, reader)?))
     }
-    if is_pou(reader) {
-        return Err(reader.stop());
-    }
-    Ok(all)
 }
 
 /// Reads a unit.
@@ -124,8 +153,8 @@ fn pous(alloc: Global, reader: &mut Reader) -> Result<Vec<Pou>, Stop>
 fn unit(alloc: Global, reader: &mut Reader) -> Result<Unit, Stop>
     ensures { Gives (λ unit. (view_unit unit, reader.new)) result (unit_at reader.old) }
 {
-    let globals = global_sections(alloc, reader)?;
-    let pous = pous(alloc, reader)?;
+    let globals = parse_all(alloc, &GlobalSection, reader)?;
+    let pous = parse_all(alloc, &AnyPou, reader)?;
     Ok(Unit { globals, pous })
 }
 

@@ -1,0 +1,75 @@
+//! Phrases that stand one after another.
+
+ghost use Rattle.std.specs.Prelude.{Bool, List, [], ◌∷◌, Option, map, option_map};
+ghost use Rattle.st_parser.specs.Lexemes.{Lexeme};
+ghost use Rattle.st_parser.specs.Outcome.{Gives};
+ghost use Rattle.st_parser.specs.Reading.{with_first, all_at, perhaps_at};
+
+use crate::fault::Stop;
+use crate::reader::Reader;
+use std::alloc::Global;
+
+/// A phrase of which several may stand one after another.
+pub trait Phrase {
+    /// What it is parsed as.
+    type Tree: Drop;
+
+    ghost Plain: { Type 0 };
+
+    ghost view: { Self.Tree → Plain };
+
+    ghost starts: { Self → List Lexeme → Bool };
+
+    ghost one_at: { Self → List Lexeme → Option (Plain × List Lexeme) };
+
+    /// Parses one, if one is next. It takes a token at least.
+    fn parse(&self, alloc: Global, reader: &mut Reader) -> Result<Option<Self::Tree>, Stop>
+        ensures { Gives (λ tree. (option_map view tree, reader.new)) result (perhaps_at (starts self.now) (one_at self.now) reader.old) };
+}
+
+/// Parses as many phrases as there are, and puts them after those in `before`.
+fn parse_more<P: Phrase>(
+    alloc: Global,
+    phrase: &P,
+    before: Vec<P::Tree>,
+    reader: &mut Reader,
+) -> Result<Vec<P::Tree>, Stop>
+    ensures { Gives (λ all. (map P.view all.items, reader.new)) result (with_first (map P.view before.items) (all_at (P.starts phrase.now) (P.one_at phrase.now) reader.old)) }
+{
+    let mut all = before;
+    for _turn in 0..reader.left() {
+        match phrase.parse(alloc, reader)? {
+            Some(tree) => all.push(tree)?,
+            None => return Ok(all),
+        }
+    }
+    match phrase.parse(alloc, reader)? {
+        Some(_) => Err(reader.stop()),
+        None => Ok(all),
+    }
+}
+
+/// Parses as many phrases as there are.
+pub fn parse_all<P: Phrase>(
+    alloc: Global,
+    phrase: &P,
+    reader: &mut Reader,
+) -> Result<Vec<P::Tree>, Stop>
+    ensures { Gives (λ all. (map P.view all.items, reader.new)) result (all_at (P.starts phrase.now) (P.one_at phrase.now) reader.old) }
+{
+    parse_more(alloc, phrase, Vec::new(alloc), reader)
+}
+
+/// Parses as many phrases as there are after a first one.
+pub fn parse_after<P: Phrase>(
+    alloc: Global,
+    phrase: &P,
+    first: P::Tree,
+    reader: &mut Reader,
+) -> Result<Vec<P::Tree>, Stop>
+    ensures { Gives (λ all. (map P.view all.items, reader.new)) result (with_first (P.view first ∷ []) (all_at (P.starts phrase.now) (P.one_at phrase.now) reader.old)) }
+{
+    let mut all = Vec::new(alloc);
+    all.push(first)?;
+    parse_more(alloc, phrase, all, reader)
+}
