@@ -118,7 +118,7 @@ variable_read : (inner : ℕ → List Lexeme → Answer) (name : List ℕ) (ts :
 unfolding operand
 variable_read inner name ts alone = rw alone refl
 
--- the reader has come past the expression, and goes on with the operators behind it
+-- the expression is found, and its operators come next
 pub record Reached (limit level : ℕ) (all : List Lexeme) (e : PlainExpr (List ℕ)) (rest : List Lexeme) (depth : ℕ) : Type 0 where
   pub deeper : ℕ
   pub below : limit ≡ suc deeper
@@ -167,8 +167,8 @@ complete (suc d) (suc limit) m l ts e rest le lm (before_operand t op a x kind s
     let unsigned : is_signed (t ∷ x) ≡ false = sym (ap is_signed is) ∙ signs in
     rw (is, tree) (begun limit l (t ∷ (x ++ rest)) (unary op a) rest (w.seen + 1) (suc d) (prefix_read (climb limit) t op x rest kind unsigned some ∙ ap (prefixed op) w.is) (omega arith) (omega arith))
 complete (suc d) (suc limit) m l ts e rest le lm (between_operands t op a c x y kind tight is tree left right) stop alone =
-    let behind = t ∷ (y ++ rest) in
-    let first = complete d (suc limit) (level_of op) l x a behind (omega arith) (omega arith) left (stops_above (level_of op + 1) t op (y ++ rest) kind (omega arith)) (operator_no_point t op (y ++ rest) kind) in
+    let after_it = t ∷ (y ++ rest) in
+    let first = complete d (suc limit) (level_of op) l x a after_it (omega arith) (omega arith) left (stops_above (level_of op + 1) t op (y ++ rest) kind (omega arith)) (operator_no_point t op (y ++ rest) kind) in
     let second = complete d limit (level_of op + 1) (level_of op + 1) y c rest (omega arith) (omega arith) right (stops_more (m + 1) (level_of op + 1 + 1) rest (omega arith) stop) alone in
     let w = whole limit (level_of op + 1) (y ++ rest) c rest d (omega arith) (stops_more (m + 1) (level_of op + 1) rest (omega arith) stop) second in
     let f1 = first.shallow in
@@ -184,11 +184,11 @@ complete (suc d) (suc limit) m l ts e rest le lm (between_operands t op a c x y 
       fuel = one_less.0;
       shallow = omega arith;
       room = omega arith;
-      is = rw (is, append_assoc x (t ∷ y) rest, tree) (first.is ∙ ap (λ n. chain (climb n) n l first.fuel a first.seen behind) same
-          ∙ goes (climb limit) limit l first.fuel one_less.0 a first.seen behind op (c, w.seen, rest) less (starts_with l t op (y ++ rest) kind (omega arith)) (omega arith) w.is);
+      is = rw (is, append_assoc x (t ∷ y) rest, tree) (first.is ∙ ap (λ n. chain (climb n) n l first.fuel a first.seen after_it) same
+          ∙ goes (climb limit) limit l first.fuel one_less.0 a first.seen after_it op (c, w.seen, rest) less (starts_with l t op (y ++ rest) kind (omega arith)) (omega arith) w.is);
     }
 
--- what may stand behind a whole expression
+-- what may stand after a whole expression
 abbrev pub ends : List Lexeme → Bool
 ends (symbol s.Comma ∷ ts) = true
 ends (symbol s.Close ∷ ts) = true

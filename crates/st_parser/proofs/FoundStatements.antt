@@ -12,7 +12,7 @@ use Rattle.st_parser.specs.Grammar.{IsExpression}
 use Rattle.st_parser.specs.Statements.{IsArgument, for_input, for_output, Arguments, none, some, IsNumber, plain, negative, IsLabel, range, IsBranch, test, IsChoice, labelled, Otherwise, nothing, instead, Statement, bare, assignment, calling, branching, selecting, repeating, Ended, ended, Sequence, sequence, SpellsStmt, IsBody}
 use Rattle.st_parser.specs.Reading.{word_at, next_symbol, next_keyword, symbol_at, keyword_at, all_at, perhaps_at, after_symbol, after_keyword, listed_at, expression_at}
 use Rattle.st_parser.specs.ReadingStatements.{taken_at, given_at, called_at, assigned_at, argued_at, argument_at, arguments_at, negative_at, number_at, label_at, next_label, next_stmt, simple_at, branch_at, choice_at, otherwise_at, branches_at, choices_at, if_at, case_at, bounds_at, for_at, stmt_at, ended_at, as_body, item_at, sequence_at, body_at}
-use Rattle.st_parser.proofs.Many.{Front, Finds, turned, behind_some, all_found, perhaps_found, after_symbol_found, after_keyword_found, listed_found, three_parts}
+use Rattle.st_parser.proofs.Many.{Front, Finds, turned, with_first_some, all_found, perhaps_found, after_symbol_found, after_keyword_found, listed_found, three_parts}
 use Rattle.st_parser.proofs.Sound.{expression_found}
 use Rattle.st_parser.proofs.Steps.{true_or_false, bind_some, same_some, passed, word_found, symbol_found, keyword_found, next_is_symbol, next_is_keyword}
 
@@ -151,7 +151,7 @@ case_whole : (d x y o ts r inside u w left : List Lexeme) → ts ≡ d ++ r → 
 case_whole d x y o ts r inside u w left e0 e1 e2 e3 e4 =
     rw (e0, e1, e2, e3, e4) (ap (λ l. keyword k.Case ∷ l) (sym (append_assoc d (keyword k.Of ∷ (x ++ (y ++ (o ++ keyword k.EndCase ∷ [])))) left ∙ ap (λ l. d ++ keyword k.Of ∷ l) (three_parts x y o (keyword k.EndCase) left))))
 
--- a first phrase, and others behind it
+-- a first phrase, and others after it
 record Led {A : Type 0} (Q R : List Lexeme → A → Type 0) (ts : List Lexeme) (all : List A) (rest : List Lexeme) : Type 0 where
   pub first : A
   pub others : List A
@@ -215,7 +215,7 @@ module _ (P : List Lexeme → PlainBody (List ℕ) → Type 0) (inner : List Lex
   unfolding branches_at
   branches_found ts branches rest h =
       let (first, was_first, h1) = bind_some (branch_at inner ts) _ (branches, rest) h in
-      let (m, was_others, is) = behind_some (first.0 ∷ []) (all_at (next_keyword k.Elsif) (after_keyword k.Elsif (branch_at inner)) first.1) (branches, rest) h1 in
+      let (m, was_others, is) = with_first_some (first.0 ∷ []) (all_at (next_keyword k.Elsif) (after_keyword k.Elsif (branch_at inner)) first.1) (branches, rest) h1 in
       let f = branch_found ts first.0 first.1 was_first in
       let g = all_found (After (keyword k.Elsif) (IsBranch P)) (next_keyword k.Elsif) anything (after_keyword k.Elsif (branch_at inner)) (after_keyword_found (IsBranch P) anything (branch_at inner) k.Elsif branch_found) first.1 m.0 m.1 was_others in
       led (IsBranch P) (After (keyword k.Elsif) (IsBranch P)) ts first.0 first.1 m.0 m.1 branches rest f g is
@@ -224,7 +224,7 @@ module _ (P : List Lexeme → PlainBody (List ℕ) → Type 0) (inner : List Lex
   unfolding choices_at
   choices_found ts choices rest h =
       let (first, was_first, h1) = bind_some (choice_at inner ts) _ (choices, rest) h in
-      let (m, was_others, is) = behind_some (first.0 ∷ []) (all_at next_label (choice_at inner) first.1) (choices, rest) h1 in
+      let (m, was_others, is) = with_first_some (first.0 ∷ []) (all_at next_label (choice_at inner) first.1) (choices, rest) h1 in
       let f = choice_found ts first.0 first.1 was_first in
       let g = all_found (IsChoice P) next_label anything (choice_at inner) choice_found first.1 m.0 m.1 was_others in
       led (IsChoice P) (IsChoice P) ts first.0 first.1 m.0 m.1 choices rest f g is

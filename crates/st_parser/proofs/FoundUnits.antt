@@ -17,7 +17,7 @@ use Rattle.st_parser.specs.declared.unit.SectionKind.TheVariants as section
 use Rattle.st_parser.specs.declared.unit.Sort.{Sort}
 use Rattle.st_parser.specs.declared.unit.Sort.TheVariants as sort
 use Rattle.st_parser.proofs.FoundStatements.{chosen, left_out, body_found}
-use Rattle.st_parser.proofs.Many.{Front, Finds, turned, behind_some, all_found, perhaps_found, after_symbol_found, others_found, two_parts}
+use Rattle.st_parser.proofs.Many.{Front, Finds, turned, with_first_some, all_found, perhaps_found, after_symbol_found, others_found, two_parts}
 use Rattle.st_parser.proofs.ReadUnits.{unit_read}
 use Rattle.st_parser.proofs.Sound.{expression_found}
 use Rattle.st_parser.proofs.Steps.{true_or_false, bind_some, same_some, word_found, symbol_found, keyword_found, next_is_keyword}
@@ -81,7 +81,7 @@ declared_found : (name : List ℕ) (ts : List Lexeme) (d : PlainDeclaration) (re
 unfolding declared_at
 declared_found name ts d rest h =
     let (names, was_names, h1) = bind_some (with_first (name ∷ []) (others_at word_at ts)) _ (d, rest) h in
-    let (others, was_others, same) = behind_some (name ∷ []) (others_at word_at ts) names was_names in
+    let (others, was_others, same) = with_first_some (name ∷ []) (others_at word_at ts) names was_names in
     let (colon, was_colon, h2) = bind_some (symbol_at s.Colon names.1) _ (d, rest) h1 in
     let (what, was_what, h3) = bind_some (table_at sort_of colon) _ (d, rest) h2 in
     let f = others_found IsName anything word_at word_finds ts others.0 others.1 was_others in

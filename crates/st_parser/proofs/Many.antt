@@ -22,11 +22,11 @@ pub record Front {A : Type 0} (Q : List Lexeme → A → Type 0) (ts : List Lexe
 abbrev pub Finds : {A : Type 0} → (List Lexeme → A → Type 0) → (List Lexeme → Option (A × List Lexeme)) → Type 0
 Finds {A} Q one_at = (ts : List Lexeme) (a : A) (rest : List Lexeme) → one_at ts ≡ Some (a, rest) → Front Q ts a rest
 
--- what is spelled is read, where what is behind it may stand there
+-- what is spelled is read, where what is after it may stand there
 abbrev pub Reads : {A : Type 0} → (List Lexeme → A → Type 0) → (List Lexeme → Option (A × List Lexeme)) → (List Lexeme → Bool) → Type 0
 Reads {A} Q one_at may = (x rest : List Lexeme) (a : A) → Q x a → may rest ≡ true → one_at (x ++ rest) ≡ Some (a, rest)
 
--- where one begins, one of its kind may stand behind another
+-- where one begins, one of its kind may stand after another
 abbrev pub Begins : {A : Type 0} → (List Lexeme → A → Type 0) → (List Lexeme → Bool) → (List Lexeme → Bool) → Type 0
 Begins {A} Q starts may = (x rest : List Lexeme) (a : A) → Q x a → (starts (x ++ rest) ≡ true) × (may (x ++ rest) ≡ true) × (0 < length x)
 
@@ -114,22 +114,22 @@ module _ {A : Type 0} (Q : List Lexeme → A → Type 0) (starts may : List Lexe
             again (Perhaps Q) ts None o ts rest (ap (λ b. cond b (one_at ts >>= on) (Some (None, ts))) (sym no') ∙ h) nothing
       ]
 
-pub behind_some : {A : Type 0} (before : List A) (o : Option (List A × List Lexeme)) (r : List A × List Lexeme) → with_first before o ≡ Some r → (m : List A × List Lexeme) × (o ≡ Some m) × ((before ++ m.0, m.1) ≡ r)
-behind_some before None r h = absurd (cc)
-behind_some before (Some m) r h = (m, refl, same_some _ _ h)
+pub with_first_some : {A : Type 0} (before : List A) (o : Option (List A × List Lexeme)) (r : List A × List Lexeme) → with_first before o ≡ Some r → (m : List A × List Lexeme) × (o ≡ Some m) × ((before ++ m.0, m.1) ≡ r)
+with_first_some before None r h = absurd (cc)
+with_first_some before (Some m) r h = (m, refl, same_some _ _ h)
 
 module _ {A : Type 0} (Q : List Lexeme → A → Type 0) (may : List Lexeme → Bool) (one_at : List Lexeme → Option (A × List Lexeme)) where
   pub after_symbol_found : (t : Symbol) → Finds Q one_at → Finds (After (symbol t) Q) (after_symbol t one_at)
   after_symbol_found t finds ts a rest h =
-      let (behind', was, is) = bind_some (symbol_at t ts) one_at (a, rest) h in
-      let f = finds behind' a rest is in
-      record { front = symbol t ∷ f.front; whole = symbol_found t ts behind' was ∙ ap (λ l. symbol t ∷ l) f.whole; spelled = after f.front refl f.spelled }
+      let (after_it, was, is) = bind_some (symbol_at t ts) one_at (a, rest) h in
+      let f = finds after_it a rest is in
+      record { front = symbol t ∷ f.front; whole = symbol_found t ts after_it was ∙ ap (λ l. symbol t ∷ l) f.whole; spelled = after f.front refl f.spelled }
 
   pub after_keyword_found : (t : Keyword) → Finds Q one_at → Finds (After (keyword t) Q) (after_keyword t one_at)
   after_keyword_found t finds ts a rest h =
-      let (behind', was, is) = bind_some (keyword_at t ts) one_at (a, rest) h in
-      let f = finds behind' a rest is in
-      record { front = keyword t ∷ f.front; whole = keyword_found t ts behind' was ∙ ap (λ l. keyword t ∷ l) f.whole; spelled = after f.front refl f.spelled }
+      let (after_it, was, is) = bind_some (keyword_at t ts) one_at (a, rest) h in
+      let f = finds after_it a rest is in
+      record { front = keyword t ∷ f.front; whole = keyword_found t ts after_it was ∙ ap (λ l. keyword t ∷ l) f.whole; spelled = after f.front refl f.spelled }
 
   pub after_symbol_read : (t : Symbol) → Reads Q one_at may → Reads (After (symbol t) Q) (after_symbol t one_at) may
   after_symbol_read t reads x rest a (after y is spelled) h =
@@ -157,7 +157,7 @@ module _ {A : Type 0} (Q : List Lexeme → A → Type 0) (may : List Lexeme → 
   pub others_found : Finds Q one_at → Finds (Each (After (symbol s.Comma) Q)) (others_at one_at)
   others_found finds = all_found (After (symbol s.Comma) Q) (next_symbol s.Comma) may (after_symbol s.Comma one_at) (after_symbol_found s.Comma finds)
 
-  -- behind the first of a list
+  -- after the first of a list
   others_follow : ((ts : List Lexeme) → may (symbol s.Comma ∷ ts) ≡ true) → (items : List A) (ts rest : List Lexeme) → Each (After (symbol s.Comma) Q) ts items → may rest ≡ true → may (ts ++ rest) ≡ true
   others_follow commas items ts rest each h = may_follow (After (symbol s.Comma) Q) (next_symbol s.Comma) may (after_symbol s.Comma one_at) (after_symbol_begins s.Comma commas) items ts rest each h
 
@@ -168,7 +168,7 @@ module _ {A : Type 0} (Q : List Lexeme → A → Type 0) (may : List Lexeme → 
   pub listed_found : Finds Q one_at → Finds (Listed Q) (listed_at one_at)
   listed_found finds ts items rest h =
       let (a, was, then') = bind_some (one_at ts) (λ (a : A × List Lexeme). with_first (a.0 ∷ []) (others_at one_at a.1)) (items, rest) h in
-      let (m, was_more, is) = behind_some (a.0 ∷ []) (others_at one_at a.1) (items, rest) then' in
+      let (m, was_more, is) = with_first_some (a.0 ∷ []) (others_at one_at a.1) (items, rest) then' in
       let f = finds ts a.0 a.1 was in
       let g = others_found finds a.1 m.0 m.1 was_more in
       let both : Front (Listed Q) ts (a.0 ∷ m.0) m.1 = record {
@@ -185,23 +185,16 @@ two_parts x y t rest = append_assoc x (y ++ t ∷ []) rest ∙ ap (λ l. x ++ l)
 pub three_parts : (x y z : List Lexeme) (t : Lexeme) (rest : List Lexeme) → (x ++ (y ++ (z ++ t ∷ []))) ++ rest ≡ x ++ (y ++ (z ++ t ∷ rest))
 three_parts x y z t rest = append_assoc x (y ++ (z ++ t ∷ [])) rest ∙ ap (λ l. x ++ l) (two_parts y z t rest)
 
-behind_ahead : {A : Type 0} (before : List A) (a : A) (o : Option (List A × List Lexeme)) → with_first (before ++ a ∷ []) o ≡ with_first before (o >>= ahead a)
-behind_ahead before a None = refl
-behind_ahead before a (Some more) = ap (λ l. Some (l, more.1)) (append_assoc before (a ∷ []) more.0)
+with_first_ahead : {A : Type 0} (before : List A) (a : A) (o : Option (List A × List Lexeme)) → with_first (before ++ a ∷ []) o ≡ with_first before (o >>= ahead a)
+with_first_ahead before a None = refl
+with_first_ahead before a (Some more) = ap (λ l. Some (l, more.1)) (append_assoc before (a ∷ []) more.0)
 
 -- one phrase more, seen by view
 pub many_goes : {X A : Type 0} (view : X → A) (starts : List Lexeme → Bool) (one_at : List Lexeme → Option (A × List Lexeme)) (before after' : List X) (x : X) (fuel left : ℕ) (ts rest : List Lexeme) → after' ≡ before ++ x ∷ [] → fuel ≡ left + 1 → starts ts ≡ true → one_at ts ≡ Some (view x, rest) → with_first (map view after') (many starts one_at left rest) ≡ with_first (map view before) (many starts one_at fuel ts)
 many_goes view starts one_at before after' x zero left ts rest pushed more yes' is = absurd (omega arith)
 many_goes view starts one_at before after' x (suc fuel) left ts rest pushed more yes' is =
     let same : left ≡ fuel = omega arith in
-    rw (yes', is, same, pushed, map_push view before x) (behind_ahead (map view before) (view x) (many starts one_at fuel rest))
-
--- the same of phrases as they are
-pub many_more : {A : Type 0} (starts : List Lexeme → Bool) (one_at : List Lexeme → Option (A × List Lexeme)) (before after' : List A) (a : A) (fuel left : ℕ) (ts rest : List Lexeme) → after' ≡ before ++ a ∷ [] → fuel ≡ left + 1 → starts ts ≡ true → one_at ts ≡ Some (a, rest) → with_first after' (many starts one_at left rest) ≡ with_first before (many starts one_at fuel ts)
-many_more starts one_at before after' a zero left ts rest pushed more yes' is = absurd (omega arith)
-many_more starts one_at before after' a (suc fuel) left ts rest pushed more yes' is =
-    let same : left ≡ fuel = omega arith in
-    rw (yes', is, same, pushed) (behind_ahead before a (many starts one_at fuel rest))
+    rw (yes', is, same, pushed, map_push view before x) (with_first_ahead (map view before) (view x) (many starts one_at fuel rest))
 
 -- no phrase more
 pub many_ends : {A : Type 0} (starts : List Lexeme → Bool) (one_at : List Lexeme → Option (A × List Lexeme)) (before : List A) (fuel : ℕ) (ts : List Lexeme) → starts ts ≡ false → with_first before (many starts one_at fuel ts) ≡ Some (before, ts)

@@ -46,7 +46,7 @@ number_read x rest n (negative m small is what) h =
     let so : nat_le m 2147483648 ≡ true = grind (arith, nat_tests) in
     rw (is, what) (ap (λ b. cond b (Some (neg_ℤ (pos m), rest)) None) so)
 
--- what may stand behind a label
+-- what may stand after a label
 abbrev label_ends : List Lexeme → Bool
 label_ends (symbol s.Comma ∷ ts) = true
 label_ends (symbol s.Colon ∷ ts) = true
@@ -124,7 +124,7 @@ module _ (P : List Lexeme → PlainBody (List ℕ) → Type 0) (inner : List Lex
   otherwise_read x rest last (nothing is what) h no' = rw (is, what, no') refl
   otherwise_read x rest last (instead y is inside) h no' = rw is (reads y rest last inside h)
 
-  -- behind the branches
+  -- after the branches
   otherwise_if : (x rest : List Lexeme) (last : PlainBody (List ℕ)) → Otherwise P x last → (stops (x ++ keyword k.EndIf ∷ rest) ≡ true) × (next_keyword k.Elsif (x ++ keyword k.EndIf ∷ rest) ≡ false)
   otherwise_if x rest last (nothing is what) = (rw is refl, rw is refl)
   otherwise_if x rest last (instead y is inside) = (rw is refl, rw is refl)
@@ -158,9 +158,9 @@ module _ (P : List Lexeme → PlainBody (List ℕ) → Type 0) (inner : List Lex
       → for_at inner (word name ∷ symbol s.Becomes ∷ (w ++ keyword k.To ∷ (x ++ (y ++ keyword k.Do ∷ (z ++ keyword k.EndFor ∷ rest))))) ≡ Some (repeat 0 name from to by body, rest)
   unfolding for_at bounds_at
   for_read name w x y z rest from to by body is_from is_to is_by is_body =
-      let behind_do = keyword k.Do ∷ (z ++ keyword k.EndFor ∷ rest) in
-      let step = perhaps_read (After (keyword k.By) IsExpression) (next_keyword k.By) ends (after_keyword k.By expression_at) (after_keyword_read IsExpression ends expression_at k.By (λ x rest e p h. expression_read x rest e p h)) (keyword_next IsExpression ends expression_at k.By) by y behind_do is_by refl refl in
-      rw (expression_read w (keyword k.To ∷ (x ++ (y ++ behind_do))) from is_from refl, expression_read x (y ++ behind_do) to is_to (by_ends y (z ++ keyword k.EndFor ∷ rest) by is_by), step, reads z (keyword k.EndFor ∷ rest) body is_body refl) refl
+      let after_do = keyword k.Do ∷ (z ++ keyword k.EndFor ∷ rest) in
+      let step = perhaps_read (After (keyword k.By) IsExpression) (next_keyword k.By) ends (after_keyword k.By expression_at) (after_keyword_read IsExpression ends expression_at k.By (λ x rest e p h. expression_read x rest e p h)) (keyword_next IsExpression ends expression_at k.By) by y after_do is_by refl refl in
+      rw (expression_read w (keyword k.To ∷ (x ++ (y ++ after_do))) from is_from refl, expression_read x (y ++ after_do) to is_to (by_ends y (z ++ keyword k.EndFor ∷ rest) by is_by), step, reads z (keyword k.EndFor ∷ rest) body is_body refl) refl
 
   statement_read : (x rest : List Lexeme) (stmt : PlainStmt (List ℕ)) → Statement P x stmt → stmt_at inner (x ++ symbol s.Semicolon ∷ rest) ≡ Some (stmt, symbol s.Semicolon ∷ rest)
   unfolding stmt_at simple_at called_at assigned_at

@@ -35,19 +35,19 @@ initial_read names region what initial y rest p =
 word_read : Reads IsName word_at anything
 word_read x rest name is h = rw is refl
 
--- behind the first name of a declaration
+-- after the first name of a declaration
 declared_read : (name : List ℕ) (others : List (List ℕ)) (t : Lexeme) (what : Sort) (initial : Option (PlainExpr (List ℕ))) (x y rest : List Lexeme) → Each (After (symbol s.Comma) IsName) x others → sort_of t ≡ Some what → Perhaps (After (symbol s.Becomes) IsExpression) y initial
     → declared_at name (x ++ symbol s.Colon ∷ t ∷ (y ++ symbol s.Semicolon ∷ rest)) ≡ Some (record { names = name ∷ others; region = None; sort = what; initial = initial }, rest)
 unfolding declared_at
 declared_read name others t what initial x y rest each is p =
     rw (others_read IsName anything word_at word_read (λ ts. refl) others x (symbol s.Colon ∷ t ∷ (y ++ symbol s.Semicolon ∷ rest)) each refl refl, is) (initial_read (name ∷ others) None what initial y rest p)
 
--- the names of a declaration begin with a word, and no AT is behind it
+-- the names of a declaration begin with a word, and no AT is after it
 no_at : (others : List (List ℕ)) (x rest : List Lexeme) → Each (After (symbol s.Comma) IsName) x others → next_keyword k.At (x ++ symbol s.Colon ∷ rest) ≡ false
 no_at [] x rest each = rw each refl
 no_at (n ∷ others) x rest (y, z, is, after w is_y more, each) = rw (is, is_y) refl
 
--- a declaration by its first name and what is behind it
+-- a declaration by its first name and what is after it
 record Parted (ts : List Lexeme) (d : PlainDeclaration) (rest : List Lexeme) : Type 0 where
   pub name : List ℕ
   pub tail : List Lexeme
@@ -155,8 +155,8 @@ body_is_no_section kind y rest body p =
 inside_read : (kind : PouKind) (name : List ℕ) (sections : List PlainSection) (body : PlainBody (List ℕ)) (y z rest : List Lexeme) → Each (IsSection kind) y sections → IsBody z body
     → (all_at (next_section kind) (section_at kind) (y ++ (z ++ keyword (closing_keyword kind) ∷ rest)) ≡ Some (sections, z ++ keyword (closing_keyword kind) ∷ rest)) × (body_at (z ++ keyword (closing_keyword kind) ∷ rest) ≡ Some (body, keyword (closing_keyword kind) ∷ rest))
 inside_read kind name sections body y z rest each is_body =
-    let behind = z ++ keyword (closing_keyword kind) ∷ rest in (
-      all_read (IsSection kind) (next_section kind) anything (section_at kind) (section_read kind) (section_begins kind) sections y behind each refl (body_is_no_section kind z rest body is_body),
+    let after_it = z ++ keyword (closing_keyword kind) ∷ rest in (
+      all_read (IsSection kind) (next_section kind) anything (section_at kind) (section_read kind) (section_begins kind) sections y after_it each refl (body_is_no_section kind z rest body is_body),
       body_read z (keyword (closing_keyword kind) ∷ rest) body is_body (closing_stops kind rest),
     )
 

@@ -11,13 +11,13 @@ use Rattle.st_tree.specs.declared.tree.Binary.{Binary}
 use Rattle.st_tree.specs.Plain.{PlainExpr, literal, read, output_of, unary, binary}
 use Rattle.st_parser.specs.Lexemes.{Lexeme, word, keyword, integer, symbol}
 use Rattle.st_parser.specs.Grammar.{literal_of, prefix_of, operator_of, level_of, top, is_signed, in_parentheses, Production, constant, negative, variable, output, parens, before_operand, between_operands, SpellsExpr, IsExpression}
-use Rattle.st_parser.specs.Reading.{Answer, word_at, operator_at, if_allowed, next_symbol, part_at, named_at, minus_at, constant_at, operand, prefixed, closed, symbol_at, chain, climb, tree_of, expression_at}
+use Rattle.st_parser.specs.Reading.{Answer, word_at, operator_at, if_allowed, next_symbol, part_at, reference_at, minus_at, constant_at, operand, prefixed, close_group, symbol_at, chain, climb, tree_of, expression_at}
 use Rattle.st_parser.proofs.Chain.{stops, too_deep, goes, fails}
 use Rattle.st_parser.proofs.Complete.{starts_with, stops_at_top, some_lexeme}
 use Rattle.st_parser.proofs.Many.{Front}
 use Rattle.st_parser.proofs.Steps.{both_ways, true_or_false, some_or_none, bind_some, same_some, passed, word_found, symbol_found, next_is_symbol}
 
--- a tree, its depth, and the lexemes behind it
+-- a tree, its depth, and the lexemes after it
 abbrev pub Read : Type 0
 Read = PlainExpr (List ℕ) × ℕ × List Lexeme
 
@@ -37,9 +37,9 @@ weaken (suc d) (suc n) m l x e le lm (between_operands t op a c y z kind tight i
 one_more : (d m : ℕ) (x : List Lexeme) (e : PlainExpr (List ℕ)) → Production (SpellsExpr d) m x e → SpellsExpr (d + 1) m x e
 one_more d m x e p = let same : suc d ≡ d + 1 = omega arith in subst (λ n. SpellsExpr n m x e) same p
 
-closed_some : (e : PlainExpr (List ℕ)) (n : ℕ) (o : Option (List Lexeme)) (r : Read) → closed e n o ≡ Some r → (rest : List Lexeme) × (o ≡ Some rest) × ((in_parentheses e, n + 1, rest) ≡ r)
-closed_some e n None r h = absurd (cc)
-closed_some e n (Some ts) r h = (ts, refl, same_some _ _ h)
+close_group_some : (e : PlainExpr (List ℕ)) (n : ℕ) (o : Option (List Lexeme)) (r : Read) → close_group e n o ≡ Some r → (rest : List Lexeme) × (o ≡ Some rest) × ((in_parentheses e, n + 1, rest) ≡ r)
+close_group_some e n None r h = absurd (cc)
+close_group_some e n (Some ts) r h = (ts, refl, same_some _ _ h)
 
 prefixed_some : (op : Unary) (o : Answer) (r : Read) → prefixed op o ≡ Some r → (q : Read) × (o ≡ Some q) × ((unary op q.0, q.1 + 1, q.2) ≡ r)
 prefixed_some op None r h = absurd (cc)
@@ -109,8 +109,8 @@ part_started d name ts r h =
     let here = atom d (word name ∷ symbol s.Point ∷ word part.0 ∷ []) part.1 (output_of name part.0) r (λ m. output name part.0 refl refl) (same_some _ _ is) in
     subst (λ l. Started (d + 1) (word name ∷ symbol s.Point ∷ l) r) (sym (word_found ts part was)) here
 
-named_started : (d : ℕ) (name : List ℕ) (ts : List Lexeme) (r : Read) → named_at name ts ≡ Some r → Started (d + 1) (word name ∷ ts) r
-named_started d name ts r h =
+reference_started : (d : ℕ) (name : List ℕ) (ts : List Lexeme) (r : Read) → reference_at name ts ≡ Some r → Started (d + 1) (word name ∷ ts) r
+reference_started d name ts r h =
     elim (true_or_false (next_symbol s.Point ts)) as (λ _. Started (d + 1) (word name ∷ ts) r) [
       | inl yes' ↦
           let is = next_is_symbol s.Point ts yes' in
@@ -124,18 +124,18 @@ named_started d name ts r h =
 operand_sound : (d : ℕ) (inner : ℕ → List Lexeme → Answer) → IsSound inner d → (ts : List Lexeme) (r : Read) → operand inner ts ≡ Some r → Started (d + 1) ts r
 unfolding operand
 operand_sound d inner sound [] r h = absurd (cc)
-operand_sound d inner sound (word name ∷ ts) r h = named_started d name ts r h
+operand_sound d inner sound (word name ∷ ts) r h = reference_started d name ts r h
 operand_sound d inner sound (keyword k.Not ∷ ts) r h = let q = prefixed_some u.Not (inner top ts) r h in prefix_started d (keyword k.Not) u.Not ts q.0 r refl refl (sound top ts q.0 q.1) q.2
 operand_sound d inner sound (symbol s.Minus ∷ ts) r h = minus_started d inner sound ts r h
 operand_sound d inner sound (symbol s.Open ∷ ts) r h =
-    let q = bind_some (inner 0 ts) (λ r. closed r.0 r.1 (symbol_at s.Close r.2)) r h in
+    let q = bind_some (inner 0 ts) (λ r. close_group r.0 r.1 (symbol_at s.Close r.2)) r h in
     let p = sound 0 ts q.0 q.1 in
-    let c = closed_some q.0.0 q.0.1 (symbol_at s.Close q.0.2) r q.2 in
-    let behind = symbol_found s.Close q.0.2 c.0 c.1 in
+    let c = close_group_some q.0.0 q.0.1 (symbol_at s.Close q.0.2) r q.2 in
+    let after_it = symbol_found s.Close q.0.2 c.0 c.1 in
     let le = p.small in
     let one_on : Started (d + 1) (symbol s.Open ∷ ts) (in_parentheses q.0.0, q.0.1 + 1, c.0) = record {
       front = symbol s.Open ∷ (p.front ++ symbol s.Close ∷ []);
-      whole = ap (λ l. symbol s.Open ∷ l) (p.whole ∙ ap (λ l. p.front ++ l) behind ∙ sym (append_assoc p.front (symbol s.Close ∷ []) c.0));
+      whole = ap (λ l. symbol s.Open ∷ l) (p.whole ∙ ap (λ l. p.front ++ l) after_it ∙ sym (append_assoc p.front (symbol s.Close ∷ []) c.0));
       spelled = λ m. one_more q.0.1 m _ _ (parens q.0.0 p.front refl refl p.spelled);
       small = omega arith;
     } in

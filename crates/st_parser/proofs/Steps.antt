@@ -78,7 +78,7 @@ same_first (kind.Duration n) name rest = refl
 same_first (kind.Address r) name rest = refl
 same_first (kind.Symbol x) name rest = refl
 
--- the first lexeme is told by its kind and its spelling
+-- the first lexeme, by its kind and its spelling
 pub first_is : (k : TokenKind) (name : List ℕ) (ts rest : List Lexeme) → ts ≡ lexeme_of k name ∷ rest → ts ≡ lexeme_of k (first_name ts) ∷ drop 1 ts
 first_is k name ts rest is =
     subst (λ (l : List Lexeme). l ≡ lexeme_of k (first_name l) ∷ drop 1 l) (sym is) (ap (λ l. l ∷ rest) (same_first k name rest))

@@ -1,4 +1,4 @@
--- The phrase at the front of lexemes, and the lexemes behind it: single lexemes, lists of phrases, and expressions.
+-- The phrase at the front of lexemes, and the lexemes after it: single lexemes, lists of phrases, and expressions.
 use Rattle.std.specs.Prelude.{ℕ, zero, suc, ◌+◌, max, nat_le, pos, Bool, true, false, List, [], ◌∷◌, ◌++◌, drop, length, Option, Some, None, if◌then◌else◌}
 use Rattle.std.proofs.Common.{neg_ℤ}
 use denote.Enum.Bare.{sameb}
@@ -50,13 +50,13 @@ keyword_at wanted ts = if next_keyword wanted ts then Some (drop 1 ts) else None
 abbrev pub ahead : {A : Type 0} → A → List A × List Lexeme → Option (List A × List Lexeme)
 ahead a more = Some (a ∷ more.0, more.1)
 
--- what was read before, and what is read behind it
+-- what was found before, and then what is found after it
 abbrev pub with_first : {A : Type 0} → List A → Option (List A × List Lexeme) → Option (List A × List Lexeme)
 with_first before None = None
 with_first before (Some more) = Some (before ++ more.0, more.1)
 
 module _ {A : Type 0} (starts : List Lexeme → Bool) (one_at : List Lexeme → Option (A × List Lexeme)) where
-  -- one after another; each takes a lexeme at least
+  -- one after another; each takes at least one lexeme
   abbrev pub many : ℕ → List Lexeme → Option (List A × List Lexeme)
   many zero ts = if starts ts then None else Some ([], ts)
   many (suc fuel) ts = if starts ts then (one_at ts >>= λ a. many fuel a.1 >>= ahead a.0) else Some ([], ts)
@@ -80,7 +80,7 @@ others_at one_at ts = all_at (next_symbol s.Comma) (after_symbol s.Comma one_at)
 abbrev pub listed_at : {A : Type 0} → (List Lexeme → Option (A × List Lexeme)) → List Lexeme → Option (List A × List Lexeme)
 listed_at one_at ts = one_at ts >>= λ a. with_first (a.0 ∷ []) (others_at one_at a.1)
 
--- what a table says of the next lexeme
+-- what a table has for the next lexeme
 abbrev pub table_next : {A : Type 0} → (Lexeme → Option A) → List Lexeme → Option A
 table_next table [] = None
 table_next table (t ∷ ts) = table t
@@ -88,7 +88,7 @@ table_next table (t ∷ ts) = table t
 abbrev pub table_at : {A : Type 0} → (Lexeme → Option A) → List Lexeme → Option (A × List Lexeme)
 table_at table ts = table_next table ts >>= λ a. Some (a, drop 1 ts)
 
--- ---- expressions: the tree, its depth, and what is behind it
+-- ---- expressions: the tree, its depth, and the lexemes after it
 abbrev pub Answer : Type 0
 Answer = Option (PlainExpr (List ℕ) × ℕ × List Lexeme)
 
@@ -106,24 +106,25 @@ abbrev pub prefixed : Unary → Answer → Answer
 prefixed op None = None
 prefixed op (Some r) = Some (unary op r.0, r.1 + 1, r.2)
 
-abbrev pub closed : PlainExpr (List ℕ) → ℕ → Option (List Lexeme) → Answer
-closed e n None = None
-closed e n (Some ts) = Some (in_parentheses e, n + 1, ts)
+-- an expression in parentheses, once its closing parenthesis is found
+abbrev pub close_group : PlainExpr (List ℕ) → ℕ → Option (List Lexeme) → Answer
+close_group e n None = None
+close_group e n (Some ts) = Some (in_parentheses e, n + 1, ts)
 
 -- a literal that a lexeme is by itself
 abbrev pub constant_at : Option (PlainExpr (List ℕ)) → List Lexeme → Answer
 constant_at None ts = None
 constant_at (Some e) ts = Some (e, 1, ts)
 
--- behind the name of an instance and a point
+-- after the name of an instance and a point
 abbrev pub part_at : List ℕ → List Lexeme → Answer
 part_at name ts = word_at ts >>= λ part. Some (output_of name part.0, 1, part.1)
 
--- behind a word
-abbrev pub named_at : List ℕ → List Lexeme → Answer
-named_at name ts = if next_symbol s.Point ts then part_at name (drop 1 ts) else Some (read name, 1, ts)
+-- after a word
+abbrev pub reference_at : List ℕ → List Lexeme → Answer
+reference_at name ts = if next_symbol s.Point ts then part_at name (drop 1 ts) else Some (read name, 1, ts)
 
--- behind a minus
+-- after a minus
 abbrev pub minus_at : (ℕ → List Lexeme → Answer) → List Lexeme → Answer
 minus_at inner (integer n ∷ ts) = if nat_le n 2147483648 then Some (literal (Value (value.Dint (neg_ℤ (pos n)))), 1, ts) else None
 minus_at inner [] = prefixed u.Negate (inner top [])
@@ -131,10 +132,10 @@ minus_at inner (t ∷ ts) = prefixed u.Negate (inner top (t ∷ ts))
 
 unfoldable pub operand : (ℕ → List Lexeme → Answer) → List Lexeme → Answer
 operand inner [] = None
-operand inner (word name ∷ ts) = named_at name ts
+operand inner (word name ∷ ts) = reference_at name ts
 operand inner (keyword k.Not ∷ ts) = prefixed u.Not (inner top ts)
 operand inner (symbol s.Minus ∷ ts) = minus_at inner ts
-operand inner (symbol s.Open ∷ ts) = inner 0 ts >>= λ r. closed r.0 r.1 (symbol_at s.Close r.2)
+operand inner (symbol s.Open ∷ ts) = inner 0 ts >>= λ r. close_group r.0 r.1 (symbol_at s.Close r.2)
 operand inner (t ∷ ts) = constant_at (literal_of t) ts
 
 abbrev pub go_on : Answer → Option Binary → (Binary → Answer) → Answer
@@ -142,7 +143,7 @@ go_on stop None more = stop
 go_on stop (Some op) more = more op
 
 module _ (inner : ℕ → List Lexeme → Answer) (deeper level : ℕ) where
-  -- the operators of this level and above it, with their right operands; each makes the tree one deeper
+  -- the operators of this level and above, with their right operands; each makes the tree one deeper
   abbrev pub chain : ℕ → PlainExpr (List ℕ) → ℕ → List Lexeme → Answer
   chain zero e n ts = None
   chain (suc fuel) e n ts = go_on (Some (e, n, ts)) (operator_at level ts) (λ op.

@@ -1,4 +1,4 @@
--- The statements at the front of lexemes, and the lexemes behind them.
+-- The statements at the front of lexemes, and the lexemes after them.
 use Rattle.std.specs.Prelude.{ℕ, zero, suc, nat_le, ℤ, pos, Bool, true, false, List, [], ◌∷◌, drop, Option, Some, None, if◌then◌else◌, unwrap_or}
 use Rattle.std.proofs.Common.{neg_ℤ}
 use Rattle.st_lexer.specs.declared.token.Keyword.TheVariants as k
@@ -10,15 +10,15 @@ use Rattle.st_parser.specs.Lexemes.{Lexeme, word, keyword, integer, symbol}
 use Rattle.st_parser.specs.Reading.{◌>>=◌, word_at, next_symbol, next_keyword, symbol_at, keyword_at, with_first, all_at, perhaps_at, after_symbol, after_keyword, listed_at, expression_at}
 
 -- ---- calls
--- behind an output's name and its arrow
+-- after an output's name and its arrow
 abbrev pub taken_at : List ℕ → List Lexeme → Option (PlainArgument (List ℕ) × List Lexeme)
 taken_at name ts = word_at ts >>= λ target. Some (output name target.0, target.1)
 
--- behind an input's name
+-- after an input's name
 abbrev pub given_at : List ℕ → List Lexeme → Option (PlainArgument (List ℕ) × List Lexeme)
 given_at name ts = symbol_at s.Becomes ts >>= λ right. expression_at right >>= λ e. Some (input name e.0, e.1)
 
--- behind an argument's name
+-- after an argument's name
 unfoldable pub argued_at : List ℕ → List Lexeme → Option (PlainArgument (List ℕ) × List Lexeme)
 argued_at name ts = if next_symbol s.Gives ts then taken_at name (drop 1 ts) else given_at name ts
 
@@ -57,15 +57,15 @@ next_stmt (keyword k.For ∷ ts) = true
 next_stmt (symbol s.Semicolon ∷ ts) = true
 next_stmt _ = false
 
--- behind an instance's name and its parenthesis
+-- after an instance's name and its parenthesis
 unfoldable pub called_at : List ℕ → List Lexeme → Option (PlainStmt (List ℕ) × List Lexeme)
 called_at name ts = arguments_at ts >>= λ all. symbol_at s.Close all.1 >>= λ rest. Some (call 0 name all.0, rest)
 
--- behind a variable's name
+-- after a variable's name
 unfoldable pub assigned_at : List ℕ → List Lexeme → Option (PlainStmt (List ℕ) × List Lexeme)
 assigned_at name ts = symbol_at s.Becomes ts >>= λ right. expression_at right >>= λ e. Some (assign 0 name e.0, e.1)
 
--- behind a word
+-- after a word
 unfoldable pub simple_at : List ℕ → List Lexeme → Option (PlainStmt (List ℕ) × List Lexeme)
 simple_at name ts = if next_symbol s.Open ts then called_at name (drop 1 ts) else assigned_at name ts
 
@@ -73,7 +73,7 @@ simple_at name ts = if next_symbol s.Open ts then called_at name (drop 1 ts) els
 unfoldable pub bounds_at : List Lexeme → Option ((PlainExpr (List ℕ) × PlainExpr (List ℕ) × Option (PlainExpr (List ℕ))) × List Lexeme)
 bounds_at ts = expression_at ts >>= λ from. keyword_at k.To from.1 >>= λ up. expression_at up >>= λ to. perhaps_at (next_keyword k.By) (after_keyword k.By expression_at) to.1 >>= λ by. Some ((from.0, to.0, by.0), by.1)
 
--- inner reads a list of inner statements
+-- inner finds a list of inner statements
 module _ (inner : List Lexeme → Option (PlainBody (List ℕ) × List Lexeme)) where
   unfoldable pub branch_at : List Lexeme → Option ((PlainExpr (List ℕ) × PlainBody (List ℕ)) × List Lexeme)
   branch_at ts = expression_at ts >>= λ test. keyword_at k.Then test.1 >>= λ inside. inner inside >>= λ body. Some ((test.0, body.0), body.1)
@@ -88,21 +88,21 @@ module _ (inner : List Lexeme → Option (PlainBody (List ℕ) × List Lexeme)) 
   unfoldable pub branches_at : List Lexeme → Option (List (PlainExpr (List ℕ) × PlainBody (List ℕ)) × List Lexeme)
   branches_at ts = branch_at ts >>= λ first. with_first (first.0 ∷ []) (all_at (next_keyword k.Elsif) (after_keyword k.Elsif branch_at) first.1)
 
-  -- the branches of a CASE
+  -- the choices of a CASE
   unfoldable pub choices_at : List Lexeme → Option (List (List Label × PlainBody (List ℕ)) × List Lexeme)
   choices_at ts = choice_at ts >>= λ first. with_first (first.0 ∷ []) (all_at next_label choice_at first.1)
 
-  -- behind IF
+  -- after IF
   unfoldable pub if_at : List Lexeme → Option (PlainStmt (List ℕ) × List Lexeme)
   if_at ts = branches_at ts >>= λ branches. otherwise_at branches.1 >>= λ last. keyword_at k.EndIf last.1 >>= λ rest. Some (choose 0 (branches_of branches.0) last.0, rest)
 
-  -- behind CASE
+  -- after CASE
   unfoldable pub case_at : List Lexeme → Option (PlainStmt (List ℕ) × List Lexeme)
   case_at ts =
       expression_at ts >>= λ e. keyword_at k.Of e.1 >>= λ inside. choices_at inside >>= λ choices. otherwise_at choices.1 >>= λ last. keyword_at k.EndCase last.1 >>= λ rest.
       Some (select 0 e.0 (choices_of choices.0) last.0, rest)
 
-  -- behind FOR
+  -- after FOR
   unfoldable pub for_at : List Lexeme → Option (PlainStmt (List ℕ) × List Lexeme)
   for_at ts =
       word_at ts >>= λ name. symbol_at s.Becomes name.1 >>= λ right. bounds_at right >>= λ bounds. keyword_at k.Do bounds.1 >>= λ again. inner again >>= λ body. keyword_at k.EndFor body.1 >>= λ rest.

@@ -1,4 +1,4 @@
--- The declarations, blocks, programs and units at the front of lexemes, and the lexemes behind them.
+-- The declarations, blocks, programs and units at the front of lexemes, and the lexemes after them.
 use Rattle.std.specs.Prelude.{ℕ, Bool, List, [], ◌∷◌, drop, Option, Some, None, is_some, if◌then◌else◌}
 use Rattle.st_lexer.specs.declared.token.Keyword.TheVariants as k
 use Rattle.plant_types.specs.declared.values.Region.{Region}
@@ -18,17 +18,17 @@ abbrev pub address_at : List Lexeme → Option (Region × List Lexeme)
 address_at (address r ∷ ts) = Some (r, ts)
 address_at _ = None
 
--- behind what is declared: an initial value, and the semicolon
+-- after what is declared: an initial value, and the semicolon
 unfoldable pub initial_at : List (List ℕ) → Option Region → Sort → List Lexeme → Option (PlainDeclaration × List Lexeme)
 initial_at names region what ts =
     perhaps_at (next_symbol s.Becomes) (after_symbol s.Becomes expression_at) ts >>= λ initial. symbol_at s.Semicolon initial.1 >>= λ rest.
     Some (record { names = names; region = region; sort = what; initial = initial.0 }, rest)
 
--- behind the first name
+-- after the first name
 unfoldable pub declared_at : List ℕ → List Lexeme → Option (PlainDeclaration × List Lexeme)
 declared_at name ts = with_first (name ∷ []) (others_at word_at ts) >>= λ names. symbol_at s.Colon names.1 >>= λ colon. table_at sort_of colon >>= λ what. initial_at names.0 None what.0 what.1
 
--- behind the name and AT
+-- after the name and AT
 unfoldable pub placed_at : List ℕ → List Lexeme → Option (PlainDeclaration × List Lexeme)
 placed_at name ts = address_at ts >>= λ region. symbol_at s.Colon region.1 >>= λ colon. table_at kind_of_word colon >>= λ what. initial_at (name ∷ []) (Some region.0) (sort.Kind what.0) what.1
 

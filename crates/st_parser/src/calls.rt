@@ -1,4 +1,4 @@
-//! Arguments of a call.
+//! The arguments of a call.
 
 ghost use Rattle.std.specs.Prelude.{map};
 ghost use Rattle.st_parser.specs.Outcome.{Gives};
@@ -14,7 +14,7 @@ use st_lexer::Symbol;
 use st_tree::Argument;
 use std::alloc::Global;
 
-/// Reads an argument.
+/// Parses an argument.
 #[tactic(auto, unfolding(crate::specs::ReadingStatements::argument_at, crate::specs::ReadingStatements::argued_at))]
 fn argument(alloc: Global, reader: &mut Reader) -> Result<Argument<Text>, Stop>
     ensures { Gives (λ a. (view_argument a, reader.new)) result (argument_at reader.old) }
@@ -61,7 +61,7 @@ impl Phrase for CommaArgument {
     }
 }
 
-/// Reads the arguments of a call, up to its closing parenthesis.
+/// Parses the arguments of a call, up to its closing parenthesis.
 #[tactic(auto, unfolding(crate::specs::ReadingStatements::arguments_at))]
 pub fn arguments(alloc: Global, reader: &mut Reader) -> Result<Vec<Argument<Text>>, Stop>
     ensures { Gives (λ a. (map view_argument a.items, reader.new)) result (arguments_at reader.old) }

@@ -18,7 +18,7 @@ use st_lexer::{Keyword, Symbol, TokenKind};
 use st_tree::Expr;
 use std::alloc::Global;
 
-/// The kind that the next token names.
+/// The kind that the next token names, if it names one.
 fn next_kind(reader: &Reader) -> Option<Kind>
     ensures { result ≡ table_next kind_of_word reader.now }
 {
@@ -30,7 +30,7 @@ fn next_kind(reader: &Reader) -> Option<Kind>
     }
 }
 
-/// Reads a kind.
+/// Parses a kind.
 fn kind(reader: &mut Reader) -> Result<Kind, Stop>
     ensures { Gives (λ kind. (kind, reader.new)) result (table_at kind_of_word reader.old) }
 {
@@ -43,7 +43,7 @@ fn kind(reader: &mut Reader) -> Result<Kind, Stop>
     }
 }
 
-/// Reads a kind or the name of a block type.
+/// Parses a kind or the name of a block type.
 fn sort(alloc: Global, reader: &mut Reader) -> Result<Sort, Stop>
     ensures { Gives (λ sort. (sort, reader.new)) result (table_at sort_of reader.old) }
 {
@@ -68,7 +68,7 @@ fn sort(alloc: Global, reader: &mut Reader) -> Result<Sort, Stop>
     }
 }
 
-/// Reads an address.
+/// Parses an address.
 fn address(reader: &mut Reader) -> Result<Region, Stop>
     ensures { Gives (λ region. (region, reader.new)) result (address_at reader.old) }
 {
@@ -81,7 +81,7 @@ fn address(reader: &mut Reader) -> Result<Region, Stop>
     }
 }
 
-/// Reads `:=` and an initial value, if it is next.
+/// Parses `:=` and an initial value, if it is next.
 fn initial_value(alloc: Global, reader: &mut Reader) -> Result<Option<Expr<Text>>, Stop>
     ensures { Gives (λ o. (option_map view_expr o, reader.new)) result (perhaps_at (next_symbol Symbol.Becomes) (after_symbol Symbol.Becomes expression_at) reader.old) }
 {
@@ -94,7 +94,7 @@ fn initial_value(alloc: Global, reader: &mut Reader) -> Result<Option<Expr<Text>
     }
 }
 
-/// Reads what is behind the sort of a declaration.
+/// Parses the rest of a declaration after its sort.
 #[tactic(auto, unfolding(crate::specs::ReadingUnits::initial_at))]
 fn end_of_declaration(
     alloc: Global,
@@ -150,7 +150,7 @@ fn more_names(alloc: Global, first: Text, reader: &mut Reader) -> Result<Vec<Tex
     parse_after(alloc, &CommaName, first, reader)
 }
 
-/// Reads what is behind the first name of a declaration.
+/// Parses the rest of a declaration after its first name.
 #[tactic(auto, unfolding(crate::specs::ReadingUnits::declared_at))]
 fn declared(alloc: Global, first: Text, reader: &mut Reader) -> Result<Declaration, Stop>
     ensures { Gives (λ d. (view_declaration d, reader.new)) result (declared_at first reader.old) }
@@ -161,7 +161,7 @@ fn declared(alloc: Global, first: Text, reader: &mut Reader) -> Result<Declarati
     end_of_declaration(alloc, names, None, sort, reader)
 }
 
-/// Reads what is behind the name of a global and `AT`.
+/// Parses the rest of a declaration after a global's name and `AT`.
 #[tactic(auto, unfolding(crate::specs::ReadingUnits::placed_at))]
 fn placed(alloc: Global, name: Text, reader: &mut Reader) -> Result<Declaration, Stop>
     ensures { Gives (λ d. (view_declaration d, reader.new)) result (placed_at name reader.old) }
@@ -174,7 +174,7 @@ fn placed(alloc: Global, name: Text, reader: &mut Reader) -> Result<Declaration,
     end_of_declaration(alloc, names, Some(region), Sort::Kind(kind), reader)
 }
 
-/// Reads a declaration of a block or a program.
+/// Parses a declaration of a block or a program.
 #[tactic(auto, unfolding(crate::specs::ReadingUnits::declaration_at))]
 fn declaration(alloc: Global, reader: &mut Reader) -> Result<Declaration, Stop>
     ensures { Gives (λ d. (view_declaration d, reader.new)) result (declaration_at reader.old) }
@@ -183,7 +183,7 @@ fn declaration(alloc: Global, reader: &mut Reader) -> Result<Declaration, Stop>
     declared(alloc, name, reader)
 }
 
-/// Reads a declaration of globals.
+/// Parses a declaration of globals.
 #[tactic(auto, unfolding(crate::specs::ReadingUnits::global_at))]
 fn global(alloc: Global, reader: &mut Reader) -> Result<Declaration, Stop>
     ensures { Gives (λ d. (view_declaration d, reader.new)) result (global_at reader.old) }
@@ -251,7 +251,7 @@ impl Phrase for GlobalDeclaration {
     }
 }
 
-/// Reads a section of globals.
+/// Parses a section of globals.
 #[tactic(auto, unfolding(crate::specs::ReadingUnits::globals_at))]
 pub fn globals(alloc: Global, reader: &mut Reader) -> Result<Section, Stop>
     ensures { Gives (λ s. (view_section s, reader.new)) result (globals_at reader.old) }
@@ -265,7 +265,7 @@ pub fn globals(alloc: Global, reader: &mut Reader) -> Result<Section, Stop>
     })
 }
 
-/// The section that the next token opens in a block or a program.
+/// The section that the next token opens in a block or a program, if it opens one.
 fn next_section(pou: PouKind, reader: &Reader) -> Option<SectionKind>
     ensures { result ≡ table_next (section_of pou) reader.now }
 {
@@ -285,7 +285,7 @@ pub fn is_section(pou: PouKind, reader: &Reader) -> bool
     next_section(pou, reader).is_some()
 }
 
-/// Reads a section of a block or a program.
+/// Parses a section of a block or a program.
 #[tactic(auto, unfolding(crate::specs::ReadingUnits::section_at))]
 pub fn section(alloc: Global, pou: PouKind, reader: &mut Reader) -> Result<Section, Stop>
     ensures { Gives (λ s. (view_section s, reader.new)) result (section_at pou reader.old) }

@@ -1,4 +1,4 @@
-//! Expressions, by their operators' levels.
+//! Expressions, by the levels of their operators.
 
 ghost use Rattle.std.specs.Prelude.{◌≡◌, IfOk, Some, None, drop, ◌+◌, ◌-◌, ◌≤◌, ◌<◌, pos};
 ghost use Rattle.std.proofs.Common.{neg_ℤ};
@@ -6,7 +6,7 @@ ghost use Rattle.st_tree.specs.Plain.{literal};
 ghost use Rattle.st_tree.specs.View.{view_expr};
 ghost use Rattle.st_parser.specs.Grammar.{level_of, top, in_parentheses};
 ghost use Rattle.st_parser.specs.Outcome.{Gives};
-ghost use Rattle.st_parser.specs.Reading.{operator_at, named_at, minus_at, operand as operand_at, prefixed as prefixed_at, chain as chain_at, climb, expression_at};
+ghost use Rattle.st_parser.specs.Reading.{operator_at, reference_at, minus_at, operand as operand_at, prefixed as prefixed_at, chain as chain_at, climb, expression_at};
 
 use crate::fault::Stop;
 use crate::reader::Reader;
@@ -18,13 +18,13 @@ use std::alloc::Global;
 /// How deep an expression may be (this profile).
 const DEPTH: u32 = 128;
 
-/// Tighter than each operator between operands.
+/// The level above that of each operator between operands.
 const TOP: u32 = 8;
 
 /// The greatest integer without a minus.
 const GREATEST: u32 = 2147483647;
 
-/// The greatest integer behind a minus.
+/// The greatest integer after a minus.
 const GREATEST_NEGATIVE: u32 = 2147483648;
 
 /// How tightly an operator binds, 1 the least (IEC 61131-3).
@@ -52,7 +52,7 @@ fn level(op: Binary) -> u32
     }
 }
 
-/// The next token's operator, where it may stand at the level.
+/// The next token's operator, if it is one that binds at least as tightly as the level.
 fn next_operator(level_wanted: u32, reader: &Reader) -> Option<Binary>
     ensures { result ≡ operator_at level_wanted reader.now }
 {
@@ -81,8 +81,8 @@ fn next_operator(level_wanted: u32, reader: &Reader) -> Option<Binary>
     }
 }
 
-/// An expression in parentheses, in which an integer is a DINT and no longer an integer without a kind.
-fn group(expr: Expr<Text>) -> Expr<Text>
+/// The expression that an expression in parentheses is: an integer is then a DINT, and no longer 0 or 1 for a BOOL.
+fn in_parentheses(expr: Expr<Text>) -> Expr<Text>
     ensures { view_expr result ≡ in_parentheses (view_expr expr) }
 {
     match expr {
@@ -95,7 +95,7 @@ fn group(expr: Expr<Text>) -> Expr<Text>
     }
 }
 
-/// An integer behind a minus.
+/// The number that an integer after a minus stands for.
 fn negated(n: u32) -> i32
     requires { n ≤ 2147483648 }
     ensures { result ≡ neg_ℤ (pos n) }
@@ -103,17 +103,15 @@ fn negated(n: u32) -> i32
     (-i64::from(n)) as i32
 }
 
-/// Reads an expression.
+/// Parses an expression.
 pub fn expression(alloc: Global, reader: &mut Reader) -> Result<Expr<Text>, Stop>
     ensures { Gives (λ e. (view_expr e, reader.new)) result (expression_at reader.old) }
 {
-    match climb(alloc, DEPTH, 0, reader) {
-        Ok((expr, _depth)) => Ok(expr),
-        Err(stop) => Err(stop),
-    }
+    let (expr, _depth) = climb(alloc, DEPTH, 0, reader)?;
+    Ok(expr)
 }
 
-/// Reads an expression of operators at least as tight as the level, at most so deep, and tells its depth.
+/// Parses an expression of operators that bind at least as tightly as the level, and returns it with its depth, which is at most the limit.
 #[cycle(expr)]
 fn climb(
     alloc: Global,
@@ -131,7 +129,7 @@ fn climb(
     chain(alloc, limit, level_wanted, left, depth, reader)
 }
 
-/// Reads the token that is a value, and tells its depth.
+/// Parses the token that is this value, and returns it with its depth, 1.
 fn leaf(value: Value, reader: &mut Reader) -> (Expr<Text>, u32)
     ensures tree { view_expr result.0 ≡ literal (Literal.Value value) }
     ensures deep { result.1 ≡ 1 }
@@ -141,7 +139,7 @@ fn leaf(value: Value, reader: &mut Reader) -> (Expr<Text>, u32)
     (Expr::Literal(Literal::Value(value)), 1)
 }
 
-/// Reads an operand whose parts are at most so deep.
+/// Parses an operand whose parts are at most `deeper` deep, and returns it with its depth.
 #[cycle(expr)]
 #[tactic(auto, unfolding(crate::specs::Reading::operand))]
 fn operand(alloc: Global, deeper: u32, reader: &mut Reader) -> Result<(Expr<Text>, u32), Stop>
@@ -152,7 +150,7 @@ fn operand(alloc: Global, deeper: u32, reader: &mut Reader) -> Result<(Expr<Text
     match reader.peek() {
         Some(TokenKind::Word) => {
             let word = reader.word(alloc)?;
-            named(alloc, word, reader)
+            reference(alloc, word, reader)
         }
         Some(TokenKind::Keyword(Keyword::True)) => Ok(leaf(Value::Bool(true), reader)),
         Some(TokenKind::Keyword(Keyword::False)) => Ok(leaf(Value::Bool(false), reader)),
@@ -175,15 +173,15 @@ fn operand(alloc: Global, deeper: u32, reader: &mut Reader) -> Result<(Expr<Text
             reader.advance();
             let (inner, depth) = climb(alloc, deeper, 0, reader)?;
             reader.symbol(Symbol::Close)?;
-            Ok((group(inner), depth + 1))
+            Ok((in_parentheses(inner), depth + 1))
         }
         _ => Err(reader.stop()),
     }
 }
 
-/// Reads what is behind a word: a point and the name of an output, or nothing.
-fn named(alloc: Global, word: Text, reader: &mut Reader) -> Result<(Expr<Text>, u32), Stop>
-    ensures read { Gives (λ x. (view_expr x.0, x.1, reader.new)) result (named_at word reader.old) }
+/// Parses the rest of a reference after its first word: a point and the name of an output, or nothing.
+fn reference(alloc: Global, word: Text, reader: &mut Reader) -> Result<(Expr<Text>, u32), Stop>
+    ensures read { Gives (λ x. (view_expr x.0, x.1, reader.new)) result (reference_at word reader.old) }
     ensures deep { IfOk result (λ x. x.1 ≡ 1) }
 {
     if reader.is_symbol(Symbol::Point) {
@@ -195,7 +193,7 @@ fn named(alloc: Global, word: Text, reader: &mut Reader) -> Result<(Expr<Text>, 
     }
 }
 
-/// Reads what is behind a minus: an integer, which is one literal with it, or another operand.
+/// Parses the operand after a minus. With an integer it is one literal.
 #[cycle(expr)]
 fn minus(alloc: Global, deeper: u32, reader: &mut Reader) -> Result<(Expr<Text>, u32), Stop>
     requires { deeper < u32.MAX }
@@ -214,7 +212,7 @@ fn minus(alloc: Global, deeper: u32, reader: &mut Reader) -> Result<(Expr<Text>,
     }
 }
 
-/// Reads what an operator stands before.
+/// Parses the operand after `NOT` or a minus.
 #[cycle(expr)]
 fn prefixed(
     alloc: Global,
@@ -230,7 +228,7 @@ fn prefixed(
     Ok((Expr::Unary(op, Box::new(alloc, inner)?), depth + 1))
 }
 
-/// Reads the operators behind an expression and their right operands, and groups them from the left.
+/// Parses the operators after an expression and their right operands, and groups them from the left.
 #[cycle(expr)]
 fn chain(
     alloc: Global,
@@ -247,7 +245,7 @@ fn chain(
 {
     let mut left = first;
     let mut depth = first_depth;
-    // Each turn makes the tree one deeper.
+    // Each operator makes the tree one deeper.
     for _turn in 0..limit {
         let Some(op) = next_operator(level_wanted, reader) else {
             return Ok((left, depth));

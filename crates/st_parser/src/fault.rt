@@ -1,22 +1,22 @@
-//! Why tokens aren't read.
+//! Why tokens are not parsed.
 
 use std::alloc::{AllocError, AllocFailed};
 
-/// Why tokens are no unit.
+/// Why tokens are not parsed as a unit.
 #[derive(Clone, Copy, Debug, PartialEq, Eq, Drop)]
 pub enum ParseFault {
-    /// A growth was refused.
+    /// Memory was refused.
     Memory,
-    /// No unit goes on with the token of this number, from 0; the number of tokens where the text ends too early.
+    /// No unit goes on with the token of this number, counted from 0. It is the number of tokens where the text ends too early.
     At { token: usize },
 }
 
-/// Why a reader stops.
+/// Why parsing stops.
 #[derive(Clone, Copy, Debug, PartialEq, Eq, Drop)]
 pub enum Stop {
-    /// A growth was refused.
+    /// Memory was refused.
     Memory,
-    /// With so many tokens left, the first of them doesn't fit.
+    /// The next token does not fit; so many tokens are left, with this one.
     Left(usize),
 }
 

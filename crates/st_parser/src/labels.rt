@@ -1,4 +1,4 @@
-//! Labels of a CASE.
+//! The labels of a CASE.
 
 ghost use Rattle.std.specs.Prelude.{◌≡◌};
 ghost use Rattle.st_parser.specs.Outcome.{Gives};
@@ -23,7 +23,7 @@ pub fn is_label(reader: &Reader) -> bool
     }
 }
 
-/// Reads an integer behind a minus.
+/// Parses the integer after a minus, and returns the negative number.
 fn negative(reader: &mut Reader) -> Result<i64, Stop>
     ensures { Gives (λ n. (n, reader.new)) result (negative_at reader.old) }
 {
@@ -36,7 +36,7 @@ fn negative(reader: &mut Reader) -> Result<i64, Stop>
     }
 }
 
-/// Reads an integer with its minus.
+/// Parses an integer, with its minus if it has one.
 #[tactic(auto, unfolding(crate::specs::ReadingStatements::number_at))]
 fn number(reader: &mut Reader) -> Result<i64, Stop>
     ensures { Gives (λ n. (n, reader.new)) result (number_at reader.old) }
@@ -54,7 +54,7 @@ fn number(reader: &mut Reader) -> Result<i64, Stop>
     }
 }
 
-/// Reads two points and the end of a range, if they are next.
+/// Parses `..` and the end of a range, if they are next.
 fn range_end(reader: &mut Reader) -> Result<Option<i64>, Stop>
     ensures { Gives (λ high. (high, reader.new)) result (perhaps_at (next_symbol Symbol.Range) (after_symbol Symbol.Range number_at) reader.old) }
 {
@@ -67,7 +67,7 @@ fn range_end(reader: &mut Reader) -> Result<Option<i64>, Stop>
     }
 }
 
-/// Reads a label.
+/// Parses a label.
 #[tactic(auto, unfolding(crate::specs::ReadingStatements::label_at))]
 fn label(reader: &mut Reader) -> Result<Label, Stop>
     ensures { Gives (λ label. (label, reader.new)) result (label_at reader.old) }
@@ -106,7 +106,7 @@ impl Phrase for CommaLabel {
     }
 }
 
-/// Reads the labels of a branch.
+/// Parses the labels of a choice, with commas between them.
 pub fn labels(alloc: Global, reader: &mut Reader) -> Result<Vec<Label>, Stop>
     ensures { Gives (λ labels. (labels.items, reader.new)) result (listed_at label_at reader.old) }
 {

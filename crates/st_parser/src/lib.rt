@@ -1,6 +1,6 @@
-//! The grammar of Structured Text: tokens are read as a unit, or refused at the first token that fits no unit.
+//! The parser of Structured Text: `parse` returns the unit that tokens spell, or refuses the first token with which no unit can go on.
 //!
-//! Contracts speak of a unit as a `PlainUnit`, its sections of globals and its blocks and programs with plain bodies, and of a text's tokens as lexemes.
+//! Contracts speak of a unit as a `PlainUnit`: its sections of globals, then its blocks and programs with plain bodies. They speak of a text's tokens as lexemes.
 #![tactic(auto)]
 
 mod calls;

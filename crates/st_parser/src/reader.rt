@@ -1,4 +1,4 @@
-//! A place in a text's tokens.
+//! The tokens of a text that are not parsed yet.
 
 ghost use Rattle.std.specs.Prelude.{◌≡◌, ◌∷◌, [], length, drop, MatchOption};
 ghost use Rattle.st_parser.specs.Lexemes.{lexemes, lexeme_of, first_name, slice_of};
@@ -11,7 +11,7 @@ use st_lexer::{Keyword, Symbol, Token, TokenKind};
 use std::alloc::Global;
 use std::marker::Model;
 
-/// The tokens of a text that aren't read yet. Contracts see their lexemes.
+/// The tokens of a text that are not parsed yet. Contracts see their lexemes.
 #[derive(Drop)]
 pub struct Reader<'a> {
     text: &'a [u8],
@@ -35,21 +35,21 @@ impl<'a> Reader<'a> {
         Reader { text, tokens }
     }
 
-    /// How many tokens are left.
+    /// The number of tokens that are left.
     pub fn left(&self) -> usize
         ensures { result ≡ length self.now }
     {
         self.tokens.len()
     }
 
-    /// The refusal of the next token.
+    /// The fault at the next token.
     pub fn stop(&self) -> Stop
         ensures { result ≡ Stop.Left (length self.now) }
     {
         Stop::Left(self.tokens.len())
     }
 
-    /// The kind of the next token.
+    /// The kind of the next token; `None` at the end.
     pub fn peek(&self) -> Option<TokenKind>
         ensures { MatchOption result (self.now ≡ []) (λ kind. self.now ≡ lexeme_of kind (first_name self.now) ∷ drop 1 self.now) }
     {
@@ -88,7 +88,7 @@ impl<'a> Reader<'a> {
         }
     }
 
-    /// Leaves the next token behind, if there is one.
+    /// Goes past the next token, if there is one.
     pub fn advance(&mut self)
         ensures { self.new ≡ drop 1 self.old }
     {
@@ -97,7 +97,7 @@ impl<'a> Reader<'a> {
         }
     }
 
-    /// Reads this symbol.
+    /// Goes past this symbol; fails if another token is next.
     pub fn symbol(&mut self, wanted: Symbol) -> Result<(), Stop>
         ensures { Gives (λ _. self.new) result (symbol_at wanted self.old) }
     {
@@ -109,7 +109,7 @@ impl<'a> Reader<'a> {
         }
     }
 
-    /// Reads this keyword.
+    /// Goes past this keyword; fails if another token is next.
     pub fn keyword(&mut self, wanted: Keyword) -> Result<(), Stop>
         ensures { Gives (λ _. self.new) result (keyword_at wanted self.old) }
     {
@@ -121,7 +121,7 @@ impl<'a> Reader<'a> {
         }
     }
 
-    /// Reads a word, as it is spelled.
+    /// Parses a word, and returns it as it is spelled.
     pub fn word(&mut self, alloc: Global) -> Result<Text, Stop>
         ensures { Gives (λ name. (name, self.new)) result (word_at self.old) }
     {
@@ -139,7 +139,7 @@ impl<'a> Reader<'a> {
     }
 }
 
-/// The bytes of a token.
+/// The bytes of a token; none for a token outside the text.
 fn span(text: &[u8], token: Token) -> &[u8]
     ensures { result.now ≡ slice_of text.now token.from token.until }
 {

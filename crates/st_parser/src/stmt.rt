@@ -19,7 +19,7 @@ use std::alloc::Global;
 /// How deep a statement may be (this profile).
 const DEPTH: u32 = 64;
 
-/// Reads statements up to what begins none.
+/// Parses statements, as many as there are.
 pub fn statements(alloc: Global, reader: &mut Reader) -> Result<Vec<Stmt<Text>>, Stop>
     ensures { Gives (λ b. (view_body b.items, reader.new)) result (body_at reader.old) }
 {
@@ -40,7 +40,7 @@ fn is_statement(reader: &Reader) -> bool
     }
 }
 
-/// Reads what is behind a variable's name.
+/// Parses the rest of an assignment after the variable's name.
 #[tactic(auto, unfolding(crate::specs::ReadingStatements::assigned_at))]
 fn assignment(alloc: Global, word: Text, reader: &mut Reader) -> Result<Stmt<Text>, Stop>
     ensures { Gives (λ s. (view_stmt s, reader.new)) result (assigned_at word reader.old) }
@@ -50,7 +50,7 @@ fn assignment(alloc: Global, word: Text, reader: &mut Reader) -> Result<Stmt<Tex
     Ok(Stmt::Assign(0, word, value))
 }
 
-/// Reads what is behind an instance's name and its parenthesis.
+/// Parses the rest of a call after the instance's name and its parenthesis.
 #[tactic(auto, unfolding(crate::specs::ReadingStatements::called_at))]
 fn call(alloc: Global, word: Text, reader: &mut Reader) -> Result<Stmt<Text>, Stop>
     ensures { Gives (λ s. (view_stmt s, reader.new)) result (called_at word reader.old) }
@@ -60,7 +60,7 @@ fn call(alloc: Global, word: Text, reader: &mut Reader) -> Result<Stmt<Text>, St
     Ok(Stmt::Call(0, word, arguments))
 }
 
-/// Reads what is behind a word.
+/// Parses the rest of a statement after its first word.
 #[tactic(auto, unfolding(crate::specs::ReadingStatements::simple_at))]
 fn simple(alloc: Global, word: Text, reader: &mut Reader) -> Result<Stmt<Text>, Stop>
     ensures { Gives (λ s. (view_stmt s, reader.new)) result (simple_at word reader.old) }
@@ -73,7 +73,7 @@ fn simple(alloc: Global, word: Text, reader: &mut Reader) -> Result<Stmt<Text>, 
     }
 }
 
-/// Reads the step of a FOR, if one is given.
+/// Parses `BY` and the step of a `FOR`, if they are next.
 fn step(alloc: Global, reader: &mut Reader) -> Result<Option<Expr<Text>>, Stop>
     ensures { Gives (λ o. (view_option o, reader.new)) result (perhaps_at (next_keyword Keyword.By) (after_keyword Keyword.By expression_at) reader.old) }
 {
@@ -86,7 +86,7 @@ fn step(alloc: Global, reader: &mut Reader) -> Result<Option<Expr<Text>>, Stop>
     }
 }
 
-/// Reads the first value, the bound and the step of a FOR.
+/// Parses the first value, the bound and the step of a `FOR`.
 #[tactic(auto, unfolding(crate::specs::ReadingStatements::bounds_at))]
 fn bounds(
     alloc: Global,
@@ -101,7 +101,7 @@ fn bounds(
     Ok((from, to, by))
 }
 
-/// Reads statements that are at most so deep.
+/// Parses statements that are at most `depth` deep, as many as there are.
 #[cycle(stmt)]
 fn body(alloc: Global, depth: u32, reader: &mut Reader) -> Result<Vec<Stmt<Text>>, Stop>
     ensures { Gives (λ b. (view_body b.items, reader.new)) result (sequence_at depth reader.old) }
@@ -120,7 +120,7 @@ fn body(alloc: Global, depth: u32, reader: &mut Reader) -> Result<Vec<Stmt<Text>
     Ok(body)
 }
 
-/// Reads a statement with its semicolon, at most so deep.
+/// Parses a statement with its semicolon, at most `depth` deep.
 #[cycle(stmt)]
 #[tactic(auto, unfolding(crate::specs::ReadingStatements::ended_at))]
 fn item(alloc: Global, depth: u32, reader: &mut Reader) -> Result<Stmt<Text>, Stop>
@@ -134,7 +134,7 @@ fn item(alloc: Global, depth: u32, reader: &mut Reader) -> Result<Stmt<Text>, St
     Ok(stmt)
 }
 
-/// Reads a statement whose inner statements are at most so deep.
+/// Parses a statement whose inner statements are at most `deeper` deep.
 #[cycle(stmt)]
 #[tactic(auto, unfolding(crate::specs::ReadingStatements::stmt_at))]
 fn statement(alloc: Global, deeper: u32, reader: &mut Reader) -> Result<Stmt<Text>, Stop>
@@ -162,7 +162,7 @@ fn statement(alloc: Global, deeper: u32, reader: &mut Reader) -> Result<Stmt<Tex
     }
 }
 
-/// Reads what is behind `IF`.
+/// Parses the rest of a statement after `IF`.
 #[cycle(stmt)]
 #[tactic(auto, unfolding(crate::specs::ReadingStatements::if_at))]
 fn if_statement(alloc: Global, deeper: u32, reader: &mut Reader) -> Result<Stmt<Text>, Stop>
@@ -174,7 +174,7 @@ fn if_statement(alloc: Global, deeper: u32, reader: &mut Reader) -> Result<Stmt<
     Ok(Stmt::If(0, branches, last))
 }
 
-/// Reads the branches of an `IF`.
+/// Parses the branches of an `IF`.
 #[cycle(stmt)]
 #[tactic(auto, unfolding(crate::specs::ReadingStatements::branches_at))]
 fn branches(alloc: Global, deeper: u32, reader: &mut Reader) -> Result<Vec<Branch<Text>>, Stop>
@@ -184,7 +184,7 @@ fn branches(alloc: Global, deeper: u32, reader: &mut Reader) -> Result<Vec<Branc
     more_branches(alloc, deeper, first, reader)
 }
 
-/// Reads the branches behind a first one, each with its `ELSIF`.
+/// Parses the branches of an `IF` after the first one, each with its `ELSIF`.
 #[cycle(stmt)]
 fn more_branches(
     alloc: Global,
@@ -210,7 +210,7 @@ fn more_branches(
     Ok(branches)
 }
 
-/// Reads a test, `THEN` and statements.
+/// Parses a test, `THEN` and the statements of a branch.
 #[cycle(stmt)]
 #[tactic(auto, unfolding(crate::specs::ReadingStatements::branch_at))]
 fn tested(alloc: Global, deeper: u32, reader: &mut Reader) -> Result<Branch<Text>, Stop>
@@ -222,7 +222,7 @@ fn tested(alloc: Global, deeper: u32, reader: &mut Reader) -> Result<Branch<Text
     Ok(Branch { test, body })
 }
 
-/// Reads `ELSE` and statements, if it is next.
+/// Parses `ELSE` and its statements, if it is next.
 #[cycle(stmt)]
 #[tactic(auto, unfolding(crate::specs::ReadingStatements::otherwise_at))]
 fn otherwise(alloc: Global, deeper: u32, reader: &mut Reader) -> Result<Vec<Stmt<Text>>, Stop>
@@ -236,7 +236,7 @@ fn otherwise(alloc: Global, deeper: u32, reader: &mut Reader) -> Result<Vec<Stmt
     }
 }
 
-/// Reads what is behind `CASE`.
+/// Parses the rest of a statement after `CASE`.
 #[cycle(stmt)]
 #[tactic(auto, unfolding(crate::specs::ReadingStatements::case_at))]
 fn case_statement(alloc: Global, deeper: u32, reader: &mut Reader) -> Result<Stmt<Text>, Stop>
@@ -250,7 +250,7 @@ fn case_statement(alloc: Global, deeper: u32, reader: &mut Reader) -> Result<Stm
     Ok(Stmt::Case(0, selector, choices, last))
 }
 
-/// Reads the branches of a `CASE`.
+/// Parses the choices of a `CASE`.
 #[cycle(stmt)]
 #[tactic(auto, unfolding(crate::specs::ReadingStatements::choices_at))]
 fn choices(alloc: Global, deeper: u32, reader: &mut Reader) -> Result<Vec<Choice<Text>>, Stop>
@@ -260,7 +260,7 @@ fn choices(alloc: Global, deeper: u32, reader: &mut Reader) -> Result<Vec<Choice
     more_choices(alloc, deeper, first, reader)
 }
 
-/// Reads the branches behind a first one.
+/// Parses the choices of a `CASE` after the first one.
 #[cycle(stmt)]
 fn more_choices(
     alloc: Global,
@@ -285,7 +285,7 @@ fn more_choices(
     Ok(choices)
 }
 
-/// Reads labels, a colon and statements.
+/// Parses the labels of a choice, a colon and its statements.
 #[cycle(stmt)]
 #[tactic(auto, unfolding(crate::specs::ReadingStatements::choice_at))]
 fn labelled(alloc: Global, deeper: u32, reader: &mut Reader) -> Result<Choice<Text>, Stop>
@@ -297,7 +297,7 @@ fn labelled(alloc: Global, deeper: u32, reader: &mut Reader) -> Result<Choice<Te
     Ok(Choice { labels, body })
 }
 
-/// Reads what is behind `FOR`.
+/// Parses the rest of a statement after `FOR`.
 #[cycle(stmt)]
 #[tactic(auto, unfolding(crate::specs::ReadingStatements::for_at))]
 fn for_statement(alloc: Global, deeper: u32, reader: &mut Reader) -> Result<Stmt<Text>, Stop>

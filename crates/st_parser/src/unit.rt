@@ -1,9 +1,9 @@
-//! What a source declares. Names stand as they are spelled.
+//! A unit: what a source declares. Names are as they are spelled.
 
 use plant_types::{Kind, Region, Text};
 use st_tree::{Expr, Stmt};
 
-/// What variables are declared as: of a kind, or as instances of a block type.
+/// What variables are declared as: variables of a kind, or instances of a block type.
 #[derive(Drop)]
 pub enum Sort {
     Kind(Kind),
@@ -13,12 +13,12 @@ pub enum Sort {
 /// Variables that are declared together.
 #[derive(Drop)]
 pub struct Declaration {
-    /// In order of text, one at least.
+    /// In the order of the text, at least one.
     pub names: Vec<Text>,
-    /// Where the variable's address lies, for one global with an address.
+    /// The region of the variable's address, for one global with an address.
     pub region: Option<Region>,
     pub sort: Sort,
-    /// The initial value of each, where one is written.
+    /// The initial value of each, if one is written.
     pub initial: Option<Expr<Text>>,
 }
 
@@ -41,7 +41,7 @@ pub enum SectionKind {
 #[derive(Drop)]
 pub struct Section {
     pub kind: SectionKind,
-    /// In order of text.
+    /// In the order of the text.
     pub declarations: Vec<Declaration>,
 }
 
@@ -57,7 +57,7 @@ pub enum PouKind {
 pub struct Pou {
     pub kind: PouKind,
     pub name: Text,
-    /// In order of text.
+    /// In the order of the text.
     pub sections: Vec<Section>,
     pub body: Vec<Stmt<Text>>,
 }
@@ -65,8 +65,8 @@ pub struct Pou {
 /// A source: its sections of global variables, then its function blocks and programs.
 #[derive(Drop)]
 pub struct Unit {
-    /// In order of text, each `SectionKind::Global`.
+    /// In the order of the text, each `SectionKind::Global`.
     pub globals: Vec<Section>,
-    /// In order of text.
+    /// In the order of the text.
     pub pous: Vec<Pou>,
 }

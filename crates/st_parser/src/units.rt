@@ -73,7 +73,7 @@ impl Phrase for LocalSection {
     }
 }
 
-/// What the next token opens.
+/// The kind of unit that the next token opens, if it opens one.
 fn next_kind(reader: &Reader) -> Option<PouKind>
     ensures { result ≡ table_next pou_of reader.now }
 {
@@ -101,7 +101,7 @@ fn closing_keyword(kind: PouKind) -> Keyword
     }
 }
 
-/// Reads a block or a program.
+/// Parses a block or a program.
 #[tactic(auto, unfolding(crate::specs::ReadingUnits::pou_at))]
 fn pou(alloc: Global, reader: &mut Reader) -> Result<Pou, Stop>
     ensures { Gives (λ p. (view_pou p, reader.new)) result (pou_at reader.old) }
@@ -148,7 +148,7 @@ impl Phrase for AnyPou {
     }
 }
 
-/// Reads a unit.
+/// Parses a unit.
 #[tactic(auto, unfolding(crate::specs::ReadingUnits::unit_at))]
 fn unit(alloc: Global, reader: &mut Reader) -> Result<Unit, Stop>
     ensures { Gives (λ unit. (view_unit unit, reader.new)) result (unit_at reader.old) }
@@ -158,7 +158,7 @@ fn unit(alloc: Global, reader: &mut Reader) -> Result<Unit, Stop>
     Ok(Unit { globals, pous })
 }
 
-/// The refusal of the token before which so many are left, itself among them.
+/// The fault at the token with which so many are left.
 fn refused(tokens: &[Token], left: usize) -> ParseFault
     ensures { result ≡ ParseFault.At (length tokens.now - left) }
 {
@@ -167,7 +167,7 @@ fn refused(tokens: &[Token], left: usize) -> ParseFault
     }
 }
 
-/// The unit that the tokens of a text spell, all of them. The error is Memory where a growth was refused; else no unit is spelled, and it names the first token with which none can go on.
+/// Parses all tokens of a text as one unit. The error is `Memory` where memory was refused; else the tokens spell no unit, and it names the first token with which none can go on.
 pub fn parse(alloc: Global, text: &[u8], tokens: &[Token]) -> Result<Unit, ParseFault>
     ensures spelled { MatchResult result (λ unit. SpellsUnit (lexemes text.now tokens.now) (view_unit unit)) (SpellNone (lexemes text.now tokens.now)) }
     ensures within { IfErr result (NamesOneOf (length tokens.now)) }

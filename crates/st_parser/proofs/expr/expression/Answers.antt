@@ -1,13 +1,16 @@
--- An expression is read as climbing reads it.
-use Rattle.std.proofs.Common.{ap}
-use Rattle.st_parser.specs.Reading.{tree_of, expression_at}
+-- An expression is what climbing finds, without its depth.
+use Rattle.std.proofs.Common.{ap, rules}
+use Rattle.st_parser.specs.Outcome.{Fails}
+use Rattle.st_parser.specs.Reading.{climb, tree_of, expression_at}
+use Rattle.st_parser.specs.declared.fault.Stop.{Stop}
 use Rattle.st_parser.proofs.Steps.{fails_tree}
 use Rattle.st_parser.proofs.expr.expression.Goals as goal
 
-pub returns-in-Ok : goal.returns-in-Ok
-unfolding expression_at
-returns-in-Ok c = ap tree_of c.in-Ok.ensures.read
+pub returns-in_err-expr : goal.returns-in_err-expr
+returns-in_err-expr c =
+    let stopped : Fails c.in_err-expr.field-0.0 (expression_at c.args.reader.now) = unfold expression_at in fails_tree c.in_err-expr.field-0.0 (climb 128 0 c.args.reader.now) c.in_err-expr.ensures.read in
+    search rules
 
-pub returns-in-Err : goal.returns-in-Err
+pub returns : goal.returns
 unfolding expression_at
-returns-in-Err c = fails_tree _ _ c.in-Err.ensures.read
+returns c = ap tree_of c.in_ok-expr.ensures.read
