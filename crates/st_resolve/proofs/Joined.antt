@@ -6,7 +6,7 @@ use Rattle.st_tree.specs.declared.tree.Branch.{Branch}
 use Rattle.st_tree.specs.declared.tree.Choice.{Choice}
 use Rattle.st_tree.specs.declared.tree.Label.{Label}
 use Rattle.st_tree.specs.Plain.{PlainExpr, PlainBody, done, next, Branches, no_branch, branch, Choices, no_choice, choice}
-use Rattle.st_tree.specs.Numbers.{count, count_all, count_branches, count_choices}
+use Rattle.st_tree.specs.Numbers.{count_stmt, count_body, count_branches, count_choices}
 use Rattle.st_tree.specs.View.{view_stmt, view_body, view_branch, view_branches, view_choice, view_choices}
 use Rattle.st_resolve.specs.declared.scope.Scope.{Scope}
 use Rattle.st_resolve.specs.Resolved.{flat_expr, flat_stmt, flat_body, flat_branches, flat_choices}
@@ -51,14 +51,14 @@ module _ (scope : Scope) where
   -- what was resolved, and what is still to be resolved from a number on, are the whole; so are their counts
   pub record Body (whole : PlainBody ℕ) (all : ℕ) (body : List (Stmt (List ℕ))) (i : ℕ) (number : ℕ) (resolved : List (Stmt ℕ)) : Type 0 where
     pub are : joined (view_body resolved) (flat_body scope number (view_body (drop i body))) ≡ whole
-    pub tally : number + count_all (view_body (drop i body)) ≡ all
+    pub tally : number + count_body (view_body (drop i body)) ≡ all
 
   pub body_more : (whole : PlainBody ℕ) (all : ℕ) (body : List (Stmt (List ℕ))) (i : ℕ) (s : Stmt (List ℕ)) (number later : ℕ) (resolved more : List (Stmt ℕ)) (r : Stmt ℕ) → i < length body → s ≡ get_or body i s → Body whole all body i number resolved
-      → view_stmt r ≡ flat_stmt scope number (view_stmt s) → later ≡ number + count (view_stmt s) → more ≡ resolved ++ r ∷ [] → Body whole all body (i + 1) later more
+      → view_stmt r ≡ flat_stmt scope number (view_stmt s) → later ≡ number + count_stmt (view_stmt s) → more ≡ resolved ++ r ∷ [] → Body whole all body (i + 1) later more
   body_more whole all body i s number later resolved more r within is before same counted pushed =
       let rest = drop (i + 1) body in
       let split : drop i body ≡ s ∷ rest = drop_more body i s within ∙ ap (λ (x : Stmt (List ℕ)). x ∷ rest) (sym is) in
-      let sum : number + (count (view_stmt s) + count_all (view_body rest)) ≡ all = ap (λ l. number + count_all (view_body l)) (sym split) ∙ before.tally in
+      let sum : number + (count_stmt (view_stmt s) + count_body (view_body rest)) ≡ all = ap (λ l. number + count_body (view_body l)) (sym split) ∙ before.tally in
       record {
         are = ap (λ l. joined (view_body l) (flat_body scope later (view_body rest))) pushed ∙ push_body resolved r (flat_body scope later (view_body rest))
             ∙ (λ k. joined (view_body resolved) (next (same k) (flat_body scope (counted k) (view_body rest))))
@@ -69,7 +69,7 @@ module _ (scope : Scope) where
   pub body_whole : (whole : PlainBody ℕ) (all : ℕ) (body : List (Stmt (List ℕ))) (i : ℕ) (number : ℕ) (resolved : List (Stmt ℕ)) → length body ≤ i → Body whole all body i number resolved → (view_body resolved ≡ whole) × (number ≡ all)
   body_whole whole all body i number resolved past before =
       let none = drop_all i body past in
-      let sum : number + 0 ≡ all = ap (λ l. number + count_all (view_body l)) (sym none) ∙ before.tally in
+      let sum : number + 0 ≡ all = ap (λ l. number + count_body (view_body l)) (sym none) ∙ before.tally in
       (sym (joined_none (view_body resolved)) ∙ ap (λ l. joined (view_body resolved) (flat_body scope number (view_body l))) (sym none) ∙ before.are, omega arith)
 
   pub record BranchesAre (whole : Branches ℕ) (all : ℕ) (branches : List (Branch (List ℕ))) (i : ℕ) (number : ℕ) (resolved : List (Branch ℕ)) : Type 0 where
@@ -77,12 +77,12 @@ module _ (scope : Scope) where
     pub tally : number + count_branches (view_branches (drop i branches)) ≡ all
 
   pub branches_more : (whole : Branches ℕ) (all : ℕ) (branches : List (Branch (List ℕ))) (i : ℕ) (b : Branch (List ℕ)) (number later : ℕ) (resolved more : List (Branch ℕ)) (r : Branch ℕ) (test : PlainExpr (List ℕ)) (body : PlainBody (List ℕ)) → i < length branches → b ≡ get_or branches i b
-      → BranchesAre whole all branches i number resolved → view_branch b ≡ (test, body) → view_branch r ≡ (flat_expr scope test, flat_body scope number body) → later ≡ number + count_all body → more ≡ resolved ++ r ∷ [] → BranchesAre whole all branches (i + 1) later more
+      → BranchesAre whole all branches i number resolved → view_branch b ≡ (test, body) → view_branch r ≡ (flat_expr scope test, flat_body scope number body) → later ≡ number + count_body body → more ≡ resolved ++ r ∷ [] → BranchesAre whole all branches (i + 1) later more
   branches_more whole all branches i b number later resolved more r test body within is before seen same counted pushed =
       let rest = drop (i + 1) branches in
       let split : drop i branches ≡ b ∷ rest = drop_more branches i b within ∙ ap (λ (x : Branch (List ℕ)). x ∷ rest) (sym is) in
       let parts : view_branches (drop i branches) ≡ branch test body (view_branches rest) = ap view_branches split ∙ ap (λ (p : PlainExpr (List ℕ) × PlainBody (List ℕ)). branch p.0 p.1 (view_branches rest)) seen in
-      let sum : number + (count_all body + count_branches (view_branches rest)) ≡ all = ap (λ l. number + count_branches l) (sym parts) ∙ before.tally in
+      let sum : number + (count_body body + count_branches (view_branches rest)) ≡ all = ap (λ l. number + count_branches l) (sym parts) ∙ before.tally in
       record {
         are = ap (λ l. joined_branches (view_branches l) (flat_branches scope later (view_branches rest))) pushed ∙ push_branches resolved r (flat_branches scope later (view_branches rest))
             ∙ (λ k. joined_branches (view_branches resolved) (branch (same k).0 (same k).1 (flat_branches scope (counted k) (view_branches rest))))
@@ -101,12 +101,12 @@ module _ (scope : Scope) where
     pub tally : number + count_choices (view_choices (drop i choices)) ≡ all
 
   pub choices_more : (whole : Choices ℕ) (all : ℕ) (choices : List (Choice (List ℕ))) (i : ℕ) (b : Choice (List ℕ)) (number later : ℕ) (resolved more : List (Choice ℕ)) (r : Choice ℕ) (labels : List Label) (body : PlainBody (List ℕ)) → i < length choices → b ≡ get_or choices i b
-      → ChoicesAre whole all choices i number resolved → view_choice b ≡ (labels, body) → view_choice r ≡ (labels, flat_body scope number body) → later ≡ number + count_all body → more ≡ resolved ++ r ∷ [] → ChoicesAre whole all choices (i + 1) later more
+      → ChoicesAre whole all choices i number resolved → view_choice b ≡ (labels, body) → view_choice r ≡ (labels, flat_body scope number body) → later ≡ number + count_body body → more ≡ resolved ++ r ∷ [] → ChoicesAre whole all choices (i + 1) later more
   choices_more whole all choices i b number later resolved more r labels body within is before seen same counted pushed =
       let rest = drop (i + 1) choices in
       let split : drop i choices ≡ b ∷ rest = drop_more choices i b within ∙ ap (λ (x : Choice (List ℕ)). x ∷ rest) (sym is) in
       let parts : view_choices (drop i choices) ≡ choice labels body (view_choices rest) = ap view_choices split ∙ ap (λ (p : List Label × PlainBody (List ℕ)). choice p.0 p.1 (view_choices rest)) seen in
-      let sum : number + (count_all body + count_choices (view_choices rest)) ≡ all = ap (λ l. number + count_choices l) (sym parts) ∙ before.tally in
+      let sum : number + (count_body body + count_choices (view_choices rest)) ≡ all = ap (λ l. number + count_choices l) (sym parts) ∙ before.tally in
       record {
         are = ap (λ l. joined_choices (view_choices l) (flat_choices scope later (view_choices rest))) pushed ∙ push_choices resolved r (flat_choices scope later (view_choices rest))
             ∙ (λ k. joined_choices (view_choices resolved) (choice (same k).0 (same k).1 (flat_choices scope (counted k) (view_choices rest))))

@@ -4,7 +4,7 @@
 ghost use Rattle.std.specs.Prelude.{◌≡◌, ◌+◌, IfOk, map};
 ghost use Rattle.st_tree.specs.View.{view_expr, view_option, view_argument, view_stmt, view_body, view_branches, view_choices};
 ghost use Rattle.st_tree.specs.Kinds.{unary_result, binary_result, kind_in, resolved_argument};
-ghost use Rattle.st_tree.specs.Numbers.{count, count_all, count_branches, count_choices};
+ghost use Rattle.st_tree.specs.Numbers.{count_stmt, count_body, count_branches, count_choices};
 ghost use Rattle.st_resolve.specs.Names.{kind_at, no_output};
 ghost use Rattle.st_resolve.specs.Resolved.{renamed_argument, slot_of, scope_kind, flat_expr, flat_option, flat_argument, flat_stmt, flat_body, flat_branches, flat_choices};
 
@@ -170,7 +170,7 @@ fn resolve_stmt(
     number: &mut u32,
 ) -> Result<Stmt<usize>, AllocError>
     ensures stmt { IfOk result (λ s. view_stmt s ≡ flat_stmt scope.now number.old (view_stmt stmt.now)) }
-    ensures count { IfOk result (λ s. number.new ≡ number.old + count (view_stmt stmt.now)) }
+    ensures count { IfOk result (λ s. number.new ≡ number.old + count_stmt (view_stmt stmt.now)) }
 {
     let own = next_number(number)?;
     match stmt {
@@ -267,7 +267,7 @@ pub fn resolve_body(
     number: &mut u32,
 ) -> Result<Vec<Stmt<usize>>, AllocError>
     ensures body { IfOk result (λ r. view_body r.items ≡ flat_body scope.now number.old (view_body body.now)) }
-    ensures count { IfOk result (λ r. number.new ≡ number.old + count_all (view_body body.now)) }
+    ensures count { IfOk result (λ r. number.new ≡ number.old + count_body (view_body body.now)) }
 {
     let mut resolved = Vec::new(alloc);
     for stmt in body {

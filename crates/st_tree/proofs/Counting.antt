@@ -14,7 +14,7 @@ count_none (negsuc n) s h = refl
 few : (n s : ℕ) → n < s → n / s ≡ 0
 few n s h = div-eq_of_lt h
 
--- a way that is longer by a step has one number more
+-- a distance that is longer by a step has one turn more
 pub count_more : (d e : ℤ) (s : ℕ) → 0 < s → pos 0 ≤ℤ d → e ≡ d -ℤ pos s → count_in d s ≡ suc (count_in e s)
 count_more (negsuc n) e s h k is = absurd (omega (arith, ints))
 count_more (pos n) (pos m) s h k is =
@@ -76,8 +76,7 @@ module _ {W : Type 0} (set : W → ℤ → W) (body : W → Ran W) (at to step :
   pub down_over : (w : W) → at <ℤ to → turns set body (down at to step) w ≡ Done w
   down_over w h = ap (λ ns. turns set body ns w) (down_none at to step h)
 
--- The same from within a loop, after the body ran: rest is what the turns from the next one on do, cast is what was written, and ran is what the body did.
--- The invariant comes first: it tells the numbers.
+-- The same from within a loop, after the body ran: ran is what the body did. The invariant comes first, since it has the numbers.
 module _ {W : Type 0} (set : W → ℤ → W) (body : W → Ran W) (at to step next : ℤ) (w : W) (ran start : Ran W) where
   pub up_on : turns set body (up at to step) w ≡ start → pos 0 <ℤ step → at ≤ℤ to → next ≡ at +ℤ step → body (set w at) ≡ ran → then_run ran (turns set body (up next to step)) ≡ start
   up_on inv h k is did = ap (λ r. then_run r (turns set body (up next to step))) (sym did) ∙ sym (up_turn set body at to step next w h k is) ∙ inv

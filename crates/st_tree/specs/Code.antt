@@ -18,7 +18,7 @@ use Rattle.st_tree.specs.Plain.{PlainStmt, empty, assign, call, choose, select, 
 abbrev gv_code : Coded Gv
 gv_code = record { code = λ g. g; inj = λ x y p. p }
 
--- what is no code stands for some tree; it has no matter for which
+-- what is no code stands for some tree, no matter which
 
 abbrev unaries : List Unary
 unaries = Not ∷ Negate ∷ NegateTime ∷ []

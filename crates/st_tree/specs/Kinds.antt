@@ -52,7 +52,7 @@ of_order kind.Dint kind.Dint = Some kind.Bool
 of_order kind.Time kind.Time = Some kind.Bool
 of_order _ _ = None
 
--- the kind of what an operator gives of an operand of a kind, if it takes it
+-- the kind of an operator's result, by the kind of its operand, if it takes it
 abbrev pub unary_kind : Unary → Kind → Option Kind
 unary_kind Not kind.Bool = Some kind.Bool
 unary_kind Negate kind.Dint = Some kind.Dint
@@ -60,7 +60,7 @@ unary_kind Negate kind.Time = Some kind.Time
 unary_kind NegateTime kind.Time = Some kind.Time
 unary_kind _ _ = None
 
--- the kind of what an operator gives of operands of two kinds, if it takes them
+-- the kind of an operator's result, by the kinds of its operands, if it takes them
 abbrev pub binary_kind : Binary → Kind → Kind → Option Kind
 binary_kind And a b = of_truths a b
 binary_kind Xor a b = of_truths a b
@@ -79,7 +79,7 @@ binary_kind Multiply a b = of_numbers a b
 binary_kind Divide a b = of_numbers a b
 binary_kind Mod a b = of_numbers a b
 
--- the kind of an expression; none where an operator doesn't take its operands, or where a variable or an output has none
+-- the kind of an expression; none if an operator does not take its operands, or if a variable or an output has no kind
 abbrev pub kind_of_expr : {V : Type 0} → (V → Option Kind) → (V → V → Option Kind) → PlainExpr V → Option Kind
 kind_of_expr variable_kind output_kind (literal n) = Some (literal_kind n)
 kind_of_expr variable_kind output_kind (read v) = variable_kind v
@@ -91,7 +91,7 @@ abbrev pub is_kind : Kind → Option Kind → Bool
 is_kind k None = false
 is_kind k (Some found) = same_kind k found
 
--- the integers 0 and 1 as they stand may be given for a BOOL
+-- just the integer 0 or 1, which may be assigned to a BOOL
 abbrev pub literal_is_bit : Literal → Bool
 literal_is_bit (Integer n) = int_eq n (pos 0) || int_eq n (pos 1)
 literal_is_bit (Value v) = false
@@ -104,7 +104,7 @@ is_bit _ = false
 abbrev pub fits_kind : {V : Type 0} → (V → Option Kind) → (V → V → Option Kind) → Kind → PlainExpr V → Bool
 fits_kind variable_kind output_kind k e = is_kind k (kind_of_expr variable_kind output_kind e) || (same_kind k kind.Bool && is_bit e)
 
--- the kind of what an operator gives, where its (left) operand is of a kind that it takes
+-- the kind of an operator's result, by the kind of its (left) operand, which it takes
 abbrev pub unary_result : Unary → Kind → Kind
 unary_result Not k = kind.Bool
 unary_result Negate k = k
@@ -128,7 +128,7 @@ kind_in variable_kind output_kind (output_of instance name) = output_kind instan
 kind_in variable_kind output_kind (unary op a) = unary_result op (kind_in variable_kind output_kind a)
 kind_in variable_kind output_kind (binary op a b) = binary_result op (kind_in variable_kind output_kind a)
 
--- the operator that is meant where the (left) operand is of a kind
+-- the operator for a (left) operand of a kind
 abbrev pub resolved_unary : Unary → Kind → Unary
 resolved_unary Negate kind.Time = NegateTime
 resolved_unary op _ = op
@@ -139,7 +139,7 @@ resolved_binary Subtract kind.Time = SubtractTime
 resolved_binary op _ = op
 
 module _ {V : Type 0} (variable_kind : V → Kind) (output_kind : V → V → Kind) where
-  -- an expression in which each operator is the one that is meant
+  -- an expression with each operator resolved
   abbrev pub resolved_expr : PlainExpr V → PlainExpr V
   resolved_expr (literal n) = literal n
   resolved_expr (read v) = read v
@@ -160,7 +160,7 @@ module _ {V : Type 0} (variable_kind : V → Kind) (output_kind : V → V → Ki
     resolved_stmt (select number e choices last) = select number (resolved_expr e) (resolved_choices choices) (resolved_body last)
     resolved_stmt (repeat number v from to by body) = repeat number v (resolved_expr from) (resolved_expr to) (option_map resolved_expr by) (resolved_body body)
 
-    -- a body in whose expressions each operator is the one that is meant
+    -- a body with each operator resolved
     pub resolved_body : PlainBody V → PlainBody V
     resolved_body done = done
     resolved_body (next s rest) = next (resolved_stmt s) (resolved_body rest)
@@ -173,6 +173,6 @@ module _ {V : Type 0} (variable_kind : V → Kind) (output_kind : V → V → Ki
     resolved_choices no_choice = no_choice
     resolved_choices (choice labels body rest) = choice labels (resolved_body body) (resolved_choices rest)
 
-  -- the body that is meant by a body as it is written: its statements are numbered from 1, and each operator is the one that is meant
+  -- the body that is meant by a body as it is written: its statements are numbered from 1, and each operator is resolved
   abbrev pub meant : PlainBody V → PlainBody V
   meant body = resolved_body (numbered 1 body)

@@ -31,7 +31,7 @@ value_of variable_value output_value (output_of instance name) = Ok (output_valu
 value_of variable_value output_value (unary op a) = then_one (value_of variable_value output_value a) (eval_unary op)
 value_of variable_value output_value (binary op a b) = then_two (value_of variable_value output_value a) (value_of variable_value output_value b) (eval_binary op)
 
--- where a run traps: the names of the program and the instances that lead there, the innermost first, each as declared, and the number of the statement in its body
+-- where a run traps: the path of the program's and the instances' names as declared, the innermost first, and the number of the statement in its body
 pub record Spot : Type 0 where
   pub path : List (List ℕ)
   pub statement : ℕ
@@ -61,7 +61,7 @@ abbrev pub with_value : {A W : Type 0} → W → Spot → Result A Trap → (A �
 with_value w spot (Ok a) rest = rest a
 with_value w spot (Err trap) rest = Trapped w spot trap
 
--- the body once for each value of the control variable, which has the last of them afterwards
+-- the body runs once for each value of the control variable, which keeps the last one afterwards
 abbrev pub turns : {W : Type 0} → (W → ℤ → W) → (W → Ran W) → List ℤ → W → Ran W
 turns set body [] w = Done w
 turns set body (n ∷ ns) w = then_run (body (set w n)) (turns set body ns)
@@ -74,7 +74,7 @@ abbrev pub labels_fit : ℤ → List Label → Bool
 labels_fit n [] = false
 labels_fit n (label ∷ labels) = label_fits n label || labels_fit n labels
 
--- one of several was taken, or all were passed by
+-- one of several branches was taken, or all were passed over
 pub data Chosen (W : Type 0) : Type 0 where
   Took : Ran W → Chosen W
   Passed : W → Chosen W

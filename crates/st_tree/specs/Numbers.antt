@@ -1,28 +1,28 @@
--- The numbers of statements: in the order of their first tokens, a statement before those inside it.
+-- The numbers of statements, in the order of their first tokens: a statement before those inside it.
 use Rattle.std.specs.Prelude.{ℕ, ◌+◌}
 use Rattle.st_tree.specs.Plain.{PlainStmt, empty, assign, call, choose, select, repeat, PlainBody, done, next, Branches, no_branch, branch, Choices, no_choice, choice}
 
 abbrev mutual
   -- how many statements a statement is, with those inside it
-  pub count : {V : Type 0} → PlainStmt V → ℕ
-  count (empty number) = 1
-  count (assign number v e) = 1
-  count (call number instance arguments) = 1
-  count (choose number branches last) = 1 + count_branches branches + count_all last
-  count (select number e choices last) = 1 + count_choices choices + count_all last
-  count (repeat number v from to by body) = 1 + count_all body
+  pub count_stmt : {V : Type 0} → PlainStmt V → ℕ
+  count_stmt (empty number) = 1
+  count_stmt (assign number v e) = 1
+  count_stmt (call number instance arguments) = 1
+  count_stmt (choose number branches last) = 1 + count_branches branches + count_body last
+  count_stmt (select number e choices last) = 1 + count_choices choices + count_body last
+  count_stmt (repeat number v from to by body) = 1 + count_body body
 
-  pub count_all : {V : Type 0} → PlainBody V → ℕ
-  count_all done = 0
-  count_all (next s rest) = count s + count_all rest
+  pub count_body : {V : Type 0} → PlainBody V → ℕ
+  count_body done = 0
+  count_body (next s rest) = count_stmt s + count_body rest
 
   pub count_branches : {V : Type 0} → Branches V → ℕ
   count_branches no_branch = 0
-  count_branches (branch test body rest) = count_all body + count_branches rest
+  count_branches (branch test body rest) = count_body body + count_branches rest
 
   pub count_choices : {V : Type 0} → Choices V → ℕ
   count_choices no_choice = 0
-  count_choices (choice labels body rest) = count_all body + count_choices rest
+  count_choices (choice labels body rest) = count_body body + count_choices rest
 
 abbrev mutual
   -- a statement and those inside it, numbered from a number on
@@ -37,12 +37,12 @@ abbrev mutual
   -- a body whose statements are numbered from a number on
   pub numbered : {V : Type 0} → ℕ → PlainBody V → PlainBody V
   numbered n done = done
-  numbered n (next s rest) = next (numbered_stmt n s) (numbered (n + count s) rest)
+  numbered n (next s rest) = next (numbered_stmt n s) (numbered (n + count_stmt s) rest)
 
   pub numbered_branches : {V : Type 0} → ℕ → Branches V → Branches V
   numbered_branches n no_branch = no_branch
-  numbered_branches n (branch test body rest) = branch test (numbered n body) (numbered_branches (n + count_all body) rest)
+  numbered_branches n (branch test body rest) = branch test (numbered n body) (numbered_branches (n + count_body body) rest)
 
   pub numbered_choices : {V : Type 0} → ℕ → Choices V → Choices V
   numbered_choices n no_choice = no_choice
-  numbered_choices n (choice labels body rest) = choice labels (numbered n body) (numbered_choices (n + count_all body) rest)
+  numbered_choices n (choice labels body rest) = choice labels (numbered n body) (numbered_choices (n + count_body body) rest)

@@ -1,4 +1,4 @@
--- What operators give of their operands' values, in whole numbers without a range: FALSE is 0 and TRUE is 1.
+-- The results of operators, in whole numbers without a range: FALSE is 0 and TRUE is 1.
 use Rattle.std.specs.Prelude.{ℤ, pos, ◌+ℤ◌, ◌-ℤ◌, ◌*ℤ◌, neg_ℤ, int_div, int_lt, Bool, not, ◌&&◌, ◌||◌, if◌then◌else◌, Result, Ok, Err}
 use Rattle.std.specs.Ordering.{int_eq}
 use Rattle.plant_types.specs.declared.values.Kind.{Kind}
@@ -11,7 +11,7 @@ use Rattle.st_tree.specs.declared.tree.Unary.TheVariants.{Not, Negate, NegateTim
 use Rattle.st_tree.specs.declared.tree.Binary.{Binary}
 use Rattle.st_tree.specs.declared.tree.Binary.TheVariants.{And, Xor, Or, Equal, Unequal, Less, Greater, AtMost, AtLeast, Add, AddTime, Subtract, SubtractTime, Multiply, Divide, Mod}
 
--- what an expression gives: a value, or the kind of a trap
+-- the outcome of an expression: a value, or a trap
 abbrev pub Outcome : Type 0
 Outcome = Result ℤ Trap
 
@@ -27,7 +27,7 @@ dint n = ranged kind.Dint n
 abbrev pub time : ℤ → Outcome
 time n = ranged kind.Time n
 
--- a truth, as every comparison gives one
+-- a truth, the outcome of every comparison
 abbrev pub verdict : Bool → Outcome
 verdict b = Ok (truth b)
 
@@ -43,13 +43,13 @@ quotient x y = if int_eq y (pos 0) then Err DivZero else dint (int_div x y)
 abbrev pub remainder : ℤ → ℤ → ℤ
 remainder x y = if int_eq y (pos 0) then pos 0 else x -ℤ (int_div x y *ℤ y)
 
--- what an operator gives of its operand's value
+-- the result of an operator, by its operand's value
 abbrev pub eval_unary : Unary → ℤ → Outcome
 eval_unary Not x = verdict (not (is_true x))
 eval_unary Negate x = dint (neg_ℤ x)
 eval_unary NegateTime x = time (neg_ℤ x)
 
--- what an operator gives of its operands' values
+-- the result of an operator, by its operands' values
 abbrev pub eval_binary : Binary → ℤ → ℤ → Outcome
 eval_binary And x y = verdict (is_true x && is_true y)
 eval_binary Xor x y = verdict (exactly_one (is_true x) (is_true y))

@@ -1,4 +1,4 @@
--- Expressions and statements without where they lie in memory.
+-- Plain expressions and statements: those of the code, without where they are in memory.
 use Rattle.std.specs.Prelude.{ℕ, List, Option}
 use Rattle.st_tree.specs.declared.tree.Literal.{Literal}
 use Rattle.st_tree.specs.declared.tree.Unary.{Unary}

@@ -1,4 +1,4 @@
--- The plain tree that a tree of the code stands for.
+-- The plain tree of a tree of the code.
 use Rattle.std.specs.Prelude.{List, [], ◌∷◌, Option, Some, None, map}
 use Rattle.st_tree.specs.declared.tree.Label.{Label}
 use Rattle.st_tree.specs.declared.tree.Expr.{Expr, fold-Expr}

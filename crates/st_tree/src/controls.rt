@@ -1,4 +1,4 @@
-//! Turns of a FOR.
+//! The turns of a FOR.
 
 ghost use Rattle.std.specs.Prelude.{◌≡◌, ◌<◌, length};
 ghost use Rattle.st_tree.specs.Controls.{count_in, control_values, span_of};
@@ -10,11 +10,11 @@ use plant_types::Trap;
 pub struct Span {
     pub from: i64,
     pub to: i64,
-    /// Not 0 in an accepted source: by the step 0 there is no turn.
+    /// Not 0 in an accepted source. With the step 0 there is no turn.
     pub step: i64,
 }
 
-/// The span of bounds and a step that have outcomes, of which the first trap wins.
+/// The span of bounds and a step that have outcomes. The error is their first trap.
 pub fn span_of(
     from: Result<i64, Trap>,
     to: Result<i64, Trap>,
@@ -29,19 +29,19 @@ pub fn span_of(
     })
 }
 
-/// How many numbers lie on a way, from its first one on by steps of a size: none where its end is passed already.
-fn count_in(way: i128, step: u64) -> u128
+/// How many turns fit into a distance, the first at its start, by steps of a size; none where the distance is below 0.
+fn count_in(distance: i128, step: u64) -> u128
     requires { 0 < step }
-    ensures { result ≡ count_in way step }
+    ensures { result ≡ count_in distance step }
 {
-    if way < 0 {
+    if distance < 0 {
         0
     } else {
-        way.unsigned_abs() / u128::from(step) + 1
+        distance.unsigned_abs() / u128::from(step) + 1
     }
 }
 
-/// How many turns a FOR has: one for each of from, from + step, .. not past the bound (IEC 61131-3); none by the step 0.
+/// The number of turns of a FOR: one for each of from, from + step, .. not past the bound (IEC 61131-3); 0 with the step 0.
 pub fn count_turns(span: Span) -> u128
     ensures { result ≡ length (control_values span) }
 {

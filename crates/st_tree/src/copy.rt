@@ -9,7 +9,7 @@ use std::alloc::{AllocError, Global};
 
 /// A variable of a tree that can be copied.
 pub trait Duplicate: Drop {
-    /// The same variable. The error is a refused growth.
+    /// Returns the same variable; fails only where memory is refused.
     fn duplicate(&self, alloc: Global) -> Result<Self, AllocError>
         ensures { IfOk result (λ v. v ≡ self.now) };
 }
@@ -26,7 +26,7 @@ impl Duplicate for usize {
     }
 }
 
-/// The same expression. The error is a refused growth.
+/// Returns the same expression; fails only where memory is refused.
 pub fn copy_expr<V: Duplicate>(alloc: Global, expr: &Expr<V>) -> Result<Expr<V>, AllocError>
     ensures { IfOk result (λ e. view_expr e ≡ view_expr expr.now) }
 {
@@ -46,7 +46,7 @@ pub fn copy_expr<V: Duplicate>(alloc: Global, expr: &Expr<V>) -> Result<Expr<V>,
     }
 }
 
-/// The same expression, if there is one.
+/// Returns the same expression, if there is one.
 fn copy_option<V: Duplicate>(
     alloc: Global,
     expr: &Option<Expr<V>>,
@@ -59,7 +59,7 @@ fn copy_option<V: Duplicate>(
     }
 }
 
-/// The same argument.
+/// Returns the same argument.
 fn copy_argument<V: Duplicate>(
     alloc: Global,
     argument: &Argument<V>,
@@ -78,7 +78,7 @@ fn copy_argument<V: Duplicate>(
     }
 }
 
-/// The same arguments in their order.
+/// Returns the same arguments in the same order.
 fn copy_arguments<V: Duplicate>(
     alloc: Global,
     arguments: &[Argument<V>],
@@ -92,14 +92,14 @@ fn copy_arguments<V: Duplicate>(
     Ok(copies)
 }
 
-/// The same labels in their order. The error is a refused growth.
+/// Returns the same labels in the same order; fails only where memory is refused.
 pub fn copy_labels(alloc: Global, labels: &[Label]) -> Result<Vec<Label>, AllocError>
     ensures { IfOk result (λ copy. copy.items ≡ labels.now) }
 {
     labels.iter().copied().collect(alloc)
 }
 
-/// The same statement.
+/// Returns the same statement.
 #[cycle(copy)]
 fn copy_stmt<V: Duplicate>(alloc: Global, stmt: &Stmt<V>) -> Result<Stmt<V>, AllocError>
     ensures { IfOk result (λ s. view_stmt s ≡ view_stmt stmt.now) }
@@ -147,7 +147,7 @@ fn copy_stmt<V: Duplicate>(alloc: Global, stmt: &Stmt<V>) -> Result<Stmt<V>, All
     }
 }
 
-/// The same branches in their order.
+/// Returns the same branches in the same order.
 #[cycle(copy)]
 fn copy_branches<V: Duplicate>(
     alloc: Global,
@@ -164,7 +164,7 @@ fn copy_branches<V: Duplicate>(
     Ok(copies)
 }
 
-/// The same choices in their order.
+/// Returns the same choices in the same order.
 #[cycle(copy)]
 fn copy_choices<V: Duplicate>(
     alloc: Global,
@@ -181,7 +181,7 @@ fn copy_choices<V: Duplicate>(
     Ok(copies)
 }
 
-/// The same statements in their order. The error is a refused growth.
+/// Returns the same statements in the same order; fails only where memory is refused.
 #[cycle(copy)]
 pub fn copy_body<V: Duplicate>(alloc: Global, body: &[Stmt<V>]) -> Result<Vec<Stmt<V>>, AllocError>
     ensures { IfOk result (λ copy. view_body copy.items ≡ view_body body.now) }

@@ -1,4 +1,4 @@
-//! The kinds that operators take and give.
+//! The kinds of operands and of results.
 
 ghost use Rattle.std.specs.Prelude.{◌≡◌};
 ghost use Rattle.st_tree.specs.Kinds.{unary_kind, binary_kind, resolved_unary, resolved_binary, literal_kind, literal_is_bit, is_bit};
@@ -29,7 +29,7 @@ impl Literal {
     }
 }
 
-/// The kind of what an operator gives of an operand of a kind; None where it doesn't take it (IEC 61131-3).
+/// The kind of an operator's result, by the kind of its operand; `None` for an operand that it does not take (IEC 61131-3).
 pub fn unary_kind(op: Unary, a: Kind) -> Option<Kind>
     ensures { result ≡ unary_kind op a }
 {
@@ -41,7 +41,7 @@ pub fn unary_kind(op: Unary, a: Kind) -> Option<Kind>
     }
 }
 
-/// The kind of what an operator gives of operands of two kinds; None where it doesn't take them (IEC 61131-3). BOOL has no order (this profile).
+/// The kind of an operator's result, by the kinds of its operands; `None` for operands that it does not take (IEC 61131-3). BOOL has no order (this profile).
 pub fn binary_kind(op: Binary, a: Kind, b: Kind) -> Option<Kind>
     ensures { result ≡ binary_kind op a b }
 {
@@ -72,7 +72,7 @@ pub fn binary_kind(op: Binary, a: Kind, b: Kind) -> Option<Kind>
     }
 }
 
-/// The operator that is meant where its operand is of a kind: a `-` of a TIME is that of TIME.
+/// The operator for an operand of a kind: `-` becomes that of TIME for a TIME.
 pub fn resolved_unary(op: Unary, a: Kind) -> Unary
     ensures { result ≡ resolved_unary op a }
 {
@@ -82,7 +82,7 @@ pub fn resolved_unary(op: Unary, a: Kind) -> Unary
     }
 }
 
-/// The operator that is meant where its left operand is of a kind: a `+` or `-` of TIMEs is that of TIME.
+/// The operator for a left operand of a kind: `+` and `-` become those of TIME for a TIME.
 pub fn resolved_binary(op: Binary, a: Kind) -> Binary
     ensures { result ≡ resolved_binary op a }
 {
@@ -93,7 +93,7 @@ pub fn resolved_binary(op: Binary, a: Kind) -> Binary
     }
 }
 
-/// Whether an expression is the integer 0 or 1 as it stands, which may be given for a BOOL and is then FALSE or TRUE (this profile).
+/// Whether an expression is just the integer 0 or 1, which may be assigned to a BOOL and is then FALSE or TRUE (this profile).
 pub fn is_bit<V>(expr: &Expr<V>) -> bool
     ensures { result ≡ is_bit (view_expr expr.now) }
 {

@@ -1,11 +1,11 @@
-//! Labels of a CASE.
+//! The labels of a CASE.
 
 ghost use Rattle.std.specs.Prelude.{◌≡◌};
 ghost use Rattle.st_tree.specs.Meaning.{labels_fit};
 
 use crate::tree::Label;
 
-/// Whether one of the labels fits a number. A label fits from its low end to its high end. One whose low end is above its high end fits nothing (this profile).
+/// Whether one of the labels fits a number: a label fits the numbers from `low` to `high`, and none where `low` is above `high` (this profile).
 pub fn labels_fit(n: i64, labels: &[Label]) -> bool
     ensures { result ≡ labels_fit n labels.now }
 {

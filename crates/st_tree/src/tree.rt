@@ -5,9 +5,9 @@ use plant_types::Value;
 /// A literal as it is written (IEC 61131-3).
 #[derive(Clone, Copy, PartialEq, Eq, Debug, Drop)]
 pub enum Literal {
-    /// An integer without a kind, a sign or parentheses. It is a DINT; where 0 or 1 is the whole of what is assigned to a BOOL, it is FALSE or TRUE.
+    /// An integer without a type prefix, a sign or parentheses. It is a DINT; where only 0 or 1 is assigned to a BOOL, it is FALSE or TRUE (this profile).
     Integer(i32),
-    /// Any other literal: a truth, a duration, a DINT with its kind, and an integer with a sign or in parentheses.
+    /// Any other literal: a truth, a duration, a DINT with its type prefix, and an integer with a sign or in parentheses.
     Value(Value),
 }
 
@@ -59,7 +59,7 @@ pub enum Binary {
     Mod,
 }
 
-/// An expression over variables of the type V. Parentheses leave no mark in it but on an integer.
+/// An expression over variables of the type `V`. Parentheses leave no trace, except that an integer in them is a `Literal::Value`.
 #[derive(Drop)]
 pub enum Expr<V> {
     Literal(Literal),
@@ -80,14 +80,14 @@ pub enum Argument<V> {
     Output(V, V),
 }
 
-/// A label of a CASE: the numbers from a low end to a high end. A single number is both its ends.
+/// A label of a `CASE`: the numbers from `low` to `high`. A single number is both.
 #[derive(Clone, Copy, PartialEq, Eq, Debug, Drop)]
 pub struct Label {
     pub low: i64,
     pub high: i64,
 }
 
-/// A test of an IF, and what is done where it is the first that is TRUE.
+/// A test of an `IF`, and the statements that run where it is the first that is TRUE.
 #[derive(Drop)]
 #[cycle(stmt)]
 pub struct Branch<V> {
@@ -95,7 +95,7 @@ pub struct Branch<V> {
     pub body: Vec<Stmt<V>>,
 }
 
-/// Labels of a CASE, and what is done where they are the first of which one fits.
+/// Labels of a `CASE`, and the statements that run where they are the first with one that fits.
 #[derive(Drop)]
 #[cycle(stmt)]
 pub struct Choice<V> {
@@ -103,24 +103,24 @@ pub struct Choice<V> {
     pub body: Vec<Stmt<V>>,
 }
 
-/// A statement over variables of the type V.
+/// A statement over variables of the type `V`.
 ///
-/// Each has a number first: the statements of a body, nested and empty ones too, are numbered from 1 in the order of their first tokens.
+/// Each has a number: the statements of a body, nested and empty ones too, are numbered from 1 in the order of their first tokens.
 /// A parser writes 0 for every number.
 #[derive(Drop)]
 #[cycle(stmt)]
 pub enum Stmt<V> {
-    /// Nothing: a bare `;`.
+    /// An empty statement: only a `;`.
     Empty(u32),
     /// `variable := expression`
     Assign(u32, V, Expr<V>),
     /// `instance(arguments)`
     Call(u32, V, Vec<Argument<V>>),
-    /// `IF`, its branches (those of `ELSIF` too) and the body of `ELSE`, which is empty where none is written.
+    /// `IF`, its branches (those of `ELSIF` too) and the body of `ELSE`, which is empty if none is written.
     If(u32, Vec<Branch<V>>, Vec<Stmt<V>>),
-    /// `CASE`, its selector, its choices and the body of `ELSE`, which is empty where none is written.
+    /// `CASE`, its selector, its choices and the body of `ELSE`, which is empty if none is written.
     Case(u32, Expr<V>, Vec<Choice<V>>, Vec<Stmt<V>>),
-    /// `FOR`, its control variable, its bounds `from` and `to`, its step, if one is written after `BY`, and its body.
+    /// `FOR` with its control variable, its bounds, its step, if one is written after `BY`, and its body.
     For {
         number: u32,
         variable: V,

@@ -1,5 +1,5 @@
 use Rattle.std.proofs.Common.{◌∙◌, ◌+◌, ap}
-use Rattle.st_tree.specs.Numbers.{count_all}
+use Rattle.st_tree.specs.Numbers.{count_body}
 use Rattle.st_tree.specs.View.{view_expr, view_body}
 use Rattle.st_tree.proofs.Views.{view_branch_is, view_branch_made, view_choice_is, view_choice_made}
 use Rattle.st_resolve.specs.Resolved.{flat_body}
@@ -19,7 +19,7 @@ resolve_branches-loop-branch-preserved t c =
     let number = c.loop-branch.number in
     let test = c.in_ok-test.ensures in
     let body = c.in_ok-body.ensures.body ∙ ap (λ l. flat_body scope number (view_body l)) c.deref.ensures.value in
-    let counted = c.in_ok-body.ensures.count ∙ ap (λ l. number + count_all (view_body l)) c.deref.ensures.value in
+    let counted = c.in_ok-body.ensures.count ∙ ap (λ l. number + count_body (view_body l)) c.deref.ensures.value in
     branches_more scope _ _ c.args.branches.now c.loop-branch.branch-index c.branch-item.result number c.resolve_body.new.number c.loop-branch.resolved.items c.push.new.self.items _ (view_expr c.branch-item.result.test) (view_body c.branch-item.result.body.items) c.loop-branch-test.true c.branch-item.is c.loop-branch.invariant (view_branch_is c.branch-item.result)
     (view_branch_made c.in_ok-test.test c.in_ok-body.body ∙ (λ k. (test k, body k))) counted c.in_ok-push.ensures.items
 
@@ -32,7 +32,7 @@ resolve_choices-loop-choice-preserved t c =
     let number = c.loop-choice.number in
     let labels = c.in_ok-labels.ensures ∙ c.deref.ensures.value in
     let body = c.in_ok-body.ensures.body ∙ ap (λ l. flat_body scope number (view_body l)) c.deref-in-loop-choice.ensures.value in
-    let counted = c.in_ok-body.ensures.count ∙ ap (λ l. number + count_all (view_body l)) c.deref-in-loop-choice.ensures.value in
+    let counted = c.in_ok-body.ensures.count ∙ ap (λ l. number + count_body (view_body l)) c.deref-in-loop-choice.ensures.value in
     choices_more scope _ _ c.args.choices.now c.loop-choice.choice-index c.choice-item.result number c.resolve_body.new.number c.loop-choice.resolved.items c.push.new.self.items _ c.choice-item.result.labels.items (view_body c.choice-item.result.body.items) c.loop-choice-test.true c.choice-item.is c.loop-choice.invariant (view_choice_is c.choice-item.result)
     (view_choice_made c.in_ok-labels.labels c.in_ok-body.body ∙ (λ k. (labels k, body k))) counted c.in_ok-push.ensures.items
 

@@ -1,5 +1,5 @@
 use Rattle.std.proofs.Common.{◌+◌}
-use Rattle.st_tree.specs.Numbers.{count_all, count_branches, count_choices}
+use Rattle.st_tree.specs.Numbers.{count_body, count_branches, count_choices}
 use Rattle.st_tree.specs.View.{view_body, view_branches, view_choices}
 use Rattle.st_resolve.specs.Resolved.{flat_body, flat_branches, flat_choices}
 use Rattle.st_resolve.proofs.Joined.{Body, BranchesAre, ChoicesAre}
@@ -8,7 +8,7 @@ use Rattle.st_resolve.proofs.resolve.+resolve.Given as goal
 -- what is resolved and what is to be resolved are the whole
 abbrev pub invariant-resolve_body-loop-stmt : goal.invariant-resolve_body-loop-stmt
 invariant-resolve_body-loop-stmt l =
-    Body l.scope (flat_body l.scope l.initial.number (view_body l.body)) (l.initial.number + count_all (view_body l.body)) l.body l.stmt-index l.number l.resolved.items
+    Body l.scope (flat_body l.scope l.initial.number (view_body l.body)) (l.initial.number + count_body (view_body l.body)) l.body l.stmt-index l.number l.resolved.items
 
 abbrev pub invariant-resolve_branches-loop-branch : goal.invariant-resolve_branches-loop-branch
 invariant-resolve_branches-loop-branch l =
