@@ -1,9 +1,9 @@
 -- Phrases one after another, each parsed where one is next.
-use Rattle.std.proofs.Common.{◌≡◌, ℕ, zero, suc, ◌+◌, Bool, true, false, List, [], ◌∷◌, ◌++◌, map, Option, Some, None, refl, sym, ap, ◌∙◌, cond, subst}
+use Rattle.std.proofs.Common.{◌≡◌, ℕ, zero, suc, ◌+◌, Bool, true, false, List, [], ◌∷◌, ◌++◌, map, Option, Some, None, refl, ap, ◌∙◌, cond}
 use Rattle.std.specs.Prelude.{option_map}
 use Rattle.st_parser.specs.Lexemes.{Lexeme}
 use Rattle.st_parser.specs.Outcome.{Fails}
-use Rattle.st_parser.specs.Reading.{◌>>=◌, ahead, with_first, many, perhaps_at}
+use Rattle.st_parser.specs.Reading.{◌>>=◌, with_first, many, perhaps_at}
 use Rattle.st_parser.specs.declared.fault.Stop.{Stop}
 use Rattle.st_parser.specs.declared.fault.Stop.TheVariants as stop
 use Rattle.st_parser.proofs.Steps.{same_some}

@@ -2,7 +2,6 @@
 use Rattle.std.proofs.Common.{ap, rules}
 use Rattle.st_parser.specs.Outcome.{Fails}
 use Rattle.st_parser.specs.Reading.{climb, tree_of, expression_at}
-use Rattle.st_parser.specs.declared.fault.Stop.{Stop}
 use Rattle.st_parser.proofs.Steps.{fails_tree}
 use Rattle.st_parser.proofs.expr.expression.Goals as goal
 

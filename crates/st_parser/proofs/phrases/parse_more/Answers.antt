@@ -2,7 +2,7 @@
 use Rattle.std.proofs.Common.{◌≡◌, ◌+◌, ◌-◌, ◌∙◌, ap, sym, subst, arith, rules, length, map, None, Some}
 use Rattle.std.specs.Prelude.{option_map}
 use Rattle.st_parser.specs.Outcome.{Fails}
-use Rattle.st_parser.specs.Reading.{with_first, many, perhaps_at}
+use Rattle.st_parser.specs.Reading.{perhaps_at}
 use Rattle.st_parser.proofs.Several.{several_more, several_end, several_stop}
 use Rattle.st_parser.proofs.phrases.parse_more.Goals as goal
 
