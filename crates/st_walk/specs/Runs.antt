@@ -1,5 +1,5 @@
 -- Runs over cells, and runs in the worlds that they stand for.
-use Rattle.std.specs.Prelude.{◌≡◌, ℤ, List, [], ◌∷◌, slice_index_or}
+use Rattle.std.specs.Prelude.{◌≡◌, ◌<◌, ℤ, List, [], ◌∷◌, length, slice_index_or}
 use Rattle.plant_types.specs.declared.values.Place.{Place}
 use Rattle.st_tree.specs.Meaning.{Spot, Ran, Done, Trapped}
 use Rattle.st_resolve.specs.Source.{Source}
@@ -19,6 +19,11 @@ place_spot source place = record { path = slice_index_or (paths_of source) place
 abbrev pub ran : Source → Walked → List ℤ → Ran (List ℤ)
 ran source walked.Done cells = Done cells
 ran source (walked.Trapped place trap) cells = Trapped cells (place_spot source place) trap
+
+-- a trap's place has a path of the source
+abbrev pub IsWithin : Source → Walked → Type 0
+IsWithin source walked.Done = Unit {0}
+IsWithin source (walked.Trapped place trap) = place.path < length (paths_of source)
 
 -- a run over cells ends as a run in a world does, at the same spot and with the same kind of trap, and the cells stand for the world
 abbrev pub Agree : Source → Ran World → Ran (List ℤ) → Type 0

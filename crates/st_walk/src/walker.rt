@@ -6,7 +6,7 @@ ghost use Rattle.st_tree.specs.Meaning.{run, run_all, turns, first_true, first_f
 ghost use Rattle.st_tree.specs.Controls.{up, down, control_values};
 ghost use Rattle.st_walk.specs.Slots.{cell, cell_space, ended_run, chosen};
 ghost use Rattle.st_walk.specs.Worlds.{World, Stands, run_program};
-ghost use Rattle.st_walk.specs.Runs.{ran, Agree};
+ghost use Rattle.st_walk.specs.Runs.{ran, IsWithin, Agree};
 
 use crate::cells::Cells;
 use plant_types::{Place, Trap};
@@ -268,7 +268,8 @@ fn count_down(
 #[tactic(auto, using(crate::proofs::Ends::walk_done, crate::proofs::Ends::walk_trapped))]
 pub fn walk(flat: &Flat, program: u32, cells: &mut Cells, _moment: u64) -> Walked
     requires there { program < 1 }
-    ensures { (w : World) → Stands flat.now cells.old w → Agree flat.now (run_program flat.now w) (ran flat.now result cells.new) }
+    ensures ran { (w : World) → Stands flat.now cells.old w → Agree flat.now (run_program flat.now w) (ran flat.now result cells.new) }
+    ensures within { IsWithin flat.now result }
 {
     match run_body(flat.body(), cells) {
         Ok(()) => Walked::Done,
