@@ -16,24 +16,24 @@ abbrev rows : List AlarmRow
 rows = row 0 None ∷ row 1 (Some 2) ∷ row 1 None ∷ []
 
 -- a change of an alarm that was normal
-abbrev move : Code → PlainChange
-move code = record { from = Norm; to = code }
+abbrev to : Code → PlainChange
+to code = record { from = Norm; to = code }
 
--- what is told of them in the first scan, after which the three globals have these values
-abbrev told : ℤ → ℤ → ℤ → List (ℕ × PlainChange)
-told a b c = changes_from 0 (map opening_alarm rows) (alarms_after (λ n. slice_index_or (a ∷ b ∷ c ∷ []) n (pos 0)) 5 rows (map opening_alarm rows))
+-- their changes in the first scan, after which the three globals have these values
+abbrev changes : ℤ → ℤ → ℤ → List (ℕ × PlainChange)
+changes a b c = changes_from 0 (map opening_alarm rows) (alarms_after (λ n. slice_index_or (a ∷ b ∷ c ∷ []) n (pos 0)) 5 rows (map opening_alarm rows))
 
-no_condition : told (pos 0) (pos 0) (pos 0) ≡ []
+no_condition : changes (pos 0) (pos 0) (pos 0) ≡ []
 no_condition = refl
 
-first_condition : told (pos 1) (pos 0) (pos 0) ≡ (0, move Unack) ∷ []
+first_condition : changes (pos 1) (pos 0) (pos 0) ≡ (0, to Unack) ∷ []
 first_condition = refl
 
-one_condition_of_two_alarms : told (pos 0) (pos 1) (pos 0) ≡ (1, move Unack) ∷ (2, move Unack) ∷ []
+one_condition_of_two_alarms : changes (pos 0) (pos 1) (pos 0) ≡ (1, to Unack) ∷ (2, to Unack) ∷ []
 one_condition_of_two_alarms = refl
 
-one_of_two_suppressed : told (pos 0) (pos 1) (pos 1) ≡ (1, move Suppr) ∷ (2, move Unack) ∷ []
+one_of_two_suppressed : changes (pos 0) (pos 1) (pos 1) ≡ (1, to Suppr) ∷ (2, to Unack) ∷ []
 one_of_two_suppressed = refl
 
-suppressed_without_condition : told (pos 1) (pos 0) (pos 1) ≡ (0, move Unack) ∷ (1, move Suppr) ∷ []
+suppressed_without_condition : changes (pos 1) (pos 0) (pos 1) ≡ (0, to Unack) ∷ (1, to Suppr) ∷ []
 suppressed_without_condition = refl

@@ -53,7 +53,7 @@ suppression_same : (source : Source) (f g : ℕ → ℤ) (suppress : Option ℕ)
 suppression_same source f g None same is = refl
 suppression_same source f g (Some n) same is = ap is_true (same n is.within)
 
--- alarms look at globals alone
+-- alarms look only at globals
 pub alarms_same : (plant : PlainPlant) (f g : ℕ → ℤ) (t : ℕ) (rows : List AlarmRow) (alarms : List PlainAlarm) → SameGlobals plant.source f g → All (IsAlarmRow plant) rows → alarms_after f t rows alarms ≡ alarms_after g t rows alarms
 alarms_same plant f g t [] alarms same all = refl
 alarms_same plant f g t (row ∷ rows) [] same all = refl
@@ -84,6 +84,6 @@ outs_same a b f g n (global ∷ globals) before now =
     ∙ ap (λ y. put (b n) y (outs_from (n + 1) globals a f)) (now n (omega arith))
     ∙ ap (put (b n) (g n)) (outs_same a b f g (n + 1) globals (λ k below. before k (omega (arith, below))) (λ k below. now k (omega (arith, below))))
 
--- and what is told of them
+-- and their changes
 pub outs_stand : (source : Source) (a b f g : ℕ → ℤ) → SameGlobals source a b → SameGlobals source f g → outs_from 0 source.globals a f ≡ outs_from 0 source.globals b g
 outs_stand source a b f g before now = outs_same a b f g 0 source.globals (λ k below. before k (omega (arith, below))) (λ k below. now k (omega (arith, below)))

@@ -1,4 +1,4 @@
--- The image of a scan that is taken names globals alone.
+-- The image of a scan that is taken names only globals.
 use Rattle.std.proofs.Common.{◌≡◌, ℕ, ◌<◌, Bool, true, false, if◌then◌else◌, List, [], ◌∷◌, All, length, refl, subst, Option, Some, None, Ok, Err}
 use Rattle.std.specs.Prelude.{slice_get, nat_lt, nat_le}
 use Rattle.std.specs.declared.result.Result.{Result}
@@ -11,16 +11,18 @@ use Rattle.plant_types.specs.declared.values.Value.{Value}
 use Rattle.st_resolve.specs.declared.logic.Variable.{Variable}
 use Rattle.st_resolve.specs.Names.{find_global}
 use Rattle.st_resolve.specs.Faults.{is_input}
+use Rattle.alarm_machine.specs.declared.limits.TheConstants.{LAST_MOMENT}
+use Rattle.engine.specs.declared.event.TheConstants.{MOST_EVENTS}
 use Rattle.engine.specs.declared.event.Event.{Event}
 use Rattle.engine.specs.declared.event.Event.TheVariants as event
 use Rattle.engine.specs.declared.event.EngineFault.{EngineFault}
 use Rattle.engine.specs.declared.event.EngineFault.TheVariants as refusal
-use Rattle.engine.specs.declared.image.Placed.{Placed}
-use Rattle.engine.specs.Image.{at_input, place_of, places_of, has_twin, values_of, image_of}
+use Rattle.engine.specs.declared.image.Input.{Input}
+use Rattle.engine.specs.Image.{input_at, input_of, inputs_of, has_twin, values_of, image_of}
 use Rattle.engine.specs.System.{taken_scan}
 
--- a place, or a value, is that of a number below
-abbrev is_below : ℕ → Placed → Type 0
+-- an input, or a value, is that of a number below
+abbrev is_below : ℕ → Input → Type 0
 is_below n p = p.number < n
 
 abbrev pub has_number : ℕ → ℕ × Value → Type 0
@@ -33,25 +35,25 @@ mapped_some : {A B P : Type 0} (f : A → B) (o : Option A) (y : B) → option_m
 mapped_some f None y h found = absurd (cc)
 mapped_some f (Some x) y h found = found x refl (same_some (f x) y h)
 
-taken_input : (b : Bool) (x p : Placed) → (if b then Some x else None) ≡ Some p → x ≡ p
-taken_input true x p h = same_some x p h
-taken_input false x p h = absurd (cc)
+chosen_input : (b : Bool) (x p : Input) → (if b then Some x else None) ≡ Some p → x ≡ p
+chosen_input true x p h = same_some x p h
+chosen_input false x p h = absurd (cc)
 
-place_within : (globals : List Variable) (pair : PlainPair) (p : Placed) → place_of globals pair ≡ Some p → p.number < length globals
-place_within globals pair p h =
-    option_and_then_some (λ n. option_and_then (at_input n pair) (slice_get globals n)) (find_global globals pair.name) p h
-    (λ n found at. option_and_then_some (at_input n pair) (slice_get globals n) p at
-    (λ g there is. subst (λ (q : Placed). q.number < length globals) (taken_input (is_input g.region) (record { number = n; kind = g.kind; given = pair.given }) p is) (slice_get_within globals n g there)))
+input_within : (globals : List Variable) (pair : PlainPair) (p : Input) → input_of globals pair ≡ Some p → p.number < length globals
+input_within globals pair p h =
+    option_and_then_some (λ n. option_and_then (input_at n pair) (slice_get globals n)) (find_global globals pair.name) p h
+    (λ n found at. option_and_then_some (input_at n pair) (slice_get globals n) p at
+    (λ g there is. subst (λ (q : Input). q.number < length globals) (chosen_input (is_input g.region) (record { number = n; kind = g.kind; given = pair.given }) p is) (slice_get_within globals n g there)))
 
-places_within : (globals : List Variable) (pairs : List PlainPair) (places : List Placed) → places_of globals pairs ≡ Some places → All (is_below (length globals)) places
-places_within globals [] places h = subst (All (is_below (length globals))) (same_some [] places h) (All-nil (is_below (length globals)))
-places_within globals (pair ∷ pairs) places h =
+inputs_within : (globals : List Variable) (pairs : List PlainPair) (inputs : List Input) → inputs_of globals pairs ≡ Some inputs → All (is_below (length globals)) inputs
+inputs_within globals [] inputs h = subst (All (is_below (length globals))) (same_some [] inputs h) (All-nil (is_below (length globals)))
+inputs_within globals (pair ∷ pairs) inputs h =
     let P = is_below (length globals) in
-    option_and_then_some (λ place. option_map (λ rest. place ∷ rest) (places_of globals pairs)) (place_of globals pair) places h
-    (λ place at is. mapped_some (λ rest. place ∷ rest) (places_of globals pairs) places is
-    (λ rest others made. subst (All P) made (All-cons P place rest (place_within globals pair place at) (places_within globals pairs rest others))))
+    option_and_then_some (λ input. option_map (λ rest. input ∷ rest) (inputs_of globals pairs)) (input_of globals pair) inputs h
+    (λ input at is. mapped_some (λ rest. input ∷ rest) (inputs_of globals pairs) inputs is
+    (λ rest others made. subst (All P) made (All-cons P input rest (input_within globals pair input at) (inputs_within globals pairs rest others))))
 
-values_within : (n : ℕ) (places : List Placed) (values : List (ℕ × Value)) → All (is_below n) places → values_of places ≡ Some values → All (has_number n) values
+values_within : (n : ℕ) (inputs : List Input) (values : List (ℕ × Value)) → All (is_below n) inputs → values_of inputs ≡ Some values → All (has_number n) values
 values_within n [] values below h = subst (All (has_number n)) (same_some [] values h) (All-nil (has_number n))
 values_within n (p ∷ ps) values below h =
     let P = has_number n in
@@ -59,12 +61,12 @@ values_within n (p ∷ ps) values below h =
     (λ v at is. mapped_some (λ rest. (p.number, v) ∷ rest) (values_of ps) values is
     (λ rest others made. subst (All P) made (All-cons P (p.number, v) rest (All-head (is_below n) p ps below) (values_within n ps rest (All-tail (is_below n) p ps below) others))))
 
--- an image by the values of its places, by the places, and an event by its image
+-- an image by the values of its inputs, by the inputs, and an event by its image
 abbrev by_values : Option (List (ℕ × Value)) → Result (List (ℕ × Value)) EngineFault
 by_values o = elim o [ None ↦ Err refusal.ImageKind | Some values ↦ Ok values ]
 
-abbrev by_places : Option (List Placed) → Result (List (ℕ × Value)) EngineFault
-by_places o = elim o [ None ↦ Err refusal.ImageName | Some places ↦ if has_twin places then Err refusal.ImageName else by_values (values_of places) ]
+abbrev by_inputs : Option (List Input) → Result (List (ℕ × Value)) EngineFault
+by_inputs o = elim o [ None ↦ Err refusal.ImageName | Some inputs ↦ if has_twin inputs then Err refusal.ImageName else by_values (values_of inputs) ]
 
 abbrev by_image : Bool → ℕ → Result (List (ℕ × Value)) EngineFault → Result Event EngineFault
 by_image full t r = elim r [ Err e ↦ Err e | Ok image ↦ if full then Err refusal.HistoryFull else Ok (event.Scan image t) ]
@@ -77,13 +79,13 @@ none_twice : (b : Bool) (o : Option (List (ℕ × Value))) (image : List (ℕ ×
 none_twice true o image h = absurd (cc)
 none_twice false o image h = all_valued o image h
 
-placed_within : (n : ℕ) (o : Option (List Placed)) (image : List (ℕ × Value)) → ((places : List Placed) → o ≡ Some places → All (is_below n) places) → by_places o ≡ Ok image → All (has_number n) image
-placed_within n None image below h = absurd (cc)
-placed_within n (Some places) image below h = values_within n places image (below places refl) (none_twice (has_twin places) (values_of places) image h)
+image_of_inputs : (n : ℕ) (o : Option (List Input)) (image : List (ℕ × Value)) → ((inputs : List Input) → o ≡ Some inputs → All (is_below n) inputs) → by_inputs o ≡ Ok image → All (has_number n) image
+image_of_inputs n None image below h = absurd (cc)
+image_of_inputs n (Some inputs) image below h = values_within n inputs image (below inputs refl) (none_twice (has_twin inputs) (values_of inputs) image h)
 
 image_within : (globals : List Variable) (pairs : List PlainPair) (image : List (ℕ × Value)) → image_of globals pairs ≡ Ok image → All (has_number (length globals)) image
 unfolding image_of
-image_within globals pairs image h = placed_within (length globals) (places_of globals pairs) image (places_within globals pairs) h
+image_within globals pairs image h = image_of_inputs (length globals) (inputs_of globals pairs) image (inputs_within globals pairs) h
 
 made_image : (full : Bool) (r : Result (List (ℕ × Value)) EngineFault) (t u : ℕ) (image : List (ℕ × Value)) → by_image full t r ≡ Ok (event.Scan image u) → r ≡ Ok image
 made_image full (Err e) t u image h = absurd (cc)
@@ -99,4 +101,4 @@ in_time false false full r t u image h = made_image full r t u image h
 pub taken_within : (globals : List Variable) (last events : ℕ) (pairs : List PlainPair) (t u : ℕ) (image : List (ℕ × Value)) → taken_scan globals last events pairs t ≡ Ok (event.Scan image u) → All (has_number (length globals)) image
 unfolding taken_scan
 taken_within globals last events pairs t u image h =
-    image_within globals pairs image (in_time (nat_lt 4000000000000 t) (nat_lt t last) (nat_le 1000000 events) (image_of globals pairs) t u image h)
+    image_within globals pairs image (in_time (nat_lt LAST_MOMENT t) (nat_lt t last) (nat_le MOST_EVENTS events) (image_of globals pairs) t u image h)

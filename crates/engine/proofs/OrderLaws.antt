@@ -6,9 +6,9 @@ use Rattle.alarm_machine.specs.Codes.{PlainChange}
 use Rattle.alarm_machine.specs.Alarms.{PlainAlarm, AnswersOrder}
 
 -- an order that is taken leaves what the table has
-pub after_order_ok : (due : Result PlainAlarm OrderFault) (old new : PlainAlarm) (move : Option PlainChange) → AnswersOrder due old new (Ok move) → Ok new ≡ due
-after_order_ok (Ok a) old new move h = ap Ok h.0
-after_order_ok (Err e) old new move h = absurd (let e = h.1 in cc)
+pub after_order_ok : (due : Result PlainAlarm OrderFault) (old new : PlainAlarm) (change : Option PlainChange) → AnswersOrder due old new (Ok change) → Ok new ≡ due
+after_order_ok (Ok a) old new change h = ap Ok h.0
+after_order_ok (Err e) old new change h = absurd (let e = h.1 in cc)
 
 -- a refusal is the table's
 pub after_order_err : (due : Result PlainAlarm OrderFault) (old new : PlainAlarm) (e : OrderFault) → AnswersOrder due old new (Err e) → Err e ≡ due

@@ -10,7 +10,7 @@ use Rattle.st_resolve.specs.Source.{Source}
 use Rattle.st_walk.specs.Worlds.{World, Stands, run_program}
 use Rattle.st_walk.specs.Runs.{place_spot, Agree}
 use Rattle.engine.specs.Programs.{Scanned, with_flag, with_fault, after_run, programs_from}
-use Rattle.engine.specs.Steps.{ProgramsRan, run_by, met}
+use Rattle.engine.specs.Steps.{ProgramsRan, run_by, ended_by}
 
 -- a fault with the names to its place
 abbrev pub located : Source → Place × Trap → Spot × Trap
@@ -46,28 +46,28 @@ reached_all source t whole i cells flags faults over r =
     }
 
 -- the flags from a number on
-cut : (flags : List Bool) (i : ℕ) (b : Bool) → i < length flags → get_or flags i b ≡ b → drop i flags ≡ b ∷ drop (i + 1) flags
-cut flags i b h is = drop-cons flags i b h ∙ ap (λ x. x ∷ drop (suc i) flags) is ∙ ap (λ k. b ∷ drop k flags) (sym (add-one i))
+flags_from : (flags : List Bool) (i : ℕ) (b : Bool) → i < length flags → get_or flags i b ≡ b → drop i flags ≡ b ∷ drop (i + 1) flags
+flags_from flags i b h is = drop-cons flags i b h ∙ ap (λ x. x ∷ drop (suc i) flags) is ∙ ap (λ k. b ∷ drop k flags) (sym (add-one i))
 
--- a run that ended, and the world in which the others go on
-record Ended (source : Source) (ran : Ran World) (cells : List ℤ) (others : World → Scanned) : Type 0 where
+-- a run that run_ended, and the world in which the others go on
+record RunEnded (source : Source) (ran : Ran World) (cells : List ℤ) (others : World → Scanned) : Type 0 where
   pub world : World
   pub stands : Stands source cells world
   pub is : after_run ran others ≡ with_flag false (others world)
 
-ended : (source : Source) (ran : Ran World) (cells : List ℤ) (others : World → Scanned) → Agree source ran (Done cells) → Ended source ran cells others
-ended source (Done w) cells others agree = record { world = w; stands = agree; is = refl }
-ended source (Trapped w spot trap) cells others agree = absurd agree
+run_ended : (source : Source) (ran : Ran World) (cells : List ℤ) (others : World → Scanned) → Agree source ran (Done cells) → RunEnded source ran cells others
+run_ended source (Done w) cells others agree = record { world = w; stands = agree; is = refl }
+run_ended source (Trapped w spot trap) cells others agree = absurd agree
 
 -- a run that trapped
-record Stopped (source : Source) (ran : Ran World) (cells : List ℤ) (spot : Spot) (trap : Trap) (others : World → Scanned) : Type 0 where
+record RunTrapped (source : Source) (ran : Ran World) (cells : List ℤ) (spot : Spot) (trap : Trap) (others : World → Scanned) : Type 0 where
   pub world : World
   pub stands : Stands source cells world
   pub is : after_run ran others ≡ with_flag true (with_fault spot trap (others world))
 
-stopped : (source : Source) (ran : Ran World) (cells : List ℤ) (spot : Spot) (trap : Trap) (others : World → Scanned) → Agree source ran (Trapped cells spot trap) → Stopped source ran cells spot trap others
-stopped source (Done w) cells spot trap others agree = absurd agree
-stopped source (Trapped w s k) cells spot trap others agree = record {
+run_trapped : (source : Source) (ran : Ran World) (cells : List ℤ) (spot : Spot) (trap : Trap) (others : World → Scanned) → Agree source ran (Trapped cells spot trap) → RunTrapped source ran cells spot trap others
+run_trapped source (Done w) cells spot trap others agree = absurd agree
+run_trapped source (Trapped w s k) cells spot trap others agree = record {
   world = w;
   stands = agree.0;
   is = ap (λ x. with_flag true (with_fault x k (others w))) agree.1 ∙ ap (λ x. with_flag true (with_fault spot x (others w))) agree.2;
@@ -82,7 +82,7 @@ reached_skip source t whole i cells after flags faults h set walks r =
       world = r.world;
       stands = walks r.world r.stands;
       so_far = r.so_far
-          ∙ ap (λ l. joined (take i flags) (map (located source) faults) (programs_from source t i l r.world)) (cut flags i true h set)
+          ∙ ap (λ l. joined (take i flags) (map (located source) faults) (programs_from source t i l r.world)) (flags_from flags i true h set)
           ∙ joined-with_flag (take i flags) (map (located source) faults) true (programs_from source t (i + 1) (drop (i + 1) flags) r.world)
           ∙ ap (λ b. joined (take i flags ++ b ∷ []) (map (located source) faults) (programs_from source t (i + 1) (drop (i + 1) flags) r.world)) (sym set)
           ∙ ap (λ l. joined l (map (located source) faults) (programs_from source t (i + 1) (drop (i + 1) flags) r.world)) (sym (take_more flags i true h));
@@ -94,12 +94,12 @@ reached_done : (source : Source) (t : ℕ) (whole : Scanned) (i : ℕ) (cells af
     → Reached source t whole i cells flags faults → Reached source t whole (i + 1) after flags faults
 reached_done source t whole i cells after flags faults h unset walks r =
     let others : World → Scanned = programs_from source t (i + 1) (drop (i + 1) flags) in
-    let e = ended source (run_program source r.world) after others (walks r.world r.stands) in
+    let e = run_ended source (run_program source r.world) after others (walks r.world r.stands) in
     record {
       world = e.world;
       stands = e.stands;
       so_far = r.so_far
-          ∙ ap (λ l. joined (take i flags) (map (located source) faults) (programs_from source t i l r.world)) (cut flags i false h unset)
+          ∙ ap (λ l. joined (take i flags) (map (located source) faults) (programs_from source t i l r.world)) (flags_from flags i false h unset)
           ∙ ap (joined (take i flags) (map (located source) faults)) e.is
           ∙ joined-with_flag (take i flags) (map (located source) faults) false (others e.world)
           ∙ ap (λ b. joined (take i flags ++ b ∷ []) (map (located source) faults) (others e.world)) (sym unset)
@@ -108,19 +108,19 @@ reached_done source t whole i cells after flags faults h unset walks r =
 
 -- a program met no fault
 pub reached_next : (source : Source) (t : ℕ) (whole : Scanned) (i : ℕ) (cells after : List ℤ) (flags : List Bool) (faults : List (Place × Trap)) (flag : Bool) → i < length flags → get_or flags i flag ≡ flag
-    → ((w : World) → Stands source cells w → Agree source (run_by flag source i t w) (met source None after))
+    → ((w : World) → Stands source cells w → Agree source (run_by flag source i t w) (ended_by source None after))
     → Reached source t whole i cells flags faults → Reached source t whole (i + 1) after flags faults
 reached_next source t whole i cells after flags faults true h set walks r = reached_skip source t whole i cells after flags faults h set walks r
 reached_next source t whole i cells after flags faults false h unset walks r = reached_done source t whole i cells after flags faults h unset walks r
 
--- a program trapped: it is faulted from then on, and the fault is told
+-- a program trapped: it is faulted from then on, and the fault is reported
 trapped : (source : Source) (t : ℕ) (whole : Scanned) (i : ℕ) (cells after : List ℤ) (flags : List Bool) (faults : List (Place × Trap)) (place : Place) (trap : Trap) → i < length flags → get_or flags i false ≡ false
     → ((w : World) → Stands source cells w → Agree source (run_program source w) (Trapped after (place_spot source place) trap))
     → Reached source t whole i cells flags faults → Reached source t whole (i + 1) after (slice_set flags i true) (faults ++ (place, trap) ∷ [])
 trapped source t whole i cells after flags faults place trap h unset walks r =
     let others : World → Scanned = programs_from source t (i + 1) (drop (i + 1) flags) in
-    let s = stopped source (run_program source r.world) after (place_spot source place) trap others (walks r.world r.stands) in
-    let told = map (located source) faults in
+    let s = run_trapped source (run_program source r.world) after (place_spot source place) trap others (walks r.world r.stands) in
+    let reported = map (located source) faults in
     let within : i < length (slice_set flags i true) = omega (arith, length-set {A = Bool}) in
     let front : take (i + 1) (slice_set flags i true) ≡ take i flags ++ true ∷ [] =
     take_more (slice_set flags i true) i true within ∙ ap (λ l. l ++ get_or (slice_set flags i true) i true ∷ []) (take-set flags i true) ∙ ap (λ b. take i flags ++ b ∷ []) (get_or-set_same flags i true true h) in
@@ -129,10 +129,10 @@ trapped source t whole i cells after flags faults place trap h unset walks r =
       world = s.world;
       stands = s.stands;
       so_far = r.so_far
-          ∙ ap (λ l. joined (take i flags) told (programs_from source t i l r.world)) (cut flags i false h unset)
-          ∙ ap (joined (take i flags) told) s.is
-          ∙ joined-with_flag (take i flags) told true (with_fault (place_spot source place) trap (others s.world))
-          ∙ joined-with_fault (take i flags ++ true ∷ []) told (place_spot source place) trap (others s.world)
+          ∙ ap (λ l. joined (take i flags) reported (programs_from source t i l r.world)) (flags_from flags i false h unset)
+          ∙ ap (joined (take i flags) reported) s.is
+          ∙ joined-with_flag (take i flags) reported true (with_fault (place_spot source place) trap (others s.world))
+          ∙ joined-with_fault (take i flags ++ true ∷ []) reported (place_spot source place) trap (others s.world)
           ∙ ap (λ l. joined (take i flags ++ true ∷ []) l (others s.world)) (sym (map-append (located source) faults ((place, trap) ∷ [])))
           ∙ ap (λ l. joined l (map (located source) (faults ++ (place, trap) ∷ [])) (others s.world)) (sym front)
           ∙ ap (λ l. joined (take (i + 1) (slice_set flags i true)) (map (located source) (faults ++ (place, trap) ∷ [])) (programs_from source t (i + 1) l s.world)) (sym back);
@@ -140,7 +140,7 @@ trapped source t whole i cells after flags faults place trap h unset walks r =
 
 -- a program met a fault: it wasn't faulted before
 pub reached_trap : (source : Source) (t : ℕ) (whole : Scanned) (i : ℕ) (cells after : List ℤ) (flags : List Bool) (faults : List (Place × Trap)) (flag : Bool) (fault : Place × Trap) → i < length flags → get_or flags i flag ≡ flag
-    → ((w : World) → Stands source cells w → Agree source (run_by flag source i t w) (met source (Some fault) after))
+    → ((w : World) → Stands source cells w → Agree source (run_by flag source i t w) (ended_by source (Some fault) after))
     → Reached source t whole i cells flags faults → Reached source t whole (i + 1) after (slice_set flags i true) (faults ++ fault ∷ [])
 reached_trap source t whole i cells after flags faults true fault h set walks r = absurd (walks r.world r.stands)
 reached_trap source t whole i cells after flags faults false fault h unset walks r = trapped source t whole i cells after flags faults fault.0 fault.1 h unset walks r

@@ -18,19 +18,20 @@ use Rattle.st_walk.specs.Worlds.{World, Stands, opening_world}
 use Rattle.st_walk.specs.Slots.{cell}
 use Rattle.plant_config.specs.declared.rows.AlarmRow.{AlarmRow}
 use Rattle.plant_config.specs.Plants.{PlainPlant, IsPlant}
+use Rattle.engine.specs.declared.event.TheConstants.{MOST_EVENTS}
 use Rattle.engine.specs.declared.event.Event.{Event}
 use Rattle.engine.specs.declared.event.Event.TheVariants as event
 use Rattle.engine.specs.declared.event.Order.{Order}
 use Rattle.engine.specs.declared.event.EngineFault.{EngineFault}
 use Rattle.engine.specs.declared.event.EngineFault.TheVariants as refusal
-use Rattle.engine.specs.declared.orders.Effect.{Effect}
-use Rattle.engine.specs.declared.orders.Effect.TheVariants as effect
+use Rattle.engine.specs.declared.state.Effect.{Effect}
+use Rattle.engine.specs.declared.state.Effect.TheVariants as effect
 use Rattle.engine.specs.Programs.{Scanned, after_run, run_of, programs_from, with_inputs, global_in, world_after}
 use Rattle.engine.specs.Orders.{order_outcome, alarms_by, faulted_by, reply_by}
 use Rattle.engine.specs.System.{System, system, step, taken_scan, scan_event, order_event, opening_system, opening_alarm, scanned_by, after_scan_event, ordered, alarms_after, changes_from, outputs_from, out_at, outs_from}
 use Rattle.engine.specs.Reports.{PlainReport}
-use Rattle.engine.specs.Engines.{PlainEngine, PlainState, PlainPrepared, PlainPreparedOrder, Fits, FitsOrder, Agrees, IsEngine, IsReport, state_of}
-use Rattle.engine.specs.Steps.{ProgramsRan, Steps, IsScan, IsOrder}
+use Rattle.engine.specs.Engines.{PlainEngine, PlainState, PlainPrepared, PlainPreparedOrder, Fits, FitsOrder, IsState, IsEngine, IsReport, state_of}
+use Rattle.engine.specs.Steps.{ProgramsRan, ScanRan, IsPreparedScan, IsPreparedOrder}
 use Rattle.engine.proofs.CellWorlds.{inputs_stand, values_stand, alarms_same, outputs_stand, outs_stand}
 use Rattle.engine.proofs.Images.{has_number, taken_within}
 
@@ -111,25 +112,25 @@ unfolding system
 system_events plant history = events_from plant (opening_system plant) history ∙ zero-add (length history)
 
 -- an engine has an alarm for each row of the database
-pub kept_alarms : (plant : PlainPlant) (history : List Event) (k : PlainState) → Agrees plant (system plant history) k → length k.alarms ≡ length plant.alarms
+pub kept_alarms : (plant : PlainPlant) (history : List Event) (k : PlainState) → IsState plant (system plant history) k → length k.alarms ≡ length plant.alarms
 kept_alarms plant history k held = ap length held.alarms_are ∙ system_alarms plant history
 
 -- and a flag for each program
-pub kept_faulted : (plant : PlainPlant) (history : List Event) (k : PlainState) → Agrees plant (system plant history) k → length k.faulted ≡ 1
+pub kept_faulted : (plant : PlainPlant) (history : List Event) (k : PlainState) → IsState plant (system plant history) k → length k.faulted ≡ 1
 kept_faulted plant history k held = ap length held.faulted_is ∙ system_faulted plant history
 
 -- what the programs leave in cells is what they leave in the system's world
-runs_world : (plant : PlainPlant) (sys : System) (old new : PlainState) (image : List (ℕ × Value)) (t : ℕ) (r : PlainReport) → first_fault plant.source ≡ None → All (has_number (length plant.source.globals)) image → Agrees plant sys old → Steps plant old image t new r
+runs_world : (plant : PlainPlant) (sys : System) (old new : PlainState) (image : List (ℕ × Value)) (t : ℕ) (r : PlainReport) → first_fault plant.source ≡ None → All (has_number (length plant.source.globals)) image → IsState plant sys old → ScanRan plant old image t new r
     → ProgramsRan plant.source (scanned_by plant sys image t) new.cells new.faulted r.faults
 unfolding world_after
 runs_world plant sys old new image t r sound within held made =
     let w = with_inputs plant.source image sys.world in
     subst (λ (flags : List Bool). ProgramsRan plant.source (programs_from plant.source t 0 flags w) new.cells new.faulted r.faults) held.faulted_is
-    (made.runs w (inputs_stand plant.source image old.cells sys.world sound within held.world_stands))
+    (made.programs w (inputs_stand plant.source image old.cells sys.world sound within held.world_stands))
 
 -- what a scan leaves is the next system
-scan_agrees : (plant : PlainPlant) (sys : System) (old new : PlainState) (image : List (ℕ × Value)) (t : ℕ) (r : PlainReport) → IsPlant plant → first_fault plant.source ≡ None → All (has_number (length plant.source.globals)) image → Agrees plant sys old → Steps plant old image t new r
-    → Agrees plant (after_scan_event plant sys image t) new
+scan_agrees : (plant : PlainPlant) (sys : System) (old new : PlainState) (image : List (ℕ × Value)) (t : ℕ) (r : PlainReport) → IsPlant plant → first_fault plant.source ≡ None → All (has_number (length plant.source.globals)) image → IsState plant sys old → ScanRan plant old image t new r
+    → IsState plant (after_scan_event plant sys image t) new
 scan_agrees plant sys old new image t r is sound within held made =
     let runs = runs_world plant sys old new image t r sound within held made in
     let look = global_in plant.source (scanned_by plant sys image t).world in
@@ -143,7 +144,7 @@ scan_agrees plant sys old new image t r is sound within held made =
       in_range = rw made.moment_is made.in_range;
     }
 
--- the numbers that are told are there
+-- the numbers that are reported are there
 numbers_more : {A : Type 0} (xs : List (ℕ × A)) (n m : ℕ) → n ≤ m → All (λ x. x.0 < n) xs → All (λ x. x.0 < m) xs
 numbers_more {A} xs n m h all = All-weaker (λ (x : ℕ × A). x.0 < n) (λ (x : ℕ × A). x.0 < m) (λ x below. omega arith) xs all
 
@@ -152,34 +153,35 @@ changes_within n [] new = All-nil (λ (x : ℕ × PlainChange). x.0 < n + 0)
 changes_within n (a ∷ old) [] = All-nil (λ (x : ℕ × PlainChange). x.0 < n + suc (length old))
 changes_within n (a ∷ old) (b ∷ new) =
     let rest = numbers_more (changes_from (n + 1) old new) (n + 1 + length old) (n + suc (length old)) (omega arith) (changes_within (n + 1) old new) in
-    told (change_between (code_of a.state) (code_of b.state)) rest
+    one_more (change_between (code_of a.state) (code_of b.state)) rest
   where
-    told : (o : Option PlainChange) → All (λ c. c.0 < n + suc (length old)) (changes_from (n + 1) old new) → All (λ c. c.0 < n + suc (length old)) (elim o [ None ↦ changes_from (n + 1) old new | Some move ↦ (n, move) ∷ changes_from (n + 1) old new ])
-    told None rest = rest
-    told (Some move) rest = All-cons (λ (x : ℕ × PlainChange). x.0 < n + suc (length old)) (n, move) (changes_from (n + 1) old new) (omega arith) rest
+    one_more : (o : Option PlainChange) → All (λ c. c.0 < n + suc (length old)) (changes_from (n + 1) old new) → All (λ c. c.0 < n + suc (length old)) (elim o [ None ↦ changes_from (n + 1) old new | Some change ↦ (n, change) ∷ changes_from (n + 1) old new ])
+    one_more None rest = rest
+    one_more (Some change) rest = All-cons (λ (x : ℕ × PlainChange). x.0 < n + suc (length old)) (n, change) (changes_from (n + 1) old new) (omega arith) rest
 
 outs_within : (n : ℕ) (globals : List Variable) (before now : ℕ → ℤ) → All (λ o. o.0 < n + length globals) (outs_from n globals before now)
 outs_within n [] before now = All-nil (λ (x : ℕ × Value). x.0 < n + 0)
 outs_within n (global ∷ globals) before now =
     let rest = numbers_more (outs_from (n + 1) globals before now) (n + 1 + length globals) (n + suc (length globals)) (omega arith) (outs_within (n + 1) globals before now) in
-    told (out_at n global before now) rest
+    one_more (out_at n global before now) rest
   where
-    told : (o : Option Value) → All (λ o. o.0 < n + suc (length globals)) (outs_from (n + 1) globals before now) → All (λ o. o.0 < n + suc (length globals)) (elim o [ None ↦ outs_from (n + 1) globals before now | Some v ↦ (n, v) ∷ outs_from (n + 1) globals before now ])
-    told None rest = rest
-    told (Some v) rest = All-cons (λ (x : ℕ × Value). x.0 < n + suc (length globals)) (n, v) (outs_from (n + 1) globals before now) (omega arith) rest
+    one_more : (o : Option Value) → All (λ o. o.0 < n + suc (length globals)) (outs_from (n + 1) globals before now) → All (λ o. o.0 < n + suc (length globals)) (elim o [ None ↦ outs_from (n + 1) globals before now | Some v ↦ (n, v) ∷ outs_from (n + 1) globals before now ])
+    one_more None rest = rest
+    one_more (Some v) rest = All-cons (λ (x : ℕ × Value). x.0 < n + suc (length globals)) (n, v) (outs_from (n + 1) globals before now) (omega arith) rest
 
--- what a scan tells is what its event did
-scan_tells : (plant : PlainPlant) (sys : System) (old new : PlainState) (image : List (ℕ × Value)) (t : ℕ) (r : PlainReport) → IsPlant plant → first_fault plant.source ≡ None → All (has_number (length plant.source.globals)) image → length old.alarms ≡ length plant.alarms → Agrees plant sys old → Steps plant old image t new r
+-- what a scan reports is what its event did
+scan_reports : (plant : PlainPlant) (sys : System) (old new : PlainState) (image : List (ℕ × Value)) (t : ℕ) (r : PlainReport) → IsPlant plant → first_fault plant.source ≡ None → All (has_number (length plant.source.globals)) image → length old.alarms ≡ length plant.alarms → IsState plant sys old → ScanRan plant old image t new r
     → IsReport plant sys (event.Scan image t) r
-scan_tells plant sys old new image t r is sound within each held made =
+scan_reports plant sys old new image t r is sound within each held made =
     let runs = runs_world plant sys old new image t r sound within held made in
     let after = scan_agrees plant sys old new image t r is sound within held made in
     let look = global_in plant.source (scanned_by plant sys image t).world in
     let before = values_stand plant.source old.cells sys.world held.world_stands in
     let now = values_stand plant.source new.cells (scanned_by plant sys image t).world runs.world_stands in
     record {
-      moment_is = made.told_at;
+      moment_is = made.reported_at;
       faults_are = runs.faults_are;
+      faults_within = made.faults_within;
       changes_are = made.changes_are ∙ ap (λ a. changes_from 0 a new.alarms) held.alarms_are ∙ ap (changes_from 0 sys.alarms) after.alarms_are;
       changes_within = subst (λ (l : List (ℕ × PlainChange)). All (λ c. c.0 < length plant.alarms) l) (sym made.changes_are) (numbers_more (changes_from 0 old.alarms new.alarms) (0 + length old.alarms) (length plant.alarms) (omega arith) (changes_within 0 old.alarms new.alarms));
       outs_within = subst (λ (l : List (ℕ × Value)). All (λ o. o.0 < length plant.source.globals) l) (sym made.outs_are) (numbers_more (outs_from 0 plant.source.globals (cell old.cells) (cell new.cells)) (0 + length plant.source.globals) (length plant.source.globals) (omega arith) (outs_within 0 plant.source.globals (cell old.cells) (cell new.cells)));
@@ -187,27 +189,27 @@ scan_tells plant sys old new image t r is sound within each held made =
     }
 
 -- a scan that was made ready from what an engine holds fits that engine, where it has room
-pub scan_fits : (e : PlainEngine) (p : PlainPrepared) (old : PlainState) (events : ℕ) (pairs : List PlainPair) (t : ℕ) → IsPlant e.plant → first_fault e.plant.source ≡ None → Agrees e.plant (state_of e) old → IsScan e.plant old events pairs t p → 0 < e.room → Fits e p
+pub scan_fits : (e : PlainEngine) (p : PlainPrepared) (old : PlainState) (events : ℕ) (pairs : List PlainPair) (t : ℕ) → IsPlant e.plant → first_fault e.plant.source ≡ None → IsState e.plant (state_of e) old → IsPreparedScan e.plant old events pairs t p → 0 < e.room → Fits e p
 scan_fits e p old events pairs t plant_is sound held scan there =
     let sys = state_of e in
     let image = scan.image in
     let is = scan.event_is in
-    let made = scan.steps in
+    let made = scan.ran in
     let within = taken_within e.plant.source.globals old.moment events pairs t t image (scan.taken ∙ ap Ok is) in
     let next : system e.plant (e.history ++ p.event ∷ []) ≡ after_scan_event e.plant sys image t = system_next e.plant e.history p.event ∙ ap (step e.plant sys) is in
     record {
       room = there;
-      agrees = subst (λ s. Agrees e.plant s p.kept) (sym next) (scan_agrees e.plant sys old p.kept image t p.report plant_is sound within held made);
-      tells = subst (λ x. IsReport e.plant sys x p.report) (sym is) (scan_tells e.plant sys old p.kept image t p.report plant_is sound within (kept_alarms e.plant e.history old held) held made);
+      state_is = subst (λ s. IsState e.plant s p.state) (sym next) (scan_agrees e.plant sys old p.state image t p.report plant_is sound within held made);
+      report_is = subst (λ x. IsReport e.plant sys x p.report) (sym is) (scan_reports e.plant sys old p.state image t p.report plant_is sound within (kept_alarms e.plant e.history old held) held made);
     }
 
 -- what an order that was made ready leaves is the next system
-pub order_agrees : (e : PlainEngine) (p : PlainPreparedOrder) (old : PlainState) → Agrees e.plant (state_of e) old → FitsOrder e p
-    → Agrees e.plant (system e.plant (e.history ++ event.Order p.console p.order ∷ [])) (record old { faulted = faulted_by p.done old.faulted; alarms = alarms_by p.done old.alarms })
+pub order_agrees : (e : PlainEngine) (p : PlainPreparedOrder) (old : PlainState) → IsState e.plant (state_of e) old → FitsOrder e p
+    → IsState e.plant (system e.plant (e.history ++ event.Order p.console p.order ∷ [])) (record old { faulted = faulted_by p.done old.faulted; alarms = alarms_by p.done old.alarms })
 order_agrees e p old held fits =
     let sys = state_of e in
     let next : system e.plant (e.history ++ event.Order p.console p.order ∷ []) ≡ step e.plant sys (event.Order p.console p.order) = system_next e.plant e.history (event.Order p.console p.order) in
-    subst (λ s. Agrees e.plant s (record old { faulted = faulted_by p.done old.faulted; alarms = alarms_by p.done old.alarms })) (sym next) (record {
+    subst (λ s. IsState e.plant s (record old { faulted = faulted_by p.done old.faulted; alarms = alarms_by p.done old.alarms })) (sym next) (record {
       world_stands = held.world_stands;
       faulted_is = ap (λ d. faulted_by d old.faulted) fits.done_is ∙ ap (faulted_by (ordered e.plant sys p.console p.order)) held.faulted_is;
       alarms_are = ap (λ d. alarms_by d old.alarms) fits.done_is ∙ ap (alarms_by (ordered e.plant sys p.console p.order)) held.alarms_are;
@@ -220,7 +222,7 @@ order_agrees e p old held fits =
 pub opening_agrees : (plant : PlainPlant) (k : PlainState) → IsPlant plant → first_fault plant.source ≡ None → length plant.source.globals < 2 ^ 32 → Stands plant.source k.cells opening_world → k.faulted ≡ false ∷ [] → k.alarms ≡ map opening_alarm plant.alarms → k.outputs ≡ outputs_from 0 plant.source.globals (cell k.cells) → k.moment ≡ 0 → IsEngine plant [] k
 opening_agrees plant k is sound numbered stands faulted alarms outputs moment =
     record {
-      agrees = subst (λ s. Agrees plant s k) (sym (system_none plant)) (record {
+      state_is = subst (λ s. IsState plant s k) (sym (system_none plant)) (record {
         world_stands = stands;
         faulted_is = faulted;
         alarms_are = alarms;
@@ -234,13 +236,13 @@ opening_agrees plant k is sound numbered stands faulted alarms outputs moment =
     }
 
 -- the event of a scan, by what an engine keeps and how many events there were
-pub scan_event_is : (plant : PlainPlant) (history : List Event) (k : PlainState) (n : ℕ) (pairs : List PlainPair) (t : ℕ) → Agrees plant (system plant history) k → n ≡ length history → taken_scan plant.source.globals k.moment n pairs t ≡ scan_event plant (system plant history) pairs t
+pub scan_event_is : (plant : PlainPlant) (history : List Event) (k : PlainState) (n : ℕ) (pairs : List PlainPair) (t : ℕ) → IsState plant (system plant history) k → n ≡ length history → taken_scan plant.source.globals k.moment n pairs t ≡ scan_event plant (system plant history) pairs t
 scan_event_is plant history k n pairs t held is =
     ap (λ m. taken_scan plant.source.globals m n pairs t) held.moment_is
     ∙ ap (λ m. taken_scan plant.source.globals (system plant history).moment m pairs t) (is ∙ sym (system_events plant history))
 
 -- an order that was made ready from what an engine holds fits that engine, where it has room
-pub order_fits : (e : PlainEngine) (k : PlainState) (console : ℕ) (order : Order) (p : PlainPreparedOrder) → Agrees e.plant (state_of e) k → IsOrder e.plant k console order p → 0 < e.room → FitsOrder e p
+pub order_fits : (e : PlainEngine) (k : PlainState) (console : ℕ) (order : Order) (p : PlainPreparedOrder) → IsState e.plant (state_of e) k → IsPreparedOrder e.plant k console order p → 0 < e.room → FitsOrder e p
 order_fits e k console order p held made there =
     let sys = state_of e in
     let is : p.done ≡ ordered e.plant sys p.console p.order =
@@ -257,20 +259,20 @@ order_fits e k console order p held made there =
     }
 
 -- an order where the history has room
-order_event_room : (plant : PlainPlant) (history : List Event) (console : ℕ) (order : Order) → length history < 1000000 → order_event (system plant history) console order ≡ Ok (event.Order console order)
+order_event_room : (plant : PlainPlant) (history : List Event) (console : ℕ) (order : Order) → length history < MOST_EVENTS → order_event (system plant history) console order ≡ Ok (event.Order console order)
 unfolding order_event
 order_event_room plant history console order few =
     let events = system_events plant history in
     grind (arith, nat_tests)
 
 -- the event of an order that was made ready
-pub order_event_ready : (plant : PlainPlant) (history : List Event) (console : ℕ) (order : Order) (p : PlainPreparedOrder) → length history < 1000000 → p.console ≡ console → p.order ≡ order → order_event (system plant history) console order ≡ Ok (event.Order p.console p.order)
+pub order_event_ready : (plant : PlainPlant) (history : List Event) (console : ℕ) (order : Order) (p : PlainPreparedOrder) → length history < MOST_EVENTS → p.console ≡ console → p.order ≡ order → order_event (system plant history) console order ≡ Ok (event.Order p.console p.order)
 order_event_ready plant history console order p few console_is order_is =
     let made : ℕ → Order → Result Event EngineFault = λ n o. Ok (event.Order n o) in
     order_event_room plant history console order few ∙ ap (λ n. made n order) (sym console_is) ∙ ap (made p.console) (sym order_is)
 
 -- and where it is full
-pub order_event_full : (plant : PlainPlant) (history : List Event) (console : ℕ) (order : Order) → 1000000 ≤ length history → order_event (system plant history) console order ≡ Err refusal.HistoryFull
+pub order_event_full : (plant : PlainPlant) (history : List Event) (console : ℕ) (order : Order) → MOST_EVENTS ≤ length history → order_event (system plant history) console order ≡ Err refusal.HistoryFull
 unfolding order_event
 order_event_full plant history console order full =
     let events = system_events plant history in

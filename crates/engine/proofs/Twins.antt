@@ -6,17 +6,17 @@ use Rattle.std.proofs.Math.Seq.{drop-cons}
 use Rattle.std.proofs.lemmas.Grind.{common_steps}
 use Rattle.std.proofs.lemmas.List.Elements.{All-get_or}
 use Rattle.std.proofs.lemmas.Bool.Decides.{nat_tests}
-use Rattle.engine.specs.declared.image.Placed.{Placed}
+use Rattle.engine.specs.declared.image.Input.{Input}
 use Rattle.engine.specs.Image.{has_twin}
 
--- the flag of a place is set
-abbrev pub marked : List Bool → Placed → Bool
+-- the flag of an input is set
+abbrev pub marked : List Bool → Input → Bool
 marked seen p = get_or seen p.number false
 
 flag-replicate : (n k : ℕ) → get_or (replicate n false) k false ≡ false
 flag-replicate n k = grind (arith, common_steps)
 
-pub none_marked : (n : ℕ) (ps : List Placed) → list_any (marked (replicate n false)) ps ≡ false
+pub none_marked : (n : ℕ) (ps : List Input) → list_any (marked (replicate n false)) ps ≡ false
 none_marked n [] = refl
 none_marked n (p ∷ ps) = ap (λ b. b || list_any (marked (replicate n false)) ps) (flag-replicate n p.number) ∙ none_marked n ps
 
@@ -29,8 +29,8 @@ or_swap false true true d = refl
 or_swap false true false d = refl
 or_swap false false c d = refl
 
--- one more flag marks the places of its number too
-pub marked_more : (seen : List Bool) (m : ℕ) (ps : List Placed) → m < length seen
+-- one more flag marks the inputs of its number too
+pub marked_more : (seen : List Bool) (m : ℕ) (ps : List Input) → m < length seen
     → list_any (marked (slice_set seen m true)) ps ≡ (list_any (λ q. eqb q.number m) ps || list_any (marked seen) ps)
 marked_more seen m [] h = refl
 marked_more seen m (p ∷ ps) h =
@@ -44,13 +44,13 @@ or_third true false c = refl
 or_third false true c = refl
 or_third false false c = refl
 
--- a place whose flag isn't set is passed over: its flag then finds its twins
-pub twins_step : (n : ℕ) (seen : List Bool) (ps : List Placed) (i : ℕ) (d : Placed) → length seen ≡ n → All (λ p. p.number < n) ps → i < length ps → marked seen (get_or ps i d) ≡ false
+-- an input whose flag isn't set is passed: its flag then finds its twins
+pub twins_step : (n : ℕ) (seen : List Bool) (ps : List Input) (i : ℕ) (d : Input) → length seen ≡ n → All (λ p. p.number < n) ps → i < length ps → marked seen (get_or ps i d) ≡ false
     → (list_any (marked seen) (drop i ps) || has_twin (drop i ps))
     ≡ (list_any (marked (slice_set seen (get_or ps i d).number true)) (drop (i + 1) ps) || has_twin (drop (i + 1) ps))
 twins_step n seen ps i d flags within h free =
     let p = get_or ps i d in
-    let below = All-get_or (λ (q : Placed). q.number < n) ps i d h within in
+    let below = All-get_or (λ (q : Input). q.number < n) ps i d h within in
     let there : p.number < length seen = omega (arith, below) in
     let rest = drop (i + 1) ps in
     let cut : drop i ps ≡ p ∷ rest = drop-cons ps i d h ∙ ap (λ k. p ∷ drop k ps) (sym (add-one i)) in

@@ -1,4 +1,4 @@
--- What an engine shows, what a scan tells, and when something made ready fits an engine.
+-- What an engine shows, what a scan reports, and when something made ready fits an engine.
 use Rattle.std.specs.Prelude.{◌≡◌, ℕ, ◌<◌, ◌≤◌, ◌^◌, ℤ, Bool, List, [], ◌∷◌, ◌++◌, length, map, All, Result, Ok, None, refl}
 use Rattle.std.specs.Coded.{Coded, code_by, coded×, coded_list, coded_ℕ}
 use Rattle.plant_types.specs.Pairs.{PlainPair}
@@ -10,11 +10,13 @@ use Rattle.alarm_machine.specs.Alarms.{PlainAlarm}
 use Rattle.alarm_machine.specs.declared.states.OrderFault.{OrderFault}
 use Rattle.plant_config.specs.Plants.{PlainPlant, IsPlant}
 use Rattle.plant_config.specs.Code.{plant_code}
+use Rattle.plant_config.specs.Names.{body_paths}
+use Rattle.alarm_machine.specs.declared.limits.TheConstants.{LAST_MOMENT}
 use Rattle.engine.specs.declared.event.Event.{Event}
 use Rattle.engine.specs.contracts.event.Event as event_row
 use Rattle.engine.specs.declared.event.Order.{Order}
 use Rattle.engine.specs.declared.event.Reply.{Reply}
-use Rattle.engine.specs.declared.orders.Effect.{Effect}
+use Rattle.engine.specs.declared.state.Effect.{Effect}
 use Rattle.engine.specs.Reports.{PlainReport}
 use Rattle.engine.specs.System.{System, system, step, scan_event, faults_of, changes_of, outs_of, outputs_of, ordered, reply_to}
 
@@ -34,7 +36,7 @@ engine_code =
     code_by (PlainPlant × (List Event × ℕ)) (coded× plant_code (coded× (coded_list event_row.the_row.coded) coded_ℕ))
     (λ e. (e.plant, (e.history, e.room))) (λ p. record { plant = p.0; history = p.1.0; room = p.1.1 }) (λ _. refl)
 
--- what a scan and an order leave beside plant and history: the cells of the variables, the faulted programs, the alarms, the outputs and the last moment
+-- what an engine keeps beside its plant and its history: the cells of the variables, the faulted programs, the alarms, the outputs and the last moment
 pub record PlainState : Type 0 where
   pub cells : List ℤ
   pub faulted : List Bool
@@ -42,42 +44,43 @@ pub record PlainState : Type 0 where
   pub outputs : List (ℕ × Value)
   pub moment : ℕ
 
--- that is what the system has
-pub record Agrees (plant : PlainPlant) (sys : System) (k : PlainState) : Type 0 where
+-- what an engine keeps is what the system has
+pub record IsState (plant : PlainPlant) (sys : System) (k : PlainState) : Type 0 where
   pub world_stands : Stands plant.source k.cells sys.world
   pub faulted_is : k.faulted ≡ sys.faulted
   pub alarms_are : k.alarms ≡ sys.alarms
   pub outputs_are : k.outputs ≡ outputs_of plant sys
   pub moment_is : k.moment ≡ sys.moment
-  pub in_range : k.moment ≤ 4000000000000
+  pub in_range : k.moment ≤ LAST_MOMENT
 
--- what a report tells is what an event did: its moment, the faults in program order, the changes in the order of the database, and the outputs that it changed in order of declaration; all numbers are there
+-- a report is what an event did: its moment, the faults in program order, the changes in the order of the database, and the outputs that it changed in order of declaration; the plant has each path, each alarm and each global that it names by number
 pub record IsReport (plant : PlainPlant) (sys : System) (e : Event) (r : PlainReport) : Type 0 where
   pub moment_is : r.moment ≡ (step plant sys e).moment
   pub faults_are : map (λ f. (place_spot plant.source f.0, f.1)) r.faults ≡ faults_of plant sys e
+  pub faults_within : All (λ f. f.0.path < length (body_paths plant)) r.faults
   pub changes_are : r.changes ≡ changes_of plant sys e
   pub changes_within : All (λ c. c.0 < length plant.alarms) r.changes
   pub outs_are : r.outs ≡ outs_of plant sys e
   pub outs_within : All (λ o. o.0 < length plant.source.globals) r.outs
 
--- a scan was taken: its event is the last of the history, and the report tells what it did
+-- a scan was taken: its event is the last of the history, and the report is what it did
 pub record TakesScan (old new : PlainEngine) (pairs : List PlainPair) (t : ℕ) (r : PlainReport) : Type 0 where
   pub event : Event
   pub event_is : scan_event old.plant (state_of old) pairs t ≡ Ok event
   pub history_is : new.history ≡ old.history ++ event ∷ []
-  pub tells : IsReport old.plant (state_of old) event r
+  pub report_is : IsReport old.plant (state_of old) event r
 
--- a scan that was made ready: its event, what it leaves and what it tells
+-- a scan that was made ready: its event, what it leaves and what it reports
 pub record PlainPrepared : Type 0 where
   pub event : Event
-  pub kept : PlainState
+  pub state : PlainState
   pub report : PlainReport
 
 -- an engine may commit it: there is room, and it is what that event makes of this engine's plant and history
 pub record Fits (e : PlainEngine) (p : PlainPrepared) : Type 0 where
   pub room : 0 < e.room
-  pub agrees : Agrees e.plant (system e.plant (e.history ++ p.event ∷ [])) p.kept
-  pub tells : IsReport e.plant (state_of e) p.event p.report
+  pub state_is : IsState e.plant (system e.plant (e.history ++ p.event ∷ [])) p.state
+  pub report_is : IsReport e.plant (state_of e) p.event p.report
 
 -- an order that was made ready: what it does, and its reply
 pub record PlainPreparedOrder : Type 0 where
@@ -92,9 +95,9 @@ pub record FitsOrder (e : PlainEngine) (p : PlainPreparedOrder) : Type 0 where
   pub done_is : p.done ≡ ordered e.plant (state_of e) p.console p.order
   pub reply_is : p.reply ≡ reply_to e.plant (state_of e) p.console p.order
 
--- what an engine keeps agrees with its plant and its history; what holds of each plant holds of this one, its source has no fault, and its globals can be numbered
+-- what an engine keeps is what the system after its history has; what holds of each plant holds of this one, its source has no fault, and its globals can be numbered
 pub record IsEngine (plant : PlainPlant) (history : List Event) (k : PlainState) : Type 0 where
-  pub agrees : Agrees plant (system plant history) k
+  pub state_is : IsState plant (system plant history) k
   pub plant_is : IsPlant plant
   pub sound : first_fault plant.source ≡ None
   pub numbered : length plant.source.globals < 2 ^ 32

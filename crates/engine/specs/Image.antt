@@ -1,4 +1,4 @@
--- The image of a scan: names become the numbers of inputs, and what is given becomes values. All names are looked at before any value.
+-- The image of a scan: inputs by number, with values of their kinds. All names are looked up before any value is judged.
 use Rattle.std.specs.Prelude.{◌≡◌, ℕ, ◌==◌, Bool, false, ◌||◌, List, [], ◌∷◌, if◌then◌else◌, Option, Some, None, Result, Ok, Err, slice_get}
 use Rattle.std.specs.List.{list_any}
 use Rattle.std.specs.Option.{option_map, option_and_then}
@@ -10,39 +10,39 @@ use Rattle.st_resolve.specs.Names.{find_global}
 use Rattle.st_resolve.specs.Faults.{is_input}
 use Rattle.engine.specs.declared.event.EngineFault.{EngineFault}
 use Rattle.engine.specs.declared.event.EngineFault.TheVariants as refusal
-use Rattle.engine.specs.declared.image.Placed.{Placed}
+use Rattle.engine.specs.declared.image.Input.{Input}
 
--- what is given for a global, if that is an input
-abbrev pub at_input : ℕ → PlainPair → Variable → Option Placed
-at_input n pair global = if is_input global.region then Some (record { number = n; kind = global.kind; given = pair.given }) else None
+-- what a pair gives a global, if that is an input
+abbrev pub input_at : ℕ → PlainPair → Variable → Option Input
+input_at n pair global = if is_input global.region then Some (record { number = n; kind = global.kind; given = pair.given }) else None
 
--- what a pair is given for: the global of that name, in which letter case has no meaning
-abbrev pub place_of : List Variable → PlainPair → Option Placed
-place_of globals pair = option_and_then (λ n. option_and_then (at_input n pair) (slice_get globals n)) (find_global globals pair.name)
+-- the input that a pair names, letter case ignored, with what is given for it
+abbrev pub input_of : List Variable → PlainPair → Option Input
+input_of globals pair = option_and_then (λ n. option_and_then (input_at n pair) (slice_get globals n)) (find_global globals pair.name)
 
--- what each pair is given for, if each names an input
-abbrev pub places_of : List Variable → List PlainPair → Option (List Placed)
-places_of globals [] = Some []
-places_of globals (p ∷ ps) = option_and_then (λ place. option_map (λ rest. place ∷ rest) (places_of globals ps)) (place_of globals p)
+-- the inputs that pairs name, if each names one
+abbrev pub inputs_of : List Variable → List PlainPair → Option (List Input)
+inputs_of globals [] = Some []
+inputs_of globals (p ∷ ps) = option_and_then (λ input. option_map (λ rest. input ∷ rest) (inputs_of globals ps)) (input_of globals p)
 
 -- whether an input is named twice
-abbrev pub has_twin : List Placed → Bool
+abbrev pub has_twin : List Input → Bool
 has_twin [] = false
 has_twin (p ∷ ps) = list_any (λ q. q.number == p.number) ps || has_twin ps
 
--- the values by number, if each fits its input's kind
-abbrev pub values_of : List Placed → Option (List (ℕ × Value))
+-- the values of inputs by number, if each fits its input's kind
+abbrev pub values_of : List Input → Option (List (ℕ × Value))
 values_of [] = Some []
 values_of (p ∷ ps) = option_and_then (λ v. option_map (λ rest. (p.number, v) ∷ rest) (values_of ps)) (fitted p.kind p.given)
 
 -- the image that pairs give, or the refusal: E3 for a name that is no input or comes twice, then E4 for a value that doesn't fit
 unfoldable pub image_of : List Variable → List PlainPair → Result (List (ℕ × Value)) EngineFault
-image_of globals pairs = elim (places_of globals pairs) [
+image_of globals pairs = elim (inputs_of globals pairs) [
   | None ↦ Err refusal.ImageName
-  | Some places ↦ if has_twin places then Err refusal.ImageName else elim (values_of places) [ None ↦ Err refusal.ImageKind | Some values ↦ Ok values ]
+  | Some inputs ↦ if has_twin inputs then Err refusal.ImageName else elim (values_of inputs) [ None ↦ Err refusal.ImageKind | Some values ↦ Ok values ]
 ]
 
--- a refusal is the one that is due; want of memory has no place in their order
+-- a refusal is the one that is due; allocation may fail at any time
 abbrev pub IsDue : {A : Type 0} → EngineFault → Result A EngineFault → Type 0
 IsDue refusal.Memory due = Unit {0}
 IsDue refusal.MomentBack due = due ≡ Err refusal.MomentBack

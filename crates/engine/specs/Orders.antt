@@ -12,8 +12,8 @@ use Rattle.plant_config.specs.Plants.{PlainPlant}
 use Rattle.engine.specs.declared.event.Order.{Order}
 use Rattle.engine.specs.declared.event.Reply.{Reply}
 use Rattle.engine.specs.declared.event.Reply.TheVariants as reply
-use Rattle.engine.specs.declared.orders.Effect.{Effect}
-use Rattle.engine.specs.declared.orders.Effect.TheVariants as effect
+use Rattle.engine.specs.declared.state.Effect.{Effect}
+use Rattle.engine.specs.declared.state.Effect.TheVariants as effect
 
 -- whether a console has this number
 abbrev pub is_console : ℕ → Console → Bool
@@ -23,21 +23,21 @@ is_console number console = console.number == number
 abbrev pub has_area : ℕ → ℕ → Console → Bool
 has_area number area console = (console.number == number) && list_any (λ a. a == area) console.areas
 
--- the effect of an order that the table takes, on the alarm of a number
-abbrev pub changed : ℕ → Result PlainAlarm OrderFault → Result Effect OrderFault
-changed n (Ok alarm) = Ok (effect.Changed n alarm)
-changed n (Err e) = Err e
+-- the effect of an order on the alarm of a number, by what the table makes of that alarm
+abbrev pub alarm_effect : ℕ → Result PlainAlarm OrderFault → Result Effect OrderFault
+alarm_effect n (Ok alarm) = Ok (effect.Changed n alarm)
+alarm_effect n (Err e) = Err e
 
--- what an order makes of an alarm that is there
-abbrev pub at_alarm : ℕ → Verb → ℕ → Option PlainAlarm → Result Effect OrderFault
-at_alarm n verb last None = Err fault.UnknownTarget
-at_alarm n verb last (Some alarm) = changed n (after_order verb last alarm)
+-- the effect of an order on an alarm, if there is one of this number
+abbrev pub order_at : ℕ → Verb → ℕ → Option PlainAlarm → Result Effect OrderFault
+order_at n verb last None = Err fault.UnknownTarget
+order_at n verb last (Some alarm) = alarm_effect n (after_order verb last alarm)
 
 -- an order to an alarm: O1 where it isn't there, O2 where no console of this number has its area, then O3 and O4 by the table
 abbrev pub alarm_order : PlainPlant → List PlainAlarm → ℕ → ℕ → Verb → ℕ → Result Effect OrderFault
 alarm_order plant alarms last console verb n = elim (slice_get plant.alarms n) [
   | None ↦ Err fault.UnknownTarget
-  | Some row ↦ if list_any (has_area console row.area) plant.consoles then at_alarm n verb last (slice_get alarms n) else Err fault.NotYourArea
+  | Some row ↦ if list_any (has_area console row.area) plant.consoles then order_at n verb last (slice_get alarms n) else Err fault.NotYourArea
 ]
 
 -- a restart: O1 where the program isn't there, O2 where no console has this number, O5 where the program isn't faulted
@@ -73,7 +73,7 @@ abbrev pub faulted_by : Result Effect OrderFault → List Bool → List Bool
 faulted_by (Ok (effect.Restarted n)) faulted = slice_set faulted n false
 faulted_by _ faulted = faulted
 
--- the change from what an alarm was
+-- the change of the code from one alarm to another
 abbrev pub change_from : Option PlainAlarm → PlainAlarm → Option PlainChange
 change_from None new = None
 change_from (Some old) new = change_between (code_of old.state) (code_of new.state)

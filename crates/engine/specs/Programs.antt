@@ -1,4 +1,4 @@
--- What a scan's programs make of the world, by the source read statement by statement.
+-- What a scan's programs make of the world, by the source.
 use Rattle.std.specs.Prelude.{ℕ, ◌+◌, ℤ, pos, Bool, true, false, List, [], ◌∷◌, fold, slice_get}
 use Rattle.std.specs.Option.{option_map_or}
 use Rattle.plant_types.specs.declared.values.Value.{Value}
@@ -8,7 +8,7 @@ use Rattle.st_tree.specs.Meaning.{Ran, Done, Trapped, Spot}
 use Rattle.st_resolve.specs.Source.{Source}
 use Rattle.st_walk.specs.Worlds.{World, assign, path_of, run_program}
 
--- what a scan's programs leave and meet: the world, for each program whether it is faulted, and the faults in program order
+-- what a scan's programs leave: the world, for each program whether it is faulted, and the faults in program order
 pub record Scanned : Type 0 where
   pub world : World
   pub faulted : List Bool
@@ -34,11 +34,11 @@ with_inputs source image w = fold (with_input source) w image
 abbrev pub run_of : Source → ℕ → ℕ → World → Ran World
 run_of source n t w = run_program source w
 
--- a program's flag stands before those of the programs behind it
+-- a program's flag is put before those of the programs after it
 abbrev pub with_flag : Bool → Scanned → Scanned
 with_flag flag rest = record rest { faulted = flag ∷ rest.faulted }
 
--- a fault stands before those of the programs behind it
+-- a fault is put before those of the programs after it
 abbrev pub with_fault : Spot → Trap → Scanned → Scanned
 with_fault spot trap rest = record rest { faults = (spot, trap) ∷ rest.faults }
 

@@ -1,5 +1,5 @@
--- The parts of a scan over cells, as the functions that make it say them.
-use Rattle.std.specs.Prelude.{◌≡◌, ℕ, ◌≤◌, ℤ, Bool, true, false, List, map, fold, slice_set, Option, Some, None, Ok}
+-- The parts of a scan over cells.
+use Rattle.std.specs.Prelude.{◌≡◌, ℕ, ◌<◌, ◌≤◌, ℤ, Bool, true, false, List, length, map, fold, slice_set, All, Option, Some, None, Ok}
 use Rattle.plant_types.specs.declared.values.Value.{Value}
 use Rattle.plant_types.specs.declared.values.Trap.{Trap}
 use Rattle.plant_types.specs.declared.values.Place.{Place}
@@ -9,8 +9,9 @@ use Rattle.st_tree.specs.Meaning.{Ran, Done, Trapped}
 use Rattle.st_resolve.specs.Source.{Source}
 use Rattle.st_walk.specs.Worlds.{World, Stands}
 use Rattle.st_walk.specs.Slots.{cell}
-use Rattle.st_walk.specs.Runs.{place_spot}
+use Rattle.st_walk.specs.Runs.{paths_of, place_spot}
 use Rattle.plant_config.specs.Plants.{PlainPlant}
+use Rattle.alarm_machine.specs.declared.limits.TheConstants.{LAST_MOMENT}
 use Rattle.engine.specs.declared.event.Event.TheVariants as event
 use Rattle.engine.specs.Reports.{PlainReport}
 use Rattle.engine.specs.Programs.{Scanned, run_of, programs_from}
@@ -23,42 +24,43 @@ use Rattle.engine.specs.Orders.{order_outcome, reply_by}
 abbrev pub with_cell : List ℤ → ℕ × Value → List ℤ
 with_cell cells input = slice_set cells input.0 (worth input.1)
 
--- what a program does by its flag: a faulted one is passed over
+-- what a program does, by its flag: a faulted one is skipped
 abbrev pub run_by : Bool → Source → ℕ → ℕ → World → Ran World
 run_by true source n t w = Done w
 run_by false source n t w = run_of source n t w
 
--- how a program ended over cells, by the fault that it met
-abbrev pub met : Source → Option (Place × Trap) → List ℤ → Ran (List ℤ)
-met source None cells = Done cells
-met source (Some fault) cells = Trapped cells (place_spot source fault.0) fault.1
+-- how a run over cells ended, by its fault
+abbrev pub ended_by : Source → Option (Place × Trap) → List ℤ → Ran (List ℤ)
+ended_by source None cells = Done cells
+ended_by source (Some fault) cells = Trapped cells (place_spot source fault.0) fault.1
 
--- cells, flags and faults by place are what the programs leave and meet in worlds
+-- cells, flags and faults by place are what the programs leave in worlds
 pub record ProgramsRan (source : Source) (r : Scanned) (cells : List ℤ) (faulted : List Bool) (faults : List (Place × Trap)) : Type 0 where
   pub world_stands : Stands source cells r.world
   pub faulted_is : faulted ≡ r.faulted
   pub faults_are : map (λ f. (place_spot source f.0, f.1)) faults ≡ r.faults
 
--- what a scan with an image at moment t leaves and tells
-pub record Steps (plant : PlainPlant) (old : PlainState) (image : List (ℕ × Value)) (t : ℕ) (new : PlainState) (r : PlainReport) : Type 0 where
-  pub runs : (w : World) → Stands plant.source (fold with_cell old.cells image) w → ProgramsRan plant.source (programs_from plant.source t 0 old.faulted w) new.cells new.faulted r.faults
+-- what a scan with an image at moment t leaves and reports
+pub record ScanRan (plant : PlainPlant) (old : PlainState) (image : List (ℕ × Value)) (t : ℕ) (new : PlainState) (r : PlainReport) : Type 0 where
+  pub programs : (w : World) → Stands plant.source (fold with_cell old.cells image) w → ProgramsRan plant.source (programs_from plant.source t 0 old.faulted w) new.cells new.faulted r.faults
+  pub faults_within : All (λ f. f.0.path < length (paths_of plant.source)) r.faults
   pub alarms_are : new.alarms ≡ alarms_after (cell new.cells) t plant.alarms old.alarms
   pub changes_are : r.changes ≡ changes_from 0 old.alarms new.alarms
   pub outputs_are : new.outputs ≡ outputs_from 0 plant.source.globals (cell new.cells)
   pub outs_are : r.outs ≡ outs_from 0 plant.source.globals (cell old.cells) (cell new.cells)
   pub moment_is : new.moment ≡ t
-  pub told_at : r.moment ≡ t
-  pub in_range : t ≤ 4000000000000
+  pub reported_at : r.moment ≡ t
+  pub in_range : t ≤ LAST_MOMENT
 
--- a scan made ready from what an engine keeps after so many events: the event of the scan, and what it leaves and tells
-pub record IsScan (plant : PlainPlant) (old : PlainState) (events : ℕ) (pairs : List PlainPair) (t : ℕ) (p : PlainPrepared) : Type 0 where
+-- a scan made ready from a state after so many events: its event, and what it leaves and reports
+pub record IsPreparedScan (plant : PlainPlant) (old : PlainState) (events : ℕ) (pairs : List PlainPair) (t : ℕ) (p : PlainPrepared) : Type 0 where
   pub image : List (ℕ × Value)
   pub event_is : p.event ≡ event.Scan image t
   pub taken : taken_scan plant.source.globals old.moment events pairs t ≡ Ok p.event
-  pub steps : Steps plant old image t p.kept p.report
+  pub ran : ScanRan plant old image t p.state p.report
 
--- an order made ready from what an engine keeps: what it does, and its reply
-pub record IsOrder (plant : PlainPlant) (k : PlainState) (console : ℕ) (order : Order) (p : PlainPreparedOrder) : Type 0 where
+-- an order made ready from a state: what it does, and its reply
+pub record IsPreparedOrder (plant : PlainPlant) (k : PlainState) (console : ℕ) (order : Order) (p : PlainPreparedOrder) : Type 0 where
   pub console_is : p.console ≡ console
   pub order_is : p.order ≡ order
   pub done_is : p.done ≡ order_outcome plant k.alarms k.faulted k.moment console order

@@ -14,21 +14,23 @@ use Rattle.st_resolve.specs.declared.logic.Variable.{Variable}
 use Rattle.st_walk.specs.Worlds.{World, opening_world}
 use Rattle.alarm_machine.specs.declared.states.OrderFault.{OrderFault}
 use Rattle.alarm_machine.specs.Codes.{PlainChange, code_of, change_between}
-use Rattle.alarm_machine.specs.Alarms.{PlainAlarm, new_alarm as opening_seen, after_scan}
+use Rattle.alarm_machine.specs.Alarms.{PlainAlarm, new_alarm, after_scan}
 use Rattle.plant_config.specs.declared.rows.AlarmRow.{AlarmRow}
 use Rattle.plant_config.specs.Plants.{PlainPlant}
+use Rattle.alarm_machine.specs.declared.limits.TheConstants.{LAST_MOMENT}
+use Rattle.engine.specs.declared.event.TheConstants.{MOST_EVENTS}
 use Rattle.engine.specs.declared.event.Event.{Event}
 use Rattle.engine.specs.declared.event.Event.TheVariants as event
 use Rattle.engine.specs.declared.event.EngineFault.{EngineFault}
 use Rattle.engine.specs.declared.event.EngineFault.TheVariants as refusal
 use Rattle.engine.specs.declared.event.Order.{Order}
 use Rattle.engine.specs.declared.event.Reply.{Reply}
-use Rattle.engine.specs.declared.orders.Effect.{Effect}
+use Rattle.engine.specs.declared.state.Effect.{Effect}
 use Rattle.engine.specs.Programs.{Scanned, opening_faulted, global_in, world_after}
 use Rattle.engine.specs.Image.{image_of}
 use Rattle.engine.specs.Orders.{order_outcome, alarms_by, faulted_by, reply_by}
 
--- all that the state is: the variables' values, for each program whether it is faulted, the alarms, the last scan's moment, how many events there were
+-- the whole state: the variables' values, for each program whether it is faulted, the alarms, the last scan's moment, and how many events there were
 pub record System : Type 0 where
   pub world : World
   pub faulted : List Bool
@@ -38,7 +40,7 @@ pub record System : Type 0 where
 
 -- an alarm before the first event
 abbrev pub opening_alarm : AlarmRow → PlainAlarm
-opening_alarm row = opening_seen row.latching row.max_shelve_ms
+opening_alarm row = new_alarm row.latching row.max_shelve_ms
 
 -- before the first event
 abbrev pub opening_system : PlainPlant → System
@@ -93,11 +95,11 @@ system plant events = fold (step plant) (opening_system plant) events
 -- the event that a scan is, or its refusal: E2 above the last moment of all, E1 before the last scan's, E3 and E4 by the image, E6 where the history is full
 unfoldable pub taken_scan : List Variable → ℕ → ℕ → List PlainPair → ℕ → Result Event EngineFault
 taken_scan globals last events pairs t =
-    if nat_lt 4000000000000 t then Err refusal.MomentRange
+    if nat_lt LAST_MOMENT t then Err refusal.MomentRange
     else if nat_lt t last then Err refusal.MomentBack
     else elim (image_of globals pairs) [
       | Err e ↦ Err e
-      | Ok image ↦ if nat_le 1000000 events then Err refusal.HistoryFull else Ok (event.Scan image t)
+      | Ok image ↦ if nat_le MOST_EVENTS events then Err refusal.HistoryFull else Ok (event.Scan image t)
     ]
 
 -- the event that a scan of these pairs is in a state, or its refusal
@@ -106,7 +108,7 @@ scan_event plant sys pairs t = taken_scan plant.source.globals sys.moment sys.ev
 
 -- the event that an order is, or its refusal: E6 where the history is full
 unfoldable pub order_event : System → ℕ → Order → Result Event EngineFault
-order_event sys console order = if nat_le 1000000 sys.events then Err refusal.HistoryFull else Ok (event.Order console order)
+order_event sys console order = if nat_le MOST_EVENTS sys.events then Err refusal.HistoryFull else Ok (event.Order console order)
 
 -- the reply to an order
 abbrev pub reply_to : PlainPlant → System → ℕ → Order → Reply
@@ -123,19 +125,19 @@ changes_from n [] new = []
 changes_from n (a ∷ old) [] = []
 changes_from n (a ∷ old) (b ∷ new) = elim (change_between (code_of a.state) (code_of b.state)) [
   | None ↦ changes_from (n + 1) old new
-  | Some move ↦ (n, move) ∷ changes_from (n + 1) old new
+  | Some change ↦ (n, change) ∷ changes_from (n + 1) old new
 ]
 
 -- the changes of an event
 abbrev pub changes_of : PlainPlant → System → Event → List (ℕ × PlainChange)
 changes_of plant sys e = changes_from 0 sys.alarms (step plant sys e).alarms
 
--- whether an address is that of an output
+-- whether a region is that of outputs
 abbrev pub is_output : Option Region → Bool
 is_output (Some region.Output) = true
 is_output _ = false
 
--- the value of a kind that a number stands for; a number that fits no value of the kind would be shown as FALSE or 0
+-- the value of a kind that a number stands for; a number that fits no value of the kind is shown as FALSE or 0
 abbrev pub shown : Kind → ℤ → Value
 shown kind n = unwrap_or (fitted kind (given.Whole n)) (value_of_kind kind (pos 0))
 

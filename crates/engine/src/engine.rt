@@ -1,20 +1,19 @@
-//! The engine.
+//! The engine: its public calls.
 
-ghost use Rattle.std.specs.Prelude.{◌≡◌, ◌<◌, ◌++◌, [], ◌∷◌, length, slice_get, Some, Ok, IfOk, OnOk, OnErr, IfErr};
+ghost use Rattle.std.specs.Prelude.{◌≡◌, ◌+◌, ◌<◌, ◌≤◌, ◌++◌, [], ◌∷◌, length, slice_get, Some, Ok, IfOk, OnOk, OnErr, IfErr};
 ghost use Rattle.std.specs.Option.{option_map};
 ghost use Rattle.engine.specs.Image.{IsDue};
-ghost use Rattle.engine.specs.Orders.{alarms_by, faulted_by, restart_of};
+ghost use Rattle.engine.specs.Orders.{restart_of};
 ghost use Rattle.engine.specs.System.{scan_event, order_event, reply_to, outputs_of};
 ghost use Rattle.engine.specs.Engines.{state_of, Fits, FitsOrder, IsReport, TakesScan};
 
 use crate::event::{EngineFault, Event, MOST_EVENTS, Order, Reply, Report};
-use crate::orders::PreparedOrder;
-use crate::scan::{Prepared, State, alarm_state, apply, last_moment, made_ready, made_ready_order};
-use crate::steps::{opening_alarms, outputs};
+use crate::orders::{PreparedOrder, prepared_order};
+use crate::scan::{Prepared, prepared_scan};
+use crate::state::{State, alarm_state, apply, opening_state};
 use alarm_machine::{AlarmState, Verb};
 use plant_config::Plant;
 use plant_types::{Pair, Value};
-use st_walk::Cells;
 use std::alloc::{AllocError, Global};
 use std::marker::Model;
 
@@ -42,27 +41,13 @@ impl Model for Engine {
 }
 
 impl Engine {
-    /// The engine of a plant, before the first event: each variable is FALSE or 0, no program is faulted, and each alarm is normal.
-    /// The error is a refused growth; a plant with more globals than there are numbers of 32 bits is refused in that way too.
+    /// The engine of a plant before the first event: each variable is FALSE or 0, no program is faulted, and each alarm is normal.
+    ///
+    /// Fails if allocation fails, or if the plant has 2^32 globals or more.
     pub fn new(alloc: Global, plant: Plant) -> Result<Engine, AllocError>
         ensures { IfOk result (λ e. (e.plant ≡ plant) × (e.history ≡ [])) }
     {
-        let globals = plant.flat().globals();
-        if globals.len() > u32::MAX as usize {
-            return Err(AllocError);
-        }
-        let cells = Cells::opening(alloc, plant.flat())?;
-        let outputs = outputs(alloc, globals, &cells)?;
-        let alarms = opening_alarms(alloc, plant.alarm_rows())?;
-        let mut faulted = Vec::new(alloc);
-        faulted.push(false)?;
-        let state = State {
-            cells,
-            faulted,
-            alarms,
-            outputs,
-            moment: 0,
-        };
+        let state = opening_state(alloc, &plant)?;
         Ok(Engine {
             plant,
             history: Vec::new(alloc),
@@ -77,14 +62,14 @@ impl Engine {
         &self.plant
     }
 
-    /// How many events the history has: at most 1,000,000.
+    /// How many events the history has, at most 1,000,000.
     pub fn events(&self) -> u64
         ensures { result ≡ length self.now.history }
     {
         self.history.len() as u64
     }
 
-    /// The state of an alarm that is there.
+    /// The state of the alarm of a number.
     pub fn state(&self, alarm: u32) -> AlarmState
         requires { alarm < length self.now.plant.alarms }
         ensures { option_map (λ a. a.state) (slice_get (state_of self.now).alarms alarm) ≡ Some result }
@@ -96,7 +81,7 @@ impl Engine {
     pub fn moment(&self) -> u64
         ensures { result ≡ (state_of self.now).moment }
     {
-        last_moment(&self.state)
+        self.state.moment
     }
 
     /// The outputs (`%Q`) and their values, in order of declaration.
@@ -106,12 +91,13 @@ impl Engine {
         self.state.outputs.as_slice()
     }
 
-    /// Makes a scan ready: the logic runs on copies, and all memory that the scan needs is asked for. Nothing that can be seen changes.
-    /// The pairs name inputs in any letter case; the moment is in milliseconds. The refusals, in the order in which they are tested:
+    /// Makes a scan ready: runs the programs on copies, and allocates all that `commit` needs. It changes neither plant nor history.
+    ///
+    /// The pairs name inputs, letter case ignored; the moment is in milliseconds. The refusals, in the order in which they are tested:
     /// `MomentRange` (E2) above 4,000,000,000,000, `MomentBack` (E1) before the last scan, `ImageName` (E3) for a name that is no input
     /// or comes twice, `ImageKind` (E4) for a value that doesn't fit its input, `HistoryFull` (E6) at 1,000,000 events. `Memory` comes
-    /// where a growth was refused. A scan allocates the image by number, a copy of the cells, of the programs' flags and of the alarms,
-    /// the outputs, the lists of its report, and for a time one flag a global and the small letters of each name.
+    /// only if allocation fails: of the image, of the copies of the cells, the programs' flags and the alarms, of the outputs, of the
+    /// report's lists, of a flag for each global and of the small letters of each name.
     pub fn prepare(
         &mut self,
         alloc: Global,
@@ -120,23 +106,22 @@ impl Engine {
     ) -> Result<Prepared, EngineFault>
         ensures plant { self.new.plant ≡ self.old.plant }
         ensures history { self.new.history ≡ self.old.history }
+        ensures room { self.old.room ≤ self.new.room }
         ensures ok { IfOk result (λ p. Fits self.new p × (scan_event self.old.plant (state_of self.old) pairs.now moment ≡ Ok p.event)) }
         ensures err { IfErr result (λ e. IsDue e (scan_event self.old.plant (state_of self.old) pairs.now moment)) }
     {
         let events = self.history.len();
-        let prepared = match made_ready(alloc, &self.plant, &self.state, events, pairs, moment) {
-            Ok(prepared) => prepared,
-            Err(fault) => return Err(fault),
-        };
+        let prepared = prepared_scan(alloc, &self.plant, &self.state, events, pairs, moment)?;
         self.history.reserve(1)?;
         Ok(prepared)
     }
 
-    /// Makes a scan that was made ready part of the history, and tells what it did. It takes no memory and can't fail.
+    /// Adds a scan that was made ready to the history, and returns what it did. It allocates nothing and can't fail.
     pub fn commit(&mut self, prepared: Prepared) -> Report
         requires { Fits self.old prepared }
         ensures plant { self.new.plant ≡ self.old.plant }
         ensures history { self.new.history ≡ self.old.history ++ prepared.event ∷ [] }
+        ensures room { self.new.room + 1 ≡ self.old.room }
         ensures report { IsReport self.old.plant (state_of self.old) prepared.event result }
     {
         let Prepared {
@@ -149,8 +134,9 @@ impl Engine {
         report
     }
 
-    /// Makes an order of the console of a number ready. Nothing that can be seen changes. The refusals: `HistoryFull` (E6) at 1,000,000
-    /// events, and `Memory` where the growth of the history was refused.
+    /// Makes an order of the console of a number ready. It changes neither plant nor history.
+    ///
+    /// The refusals: `HistoryFull` (E6) at 1,000,000 events, and `Memory` if allocation fails.
     pub fn prepare_order(
         &mut self,
         _alloc: Global,
@@ -159,23 +145,26 @@ impl Engine {
     ) -> Result<PreparedOrder, EngineFault>
         ensures plant { self.new.plant ≡ self.old.plant }
         ensures history { self.new.history ≡ self.old.history }
+        ensures room { self.old.room ≤ self.new.room }
         ensures ok { IfOk result (λ p. FitsOrder self.new p × (order_event (state_of self.old) console order ≡ Ok (Event.Order p.console p.order)) × (p.console ≡ console) × (p.order ≡ order)) }
         ensures err { IfErr result (λ e. IsDue e (order_event (state_of self.old) console order)) }
     {
         if self.history.len() >= MOST_EVENTS {
             return Err(EngineFault::HistoryFull);
         }
-        let prepared = made_ready_order(&self.plant, &self.state, console, order);
+        let prepared = prepared_order(&self.plant, &self.state, console, order);
         self.history.reserve(1)?;
         Ok(prepared)
     }
 
-    /// Makes an order that was made ready part of the history, does it, and replies: the change of the alarm's code if there is one, or
-    /// the refusal (O1 to O5). A refused order is in the history too, and changes no alarm and no program. It takes no memory and can't fail.
+    /// Adds an order that was made ready to the history, does it, and returns the reply: the change of the alarm's code if there is one,
+    /// or the refusal (O1 to O5). A refused order is in the history too, and changes no alarm and no program. It allocates nothing and
+    /// can't fail.
     pub fn commit_order(&mut self, prepared: PreparedOrder) -> Reply
         requires { FitsOrder self.old prepared }
         ensures plant { self.new.plant ≡ self.old.plant }
         ensures history { self.new.history ≡ self.old.history ++ Event.Order prepared.console prepared.order ∷ [] }
+        ensures room { self.new.room + 1 ≡ self.old.room }
         ensures reply { result ≡ reply_to self.old.plant (state_of self.old) prepared.console prepared.order }
     {
         let PreparedOrder {
@@ -189,7 +178,7 @@ impl Engine {
         reply
     }
 
-    /// A scan made ready and committed in one; the refusals are those of `prepare`.
+    /// Makes a scan ready and commits it. The refusals are those of `prepare`.
     pub fn scan(
         &mut self,
         alloc: Global,
@@ -200,14 +189,13 @@ impl Engine {
         ensures ok { IfOk result (λ r. TakesScan self.old self.new pairs.now moment r) }
         ensures err { IfErr result (λ e. IsDue e (scan_event self.old.plant (state_of self.old) pairs.now moment)) }
         ensures kept { OnErr result (self.new.history ≡ self.old.history) }
+        ensures room { OnErr result (self.old.room ≤ self.new.room) }
     {
-        match self.prepare(alloc, pairs, moment) {
-            Ok(prepared) => Ok(self.commit(prepared)),
-            Err(fault) => Err(fault),
-        }
+        let prepared = self.prepare(alloc, pairs, moment)?;
+        Ok(self.commit(prepared))
     }
 
-    /// An order made ready and committed in one; the refusals are those of `prepare_order`.
+    /// Makes an order ready and commits it. The refusals are those of `prepare_order`.
     pub fn order(&mut self, alloc: Global, console: u32, order: Order) -> Result<Reply, EngineFault>
         ensures plant { self.new.plant ≡ self.old.plant }
         ensures ok { OnOk result (self.new.history ≡ self.old.history ++ Event.Order console order ∷ []) }
@@ -215,17 +203,17 @@ impl Engine {
         ensures reply { IfOk result (λ r. r ≡ reply_to self.old.plant (state_of self.old) console order) }
         ensures err { IfErr result (λ e. IsDue e (order_event (state_of self.old) console order)) }
         ensures kept { OnErr result (self.new.history ≡ self.old.history) }
+        ensures room { OnErr result (self.old.room ≤ self.new.room) }
     {
-        match self.prepare_order(alloc, console, order) {
-            Ok(prepared) => Ok(self.commit_order(prepared)),
-            Err(fault) => Err(fault),
-        }
+        let prepared = self.prepare_order(alloc, console, order)?;
+        Ok(self.commit_order(prepared))
     }
 
-    /// Restarts the program of a number, from 0: it runs again from the next scan on, and no variable changes. This is the order
-    /// Restart made ready and committed in one; None stands for a program that isn't there. The replies are `Done(None)`, or O1
-    /// for no such program, O2 for a console that isn't listed, and O5 for a program that isn't faulted, tested in this order. The
-    /// refusals are those of `prepare_order`.
+    /// Gives the order to restart the program of a number, from 0; `None` is for a program that isn't there. The program runs again from
+    /// the next scan on, and no variable changes.
+    ///
+    /// The replies are `Done(None)`, or in the order in which they are tested: O1 for no such program, O2 for a console that isn't
+    /// listed, O5 for a program that isn't faulted. The refusals are those of `prepare_order`.
     pub fn restart(
         &mut self,
         alloc: Global,
@@ -238,6 +226,7 @@ impl Engine {
         ensures reply { IfOk result (λ r. r ≡ reply_to self.old.plant (state_of self.old) console (restart_of program)) }
         ensures err { IfErr result (λ e. IsDue e (order_event (state_of self.old) console (restart_of program))) }
         ensures kept { OnErr result (self.new.history ≡ self.old.history) }
+        ensures room { OnErr result (self.old.room ≤ self.new.room) }
     {
         let verb = Verb::Restart;
         let target = program;

@@ -1,16 +1,13 @@
-use alarm_machine::{Change, OrderFault, Verb};
+use alarm_machine::{Change, LAST_MOMENT, OrderFault, Verb};
 use plant_types::{Items, Place, Trap, Value};
 use std::alloc::AllocError;
 use std::marker::Model;
 use thiserror::Error;
 
-/// The last moment that a scan may have, in milliseconds (this profile).
-pub const LAST_MOMENT: u64 = 4_000_000_000_000;
-
 /// How many events a history has at most (this profile).
 pub const MOST_EVENTS: usize = 1_000_000;
 
-/// What an operator asks. A target is the number of an alarm, or for a restart that of a program; None stands for one that isn't there.
+/// What an operator asks: a verb, and the number of an alarm, or of a program for a restart; `None` for one that isn't there.
 #[derive(Clone, Copy, Debug, PartialEq, Eq, Drop)]
 pub struct Order {
     pub verb: Verb,
@@ -26,16 +23,16 @@ pub enum Event {
     Order(u32, Order),
 }
 
-/// The answer to an order.
+/// The reply to an order.
 #[derive(Clone, Copy, Debug, PartialEq, Eq, Drop)]
 pub enum Reply {
-    /// It was done; with the change of the alarm's code, if there is one.
+    /// It was done, with the change of the alarm's code, if there is one.
     Done(Option<Change>),
     /// It was refused, and changed no alarm and no program.
     Refused(OrderFault),
 }
 
-/// What a scan did. Alarms and globals stand by their numbers.
+/// What a scan did. Alarms and globals are given by their numbers.
 #[derive(Drop)]
 pub struct Report {
     /// The scan's moment in milliseconds.
@@ -59,7 +56,7 @@ impl Model for Report {
 /// Why an event is refused. A refused event changes nothing and isn't in the history.
 #[derive(Clone, Copy, Debug, PartialEq, Eq, Drop, Error)]
 pub enum EngineFault {
-    /// A growth was refused. It has no place in the order of the others.
+    /// Allocation failed. It has no place in the order of the others.
     #[error("memory was refused")]
     Memory,
     /// E1: the moment is before that of the last scan.

@@ -1,23 +1,17 @@
-//! Orders of consoles: what they do, and their replies.
+//! How an order is made ready: what it does, and its reply.
 
 ghost use Rattle.std.specs.Prelude.{◌≡◌, ◌==◌, ◌≤◌, length, Some};
 ghost use Rattle.std.specs.List.{list_any};
 ghost use Rattle.alarm_machine.specs.Alarms.{after_order};
+ghost use Rattle.alarm_machine.specs.declared.limits.TheConstants.{LAST_MOMENT};
 ghost use Rattle.engine.specs.Orders.{is_console, has_area, alarm_order, program_order, is_restart, order_outcome, reply_by, change_from};
+ghost use Rattle.engine.specs.Steps.{IsPreparedOrder};
 
 use crate::event::{Order, Reply};
+use crate::state::{Effect, State};
 use alarm_machine::{Alarm, Change, OrderFault, Verb};
 use plant_config::{Console, Plant};
 use std::marker::Model;
-
-/// What an order does that isn't refused.
-#[derive(Clone, Copy)]
-pub enum Effect {
-    /// An alarm of a number is changed to this.
-    Changed(u32, Alarm),
-    /// The program of a number is restarted.
-    Restarted(u32),
-}
 
 /// An order that was made ready to be committed.
 #[derive(Drop)]
@@ -66,20 +60,18 @@ fn is_listed(consoles: &[Console], number: u32) -> bool
     consoles.iter().any(|console| console.number == number)
 }
 
-/// An alarm after an order, or why the order is refused.
+/// The alarm after an order, or why the order is refused.
 #[tactic(auto, using(crate::proofs::OrderLaws::after_order_ok, crate::proofs::OrderLaws::after_order_err))]
-fn ordered(alarm: Alarm, verb: Verb, last: u64) -> Result<Alarm, OrderFault>
-    requires { last ≤ 4000000000000 }
+fn after_order(alarm: Alarm, verb: Verb, last: u64) -> Result<Alarm, OrderFault>
+    requires { last ≤ LAST_MOMENT }
     ensures { result ≡ after_order verb last alarm }
 {
     let mut changed = alarm;
-    match changed.order(verb, last) {
-        Ok(_) => Ok(changed),
-        Err(fault) => Err(fault),
-    }
+    changed.order(verb, last)?;
+    Ok(changed)
 }
 
-/// What an order does to the alarm of a number.
+/// What an order to the alarm of a number does, or why it is refused.
 fn alarm_order(
     plant: &Plant,
     alarms: &[Alarm],
@@ -89,7 +81,7 @@ fn alarm_order(
     number: u32,
 ) -> Result<Effect, OrderFault>
     requires each { length alarms.now ≡ length plant.now.alarms }
-    requires range { last ≤ 4000000000000 }
+    requires range { last ≤ LAST_MOMENT }
     ensures { result ≡ alarm_order plant.now alarms.now last console verb number }
 {
     let rows = plant.alarm_rows();
@@ -100,13 +92,11 @@ fn alarm_order(
     if !may_order(plant.consoles(), console, rows[at].area) {
         return Err(OrderFault::NotYourArea);
     }
-    match ordered(alarms[at], verb, last) {
-        Ok(alarm) => Ok(Effect::Changed(number, alarm)),
-        Err(fault) => Err(fault),
-    }
+    let alarm = after_order(alarms[at], verb, last)?;
+    Ok(Effect::Changed(number, alarm))
 }
 
-/// What a restart of the program of a number does.
+/// What a restart of the program of a number does, or why it is refused.
 fn program_order(
     plant: &Plant,
     faulted: &[bool],
@@ -139,7 +129,7 @@ pub fn order_outcome(
     order: Order,
 ) -> Result<Effect, OrderFault>
     requires each { length alarms.now ≡ length plant.now.alarms }
-    requires range { last ≤ 4000000000000 }
+    requires range { last ≤ LAST_MOMENT }
     ensures { result ≡ order_outcome plant.now alarms.now faulted.now last console order }
 {
     match (order.target, order.verb) {
@@ -149,14 +139,14 @@ pub fn order_outcome(
     }
 }
 
-/// The change of the code from one alarm to another.
+/// The change of the code from one alarm to another, if there is one.
 fn change_from(old: &Alarm, new: &Alarm) -> Option<Change>
     ensures { result ≡ change_from (Some old.now) new.now }
 {
     Change::between(old.state().code(), new.state().code())
 }
 
-/// The reply to an order.
+/// The reply to an order, by what it does.
 pub fn reply_by(done: &Result<Effect, OrderFault>, alarms: &[Alarm]) -> Reply
     ensures { result ≡ reply_by done.now alarms.now }
 {
@@ -167,5 +157,23 @@ pub fn reply_by(done: &Result<Effect, OrderFault>, alarms: &[Alarm]) -> Reply
             Some(old) => Reply::Done(change_from(old, alarm)),
             None => Reply::Done(None),
         },
+    }
+}
+
+/// Makes an order of the console of a number ready.
+pub fn prepared_order(plant: &Plant, state: &State, console: u32, order: Order) -> PreparedOrder
+    requires alarms { length state.now.alarms ≡ length plant.now.alarms }
+    requires range { state.now.moment ≤ LAST_MOMENT }
+    ensures { IsPreparedOrder plant.now state.now console order result }
+{
+    let alarms = state.alarms.as_slice();
+    let faulted = state.faulted.as_slice();
+    let done = order_outcome(plant, alarms, faulted, state.moment, console, order);
+    let reply = reply_by(&done, alarms);
+    PreparedOrder {
+        console,
+        order,
+        done,
+        reply,
     }
 }

@@ -1,45 +1,19 @@
-//! What an engine keeps, and how a scan is made ready.
+//! How a scan is made ready.
 
-ghost use Rattle.std.specs.Prelude.{◌≡◌, ◌<◌, ◌≤◌, ◌^◌, length, slice_get, Some, IfOk, IfErr};
-ghost use Rattle.std.specs.Option.{option_map};
+ghost use Rattle.std.specs.Prelude.{◌≡◌, ◌<◌, ◌≤◌, ◌^◌, length, IfOk, IfErr};
+ghost use Rattle.alarm_machine.specs.declared.limits.TheConstants.{LAST_MOMENT};
 ghost use Rattle.engine.specs.Image.{IsDue};
-ghost use Rattle.engine.specs.Orders.{alarms_by, faulted_by};
 ghost use Rattle.engine.specs.System.{taken_scan};
-ghost use Rattle.engine.specs.Steps.{Steps, IsScan, IsOrder};
+ghost use Rattle.engine.specs.Steps.{ScanRan, IsPreparedScan};
 
-use crate::event::{EngineFault, Event, Order, Report};
-use crate::image::taken_scan;
-use crate::orders::{Effect, PreparedOrder, order_outcome, reply_by};
+use crate::event::{EngineFault, Event, Report};
+use crate::image::taken_image;
+use crate::state::State;
 use crate::steps::{outputs, outs, run_programs, set_inputs, step_alarms};
-use alarm_machine::{Alarm, AlarmState, OrderFault};
 use plant_config::Plant;
 use plant_types::{Pair, Value};
-use st_walk::Cells;
 use std::alloc::{AllocError, Global};
 use std::marker::Model;
-
-/// What an engine keeps beside its plant and its history.
-#[derive(Drop)]
-pub struct State {
-    /// The values of the globals, by number.
-    pub cells: Cells,
-    /// For each program whether it is faulted.
-    pub faulted: Vec<bool>,
-    /// The alarms, in the order of the database.
-    pub alarms: Vec<Alarm>,
-    /// The outputs and their values, in order of declaration.
-    pub outputs: Vec<(u32, Value)>,
-    /// The moment of the last scan in milliseconds, 0 before the first.
-    pub moment: u64,
-}
-
-impl Model for State {
-    ghost use Rattle.engine.specs.Engines.{PlainState};
-
-    ghost Value = { PlainState };
-
-    ghost view = { λ s. record { cells = s.cells; faulted = s.faulted.items; alarms = s.alarms.items; outputs = s.outputs.items; moment = s.moment } };
-}
 
 /// A scan that was made ready to be committed.
 #[derive(Drop)]
@@ -54,11 +28,11 @@ impl Model for Prepared {
 
     ghost Value = { PlainPrepared };
 
-    ghost view = { λ p. record { event = p.event; kept = p.state; report = p.report } };
+    ghost view = { λ p. record { event = p.event; state = p.state; report = p.report } };
 }
 
-/// What a scan leaves and tells, made on copies.
-fn scanned(
+/// Runs a scan on copies, and returns the state that it leaves and what it reports. Fails if allocation fails.
+fn run_scan(
     alloc: Global,
     plant: &Plant,
     old: &State,
@@ -68,8 +42,8 @@ fn scanned(
     requires programs { length old.now.faulted ≡ 1 }
     requires alarms { length old.now.alarms ≡ length plant.now.alarms }
     requires globals { length plant.now.source.globals < 2 ^ 32 }
-    requires range { moment ≤ 4000000000000 }
-    ensures { IfOk result (λ r. Steps plant.now old.now image.now moment r.0 r.1) }
+    requires range { moment ≤ LAST_MOMENT }
+    ensures { IfOk result (λ r. ScanRan plant.now old.now image.now moment r.0 r.1) }
 {
     let flat = plant.flat();
     let mut cells = old.cells.copy(alloc)?;
@@ -96,8 +70,8 @@ fn scanned(
     Ok((state, report))
 }
 
-/// Makes a scan ready, after so many events, or tells why it is refused.
-pub fn made_ready(
+/// Makes a scan ready after so many events, or returns why it is refused.
+pub fn prepared_scan(
     alloc: Global,
     plant: &Plant,
     old: &State,
@@ -108,71 +82,14 @@ pub fn made_ready(
     requires programs { length old.now.faulted ≡ 1 }
     requires alarms { length old.now.alarms ≡ length plant.now.alarms }
     requires globals { length plant.now.source.globals < 2 ^ 32 }
-    ensures ok { IfOk result (IsScan plant.now old.now events pairs.now moment) }
+    ensures ok { IfOk result (IsPreparedScan plant.now old.now events pairs.now moment) }
     ensures err { IfErr result (λ e. IsDue e (taken_scan plant.now.source.globals old.now.moment events pairs.now moment)) }
 {
-    let image = match taken_scan(alloc, plant.flat(), old.moment, events, pairs, moment) {
-        Ok(image) => image,
-        Err(fault) => return Err(fault),
-    };
-    let (state, report) = scanned(alloc, plant, old, image.as_slice(), moment)?;
+    let image = taken_image(alloc, plant.flat(), old.moment, events, pairs, moment)?;
+    let (state, report) = run_scan(alloc, plant, old, image.as_slice(), moment)?;
     Ok(Prepared {
         event: Event::Scan(image, moment),
         state,
         report,
     })
-}
-
-/// The state of an alarm that is there.
-pub fn alarm_state(state: &State, alarm: u32) -> AlarmState
-    requires { alarm < length state.now.alarms }
-    ensures { option_map (λ a. a.state) (slice_get state.now.alarms alarm) ≡ Some result }
-{
-    state.alarms[alarm as usize].state()
-}
-
-/// The moment of the last scan.
-pub fn last_moment(state: &State) -> u64
-    ensures { result ≡ state.now.moment }
-{
-    state.moment
-}
-
-/// Does what an order does.
-pub fn apply(done: &Result<Effect, OrderFault>, state: &mut State)
-    ensures { state.new ≡ record state.old { faulted = faulted_by done.now state.old.faulted; alarms = alarms_by done.now state.old.alarms } }
-{
-    match done {
-        Ok(Effect::Changed(number, alarm)) => {
-            let at = *number as usize;
-            if at < state.alarms.len() {
-                state.alarms[at] = *alarm;
-            }
-        }
-        Ok(Effect::Restarted(number)) => {
-            let at = *number as usize;
-            if at < state.faulted.len() {
-                state.faulted[at] = false;
-            }
-        }
-        Err(_) => {}
-    }
-}
-
-/// Makes an order ready: what it does, and its reply.
-pub fn made_ready_order(plant: &Plant, state: &State, console: u32, order: Order) -> PreparedOrder
-    requires alarms { length state.now.alarms ≡ length plant.now.alarms }
-    requires range { state.now.moment ≤ 4000000000000 }
-    ensures { IsOrder plant.now state.now console order result }
-{
-    let alarms = state.alarms.as_slice();
-    let faulted = state.faulted.as_slice();
-    let done = order_outcome(plant, alarms, faulted, state.moment, console, order);
-    let reply = reply_by(&done, alarms);
-    PreparedOrder {
-        console,
-        order,
-        done,
-        reply,
-    }
 }

@@ -1,13 +1,14 @@
 //! The parts of a scan: inputs, programs, alarms and outputs.
 
-ghost use Rattle.std.specs.Prelude.{◌≡◌, ◌<◌, ◌^◌, length, fold, map, IfOk, All, ◌≤◌};
+ghost use Rattle.std.specs.Prelude.{◌≡◌, ◌<◌, ◌^◌, length, fold, map, IfOk, IfSome, All, ◌≤◌};
 ghost use Rattle.plant_types.specs.Values.{is_true};
+ghost use Rattle.alarm_machine.specs.declared.limits.TheConstants.{LONGEST_SHELVE_MS};
 ghost use Rattle.st_walk.specs.Worlds.{World, Stands};
 ghost use Rattle.st_walk.specs.Slots.{cell};
-ghost use Rattle.st_walk.specs.Runs.{Agree};
+ghost use Rattle.st_walk.specs.Runs.{paths_of, Agree};
 ghost use Rattle.engine.specs.Programs.{programs_from};
 ghost use Rattle.engine.specs.System.{shown, opening_alarm, suppression, alarms_after, changes_from, is_output, outputs_from, out_at, outs_from};
-ghost use Rattle.engine.specs.Steps.{with_cell, run_by, met, ProgramsRan};
+ghost use Rattle.engine.specs.Steps.{with_cell, run_by, ended_by, ProgramsRan};
 
 use alarm_machine::{Alarm, Change};
 use plant_config::AlarmRow;
@@ -16,7 +17,7 @@ use st_resolve::{Flat, Variable};
 use st_walk::{Cells, Walked, walk};
 use std::alloc::{AllocError, Global};
 
-/// The number that a global holds.
+/// The number that a global holds; 0 if there is no such global.
 fn number_at(cells: &Cells, global: u32) -> i64
     ensures { result ≡ cell cells.now global }
 {
@@ -28,7 +29,7 @@ fn number_at(cells: &Cells, global: u32) -> i64
     }
 }
 
-/// Sets the inputs of an image.
+/// Gives the inputs of an image their values.
 pub fn set_inputs(image: &[(u32, Value)], cells: &mut Cells)
     ensures { cells.new ≡ fold with_cell cells.old image.now }
 {
@@ -40,7 +41,7 @@ pub fn set_inputs(image: &[(u32, Value)], cells: &mut Cells)
     }
 }
 
-/// Runs the program of a number, from 0, unless it is faulted. What it assigned before a fault stands.
+/// Runs the program of a number, from 0, unless it is faulted, and returns its fault. What it assigned before a fault stands.
 fn run_program(
     flat: &Flat,
     program: u32,
@@ -49,7 +50,8 @@ fn run_program(
     is_faulted: bool,
 ) -> Option<(Place, Trap)>
     requires { program < 1 }
-    ensures { (w : World) → Stands flat.now cells.old w → Agree flat.now (run_by is_faulted flat.now program moment w) (met flat.now result cells.new) }
+    ensures ran { (w : World) → Stands flat.now cells.old w → Agree flat.now (run_by is_faulted flat.now program moment w) (ended_by flat.now result cells.new) }
+    ensures within { IfSome result (λ fault. fault.0.path < length (paths_of flat.now)) }
 {
     if is_faulted {
         return None;
@@ -60,7 +62,9 @@ fn run_program(
     }
 }
 
-/// Runs the programs in order, but for those that are faulted, and tells the faults. A program that meets one is faulted from then on.
+/// Runs the programs in order, but for those that are faulted, and returns the faults. A program that meets one is faulted from then on.
+///
+/// Fails if allocation fails.
 pub fn run_programs(
     alloc: Global,
     flat: &Flat,
@@ -69,12 +73,13 @@ pub fn run_programs(
     faulted: &mut Vec<bool>,
 ) -> Result<Vec<(Place, Trap)>, AllocError>
     requires { length faulted.old.items ≡ 1 }
-    ensures { IfOk result (λ faults. (w : World) → Stands flat.now cells.old w → ProgramsRan flat.now (programs_from flat.now moment 0 faulted.old.items w) cells.new faulted.new.items faults.items) }
+    ensures ran { IfOk result (λ faults. (w : World) → Stands flat.now cells.old w → ProgramsRan flat.now (programs_from flat.now moment 0 faulted.old.items w) cells.new faulted.new.items faults.items) }
+    ensures within { IfOk result (λ faults. All (λ f. f.0.path < length (paths_of flat.now)) faults.items) }
 {
     let mut faults = Vec::new(alloc);
     for program in 0..faulted.len() {
-        let met = run_program(flat, program as u32, moment, cells, faulted[program]);
-        if let Some(fault) = met {
+        let fault = run_program(flat, program as u32, moment, cells, faulted[program]);
+        if let Some(fault) = fault {
             faulted[program] = true;
             faults.push(fault)?;
         }
@@ -82,9 +87,9 @@ pub fn run_programs(
     Ok(faults)
 }
 
-/// Each alarm before the first scan.
+/// The alarms before the first scan, one for each row. Fails if allocation fails.
 pub fn opening_alarms(alloc: Global, rows: &[AlarmRow]) -> Result<Vec<Alarm>, AllocError>
-    requires { All (λ row. row.max_shelve_ms ≤ 2592000000) rows.now }
+    requires { All (λ row. row.max_shelve_ms ≤ LONGEST_SHELVE_MS) rows.now }
     ensures { IfOk result (λ alarms. alarms.items ≡ map opening_alarm rows.now) }
 {
     let mut alarms = Vec::new(alloc);
@@ -111,7 +116,8 @@ fn is_suppressed(cells: &Cells, row: &AlarmRow) -> bool
     }
 }
 
-/// Each alarm takes its step by itself. The changes are told in the order of the database.
+/// The alarms after a scan, each stepped by itself, and the changes of their codes in the order of the database. Fails if allocation
+/// fails.
 pub fn step_alarms(
     alloc: Global,
     rows: &[AlarmRow],
@@ -141,17 +147,14 @@ pub fn step_alarms(
     Ok((next, changes))
 }
 
-/// Whether an address is that of an output.
+/// Whether a region is that of outputs.
 fn is_output(region: Option<Region>) -> bool
     ensures { result ≡ is_output region }
 {
-    match region {
-        Some(Region::Output) => true,
-        _ => false,
-    }
+    matches!(region, Some(Region::Output))
 }
 
-/// A number as the value of a kind that it fits.
+/// A number as a value of a kind: FALSE or 0, if it fits no value of that kind.
 fn shown(kind: Kind, n: i64) -> Value
     ensures { result ≡ shown kind n }
 {
@@ -161,7 +164,7 @@ fn shown(kind: Kind, n: i64) -> Value
     }
 }
 
-/// The outputs and their values, in order of declaration.
+/// The outputs and their values, in order of declaration. Fails if allocation fails.
 pub fn outputs(
     alloc: Global,
     globals: &[Variable],
@@ -195,7 +198,7 @@ fn out_at(number: u32, global: &Variable, before: &Cells, now: &Cells) -> Option
     }
 }
 
-/// The outputs whose value isn't what it was before, in order of declaration.
+/// The outputs whose value isn't what it was before, in order of declaration. Fails if allocation fails.
 pub fn outs(
     alloc: Global,
     globals: &[Variable],

@@ -1,17 +1,4 @@
-use Rattle.std.proofs.Common.{◌<◌, ◌++◌, ◌∷◌, [], false, length, refl, ap, ◌∙◌, arith}
-use Rattle.engine.proofs.Systems.{opening_agrees}
 use Rattle.engine.proofs.engine.Engine.new.Goals as goal
 
 pub invariant_of-result : goal.invariant_of-result
-invariant_of-result c =
-    let globals = c.globals-globals.ensures.globals ∙ ap (λ s. s.globals) c.flat.ensures.source in
-    let few : length c.args.plant.source.globals < 4294967296 = omega (arith, ap length globals) in
-    rw c.new.ensures.items (opening_agrees _ _
-    c.flat.ensures.plant
-    (rw c.flat.ensures.source at c.globals-globals.ensures.no_fault)
-    few
-    (rw c.flat-2.ensures.source at c.in_ok-cells.ensures)
-    (c.in_ok-push.ensures.items ∙ ap (λ l. l ++ false ∷ []) c.new-faulted.ensures.items)
-    (rw c.alarm_rows.ensures.rows at c.in_ok-alarms.ensures)
-    (rw globals at c.in_ok-outputs.ensures)
-    refl)
+invariant_of-result c = rw c.new.ensures.items c.in_ok-state.ensures

@@ -1,6 +1,6 @@
 use Rattle.std.proofs.Common.{◌≡◌, length, rules, arith}
 use Rattle.engine.specs.System.{system}
-use Rattle.engine.specs.Engines.{Agrees}
+use Rattle.engine.specs.Engines.{IsState}
 use Rattle.engine.proofs.Systems.{kept_alarms, order_fits, order_event_ready, order_event_full}
 use Rattle.engine.proofs.engine.Engine.prepare_order.Goals as goal
 
@@ -9,16 +9,16 @@ returns-then-len-ge-MOST_EVENTS-clause-err c =
     let len : c.len.result ≡ length c.self.inside.history.items = search rules in
     rw (← c.self.view_is) (order_event_full c.self.inside.plant c.self.inside.history.items c.args.console c.args.order (omega (arith, len)))
 
-pub made_ready_order-prepared-requires-clause-alarms : goal.made_ready_order-prepared-requires-clause-alarms
-made_ready_order-prepared-requires-clause-alarms c = kept_alarms c.self.inside.plant c.self.inside.history.items c.self.inside.state c.self.invariant.agrees
+pub prepared_order-prepared-requires-clause-alarms : goal.prepared_order-prepared-requires-clause-alarms
+prepared_order-prepared-requires-clause-alarms c = kept_alarms c.self.inside.plant c.self.inside.history.items c.self.inside.state c.self.invariant.state_is
 
 pub returns-clause-ok : goal.returns-clause-ok
 returns-clause-ok c =
     let len : c.len.result ≡ length c.self.inside.history.items = search rules in
-    let made = c.made_ready_order-prepared.ensures in
-    let held : Agrees c.self.inside.plant (system c.self.inside.plant c.reserve.new.self.items) c.self.inside.state = rw c.in_ok-reserve.ensures.items c.self.invariant.agrees in (
-      order_fits _ c.self.inside.state c.args.console c.args.order c.made_ready_order-prepared.result held made (omega (arith, c.in_ok-reserve.ensures.ok)),
-      rw (← c.self.view_is) (order_event_ready c.self.inside.plant c.self.inside.history.items c.args.console c.args.order c.made_ready_order-prepared.result (omega (arith, len)) made.console_is made.order_is),
+    let made = c.prepared_order-prepared.ensures in
+    let held : IsState c.self.inside.plant (system c.self.inside.plant c.reserve.new.self.items) c.self.inside.state = rw c.in_ok-reserve.ensures.items c.self.invariant.state_is in (
+      order_fits _ c.self.inside.state c.args.console c.args.order c.prepared_order-prepared.result held made (omega (arith, c.in_ok-reserve.ensures.ok)),
+      rw (← c.self.view_is) (order_event_ready c.self.inside.plant c.self.inside.history.items c.args.console c.args.order c.prepared_order-prepared.result (omega (arith, len)) made.console_is made.order_is),
       made.console_is,
       made.order_is,
     )
