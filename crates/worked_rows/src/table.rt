@@ -1,0 +1,154 @@
+//! The lines of the table.
+
+use crate::answers::{answers, begun, push_seen};
+use engine::Engine;
+use row_text::{Source, push_line};
+use std::alloc::{AllocError, Global};
+use std::sync::Wait;
+
+/// What the table has said so far.
+#[derive(Drop)]
+struct Table {
+    source: Source,
+    /// Whether the source goes on.
+    is_open: bool,
+    /// The engine of the last plant, if it was accepted.
+    engine: Option<Engine>,
+    /// Commands that the engine hasn't been given yet.
+    commands: Vec<u8>,
+    /// What is printed.
+    text: Vec<u8>,
+}
+
+impl Table {
+    fn new(alloc: Global) -> Table {
+        Table {
+            source: Source::new(alloc),
+            is_open: false,
+            engine: None,
+            commands: Vec::new(alloc),
+            text: Vec::new(alloc),
+        }
+    }
+
+    /// Prints a line of the table.
+    fn print(&mut self, line: &str) -> Result<(), AllocError> {
+        self.text.extend_from_slice(line.as_bytes())?;
+        self.text.push(b'\n')?;
+        Ok(())
+    }
+
+    /// Gives the engine its commands.
+    fn flush<H: Wait>(&mut self, rt: &H, alloc: Global) -> Result<(), AllocError> {
+        if let Some(engine) = &mut self.engine {
+            let answers = answers(rt, alloc, engine, self.commands.as_slice())?;
+            self.text.extend_from_slice(answers.as_slice())?;
+        }
+        self.commands.clear();
+        Ok(())
+    }
+
+    /// Begins a plant.
+    fn plant(&mut self, alloc: Global, line: &str) -> Result<(), AllocError> {
+        self.source = Source::new(alloc);
+        self.is_open = true;
+        self.engine = None;
+        self.print(line)
+    }
+
+    /// Takes a line of a source.
+    fn source_line(&mut self, alloc: Global, line: &str) -> Result<(), AllocError> {
+        if line != "run" {
+            return self.source.add(line);
+        }
+        self.is_open = false;
+        if !self.source.has_gap() {
+            self.engine = begun(alloc, &mut self.text, self.source.as_slice())?;
+        }
+        Ok(())
+    }
+
+    /// Begins the plant of a source with a text in its gap.
+    fn with(&mut self, alloc: Global, line: &str, given: &str) -> Result<(), AllocError> {
+        self.print(line)?;
+        let source = self.source.with(alloc, given)?;
+        self.engine = begun(alloc, &mut self.text, source.as_slice())?;
+        Ok(())
+    }
+
+    /// Prints what can be seen of the engine.
+    fn seen(&mut self, alloc: Global) -> Result<(), AllocError> {
+        match &self.engine {
+            Some(engine) => push_seen(alloc, &mut self.text, engine),
+            None => Ok(()),
+        }
+    }
+
+    /// Gives a command so many times, and prints the answer to the last.
+    fn repeat<H: Wait>(&mut self, rt: &H, alloc: Global, words: &str) -> Result<(), AllocError> {
+        let Some((times, command)) = words.split_once(" ") else {
+            return Ok(());
+        };
+        let times = times.parse::<u32>().unwrap_or(0);
+        let printed = self.text.len();
+        for _ in 1..times {
+            push_line(&mut self.commands, command)?;
+        }
+        self.flush(rt, alloc)?;
+        self.text.truncate(printed);
+        push_line(&mut self.commands, command)?;
+        self.flush(rt, alloc)
+    }
+
+    /// Takes a command, or a word of the table's own.
+    fn command_line<H: Wait>(
+        &mut self,
+        rt: &H,
+        alloc: Global,
+        line: &str,
+    ) -> Result<(), AllocError> {
+        if line == "seen" {
+            self.flush(rt, alloc)?;
+            return self.seen(alloc);
+        }
+        if let Some(words) = line.strip_prefix("repeat ") {
+            self.flush(rt, alloc)?;
+            return self.repeat(rt, alloc, words);
+        }
+        if let Some(given) = line.strip_prefix("with ") {
+            self.flush(rt, alloc)?;
+            return self.with(alloc, line, given);
+        }
+        if line.is_empty() {
+            return Ok(());
+        }
+        push_line(&mut self.commands, line)
+    }
+
+    /// Takes a line.
+    fn take<H: Wait>(&mut self, rt: &H, alloc: Global, line: &str) -> Result<(), AllocError> {
+        if self.is_open {
+            return self.source_line(alloc, line);
+        }
+        if line.starts_with("plant ") {
+            self.flush(rt, alloc)?;
+            return self.plant(alloc, line);
+        }
+        self.command_line(rt, alloc, line)
+    }
+
+    /// Takes lines.
+    fn take_all<H: Wait>(&mut self, rt: &H, alloc: Global, lines: &str) -> Result<(), AllocError> {
+        for line in lines.lines() {
+            self.take(rt, alloc, line)?;
+        }
+        self.flush(rt, alloc)
+    }
+}
+
+/// What a table is answered.
+pub fn answers_to<H: Wait>(rt: &H, alloc: Global, lines: &str) -> Result<Vec<u8>, AllocError> {
+    let mut table = Table::new(alloc);
+    table.take_all(rt, alloc, lines)?;
+    Ok(table.text)
+}
