@@ -14,15 +14,17 @@ pub trait Phrase {
     /// What it is parsed as.
     type Tree: Drop;
 
+    // the plain view of one, and its type
     ghost Plain: { Type 0 };
 
     ghost view: { Self.Tree → Plain };
 
+    // whether one is next, and the one at the front with the lexemes after it
     ghost starts: { Self → List Lexeme → Bool };
 
     ghost one_at: { Self → List Lexeme → Option (Plain × List Lexeme) };
 
-    /// Parses one, if one is next. It takes a token at least.
+    /// Parses one, if one is next; `None` otherwise.
     fn parse(&self, alloc: Global, reader: &mut Reader) -> Result<Option<Self::Tree>, Stop>
         ensures { Gives (λ tree. (option_map view tree, reader.new)) result (perhaps_at (starts self.now) (one_at self.now) reader.old) };
 }
@@ -37,6 +39,7 @@ fn parse_more<P: Phrase>(
     ensures { Gives (λ all. (map P.view all.items, reader.new)) result (with_first (map P.view before.items) (all_at (P.starts phrase.now) (P.one_at phrase.now) reader.old)) }
 {
     let mut all = before;
+    // Each takes at least one token.
     for _turn in 0..reader.left() {
         match phrase.parse(alloc, reader)? {
             Some(tree) => all.push(tree)?,

@@ -107,7 +107,7 @@ fn body(alloc: Global, depth: u32, reader: &mut Reader) -> Result<Vec<Stmt<Text>
     ensures { Gives (λ b. (view_body b.items, reader.new)) result (sequence_at depth reader.old) }
 {
     let mut body = Vec::new(alloc);
-    // Each takes a token at least.
+    // Each takes at least one token.
     for _turn in 0..reader.left() {
         if !is_statement(reader) {
             return Ok(body);
@@ -196,7 +196,7 @@ fn more_branches(
 {
     let mut branches = Vec::new(alloc);
     branches.push(first)?;
-    // Each takes a token at least.
+    // Each takes at least one token.
     for _turn in 0..reader.left() {
         if !reader.is_keyword(Keyword::Elsif) {
             return Ok(branches);
@@ -272,7 +272,7 @@ fn more_choices(
 {
     let mut choices = Vec::new(alloc);
     choices.push(first)?;
-    // Each takes a token at least.
+    // Each takes at least one token.
     for _turn in 0..reader.left() {
         if !is_label(reader) {
             return Ok(choices);
