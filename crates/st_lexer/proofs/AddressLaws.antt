@@ -1,4 +1,4 @@
--- Addresses: what is read is the longest one.
+-- Addresses: what is parsed is the longest one.
 use Rattle.std.proofs.Common.{◌≡◌, ℕ, zero, suc, ◌+◌, ◌<◌, ◌≤◌, ◌==◌, Bool, true, false, ◌&&◌, ◌||◌, cond, List, [], ◌∷◌, ◌++◌, length, take, drop, Option, Some, None, refl, sym, ap, ◌∙◌, subst, arith, ◌⊎◌, inl, inr, codes, if◌then◌else◌}
 use Rattle.std.specs.Char.{is_ascii_digit, to_ascii_lowercase}
 use Rattle.std.specs.List.{list_any}
@@ -177,7 +177,7 @@ place_no_size : (bs : List ℕ) → is_place bs ≡ true → begins_by is_size b
 place_no_size [] h = refl
 place_no_size (l ∷ bs) h = false_from_ne_true (is_size l) (λ size. absurd (let e : false ≡ true = sym (size_no_place l bs size) ∙ h in cc))
 
--- an address: its region, and its place after_letter the size
+-- an address: its region, and its place after the size
 pub data Parted (region : Region) (l : ℕ) (bs : List ℕ) : Type 0 where
   unsized : same_letter l (letter_of region) ≡ true → begins_by is_size bs ≡ false → is_place bs ≡ true → Parted region l bs
   sized : same_letter l (letter_of region) ≡ true → begins_by is_size bs ≡ true → is_place (drop 1 bs) ≡ true → Parted region l bs
@@ -207,7 +207,7 @@ placed_is region k bs a h = elim (cases_Bool (place_len bs == 0)) [
     positive zero e = absurd (let f : true ≡ false = e in cc)
     positive (suc n) e = omega arith
 
--- an address reaches no further than what is read
+-- an address reaches no further than what is parsed
 pub record Reaches (region : Region) (far : ℕ) (text : List ℕ) : Type 0 where
   pub n : ℕ
   pub read : parse_address text ≡ Some (region, n)
@@ -248,7 +248,7 @@ pub address_reach : (region : Region) (p : ℕ) (bs rest : List ℕ) → is_addr
 address_reach region p [] rest h = absurd (let e : false ≡ true = h in cc)
 address_reach region p (l ∷ bs) rest h = address_reach_at region l bs rest (parted region p l bs h)
 
--- what is read is an address
+-- what is parsed is an address
 pub record Addresses (region : Region) (n : ℕ) (text : List ℕ) : Type 0 where
   pub within : n ≤ length text
   pub is : is_address region (37 ∷ take n text) ≡ true

@@ -140,7 +140,7 @@ zero_rest (b ∷ bs) sum h w =
     split zero p v some e = (refl, omega arith)
     split (suc d) p v some e = absurd (omega arith)
 
--- ---- what is read is as many parts
+-- ---- what is parsed is that multiple
 turned : (d t x p v : ℕ) → x * p ≡ v * t → (d * t + x) * (p * 10) ≡ (d * p + v) * (t * 10)
 turned d t x p v h = omega arith
 
@@ -162,7 +162,7 @@ decimals_sound (b ∷ bs) (suc j) sum d h e =
           )
     ]
 
--- ---- and all that is so many parts is read
+-- ---- and every such multiple is parsed
 -- 27 and a power of ten have no common divisor
 pub no_common : (l y v : ℕ) → y * 10 ^ l ≡ 27 * v → (z : ℕ) × (v ≡ z * 10 ^ l)
 no_common zero y v h = (v, omega arith)

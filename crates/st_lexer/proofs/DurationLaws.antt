@@ -1,4 +1,4 @@
--- Durations: how far their parts go, and their exact sums.
+-- Durations: how many bytes their parts have, and their exact sums.
 use Rattle.std.proofs.Common.{◌≡◌, ℕ, suc, ◌+◌, ◌<◌, ◌==◌, ℤ, Bool, true, false, ◌&&◌, ◌||◌, cond, List, [], ◌∷◌, ◌++◌, length, drop, Option, Some, None, refl, sym, ap, ◌∙◌, subst, arith, inl, inr, codes, length-drop}
 use Rattle.std.specs.Char.{is_digit, is_ascii_alphabetic, to_ascii_lowercase}
 use Rattle.std.specs.List.{list_all}
@@ -93,7 +93,7 @@ unit_self u.Millisecond = refl
 pub one_unit : (name : List ℕ) (a b : TimeUnit) → same_word name (unit_spelling a) ≡ true → same_word name (unit_spelling b) ≡ true → a ≡ b
 one_unit name a b h g = same_Some a b (sym (unit_self a) ∙ ap unit_of (sym (same_folded name (unit_spelling a) h) ∙ same_folded name (unit_spelling b) g) ∙ unit_self b)
 
--- ---- how far parts go
+-- ---- how many bytes parts have
 pub begins_not : (test other : ℕ → Bool) (ys : List ℕ) → ((b : ℕ) → test b ≡ true → other b ≡ false) → begins_by test ys ≡ true → begins_by other ys ≡ false
 begins_not test other [] apart h = no_truth h
 begins_not test other (b ∷ ys) apart h = apart b h

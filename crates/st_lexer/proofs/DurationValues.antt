@@ -125,7 +125,7 @@ leading_sound bs ys num h = option_and_then_some (λ n. parse_fraction n (drop (
     let whole = number_sound 10 (take (digits_len bs) bs) n (omega arith) is in
     subst (λ x. Led x num ys) (take-append-drop (digits_len bs) bs) (led_fraction (take (digits_len bs) bs) (drop (digits_len bs) bs) ys num whole.0 (ap (λ k. parse_fraction k (drop (digits_len bs) bs)) (sym whole.1) ∙ rest)))
 
--- what is led is found
+-- a number at the front is found
 lead_found : (whole ys : List ℕ) (r : Option Front) → is_number 10 whole ≡ true → number_value 10 whole < 2 ^ 64 → begins_by stop ys ≡ false → parse_fraction (number_value 10 whole) ys ≡ r → leading_number (whole ++ ys) ≡ r
 lead_found whole ys r h fits s e =
     leading_is (whole ++ ys)

@@ -281,7 +281,7 @@ percent_token (p.Token (t.Integer n)) e = absurd (cc)
 percent_token (p.Token (t.Symbol symbol)) e = absurd (cc)
 percent_token (p.Token _) e = absurd (cc)
 
--- a piece that begins with `%` is an address, and reaches no further than what is read
+-- a piece that begins with `%` is an address, and reaches no further than what is parsed
 record AddressAt (bs : List ℕ) (piece : Piece) (m : ℕ) : Type 0 where
   region : Region
   same : piece ≡ p.Token (t.Address region)
@@ -335,7 +335,7 @@ address_sound b bs piece n is h = option_and_then_some (address_piece bs) (parse
     let parts = cond_some (stands_apart (drop a.1 bs)) (p.Token (t.Address a.0), a.1 + 1) (piece, n) rest in
     subst (λ (q : Found). IsNext (b ∷ bs) q.0 q.1) parts.1 (subst (λ i. IsNext (b ∷ bs) (p.Token (t.Address a.0)) i) (sym (one_more a.1)) (address_next b bs a.0 a.1 is read parts.0)))
 
--- what stands where the reader's address ends is that address
+-- the address that is parsed is the next piece
 address_whole : (b : ℕ) (bs : List ℕ) (region : Region) (k j : ℕ) → first_of b ≡ f.Percent → parse_address bs ≡ Some (region, k) → j ≤ k → IsNext (b ∷ bs) (p.Token (t.Address region)) (suc j) → k ≡ j
 address_whole b bs region k j is read far x = elim (cases_lt j k) [
   | inl shorter ↦
@@ -386,7 +386,7 @@ pub record IsForm (a b : ℕ) (form : List ℕ → Bool) (read : List ℕ → Op
   pub begins : begins_comment (a ∷ b ∷ []) ≡ true
   pub form_of : (xs : List ℕ) → is_comment (a ∷ b ∷ xs) ≡ true → form xs ≡ true
   pub comment_of : (xs : List ℕ) → form xs ≡ true → is_comment (a ∷ b ∷ xs) ≡ true
-  -- what is read is of the form, and nothing longer is
+  -- what is found is of the form, and nothing longer is
   pub sound : (text : List ℕ) (n : ℕ) → read text ≡ Some n → (n ≤ length text) × (form (take n text) ≡ true)
   pub reach : (bs rest : List ℕ) → form bs ≡ true → (n : ℕ) × (read (bs ++ rest) ≡ Some n) × (length bs ≤ n)
 

@@ -159,7 +159,7 @@ pointed_len (b ∷ bs) = if is_tied b then (if is_digit b 10 && begins_by (λ c.
 unfoldable pub timed_len : List ℕ → ℕ
 timed_len text = if begins_by (λ b. b == 45) text then 1 + pointed_len (drop 1 text) else pointed_len text
 
--- how many bytes the word or literal has that a letter begins
+-- how many bytes the word or literal at the front has, which begins with a letter
 unfoldable pub lettered_len : List ℕ → ℕ
 lettered_len text =
     if begins_word (codes "DINT#") text then 5 + signed_len (drop 5 text)

@@ -9,7 +9,7 @@ use crate::bytes::begins_with;
 use crate::numbers::{begins_by_digit, parse_number};
 use plant_types::same_word;
 
-/// A unit of time, longest first.
+/// A unit of time; the longest comes first.
 #[derive(Clone, Copy, Debug, PartialEq, Eq, Drop)]
 pub enum TimeUnit {
     Day,
@@ -28,8 +28,8 @@ pub const UNITS: [TimeUnit; 5] = [
     TimeUnit::Millisecond,
 ];
 
-/// What a decimal fraction is counted in: ten decimal places, as many as a whole number of milliseconds can need.
-const FRACTIONS_OF_ONE: u64 = 10_000_000_000;
+/// Decimals are counted in multiples of 10 ^ -10: ten places, as many as a whole number of milliseconds can need.
+const DECIMAL_SCALE: u64 = 10_000_000_000;
 
 /// The number of a part: its digits before a point, and those after it as a multiple of 10 ^ -10.
 #[derive(Clone, Copy, Debug, PartialEq, Eq, Drop)]
@@ -110,8 +110,7 @@ fn letters_len(text: &[u8]) -> usize
     n
 }
 
-// One digit more after a point: the sum so far, and what the last digit counted; `None` where the digit is not a whole
-// multiple of 10 ^ -10.
+// The sum with one digit more after a point, and what that digit counted; `None` for a digit but 0 after ten places.
 #[tactic(auto, unfolding(crate::specs::ReadingLiterals::decimal_step))]
 fn decimal_step(sum: u64, weight: u64, byte: u8) -> Option<(u64, u64)>
     requires { sum + weight ≤ 10 ^ 10 }
@@ -138,7 +137,7 @@ fn parse_decimals(digits: &[u8]) -> Option<u64>
     ensures room { IfSome result (λ d. d ≤ 10 ^ 10) }
 {
     let mut sum = 0;
-    let mut weight = FRACTIONS_OF_ONE;
+    let mut weight = DECIMAL_SCALE;
     for byte in digits {
         let step = decimal_step(sum, weight, *byte)?;
         sum = step.0;
@@ -211,14 +210,14 @@ fn part_added(sum: u64, number: Number, unit: TimeUnit) -> Option<u64>
     ensures { result ≡ part_added sum number unit }
 {
     let length = milliseconds_in(unit);
-    let fractions = number.decimals * length;
-    if fractions % FRACTIONS_OF_ONE != 0 {
+    let scaled = number.decimals * length;
+    if scaled % DECIMAL_SCALE != 0 {
         return None;
     }
     let more = number
         .whole
         .checked_mul(length)?
-        .checked_add(fractions / FRACTIONS_OF_ONE)?;
+        .checked_add(scaled / DECIMAL_SCALE)?;
     sum.checked_add(more)
 }
 

@@ -9,7 +9,7 @@ ghost use Rattle.st_lexer.specs.Lexes.{IsTokenOf, Lexes, Stops};
 
 use crate::token::TokenKind;
 
-/// A text is cut in one way: where the pieces can't go on, they and what is left after them are always the same.
+/// A text is cut in one way: up to where no piece is next, the pieces and what is left after them are always the same.
 pub fn one_cut()
     ensures { (text rest other : List ℕ) (ps qs : List (Piece × ℕ)) → Cut text ps rest → IsOver rest → Cut text qs other → IsOver other → (ps ≡ qs) × (rest ≡ other) }
 {}

@@ -6,7 +6,7 @@ ghost use Rattle.st_lexer.specs.Lexes.{Lexes, Stops, IsTokenOf, IfBad, tokens_of
 
 use crate::next::next;
 use crate::piece::Piece;
-use crate::places::{mark_len, place_behind};
+use crate::places::{mark_len, place_after};
 use crate::token::Token;
 use std::alloc::{AllocFailed, Global};
 
@@ -52,7 +52,7 @@ fn push_piece(tokens: &mut Vec<Token>, piece: Piece, from: usize, n: usize) -> R
 fn bad(before: &[u8]) -> LexFault
     ensures { result ≡ LexFault.Bad (count_by (λ b. b == 10) before.now + 1) (suffix_len (λ b. not (b == 10)) before.now + 1) }
 {
-    let (line, column) = place_behind(before);
+    let (line, column) = place_after(before);
     LexFault::Bad { line, column }
 }
 

@@ -18,5 +18,5 @@ mod token;
 pub use laws::{one_answer, one_cut, some_answer, word_spelling};
 pub use lexer::{LexFault, lex};
 pub use piece::Piece;
-pub use places::{place_behind, place_of};
+pub use places::place_of;
 pub use token::{Keyword, Symbol, Token, TokenKind};

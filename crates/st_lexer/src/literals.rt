@@ -128,7 +128,7 @@ fn timed_len(text: &[u8]) -> usize
     }
 }
 
-/// How many bytes the word or the literal has that a letter begins.
+/// How many bytes the word or literal at the front has, which begins with a letter.
 #[tactic(auto, unfolding(crate::specs::ReadingLiterals::lettered_len))]
 pub fn lettered_len(text: &[u8]) -> usize
     ensures found { result ≡ lettered_len text.now }

@@ -15,7 +15,7 @@ use crate::tables::{double_symbol, keyword_of, single_symbol};
 use crate::token::{Symbol, TokenKind};
 use plant_types::is_name;
 
-// The token that a piece is which begins with a letter: a word, a keyword or a literal; `None` for no literal.
+// The token of a piece that begins with a letter: a word, a keyword or a literal; `None` where it is none of these.
 #[tactic(auto, unfolding(crate::specs::Reading::word_or_literal))]
 fn word_or_literal(piece: &[u8]) -> Option<TokenKind>
     ensures { result ≡ word_or_literal piece.now }

@@ -21,7 +21,7 @@ pub fn mark_len(text: &[u8]) -> usize
 /// The line and the column of the place after these bytes, which are all that stand before it.
 ///
 /// Both count from 1, and the column in bytes. Only LF ends a line.
-pub fn place_behind(before: &[u8]) -> (usize, usize)
+pub fn place_after(before: &[u8]) -> (usize, usize)
     ensures line { result.0 ≡ count_by (λ b. b == 10) before.now + 1 }
     ensures column { result.1 ≡ suffix_len (λ b. not (b == 10)) before.now + 1 }
 {
@@ -55,14 +55,14 @@ fn place_at(text: &[u8], at: usize) -> (usize, usize)
     ensures column { result.1 ≡ column_at text.now at }
 {
     match text.get(..at) {
-        Some(before) => place_behind(before),
-        None => place_behind(text),
+        Some(before) => place_after(before),
+        None => place_after(text),
     }
 }
 
 /// The line and the column at which the token of this number begins, or the text ends if it has fewer tokens.
 ///
-/// Tokens are numbered from 0. Line and column count from 1, and the column in bytes; a byte order mark has none.
+/// Tokens are numbered from 0. Line and column count from 1, and the column in bytes; a byte order mark is not counted.
 pub fn place_of(text: &[u8], tokens: &[Token], number: usize) -> (usize, usize)
     ensures line { result.0 ≡ line_at (unmarked text.now) (start_of text.now tokens.now number) }
     ensures column { result.1 ≡ column_at (unmarked text.now) (start_of text.now tokens.now number) }
