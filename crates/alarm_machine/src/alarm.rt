@@ -193,6 +193,3 @@ impl Alarm {
         Ok(Change::between(before, state.code()))
     }
 }
-
-#[cfg(test)]
-mod tests;

@@ -8,8 +8,6 @@ mod given;
 mod lines;
 mod numbers;
 mod parse;
-#[cfg(test)]
-mod tests;
 mod words;
 
 pub use command::Command;

@@ -5,8 +5,6 @@
 
 mod items;
 mod pair;
-#[cfg(test)]
-mod tests;
 mod text;
 mod values;
 mod words;
