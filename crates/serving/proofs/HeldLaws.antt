@@ -1,17 +1,18 @@
--- What is held of a line tells all of it that counts.
+-- What is held of a line asks for the same as all of it.
 use Rattle.std.proofs.Common.{◌≡◌, ℕ, zero, suc, ◌≤◌, ◌+◌, true, false, List, [], ◌∷◌, ◌++◌, ap, refl, sym, ◌∙◌, arith, append_assoc, append-nil, length, subst, take, eqb, Option, Ok, Err, cond}
 use Rattle.std.specs.Prelude.{OnOk, OnErr, is_ok}
 use Rattle.std.specs.declared.result.Result.{Result}
-use Rattle.std.proofs.lemmas.Result.{on_ok_weaker, on_err_weaker}
 use Rattle.std.proofs.lemmas.List.{take_all, take-take, length-append, length-take}
 use Rattle.std.proofs.lemmas.Bool.Decides.{nat_tests}
 use Rattle.engine.specs.declared.event.Event.{Event}
+use Rattle.engine.specs.Engines.{PlainEngine}
 use Rattle.plant_config.specs.Plants.{PlainPlant}
 use Rattle.command_text.specs.Commands.{command_of}
 use Rattle.command_text.proofs.ShortLaws.{command_of-short}
 use Rattle.serving.specs.Input.{has_lf, after_last_lf, without_cr, ended_lines, last_line, lines_of}
-use Rattle.serving.specs.Session.{Answered, Stopped, IsHeld, Taken}
-use Rattle.serving.proofs.InputLaws.{after_last_lf-none, after_last_lf-lf, has_lf-after_last_lf, after_last_lf-more, ended_lines-more, ended_lines-none, ended_lines-lf, has_lf-append}
+use Rattle.serving.specs.declared.fault.ServeFault.{ServeFault}
+use Rattle.serving.specs.Session.{Answered, Stopped, Serves, IsHeld}
+use Rattle.serving.proofs.InputLaws.{after_last_lf-none, after_last_lf-lf, after_last_lf-any, has_lf-after_last_lf, after_last_lf-more, ended_lines-more, ended_lines-none, ended_lines-lf, has_lf-append}
 use Rattle.serving.proofs.SessionLaws.{answered-none, answered-more, stopped-none, stopped-more, stopped-longer}
 
 -- ---- more bytes of a line
@@ -59,7 +60,7 @@ none_taken n (b ∷ bs) e = cc
 nonzero : (n : ℕ) → eqb (suc n) 0 ≡ true → ⊥
 nonzero n e = grind (arith, nat_tests)
 
--- where nothing is held nothing came behind the last LF
+-- where nothing is held nothing came after the last LF
 pub none_held : (raw held : List ℕ) → IsHeld raw held → eqb (length held) 0 ≡ true → raw ≡ []
 none_held raw [] k e = none_taken 1048577 raw k.held_is
 none_held raw (b ∷ held) k e = absurd (nonzero (length held) e)
@@ -70,11 +71,42 @@ some_held (b ∷ bs) held k e = refl
 
 -- ---- an input that goes on
 
-pub held_after_last_lf : (plant : PlainPlant) (input held : List ℕ) (h₀ h₁ : List Event) (w₀ w₁ : Option (List ℕ)) → Taken plant input held h₀ h₁ w₀ w₁ → IsHeld (after_last_lf input) held
-held_after_last_lf plant input held h₀ h₁ w₀ w₁ f = record { no_lf = has_lf-after_last_lf input; held_is = f.held_is }
+-- bytes that follow an input: the line that it held is now that of both
+pub held-more_input : (input piece held : List ℕ) → IsHeld (after_last_lf (after_last_lf input ++ piece)) held → IsHeld (after_last_lf (input ++ piece)) held
+held-more_input input piece held k = subst (λ (xs : List ℕ). IsHeld xs held) (sym (after_last_lf-more input piece)) k
 
-pub taken-none : (plant : PlainPlant) (h : List Event) (w : Option (List ℕ)) → Taken plant [] [] h h w w
-taken-none plant h w = record { answered = answered-none plant h w; held_is = refl }
+module _ (plant plant' : PlainPlant) (input piece : List ℕ) (h₀ h₁ h₂ : List Event) (w₀ w₁ w₂ : Option (List ℕ)) (same : plant' ≡ plant) (before : Answered plant (ended_lines input) h₀ h₁ w₀ w₁) where
+  pub answered-input : Answered plant' (ended_lines (after_last_lf input ++ piece)) h₁ h₂ w₁ w₂ → Answered plant (ended_lines (input ++ piece)) h₀ h₂ w₀ w₂
+  answered-input a =
+      subst (λ (ls : List (List ℕ)). Answered plant ls h₀ h₂ w₀ w₂) (sym (ended_lines-more input piece))
+      (answered-more plant _ _ h₀ h₁ h₂ w₀ w₁ w₂ before (subst (λ (m : PlainPlant). Answered m (ended_lines (after_last_lf input ++ piece)) h₁ h₂ w₁ w₂) same a))
+
+  pub stopped-input : Stopped plant' (ended_lines (after_last_lf input ++ piece)) h₁ h₂ w₁ w₂ → Stopped plant (ended_lines (input ++ piece)) h₀ h₂ w₀ w₂
+  stopped-input s =
+      subst (λ (ls : List (List ℕ)). Stopped plant ls h₀ h₂ w₀ w₂) (sym (ended_lines-more input piece))
+      (stopped-more plant _ _ h₀ h₁ h₂ w₀ w₁ w₂ before (subst (λ (m : PlainPlant). Stopped m (ended_lines (after_last_lf input ++ piece)) h₁ h₂ w₁ w₂) same s))
+
+-- nothing more took effect, whatever follows
+pub stopped-stays : (plant : PlainPlant) (input more : List ℕ) (h₀ h₁ : List Event) (w₀ w₁ : Option (List ℕ)) → Answered plant (ended_lines input) h₀ h₁ w₀ w₁ → Stopped plant (ended_lines (input ++ more)) h₀ h₁ w₀ w₁
+stopped-stays plant input more h₀ h₁ w₀ w₁ a = stopped-input plant plant input more h₀ h₁ h₁ w₀ w₁ w₁ refl a (stopped-none plant _ h₁ h₁ w₁ refl)
+
+pub stopped-here : (plant : PlainPlant) (input : List ℕ) (h₀ h₁ : List Event) (w₀ w₁ : Option (List ℕ)) → Answered plant (ended_lines input) h₀ h₁ w₀ w₁ → Stopped plant (ended_lines input) h₀ h₁ w₀ w₁
+stopped-here plant input h₀ h₁ w₀ w₁ a = subst (λ (xs : List ℕ). Stopped plant (ended_lines xs) h₀ h₁ w₀ w₁) (append-nil input) (stopped-stays plant input [] h₀ h₁ w₀ w₁ a)
+
+-- the end of the input
+module _ (plant plant' : PlainPlant) (input : List ℕ) (h₀ h₁ h₂ : List Event) (w₀ w₁ w₂ : Option (List ℕ)) (same : plant' ≡ plant) (before : Answered plant (ended_lines input) h₀ h₁ w₀ w₁) where
+  pub answered-end : Answered plant' (last_line (after_last_lf input)) h₁ h₂ w₁ w₂ → Answered plant (lines_of input) h₀ h₂ w₀ w₂
+  answered-end a = answered-more plant _ _ h₀ h₁ h₂ w₀ w₁ w₂ before (subst (λ (m : PlainPlant). Answered m (last_line (after_last_lf input)) h₁ h₂ w₁ w₂) same a)
+
+  pub stopped-end : Stopped plant' (last_line (after_last_lf input)) h₁ h₂ w₁ w₂ → Stopped plant (lines_of input) h₀ h₂ w₀ w₂
+  stopped-end s = stopped-more plant _ _ h₀ h₁ h₂ w₀ w₁ w₂ before (subst (λ (m : PlainPlant). Stopped m (last_line (after_last_lf input)) h₁ h₂ w₁ w₂) same s)
+
+-- ---- the parts of a piece: a front that was taken, a line with its LF, and what comes then
+
+-- the bytes held, and a front of the piece: its lines are answered, and what follows them is held
+pub record Taken (plant : PlainPlant) (input held : List ℕ) (h₀ h₁ : List Event) (w₀ w₁ : Option (List ℕ)) : Type 0 where
+  pub answered : Answered plant (ended_lines input) h₀ h₁ w₀ w₁
+  pub holds : IsHeld (after_last_lf input) held
 
 -- bytes without LF
 pub taken-hold : (plant : PlainPlant) (raw held bytes held' : List ℕ) (h : List Event) (w : Option (List ℕ)) → IsHeld raw held → has_lf bytes ≡ false → held' ≡ take 1048578 (held ++ bytes) → Taken plant (raw ++ bytes) held' h h w w
@@ -82,53 +114,78 @@ taken-hold plant raw held bytes held' h w k n e =
     let none : has_lf (raw ++ bytes) ≡ false = has_lf-append raw bytes k.no_lf n in
     record {
       answered = subst (λ (ls : List (List ℕ)). Answered plant ls h h w w) (sym (ended_lines-none (raw ++ bytes) none)) (answered-none plant h w);
-      held_is = e ∙ held-more raw held bytes k ∙ ap (λ (xs : List ℕ). take 1048578 xs) (sym (after_last_lf-none (raw ++ bytes) none));
+      holds = subst (λ (xs : List ℕ). IsHeld xs held') (sym (after_last_lf-none (raw ++ bytes) none)) (record { no_lf = none; held_is = e ∙ held-more raw held bytes k });
     }
 
-line_is : (raw held line : List ℕ) → IsHeld raw held → has_lf line ≡ false → without_cr (raw ++ line) ∷ [] ≡ ended_lines (raw ++ (line ++ 10 ∷ []))
-line_is raw held line k n = sym (ap ended_lines (sym (append_assoc raw line (10 ∷ []))) ∙ ended_lines-lf (raw ++ line) (has_lf-append raw line k.no_lf n))
+pub taken-none : (plant : PlainPlant) (raw held : List ℕ) (h : List Event) (w : Option (List ℕ)) → IsHeld raw held → Taken plant (raw ++ []) held h h w w
+taken-none plant raw held h w k =
+    taken-hold plant raw held [] held h w k refl (k.held_is ∙ sym (take-take 1048578 1048578 raw (omega arith)) ∙ sym (ap (λ (xs : List ℕ). take 1048578 xs) (append-nil held ∙ k.held_is)))
 
--- LF
-pub taken-line : (plant : PlainPlant) (raw held line held' : List ℕ) (h₀ h₁ : List Event) (w₀ w₁ : Option (List ℕ)) → IsHeld raw held → has_lf line ≡ false → held' ≡ []
-    → Answered plant (without_cr (raw ++ line) ∷ []) h₀ h₁ w₀ w₁ → Taken plant (raw ++ (line ++ 10 ∷ [])) held' h₀ h₁ w₀ w₁
-taken-line plant raw held line held' h₀ h₁ w₀ w₁ k n e a = record {
-  answered = subst (λ (ls : List (List ℕ)). Answered plant ls h₀ h₁ w₀ w₁) (line_is raw held line k n) a;
-  held_is = e ∙ sym (ap (λ (xs : List ℕ). take 1048578 (after_last_lf xs)) (sym (append_assoc raw line (10 ∷ []))) ∙ ap (λ (xs : List ℕ). take 1048578 xs) (after_last_lf-lf (raw ++ line) []));
+-- nothing was read yet
+pub taken-nothing : (plant : PlainPlant) (h : List Event) (w : Option (List ℕ)) → Taken plant [] [] h h w w
+taken-nothing plant h w = record { answered = answered-none plant h w; holds = record { no_lf = refl; held_is = refl } }
+
+-- an input, and then a piece
+pub taken-piece : (plant plant' : PlainPlant) (input piece held held' : List ℕ) (h₀ h₁ h₂ : List Event) (w₀ w₁ w₂ : Option (List ℕ)) → plant' ≡ plant → Taken plant input held h₀ h₁ w₀ w₁
+    → Answered plant' (ended_lines (after_last_lf input ++ piece)) h₁ h₂ w₁ w₂ → IsHeld (after_last_lf (after_last_lf input ++ piece)) held' → Taken plant (input ++ piece) held' h₀ h₂ w₀ w₂
+taken-piece plant plant' input piece held held' h₀ h₁ h₂ w₀ w₁ w₂ same before a k = record {
+  answered = answered-input plant plant' input piece h₀ h₁ h₂ w₀ w₁ w₂ same before.answered a;
+  holds = held-more_input input piece held' k;
 }
 
-pub stopped-lf : (plant : PlainPlant) (raw held line : List ℕ) (h₀ h₁ : List Event) (w₀ w₁ : Option (List ℕ)) → IsHeld raw held → has_lf line ≡ false
-    → Stopped plant (without_cr (raw ++ line) ∷ []) h₀ h₁ w₀ w₁ → Stopped plant (ended_lines (raw ++ (line ++ 10 ∷ []))) h₀ h₁ w₀ w₁
-stopped-lf plant raw held line h₀ h₁ w₀ w₁ k n q = subst (λ (ls : List (List ℕ)). Stopped plant ls h₀ h₁ w₀ w₁) (line_is raw held line k n) q
+line_is : (raw line : List ℕ) → has_lf raw ≡ false → has_lf line ≡ false → without_cr (raw ++ line) ∷ [] ≡ ended_lines (raw ++ (line ++ 10 ∷ []))
+line_is raw line m n = sym (ap ended_lines (sym (append_assoc raw line (10 ∷ []))) ∙ ended_lines-lf (raw ++ line) (has_lf-append raw line m n))
 
-module _ (plant plant' : PlainPlant) (input held piece : List ℕ) (h₀ h₁ h₂ : List Event) (w₀ w₁ w₂ : Option (List ℕ)) (same : plant' ≡ plant) (f : Taken plant input held h₀ h₁ w₀ w₁) where
-  pub taken-more : (held' : List ℕ) → ((raw : List ℕ) → IsHeld raw held → Taken plant' (raw ++ piece) held' h₁ h₂ w₁ w₂) → Taken plant (input ++ piece) held' h₀ h₂ w₀ w₂
-  taken-more held' q =
-      let g : Taken plant (after_last_lf input ++ piece) held' h₁ h₂ w₁ w₂ = subst (λ (m : PlainPlant). Taken m (after_last_lf input ++ piece) held' h₁ h₂ w₁ w₂) same (q (after_last_lf input) (held_after_last_lf plant input held h₀ h₁ w₀ w₁ f)) in
-      record {
-        answered = subst (λ (ls : List (List ℕ)). Answered plant ls h₀ h₂ w₀ w₂) (sym (ended_lines-more input piece)) (answered-more plant _ _ h₀ h₁ h₂ w₀ w₁ w₂ f.answered g.answered);
-        held_is = g.held_is ∙ ap (λ (xs : List ℕ). take 1048578 xs) (sym (after_last_lf-more input piece));
-      }
+-- what was said of a line, said of the bytes that came
+module _ (plant : PlainPlant) (raw held line : List ℕ) (h₀ h₁ : List Event) (w₀ w₁ : Option (List ℕ)) (k : IsHeld raw held) (n : has_lf line ≡ false) where
+  pub answered-bytes : Answered plant (without_cr (raw ++ line) ∷ []) h₀ h₁ w₀ w₁ → Answered plant (ended_lines (raw ++ (line ++ 10 ∷ []))) h₀ h₁ w₀ w₁
+  answered-bytes a = subst (λ (ls : List (List ℕ)). Answered plant ls h₀ h₁ w₀ w₁) (line_is raw line k.no_lf n) a
 
-  pub taken-stopped : ((raw : List ℕ) → IsHeld raw held → Stopped plant' (ended_lines (raw ++ piece)) h₁ h₂ w₁ w₂) → Stopped plant (ended_lines (input ++ piece)) h₀ h₂ w₀ w₂
-  taken-stopped q =
-      let g : Stopped plant (ended_lines (after_last_lf input ++ piece)) h₁ h₂ w₁ w₂ = subst (λ (m : PlainPlant). Stopped m (ended_lines (after_last_lf input ++ piece)) h₁ h₂ w₁ w₂) same (q (after_last_lf input) (held_after_last_lf plant input held h₀ h₁ w₀ w₁ f)) in
-      subst (λ (ls : List (List ℕ)). Stopped plant ls h₀ h₂ w₀ w₂) (sym (ended_lines-more input piece)) (stopped-more plant _ _ h₀ h₁ h₂ w₀ w₁ w₂ f.answered g)
+  pub stopped-bytes : Stopped plant (without_cr (raw ++ line) ∷ []) h₀ h₁ w₀ w₁ → Stopped plant (ended_lines (raw ++ (line ++ 10 ∷ []))) h₀ h₁ w₀ w₁
+  stopped-bytes s = subst (λ (ls : List (List ℕ)). Stopped plant ls h₀ h₁ w₀ w₁) (line_is raw line k.no_lf n) s
+
+pub serves-bytes : {T : Type 0} (r : Result T ServeFault) (raw held line : List ℕ) (e₀ e₁ : PlainEngine) (w₀ w₁ : Option (List ℕ)) → IsHeld raw held → has_lf line ≡ false
+    → Serves r (without_cr (raw ++ line) ∷ []) e₀ e₁ w₀ w₁ → Serves r (ended_lines (raw ++ (line ++ 10 ∷ []))) e₀ e₁ w₀ w₁
+serves-bytes r raw held line e₀ e₁ w₀ w₁ k n q = subst (λ (ls : List (List ℕ)). Serves r ls e₀ e₁ w₀ w₁) (line_is raw line k.no_lf n) q
 
 -- more bytes than those within which it stopped
-pub stopped-further : (plant : PlainPlant) (xs ys : List ℕ) (h₀ h₁ : List Event) (w₀ w₁ : Option (List ℕ)) → Stopped plant (ended_lines xs) h₀ h₁ w₀ w₁ → Stopped plant (ended_lines (xs ++ ys)) h₀ h₁ w₀ w₁
+stopped-further : (plant : PlainPlant) (xs ys : List ℕ) (h₀ h₁ : List Event) (w₀ w₁ : Option (List ℕ)) → Stopped plant (ended_lines xs) h₀ h₁ w₀ w₁ → Stopped plant (ended_lines (xs ++ ys)) h₀ h₁ w₀ w₁
 stopped-further plant xs ys h₀ h₁ w₀ w₁ q = subst (λ (ls : List (List ℕ)). Stopped plant ls h₀ h₁ w₀ w₁) (sym (ended_lines-more xs ys)) (stopped-longer plant (ended_lines xs) (ended_lines (after_last_lf xs ++ ys)) h₀ h₁ w₀ w₁ q)
 
--- the end of the input
-module _ (plant plant' : PlainPlant) (input held : List ℕ) (h₀ h₁ h₂ : List Event) (w₀ w₁ w₂ : Option (List ℕ)) (same : plant' ≡ plant) (f : Taken plant input held h₀ h₁ w₀ w₁) where
-  pub taken-end : ((raw : List ℕ) → IsHeld raw held → Answered plant' (last_line raw) h₁ h₂ w₁ w₂) → Answered plant (lines_of input) h₀ h₂ w₀ w₂
-  taken-end q =
-      let g : Answered plant (last_line (after_last_lf input)) h₁ h₂ w₁ w₂ = subst (λ (m : PlainPlant). Answered m (last_line (after_last_lf input)) h₁ h₂ w₁ w₂) same (q (after_last_lf input) (held_after_last_lf plant input held h₀ h₁ w₀ w₁ f)) in
-      answered-more plant _ _ h₀ h₁ h₂ w₀ w₁ w₂ f.answered g
+module _ (plant plant' : PlainPlant) (raw front held : List ℕ) (h₀ h₁ h₂ : List Event) (w₀ w₁ w₂ : Option (List ℕ)) (same : plant' ≡ plant) (before : Taken plant (raw ++ front) held h₀ h₁ w₀ w₁) where
+  -- a line with its LF, after which nothing is held
+  pub taken-line : (line held' : List ℕ) → held' ≡ [] → Answered plant' (ended_lines (after_last_lf (raw ++ front) ++ (line ++ 10 ∷ []))) h₁ h₂ w₁ w₂ → Taken plant (raw ++ (front ++ (line ++ 10 ∷ []))) held' h₀ h₂ w₀ w₂
+  taken-line line held' e a =
+      subst (λ (xs : List ℕ). Taken plant xs held' h₀ h₂ w₀ w₂) (append_assoc raw front (line ++ 10 ∷ []))
+      (record {
+        answered = answered-input plant plant' (raw ++ front) (line ++ 10 ∷ []) h₀ h₁ h₂ w₀ w₁ w₂ same before.answered a;
+        holds = subst (λ (xs : List ℕ). IsHeld xs held') (sym (ap after_last_lf (sym (append_assoc (raw ++ front) line (10 ∷ []))) ∙ after_last_lf-any ((raw ++ front) ++ line))) (record { no_lf = refl; held_is = e });
+      })
 
-  pub taken-end_stopped : ((raw : List ℕ) → IsHeld raw held → Stopped plant' (last_line raw) h₁ h₂ w₁ w₂) → Stopped plant (lines_of input) h₀ h₂ w₀ w₂
-  taken-end_stopped q =
-      let g : Stopped plant (last_line (after_last_lf input)) h₁ h₂ w₁ w₂ = subst (λ (m : PlainPlant). Stopped m (last_line (after_last_lf input)) h₁ h₂ w₁ w₂) same (q (after_last_lf input) (held_after_last_lf plant input held h₀ h₁ w₀ w₁ f)) in
-      stopped-more plant _ _ h₀ h₁ h₂ w₀ w₁ w₂ f.answered g
+  -- a stop within it, whatever follows
+  pub stopped-front : (line more : List ℕ) → Stopped plant' (ended_lines (after_last_lf (raw ++ front) ++ line)) h₁ h₂ w₁ w₂ → Stopped plant (ended_lines (raw ++ ((front ++ line) ++ more))) h₀ h₂ w₀ w₂
+  stopped-front line more s =
+      subst (λ (xs : List ℕ). Stopped plant (ended_lines xs) h₀ h₂ w₀ w₂) (ap (λ (xs : List ℕ). xs ++ more) (append_assoc raw front line) ∙ append_assoc raw (front ++ line) more)
+      (stopped-further plant ((raw ++ front) ++ line) more h₀ h₂ w₀ w₂ (stopped-input plant plant' (raw ++ front) line h₀ h₁ h₂ w₀ w₁ w₂ same before.answered s))
+
+-- the rest of a piece, without LF
+pub taken-rest : (plant : PlainPlant) (raw front rest held held' : List ℕ) (h₀ h₁ : List Event) (w₀ w₁ : Option (List ℕ)) → Taken plant (raw ++ front) held h₀ h₁ w₀ w₁ → has_lf rest ≡ false → held' ≡ take 1048578 (held ++ rest)
+    → Taken plant (raw ++ (front ++ rest)) held' h₀ h₁ w₀ w₁
+taken-rest plant raw front rest held held' h₀ h₁ w₀ w₁ before n e =
+    let t : Taken plant (after_last_lf (raw ++ front) ++ rest) held' h₁ h₁ w₁ w₁ = taken-hold plant (after_last_lf (raw ++ front)) held rest held' h₁ w₁ before.holds n e in
+    subst (λ (xs : List ℕ). Taken plant xs held' h₀ h₁ w₀ w₁) (append_assoc raw front rest)
+    (record {
+      answered = answered-input plant plant (raw ++ front) rest h₀ h₁ h₁ w₀ w₁ w₁ refl before.answered t.answered;
+      holds = held-more_input (raw ++ front) rest held' t.holds;
+    })
+
+pub stopped-rest : (plant : PlainPlant) (raw front more held : List ℕ) (h₀ h₁ : List Event) (w₀ w₁ : Option (List ℕ)) → Taken plant (raw ++ front) held h₀ h₁ w₀ w₁ → Stopped plant (ended_lines (raw ++ (front ++ more))) h₀ h₁ w₀ w₁
+stopped-rest plant raw front more held h₀ h₁ w₀ w₁ before =
+    subst (λ (xs : List ℕ). Stopped plant (ended_lines xs) h₀ h₁ w₀ w₁) (append_assoc raw front more) (stopped-stays plant (raw ++ front) more h₀ h₁ w₀ w₁ before.answered)
+
+pub piece_is : (piece front rest line after : List ℕ) → piece ≡ front ++ rest → rest ≡ line ++ 10 ∷ after → piece ≡ (front ++ (line ++ 10 ∷ [])) ++ after
+piece_is piece front rest line after p q =
+    p ∙ ap (λ (xs : List ℕ). front ++ xs) (q ∙ sym (append_assoc line (10 ∷ []) after)) ∙ sym (append_assoc front (line ++ 10 ∷ []) after)
 
 -- ---- what a push leaves, and what an empty buffer says
 
@@ -146,54 +203,8 @@ empty_list (b ∷ bs) e = absurd (nonzero (length bs) e)
 pub bare_line : (raw held line : List ℕ) → IsHeld raw held → eqb (length held) 0 ≡ true → command_of (without_cr (raw ++ line)) ≡ command_of (without_cr line)
 bare_line raw held line k e = ap (λ (xs : List ℕ). command_of (without_cr (xs ++ line))) (none_held raw held k e)
 
+pub full_vec : (n : ℕ) (xs : List ℕ) → n ≡ length xs → eqb n 0 ≡ false → eqb (length xs) 0 ≡ false
+full_vec n xs e h = ap (λ (k : ℕ). eqb k 0) (sym e) ∙ h
+
 pub empty_vec : (n : ℕ) (xs : List ℕ) → n ≡ length xs → eqb n 0 ≡ true → eqb (length xs) 0 ≡ true
 empty_vec n xs e h = ap (λ (k : ℕ). eqb k 0) (sym e) ∙ h
-
--- ---- what was said of a line, said of the bytes that came
-
-module _ {T E : Type 0} (r : Result T E) (plant : PlainPlant) (held line said : List ℕ) (h₀ h₁ : List Event) (w₀ w₁ : Option (List ℕ)) (n : has_lf line ≡ false)
-    (same : (raw : List ℕ) → IsHeld raw held → command_of (without_cr (raw ++ line)) ≡ command_of said) where
-  pub on_ok_line : (held' : List ℕ) → held' ≡ [] → OnOk r ((whole : List ℕ) → command_of whole ≡ command_of said → Answered plant (whole ∷ []) h₀ h₁ w₀ w₁)
-      → OnOk r ((raw : List ℕ) → IsHeld raw held → Taken plant (raw ++ (line ++ 10 ∷ [])) held' h₀ h₁ w₀ w₁)
-  on_ok_line held' e q = on_ok_weaker r (λ a raw k. taken-line plant raw held line held' h₀ h₁ w₀ w₁ k n e (a (without_cr (raw ++ line)) (same raw k))) q
-
-  pub on_err_line : OnErr r ((whole : List ℕ) → command_of whole ≡ command_of said → Stopped plant (whole ∷ []) h₀ h₁ w₀ w₁)
-      → OnErr r ((raw : List ℕ) → IsHeld raw held → Stopped plant (ended_lines (raw ++ (line ++ 10 ∷ []))) h₀ h₁ w₀ w₁)
-  on_err_line q = on_err_weaker r (λ a raw k. stopped-lf plant raw held line h₀ h₁ w₀ w₁ k n (a (without_cr (raw ++ line)) (same raw k))) q
-
--- ---- one part of a piece after another
-
-pub taken-start : (plant : PlainPlant) (raw held : List ℕ) (h : List Event) (w : Option (List ℕ)) → IsHeld raw held → Taken plant (raw ++ []) held h h w w
-taken-start plant raw held h w k =
-    taken-hold plant raw held [] held h w k refl (k.held_is ∙ sym (take-take 1048578 1048578 raw (omega arith)) ∙ sym (ap (λ (xs : List ℕ). take 1048578 xs) (append-nil held ∙ k.held_is)))
-
-module _ (plant plant' : PlainPlant) (raw front held piece : List ℕ) (h₀ h₁ h₂ : List Event) (w₀ w₁ w₂ : Option (List ℕ)) (same : plant' ≡ plant) (f : Taken plant (raw ++ front) held h₀ h₁ w₀ w₁) where
-  pub front-more : (held' : List ℕ) → ((raw : List ℕ) → IsHeld raw held → Taken plant' (raw ++ piece) held' h₁ h₂ w₁ w₂) → Taken plant (raw ++ (front ++ piece)) held' h₀ h₂ w₀ w₂
-  front-more held' q =
-      subst (λ (xs : List ℕ). Taken plant xs held' h₀ h₂ w₀ w₂) (append_assoc raw front piece)
-      (taken-more plant plant' (raw ++ front) held piece h₀ h₁ h₂ w₀ w₁ w₂ same f held' q)
-
-  pub front-stopped : (after : List ℕ) → ((raw : List ℕ) → IsHeld raw held → Stopped plant' (ended_lines (raw ++ piece)) h₁ h₂ w₁ w₂) → Stopped plant (ended_lines (raw ++ ((front ++ piece) ++ after))) h₀ h₂ w₀ w₂
-  front-stopped after q =
-      subst (λ (xs : List ℕ). Stopped plant (ended_lines xs) h₀ h₂ w₀ w₂) (ap (λ (xs : List ℕ). xs ++ after) (append_assoc raw front piece) ∙ append_assoc raw (front ++ piece) after)
-      (stopped-further plant ((raw ++ front) ++ piece) after h₀ h₂ w₀ w₂
-      (taken-stopped plant plant' (raw ++ front) held piece h₀ h₁ h₂ w₀ w₁ w₂ same f q))
-
--- a front, a line with its LF, and what comes then
-pub piece_is : (piece front rest line after : List ℕ) → piece ≡ front ++ rest → rest ≡ line ++ 10 ∷ after → piece ≡ (front ++ (line ++ 10 ∷ [])) ++ after
-piece_is piece front rest line after p q =
-    p ∙ ap (λ (xs : List ℕ). front ++ xs) (q ∙ sym (append_assoc line (10 ∷ []) after)) ∙ sym (append_assoc front (line ++ 10 ∷ []) after)
-
--- ---- nothing more took effect
-
-pub taken-stays : (plant : PlainPlant) (input more held : List ℕ) (h₀ h₁ : List Event) (w₀ w₁ : Option (List ℕ)) → Taken plant input held h₀ h₁ w₀ w₁ → Stopped plant (ended_lines (input ++ more)) h₀ h₁ w₀ w₁
-taken-stays plant input more held h₀ h₁ w₀ w₁ f =
-    subst (λ (ls : List (List ℕ)). Stopped plant ls h₀ h₁ w₀ w₁) (sym (ended_lines-more input more))
-    (stopped-more plant (ended_lines input) (ended_lines (after_last_lf input ++ more)) h₀ h₁ h₁ w₀ w₁ w₁ f.answered (stopped-none plant (ended_lines (after_last_lf input ++ more)) h₁ h₁ w₁ refl))
-
-pub front-stays : (plant : PlainPlant) (raw front more held : List ℕ) (h₀ h₁ : List Event) (w₀ w₁ : Option (List ℕ)) → Taken plant (raw ++ front) held h₀ h₁ w₀ w₁ → Stopped plant (ended_lines (raw ++ (front ++ more))) h₀ h₁ w₀ w₁
-front-stays plant raw front more held h₀ h₁ w₀ w₁ f =
-    subst (λ (xs : List ℕ). Stopped plant (ended_lines xs) h₀ h₁ w₀ w₁) (append_assoc raw front more) (taken-stays plant (raw ++ front) more held h₀ h₁ w₀ w₁ f)
-
-pub taken-here : (plant : PlainPlant) (input held : List ℕ) (h₀ h₁ : List Event) (w₀ w₁ : Option (List ℕ)) → Taken plant input held h₀ h₁ w₀ w₁ → Stopped plant (ended_lines input) h₀ h₁ w₀ w₁
-taken-here plant input held h₀ h₁ w₀ w₁ f = subst (λ (xs : List ℕ). Stopped plant (ended_lines xs) h₀ h₁ w₀ w₁) (append-nil input) (taken-stays plant input [] held h₀ h₁ w₀ w₁ f)

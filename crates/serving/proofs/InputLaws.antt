@@ -41,6 +41,10 @@ pub after_last_lf-lf : (xs ys : List ℕ) → after_last_lf (xs ++ 10 ∷ ys) �
 after_last_lf-lf [] ys = refl
 after_last_lf-lf (b ∷ bs) ys = rw (has_lf-lf bs ys, or_true (is_lf b)) (after_last_lf-lf bs ys)
 
+-- nothing comes after an LF at the end
+pub after_last_lf-any : (xs : List ℕ) → after_last_lf (xs ++ 10 ∷ []) ≡ []
+after_last_lf-any xs = after_last_lf-lf xs []
+
 no_lf_cases : (b : ℕ) (bs : List ℕ) (v : Bool) → has_lf (b ∷ bs) ≡ v → has_lf (after_last_lf bs) ≡ false → has_lf (cond v (after_last_lf bs) (b ∷ bs)) ≡ false
 no_lf_cases b bs true e h = h
 no_lf_cases b bs false e h = e
@@ -71,7 +75,7 @@ more_cases b bs ys true w p q h = ap (λ (ls : List (List ℕ)). [] ∷ ls) h
 more_cases b bs ys false true p q h = ap (onto b) h ∙ onto-append b (lf_lines bs) (lf_lines (after_last_lf bs ++ ys)) (some_ended bs q)
 more_cases b bs ys false false p q h = rw (lf_lines-none bs q, p) refl
 
--- an input goes on: the lines that end then are those that ended before, and those of what came behind the last LF
+-- an input goes on: the lines that end then are those that ended before, and those of what came after the last LF
 pub lf_lines-more : (xs ys : List ℕ) → lf_lines (xs ++ ys) ≡ lf_lines xs ++ lf_lines (after_last_lf xs ++ ys)
 lf_lines-more [] ys = refl
 lf_lines-more (b ∷ bs) ys = more_cases b bs ys (is_lf b) (has_lf bs) refl refl (lf_lines-more bs ys)

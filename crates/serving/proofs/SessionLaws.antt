@@ -1,5 +1,5 @@
 -- One part of a session after another.
-use Rattle.std.proofs.Common.{◌≡◌, ℕ, List, [], ◌∷◌, ◌++◌, ap, refl, sym, ◌∙◌, arith, append_assoc, append-nil, subst, take, Option, None, Some, IfSome}
+use Rattle.std.proofs.Common.{◌≡◌, ℕ, List, [], ◌∷◌, ◌++◌, ap, refl, sym, ◌∙◌, arith, ◌⊎◌, inl, inr, append_assoc, append-nil, subst, take, Option, None, Some, IfSome}
 use Rattle.std.proofs.lemmas.List.Sums.{fold-append}
 use Rattle.std.specs.Io.KnownBytes.{Appends, Consumes, IsAtEnd}
 use Rattle.std.proofs.KnownBytes.{Appends-nil, Appends-trans, Consumes-trans}
@@ -111,6 +111,12 @@ stopped-line plant whole line part more h₀ h₁ w₀ w₁ e h t w = record {
   within = append-nil (line_answer plant h₀ whole) ∙ answer_same plant h₀ whole line e ∙ t;
   wrote = w;
 }
+
+-- a line of which nothing is written, and that may have taken effect
+pub stopped-unwritten : (plant : PlainPlant) (whole line : List ℕ) (h₀ h₁ : List Event) (w : Option (List ℕ)) → command_of whole ≡ command_of line
+    → (h₁ ≡ h₀) ⊎ (h₁ ≡ after_line plant h₀ line) → Stopped plant (whole ∷ []) h₀ h₁ w w
+stopped-unwritten plant whole line h₀ h₁ w e (inl h) = stopped-none plant (whole ∷ []) h₀ h₁ w h
+stopped-unwritten plant whole line h₀ h₁ w e (inr h) = stopped-line plant whole line [] (line_answer plant h₀ line) h₀ h₁ w w e h refl (Appends-nil w)
 
 -- ---- the whole of a feed
 

@@ -1,4 +1,4 @@
--- What the server answers to a line, and what the line adds to the history.
+-- What the server answers to a line, and which events the line adds to the history.
 use Rattle.std.specs.Prelude.{ℕ, ◌+◌, if◌then◌else◌, List, [], ◌∷◌, ◌++◌, length, map, fold, Option, Some, None, Result, Ok, Err, codes}
 use Rattle.std.specs.List.{flat_map}
 use Rattle.std.specs.Str.{is_utf8}
@@ -23,30 +23,30 @@ use Rattle.engine.specs.System.{System, system, step, scan_event, order_event, r
 use Rattle.command_text.specs.Commands.{PlainCommand, Nothing, Unknown, Scan, Order, command_of}
 use Rattle.command_text.specs.Lines.{path_text, fault_line, alarm_line, out_line, done_line, reply_line, refused_line}
 
--- what a text names: for a restart the program of this name, in any letter case, for every other order the alarm of this tag
+-- the number of what a text names: for a restart the program of this name, in any letter case; for every other order the alarm of this tag
 abbrev pub named_by : PlainPlant → Verb → List ℕ → Option ℕ
 named_by plant verb word = if is_restart verb then program_number plant word else alarm_number plant word
 
--- what a word names, if there is such a program or alarm; bytes that aren't a text name none
+-- the number of what a word names, if there is such a program or alarm; bytes that aren't UTF-8 name none
 abbrev pub target_of : PlainPlant → Verb → List ℕ → Option ℕ
 target_of plant verb word = if is_utf8 word then named_by plant verb word else None
 
--- the tag of an alarm
+-- the tag of an alarm, empty where there is none
 abbrev pub tag_of_alarm : PlainPlant → Option ℕ → List ℕ
 tag_of_alarm plant None = []
 tag_of_alarm plant (Some alarm) = tag_of plant alarm
 
--- the tag of the alarm that an order is for; a restart is for none
+-- the tag of the alarm that an order is for, empty for a restart
 abbrev pub tag_for : PlainPlant → OrderMade → List ℕ
 tag_for plant order = if is_restart order.verb then [] else tag_of_alarm plant order.target
 
--- an order for what a word names
+-- the order for what a word names
 abbrev pub order_for : PlainPlant → Verb → List ℕ → OrderMade
 order_for plant verb word = record { verb = verb; target = target_of plant verb word }
 
--- ---- the lines of a scan's answer, and of an order's
+-- ---- the answers to a scan and to an order
 
--- the spots of places
+-- where each program stopped, by path and statement, and why
 abbrev pub spots_of : Source → List (Place × Trap) → List (Spot × Trap)
 spots_of source faults = map (λ f. (place_spot source f.0, f.1)) faults
 
@@ -62,27 +62,27 @@ alarm_lines plant moment changes = flat_map (λ c. alarm_line moment (tag_of pla
 abbrev pub out_lines : PlainPlant → ℕ → List (ℕ × Value) → List ℕ
 out_lines plant moment outs = flat_map (λ o. out_line moment (global_of plant o.0) o.1) outs
 
--- a scan's lines, and how many they are
+-- the answer to a scan that was taken: its lines, and in DONE how many they are
 unfoldable pub report_text : PlainPlant → ℕ → List (Spot × Trap) → List (ℕ × PlainChange) → List (ℕ × Value) → List ℕ
 report_text plant moment faults changes outs =
     fault_lines moment faults ++ alarm_lines plant moment changes ++ out_lines plant moment outs
     ++ done_line moment (length faults + length changes + length outs)
 
--- what a scan's event does in a state
+-- the answer to a scan's event in a state
 abbrev pub scan_text : PlainPlant → System → Event → List ℕ
 scan_text plant sys e = report_text plant (step plant sys e).moment (faults_of plant sys e) (changes_of plant sys e) (outs_of plant sys e)
 
--- the line of the alarm of this tag, where its code changed
+-- the ALARM line of this tag, where its code changed
 abbrev pub change_line : ℕ → List ℕ → Option PlainChange → List ℕ
 change_line moment tag None = []
 change_line moment tag (Some change) = alarm_line moment tag change
 
--- a reply, and after OK the change
+-- the REPLY to an order, and after OK the ALARM line of its change
 unfoldable pub order_text : ℕ → List ℕ → Reply → List ℕ
 order_text moment tag (reply.Done change) = reply_line None ++ change_line moment tag change
 order_text moment tag (reply.Refused fault) = reply_line (Some fault)
 
--- the number of a refusal; want of memory has none
+-- the number that is printed for a refusal; `Memory`, which is never printed, has none
 abbrev pub fault_number : EngineFault → List ℕ
 fault_number refusal.Memory = []
 fault_number refusal.MomentBack = codes "E1"
@@ -91,33 +91,37 @@ fault_number refusal.ImageName = codes "E3"
 fault_number refusal.ImageKind = codes "E4"
 fault_number refusal.HistoryFull = codes "E6"
 
--- the text of an event, or its refusal
+-- the text for an event that was taken, or REFUSED and the number
 abbrev pub event_text : Result Event EngineFault → (Event → List ℕ) → List ℕ
 event_text (Ok e) text = text e
 event_text (Err fault) text = refused_line (fault_number fault)
 
--- the answer to an order: its reply, with the moment of the last scan and the tag of its alarm, or its refusal as an event
+-- the answer to an order: its reply with the moment of the last scan and the tag of its alarm, or REFUSED where the history is full
 abbrev pub order_answer : PlainPlant → System → ℕ → OrderMade → List ℕ
 order_answer plant sys console order = event_text (order_event sys console order) (λ _. order_text sys.moment (tag_for plant order) (reply_to plant sys console order))
 
--- what is asked of a plant in a state: the events that it adds, one or none, and the answer
+-- ---- commands
+
+-- the events that are added: one, or none where it is refused
 abbrev pub event_added : Result Event EngineFault → List Event
 event_added (Ok e) = e ∷ []
 event_added (Err fault) = []
 
+-- the events that a command adds, one or none
 abbrev pub command_events : PlainPlant → System → PlainCommand → List Event
 command_events plant sys Nothing = []
 command_events plant sys Unknown = []
 command_events plant sys (Scan moment pairs) = event_added (scan_event plant sys pairs moment)
 command_events plant sys (Order verb console word) = event_added (order_event sys console (order_for plant verb word))
 
+-- the answer to a command
 abbrev pub command_answer : PlainPlant → System → PlainCommand → List ℕ
 command_answer plant sys Nothing = []
 command_answer plant sys Unknown = refused_line (codes "L1")
 command_answer plant sys (Scan moment pairs) = event_text (scan_event plant sys pairs moment) (scan_text plant sys)
 command_answer plant sys (Order verb console word) = order_answer plant sys console (order_for plant verb word)
 
--- ---- lines in turn
+-- ---- lines, one after another
 
 -- the history after a line
 unfoldable pub after_line : PlainPlant → List Event → List ℕ → List Event
@@ -131,7 +135,7 @@ line_answer plant history line = command_answer plant (system plant history) (co
 abbrev pub after_lines : PlainPlant → List Event → List (List ℕ) → List Event
 after_lines plant history lines = fold (after_line plant) history lines
 
--- the answers to lines in turn, one behind another
+-- the answers to lines, one after another
 abbrev pub answers : PlainPlant → List Event → List (List ℕ) → List ℕ
 answers plant history [] = []
 answers plant history (line ∷ lines) = line_answer plant history line ++ answers plant (after_line plant history line) lines

@@ -1,6 +1,8 @@
 ghost use Rattle.std.specs.Prelude.{◌≡◌};
 ghost use Rattle.serving.specs.Faults.{serve_fault_text};
 
+use std::alloc::AllocError;
+
 /// Why the server stopped before its input ended.
 #[derive(Clone, Copy, Debug, PartialEq, Eq, Drop)]
 pub enum ServeFault {
@@ -22,5 +24,15 @@ impl ServeFault {
             ServeFault::Read => "READ",
             ServeFault::Write => "WRITE",
         }
+    }
+}
+
+impl From<AllocError> for ServeFault {
+    ghost use Rattle.serving.specs.declared.fault.ServeFault.TheVariants.{Memory};
+
+    ghost from_gives = { λ _ e. e ≡ Memory };
+
+    fn from(_refused: AllocError) -> ServeFault {
+        ServeFault::Memory
     }
 }

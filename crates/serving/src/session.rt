@@ -1,9 +1,9 @@
-ghost use Rattle.std.specs.Prelude.{◌≡◌, ◌≤◌, ◌++◌, [], ◌∷◌, ◌||◌, is_err, vec_len, IfOk, OnOk, OnErr, IsErrOf, MatchOption, IfSome, List, ℕ, length, take, false, true, ◌<◌};
+ghost use Rattle.std.specs.Prelude.{◌≡◌, ◌≤◌, ◌++◌, [], ◌∷◌, ◌||◌, is_err, vec_len, IfOk, OnOk, OnErr, IsErrOf, MatchOption, IfSome, List, ℕ, length, take, false, ◌<◌};
 ghost use Rattle.std.specs.Io.KnownBytes.{Appends, Consumes, ReadConsumes, IsAtEnd};
 ghost use Rattle.command_text.specs.Commands.{command_of};
-ghost use Rattle.serving.specs.Input.{has_lf, without_cr, ended_lines, last_line, lines_of};
+ghost use Rattle.serving.specs.Input.{has_lf, without_cr, after_last_lf, ended_lines, last_line, lines_of};
 ghost use Rattle.serving.specs.Faults.{is_read, is_write};
-ghost use Rattle.serving.specs.Session.{Answered, Stopped, IsHeld, Taken, AreRead, out_text};
+ghost use Rattle.serving.specs.Session.{Answered, Stopped, Serves, Continues, IsHeld, AreRead, out_text};
 
 use crate::answer::answer_line;
 use crate::fault::ServeFault;
@@ -16,18 +16,21 @@ use std::sync::Wait;
 /// How many bytes are asked of the feed at once.
 const PIECE: usize = 65_536;
 
-/// How many bytes of a line are held at most: the longest line, one that shows that it is too long, and a CR.
+/// How many bytes of a line are held at most: those of the longest line, one that shows that it is too long, and a CR.
 const HELD: usize = 1_048_578;
 
 /// Writes all of a text.
-fn put_all<S: Sink>(sink: &mut S, text: &[u8]) -> Result<(), Failed>
+fn put_all<S: Sink>(sink: &mut S, text: &[u8]) -> Result<(), ServeFault>
     ensures ok { OnOk result (Appends (S.written sink.old) (S.written sink.new) text.now) }
     ensures err { OnErr result ((part : List ℕ) × (more : List ℕ) × (text.now ≡ part ++ more) × Appends (S.written sink.old) (S.written sink.new) part) }
-    ensures broken { S.broken sink.new ≡ (S.broken sink.old || is_err result) }
+    ensures read { is_read result ≡ false }
+    ensures write { S.broken sink.new ≡ (S.broken sink.old || is_write result) }
 {
     let mut rest = text;
     while !rest.is_empty() {
-        let n = sink.write(rest)?;
+        let Ok(n) = sink.write(rest) else {
+            return Err(ServeFault::Write);
+        };
         let (_, after) = rest.split_at(n);
         rest = after;
     }
@@ -35,33 +38,23 @@ fn put_all<S: Sink>(sink: &mut S, text: &[u8]) -> Result<(), Failed>
 }
 
 /// Answers one line. Of a line that is too long its first bytes may stand for it.
-fn say<S: Sink>(
+fn answer<S: Sink>(
     alloc: Global,
     engine: &mut Engine,
     sink: &mut S,
     text: &mut Vec<u8>,
     line: &[u8],
 ) -> Result<(), ServeFault>
-    ensures plant { engine.new.plant ≡ engine.old.plant }
-    ensures ok { OnOk result ((whole : List ℕ) → command_of whole ≡ command_of line.now
-        → Answered engine.old.plant (whole ∷ []) engine.old.history engine.new.history (S.written sink.old) (S.written sink.new)) }
-    ensures err { OnErr result ((whole : List ℕ) → command_of whole ≡ command_of line.now
-        → Stopped engine.old.plant (whole ∷ []) engine.old.history engine.new.history (S.written sink.old) (S.written sink.new)) }
-    ensures read { is_read result ≡ false }
-    ensures write { S.broken sink.new ≡ (S.broken sink.old || is_write result) }
+    ensures continues { Continues result engine.old engine.new (S.broken sink.old) (S.broken sink.new) }
+    ensures serves { (whole : List ℕ) → command_of whole ≡ command_of line.now
+        → Serves result (whole ∷ []) engine.old engine.new (S.written sink.old) (S.written sink.new) }
 {
     text.clear();
-    match answer_line(alloc, engine, text, line) {
-        Ok(()) => {}
-        Err(_) => return Err(ServeFault::Memory),
-    }
-    match put_all(sink, text.as_slice()) {
-        Ok(()) => Ok(()),
-        Err(_) => Err(ServeFault::Write),
-    }
+    answer_line(alloc, engine, text, line)?;
+    put_all(sink, text.as_slice())
 }
 
-/// A line less the CR at its end.
+/// Returns a line without the CR at its end, if it has one.
 fn without_cr(line: &[u8]) -> &[u8]
     ensures { result.now ≡ without_cr line.now }
 {
@@ -74,7 +67,7 @@ fn without_cr(line: &[u8]) -> &[u8]
     }
 }
 
-/// The bytes up to the first LF, and those behind it.
+/// Returns the bytes before the first LF and those after it; `None` where there is no LF.
 fn split_at_lf(bytes: &[u8]) -> Option<(&[u8], &[u8])>
     ensures { MatchOption result (has_lf bytes.now ≡ false) (λ r. (bytes.now ≡ r.0.now ++ 10 ∷ r.1.now) × (has_lf r.0.now ≡ false) × (length r.1.now < length bytes.now)) }
 {
@@ -86,7 +79,7 @@ fn split_at_lf(bytes: &[u8]) -> Option<(&[u8], &[u8])>
     Some((line, after))
 }
 
-/// Holds more bytes of a line, as far as they count.
+/// Holds more bytes of a line, up to `HELD` of them.
 fn hold(held: &mut Vec<u8>, bytes: &[u8]) -> Result<(), AllocError>
     ensures ok { OnOk result (length held.old.items ≤ 1048578 → held.new.items ≡ take 1048578 (held.old.items ++ bytes.now)) }
     ensures err { OnErr result (held.new.items ≡ held.old.items) }
@@ -99,97 +92,86 @@ fn hold(held: &mut Vec<u8>, bytes: &[u8]) -> Result<(), AllocError>
     held.extend_from_slice(kept)
 }
 
-/// Takes the bytes of the input up to an LF, without it, and answers the line that ends there.
-fn take_line<S: Sink>(
+/// What a session keeps between two pieces of its input: the bytes of a line that hasn't ended yet, and room for an answer.
+#[derive(Drop)]
+struct Session {
     alloc: Global,
-    engine: &mut Engine,
-    sink: &mut S,
-    text: &mut Vec<u8>,
-    held: &mut Vec<u8>,
-    line: &[u8],
-) -> Result<(), ServeFault>
-    requires { has_lf line.now ≡ false }
-    ensures plant { engine.new.plant ≡ engine.old.plant }
-    ensures ok { OnOk result ((raw : List ℕ) → IsHeld raw held.old.items
-        → Taken engine.old.plant (raw ++ (line.now ++ 10 ∷ [])) held.new.items engine.old.history engine.new.history (S.written sink.old) (S.written sink.new)) }
-    ensures err { OnErr result ((raw : List ℕ) → IsHeld raw held.old.items
-        → Stopped engine.old.plant (ended_lines (raw ++ (line.now ++ 10 ∷ []))) engine.old.history engine.new.history (S.written sink.old) (S.written sink.new)) }
-    ensures read { is_read result ≡ false }
-    ensures write { S.broken sink.new ≡ (S.broken sink.old || is_write result) }
-{
-    if held.is_empty() {
-        return say(alloc, engine, sink, text, without_cr(line));
-    }
-    match hold(held, line) {
-        Ok(()) => {}
-        Err(_) => return Err(ServeFault::Memory),
-    }
-    let outcome = say(alloc, engine, sink, text, without_cr(held.as_slice()));
-    held.clear();
-    outcome
+    held: Vec<u8>,
+    text: Vec<u8>,
 }
 
-/// Takes a piece of the input: answers the lines that end in it, and holds what follows them.
-fn take_piece<S: Sink>(
-    alloc: Global,
-    engine: &mut Engine,
-    sink: &mut S,
-    text: &mut Vec<u8>,
-    held: &mut Vec<u8>,
-    piece: &[u8],
-) -> Result<(), ServeFault>
-    ensures plant { engine.new.plant ≡ engine.old.plant }
-    ensures ok { OnOk result ((raw : List ℕ) → IsHeld raw held.old.items
-        → Taken engine.old.plant (raw ++ piece.now) held.new.items engine.old.history engine.new.history (S.written sink.old) (S.written sink.new)) }
-    ensures err { OnErr result ((raw : List ℕ) → IsHeld raw held.old.items
-        → Stopped engine.old.plant (ended_lines (raw ++ piece.now)) engine.old.history engine.new.history (S.written sink.old) (S.written sink.new)) }
-    ensures read { is_read result ≡ false }
-    ensures write { S.broken sink.new ≡ (S.broken sink.old || is_write result) }
-{
-    let mut rest = piece;
-    while let Some((line, after)) = split_at_lf(rest) {
-        match take_line(alloc, engine, sink, text, held, line) {
-            Ok(()) => {}
-            Err(fault) => return Err(fault),
+impl Session {
+    /// Takes the bytes of the input up to an LF, and answers the line that ends there.
+    fn take_line<S: Sink>(
+        &mut self,
+        engine: &mut Engine,
+        sink: &mut S,
+        line: &[u8],
+    ) -> Result<(), ServeFault>
+        requires { has_lf line.now ≡ false }
+        ensures continues { Continues result engine.old engine.new (S.broken sink.old) (S.broken sink.new) }
+        ensures held { OnOk result (self.new.held.items ≡ []) }
+        ensures serves { (raw : List ℕ) → IsHeld raw self.old.held.items
+            → Serves result (ended_lines (raw ++ (line.now ++ 10 ∷ []))) engine.old engine.new (S.written sink.old) (S.written sink.new) }
+    {
+        if self.held.is_empty() {
+            return answer(self.alloc, engine, sink, &mut self.text, without_cr(line));
         }
-        rest = after;
+        hold(&mut self.held, line)?;
+        let line = without_cr(self.held.as_slice());
+        answer(self.alloc, engine, sink, &mut self.text, line)?;
+        self.held.clear();
+        Ok(())
     }
-    match hold(held, rest) {
-        Ok(()) => Ok(()),
-        Err(_) => Err(ServeFault::Memory),
+
+    /// Takes a piece of the input: answers the lines that end in it, and holds what follows the last of them.
+    fn take_piece<S: Sink>(
+        &mut self,
+        engine: &mut Engine,
+        sink: &mut S,
+        piece: &[u8],
+    ) -> Result<(), ServeFault>
+        ensures continues { Continues result engine.old engine.new (S.broken sink.old) (S.broken sink.new) }
+        ensures held { OnOk result ((raw : List ℕ) → IsHeld raw self.old.held.items → IsHeld (after_last_lf (raw ++ piece.now)) self.new.held.items) }
+        ensures serves { (raw : List ℕ) → IsHeld raw self.old.held.items
+            → Serves result (ended_lines (raw ++ piece.now)) engine.old engine.new (S.written sink.old) (S.written sink.new) }
+    {
+        let mut rest = piece;
+        while let Some((line, after)) = split_at_lf(rest) {
+            self.take_line(engine, sink, line)?;
+            rest = after;
+        }
+        hold(&mut self.held, rest)?;
+        Ok(())
+    }
+
+    /// Answers the last line of the input, which has no LF; there is none if nothing is held.
+    fn take_end<S: Sink>(&mut self, engine: &mut Engine, sink: &mut S) -> Result<(), ServeFault>
+        ensures continues { Continues result engine.old engine.new (S.broken sink.old) (S.broken sink.new) }
+        ensures serves { (raw : List ℕ) → IsHeld raw self.old.held.items
+            → Serves result (last_line raw) engine.old engine.new (S.written sink.old) (S.written sink.new) }
+    {
+        if self.held.is_empty() {
+            return Ok(());
+        }
+        answer(
+            self.alloc,
+            engine,
+            sink,
+            &mut self.text,
+            self.held.as_slice(),
+        )
     }
 }
 
-/// At the end of the input the bytes held are its last line, unless there are none.
-fn end<S: Sink>(
-    alloc: Global,
-    engine: &mut Engine,
-    sink: &mut S,
-    text: &mut Vec<u8>,
-    held: &[u8],
-) -> Result<(), ServeFault>
-    ensures plant { engine.new.plant ≡ engine.old.plant }
-    ensures ok { OnOk result ((raw : List ℕ) → IsHeld raw held.now
-        → Answered engine.old.plant (last_line raw) engine.old.history engine.new.history (S.written sink.old) (S.written sink.new)) }
-    ensures err { OnErr result ((raw : List ℕ) → IsHeld raw held.now
-        → Stopped engine.old.plant (last_line raw) engine.old.history engine.new.history (S.written sink.old) (S.written sink.new)) }
-    ensures read { is_read result ≡ false }
-    ensures write { S.broken sink.new ≡ (S.broken sink.old || is_write result) }
-{
-    if held.is_empty() {
-        return Ok(());
-    }
-    say(alloc, engine, sink, text, held)
-}
-
-/// A buffer for a piece of the input.
+/// Allocates the buffer for a piece of the input.
 fn empty_piece(alloc: Global) -> Result<Vec<u8>, AllocError>
     ensures { IfOk result (λ v. vec_len v ≡ 65536) }
 {
     vec![in alloc; 0u8; PIECE]
 }
 
-/// Reads the next bytes into a buffer.
+/// Reads the next bytes into a buffer, and returns how many.
 fn fill<F: Feed>(feed: &mut F, piece: &mut Vec<u8>) -> Result<usize, Failed>
     ensures len { vec_len piece.new ≡ vec_len piece.old }
     ensures bound { IfOk result (λ n. n ≤ vec_len piece.new) }
@@ -199,10 +181,13 @@ fn fill<F: Feed>(feed: &mut F, piece: &mut Vec<u8>) -> Result<usize, Failed>
     feed.read(piece.as_mut_slice())
 }
 
-/// Answers the lines of a feed until its end, each before the next one takes effect and before more is read.
+/// Answers the lines of a feed until its end. Each answer is written before the next line takes effect and before more is read.
 ///
-/// `Memory` comes only where a growth was refused, `Read` and `Write` only where the feed or the sink failed in this call.
-/// The server waits where its feed waits, so its return isn't promised.
+/// Returns `Memory` only where an allocation failed, and `Read` and `Write` only where the feed or the sink failed in this call.
+///
+/// The clauses hold where `serve` returns: it waits where its feed waits, perhaps forever. What they say of bytes holds for a feed and a
+/// sink that tell theirs (`remaining`, `written`), as those in memory do; of standard input and output no contract can say which bytes they
+/// give and take.
 pub fn serve<H: Wait, F: Feed, S: Sink>(
     rt: &H,
     alloc: Global,
@@ -231,25 +216,21 @@ pub fn serve<H: Wait, F: Feed, S: Sink>(
     ensures read { F.broken feed.new ≡ is_read result }
     ensures write { S.broken sink.new ≡ is_write result }
 {
-    let mut text = Vec::new(alloc);
-    let mut held = Vec::new(alloc);
-    let mut piece = match empty_piece(alloc) {
-        Ok(piece) => piece,
-        Err(_) => return Err(ServeFault::Memory),
+    let mut session = Session {
+        alloc,
+        held: Vec::new(alloc),
+        text: Vec::new(alloc),
     };
+    let mut piece = empty_piece(alloc)?;
     for _ in rt.forever() {
-        let n = match fill(feed, &mut piece) {
-            Ok(n) => n,
-            Err(_) => return Err(ServeFault::Read),
+        let Ok(n) = fill(feed, &mut piece) else {
+            return Err(ServeFault::Read);
         };
         if n == 0 {
-            return end(alloc, engine, sink, &mut text, held.as_slice());
+            return session.take_end(engine, sink);
         }
         let (now, _) = piece.as_slice().split_at(n);
-        match take_piece(alloc, engine, sink, &mut text, &mut held, now) {
-            Ok(()) => {}
-            Err(fault) => return Err(fault),
-        }
+        session.take_piece(engine, sink, now)?;
     }
     unreachable!()
 }
