@@ -73,7 +73,7 @@ run_trapped source (Trapped w s k) cells spot trap others agree = record {
   is = ap (λ x. with_flag true (with_fault x k (others w))) agree.1 ∙ ap (λ x. with_flag true (with_fault spot x (others w))) agree.2;
 }
 
--- a faulted program was passed over
+-- a faulted program was skipped
 reached_skip : (source : Source) (t : ℕ) (whole : Scanned) (i : ℕ) (cells after : List ℤ) (flags : List Bool) (faults : List (Place × Trap)) → i < length flags → get_or flags i true ≡ true
     → ((w : World) → Stands source cells w → Stands source after w)
     → Reached source t whole i cells flags faults → Reached source t whole (i + 1) after flags faults
@@ -106,7 +106,7 @@ reached_done source t whole i cells after flags faults h unset walks r =
           ∙ ap (λ l. joined l (map (located source) faults) (others e.world)) (sym (take_more flags i false h));
     }
 
--- a program met no fault
+-- a program had no fault
 pub reached_next : (source : Source) (t : ℕ) (whole : Scanned) (i : ℕ) (cells after : List ℤ) (flags : List Bool) (faults : List (Place × Trap)) (flag : Bool) → i < length flags → get_or flags i flag ≡ flag
     → ((w : World) → Stands source cells w → Agree source (run_by flag source i t w) (ended_by source None after))
     → Reached source t whole i cells flags faults → Reached source t whole (i + 1) after flags faults
@@ -138,7 +138,7 @@ trapped source t whole i cells after flags faults place trap h unset walks r =
           ∙ ap (λ l. joined (take (i + 1) (slice_set flags i true)) (map (located source) (faults ++ (place, trap) ∷ [])) (programs_from source t (i + 1) l s.world)) (sym back);
     }
 
--- a program met a fault: it wasn't faulted before
+-- a program trapped: it wasn't faulted before
 pub reached_trap : (source : Source) (t : ℕ) (whole : Scanned) (i : ℕ) (cells after : List ℤ) (flags : List Bool) (faults : List (Place × Trap)) (flag : Bool) (fault : Place × Trap) → i < length flags → get_or flags i flag ≡ flag
     → ((w : World) → Stands source cells w → Agree source (run_by flag source i t w) (ended_by source (Some fault) after))
     → Reached source t whole i cells flags faults → Reached source t whole (i + 1) after (slice_set flags i true) (faults ++ fault ∷ [])

@@ -42,7 +42,7 @@ with_flag flag rest = record rest { faulted = flag ∷ rest.faulted }
 abbrev pub with_fault : Spot → Trap → Scanned → Scanned
 with_fault spot trap rest = record rest { faults = (spot, trap) ∷ rest.faults }
 
--- a program that ends is followed by the others; so is one that traps: it is faulted then, and what it assigned before stands
+-- a program that ends is followed by the others; so is one that traps: it is faulted then, and what it assigned before is kept
 abbrev pub after_run : Ran World → (World → Scanned) → Scanned
 after_run (Done w) others = with_flag false (others w)
 after_run (Trapped w spot trap) others = with_flag true (with_fault spot trap (others w))

@@ -41,7 +41,7 @@ pub fn set_inputs(image: &[(u32, Value)], cells: &mut Cells)
     }
 }
 
-/// Runs the program of a number, from 0, unless it is faulted, and returns its fault. What it assigned before a fault stands.
+/// Runs the program of a number, from 0, unless it is faulted, and returns its fault. What it assigned before a fault is kept.
 fn run_program(
     flat: &Flat,
     program: u32,
@@ -62,7 +62,7 @@ fn run_program(
     }
 }
 
-/// Runs the programs in order, but for those that are faulted, and returns the faults. A program that meets one is faulted from then on.
+/// Runs the programs in order, but for those that are faulted, and returns the faults. A program that traps is faulted from then on.
 ///
 /// Fails if allocation fails.
 pub fn run_programs(
