@@ -1,6 +1,6 @@
 //! The kinds of the expressions of a body (C7).
 
-ghost use Rattle.std.specs.Prelude.{◌≡◌, slice_get, option_copied};
+ghost use Rattle.std.specs.Prelude.{◌≡◌, slice_get};
 ghost use Rattle.st_tree.specs.View.{view_expr, view_option, view_stmt, view_body, view_branches, view_choices};
 ghost use Rattle.st_tree.specs.Kinds.{kind_of_expr, is_kind};
 ghost use Rattle.st_resolve.specs.Faults.{kind_named, output_named, is_of, option_is_of, takes, stmt_fits, all_fit, branches_fit, choices_fit};

@@ -1,7 +1,6 @@
 //! Names of variables, in an index.
 
 ghost use Rattle.std.specs.Prelude.{◌≡◌, ◌++◌, ◌∷◌, [], IfOk, IfErr, not, if◌then◌else◌, Some, None, true, false, MatchResult, string_bytes, ◌||◌, ◌<◌, ◌^◌, length, IfSome};
-ghost use Rattle.std.specs.List.{list_any};
 ghost use Rattle.plant_types.specs.Words.{folded};
 ghost use Rattle.st_resolve.specs.Names.{find_word, is_standard, is_taken, is_among, global_words, own_words, repeats};
 ghost use Rattle.st_resolve.specs.Faults.{globals_clash, Refuses};

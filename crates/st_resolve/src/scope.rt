@@ -1,9 +1,9 @@
 //! The names that a program's body may use.
 
-ghost use Rattle.std.specs.Prelude.{◌≡◌, ◌++◌, map, IfOk, IfErr, MatchResult, true, false, length};
+ghost use Rattle.std.specs.Prelude.{◌≡◌, map, IfOk, MatchResult, true, false};
 ghost use Rattle.st_resolve.specs.Names.{find_in};
 ghost use Rattle.st_resolve.specs.Source.{source_of};
-ghost use Rattle.st_resolve.specs.Faults.{entry_of, own_entry, entries_of, first_fault, Refuses};
+ghost use Rattle.st_resolve.specs.Faults.{entry_of, entries_of, first_fault, Refuses};
 ghost use Rattle.st_resolve.specs.Flats.{IsScope};
 ghost use Rattle.st_resolve.specs.Resolved.{slot_of};
 
