@@ -4,7 +4,7 @@ ghost use Rattle.std.specs.Prelude.{◌≡◌, ◌==◌, ◌≤◌, length, Some
 ghost use Rattle.std.specs.List.{list_any};
 ghost use Rattle.alarm_machine.specs.Alarms.{after_order};
 ghost use Rattle.alarm_machine.specs.declared.limits.TheConstants.{LAST_MOMENT};
-ghost use Rattle.engine.specs.Orders.{is_console, has_area, alarm_order, program_order, is_restart, order_outcome, reply_by, change_from};
+ghost use Rattle.engine.specs.Orders.{is_console, has_area, alarm_order, program_order, order_outcome, reply_by, change_from};
 ghost use Rattle.engine.specs.Steps.{IsPreparedOrder};
 
 use crate::event::{Order, Reply};

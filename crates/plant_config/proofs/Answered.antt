@@ -1,6 +1,5 @@
 -- What the stages return is what the text gets.
-use Rattle.std.proofs.Common.{◌≡◌, ℕ, List, Some, None, Option, Result, Ok, Err, IfOk, IfErr, refl, sym, ap, ◌∙◌, subst}
-use Rattle.std.specs.Prelude.{option_map}
+use Rattle.std.proofs.Common.{◌≡◌, ℕ, List, None, Result, Ok, Err, IfOk, IfErr, sym, ap, ◌∙◌, subst}
 use Rattle.st_lexer.specs.declared.token.Token.{Token}
 use Rattle.st_lexer.specs.Lexes.{Lexes}
 use Rattle.st_parser.specs.Lexemes.{lexemes}
@@ -10,7 +9,6 @@ use Rattle.st_resolve.specs.Source.{Source}
 use Rattle.st_resolve.specs.Faults.{first_fault}
 use Rattle.plant_config.specs.declared.fault.ConfigFault.{ConfigFault}
 use Rattle.plant_config.specs.declared.fault.ConfigFault.TheVariants as fault
-use Rattle.plant_config.specs.Logic.{logic_of}
 use Rattle.plant_config.specs.Plants.{PlainPlant}
 use Rattle.plant_config.specs.Example.{IsExample}
 use Rattle.plant_config.specs.Accepted.{HasUnit, Spelled, Accepted, IsUnfit, IsRefused}

@@ -1,5 +1,5 @@
 -- Each text is accepted or refused.
-use Rattle.std.proofs.Common.{◌≡◌, ℕ, ◌<◌, ◌≤◌, List, [], ◌∷◌, Bool, true, false, length, Some, None, Option, ◌⊎◌, inl, inr, refl, sym, ap, ◌∙◌, arith}
+use Rattle.std.proofs.Common.{◌≡◌, ℕ, List, [], ◌∷◌, Bool, true, false, Some, None, Option, ◌⊎◌, inl, inr, refl, arith}
 use Rattle.std.specs.Prelude.{◌≢◌}
 use Rattle.st_lexer.specs.declared.token.Token.{Token}
 use Rattle.st_lexer.specs.Lexes.{Lexes, Stops, unmarked, start_of}
@@ -13,13 +13,13 @@ use Rattle.st_parser.proofs.FoundUnits.{unit_spelled, some_left, none_read}
 use Rattle.st_resolve.specs.Source.{Source}
 use Rattle.st_resolve.specs.declared.faults.FirstFault.{FirstFault}
 use Rattle.st_resolve.specs.declared.faults.FirstFault.TheVariants as first
-use Rattle.st_resolve.specs.Faults.{which_fault, globals_clash, program_clashes, locals_clash, name_is_unknown, kinds_misfit, loops_wrong, loops_long, first_fault}
+use Rattle.st_resolve.specs.Faults.{which_fault, first_fault}
 use Rattle.plant_config.specs.declared.fault.ConfigFault.{ConfigFault}
 use Rattle.plant_config.specs.declared.fault.ConfigFault.TheVariants as fault
 use Rattle.plant_config.specs.Logic.{logic_of}
 use Rattle.plant_config.specs.Plants.{PlainPlant}
-use Rattle.plant_config.specs.Example.{condition_of, example, IsExample}
-use Rattle.plant_config.specs.Accepted.{HasUnit, Spelled, Accepted, Unspelled, unit_of, IsUnfit, IsRefused}
+use Rattle.plant_config.specs.Example.{condition_of, example}
+use Rattle.plant_config.specs.Accepted.{HasUnit, Spelled, Accepted, unit_of, IsRefused}
 
 -- a text is accepted, or refused for another reason than Memory
 abbrev pub Decided : List ℕ → Type 0

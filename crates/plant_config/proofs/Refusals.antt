@@ -1,7 +1,7 @@
 -- A text has one answer: what is accepted isn't refused.
-use Rattle.std.proofs.Common.{◌≡◌, ℕ, List, Bool, Some, None, Option, Result, Ok, Err, IfOk, IfErr, ◌⊎◌, inl, inr, refl, sym, ap, ◌∙◌, subst}
+use Rattle.std.proofs.Common.{◌≡◌, ℕ, List, Some, None, Option, Result, Ok, Err, IfErr, ◌⊎◌, inl, inr, refl, sym, ap, ◌∙◌, subst}
 use Rattle.st_lexer.specs.declared.token.Token.{Token}
-use Rattle.st_lexer.specs.Lexes.{Lexes, Stops}
+use Rattle.st_lexer.specs.Lexes.{Stops}
 use Rattle.st_lexer.proofs.Cutting.{one_list, one_place, never_both}
 use Rattle.st_parser.specs.Lexemes.{lexemes}
 use Rattle.st_parser.specs.Units.{PlainUnit}
@@ -15,7 +15,7 @@ use Rattle.plant_config.specs.declared.fault.ConfigFault.{ConfigFault}
 use Rattle.plant_config.specs.declared.fault.ConfigFault.TheVariants as fault
 use Rattle.plant_config.specs.Logic.{logic_of}
 use Rattle.plant_config.specs.Plants.{PlainPlant}
-use Rattle.plant_config.specs.Example.{condition_of, example, IsExample}
+use Rattle.plant_config.specs.Example.{condition_of, example}
 use Rattle.plant_config.specs.Accepted.{HasUnit, Spelled, Accepted, Unspelled, unit_of, IsUnfit, IsRefused, SameRefusal}
 
 same_some : {A : Type 0} (x y : A) → Some x ≡ Some y → x ≡ y

@@ -1,6 +1,6 @@
 //! The plant that is built in, around the logic of a source.
 
-ghost use Rattle.std.specs.Prelude.{◌≡◌, ◌∷◌, [], ◌<◌, length, position, IfOk, IfErr, IfSome};
+ghost use Rattle.std.specs.Prelude.{◌≡◌, ◌∷◌, [], ◌<◌, position, IfOk};
 ghost use Rattle.plant_config.specs.Example.{example_areas, example_consoles, example_alarm, is_bool, is_condition};
 
 use crate::rows::{AlarmRow, Console};

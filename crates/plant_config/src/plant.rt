@@ -5,7 +5,6 @@ ghost use Rattle.std.specs.Str.{bytes_eq};
 ghost use Rattle.plant_config.specs.Plants.{PlainPlant, IsPlant};
 ghost use Rattle.plant_config.specs.Accepted.{Accepted, IsRefused, IsUnfit};
 ghost use Rattle.plant_config.specs.Example.{IsExample};
-ghost use Rattle.st_resolve.specs.Faults.{first_fault};
 ghost use Rattle.plant_config.specs.declared.fault.ConfigFault.TheVariants as fault;
 ghost use Rattle.plant_config.specs.Names.{alarm_number, program_number, programs_of, body_paths, tag_of, area_of, global_of, priority_of};
 

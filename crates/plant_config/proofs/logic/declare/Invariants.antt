@@ -1,5 +1,4 @@
 use Rattle.std.proofs.Common.{◌≡◌, ◌++◌, take, map}
-use Rattle.st_resolve.specs.declared.logic.Variable.{Variable}
 use Rattle.plant_config.proofs.logic.declare.Given as goal
 
 -- the names so far are declared
