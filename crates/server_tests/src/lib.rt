@@ -12,4 +12,6 @@ mod alarms;
 #[cfg(test)]
 mod commands;
 #[cfg(test)]
+mod laws;
+#[cfg(test)]
 mod values;
