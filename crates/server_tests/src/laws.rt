@@ -5,6 +5,7 @@ use alarm_machine::{
     no_unsuppressed_scan_acknowledges, repeated_scan_changes_nothing,
 };
 use plant_config::{accepted_or_refused, one_plant};
+use serving::lines_end_in_lf;
 use st_lexer::{one_answer, one_cut, some_answer, word_spelling};
 use st_parser::one_unit;
 use st_resolve::each_found;
@@ -41,4 +42,5 @@ fn laws_of_plants_can_be_called() {
     written_cell();
     one_plant();
     accepted_or_refused();
+    lines_end_in_lf();
 }

@@ -14,4 +14,8 @@ mod commands;
 #[cfg(test)]
 mod laws;
 #[cfg(test)]
+mod sessions;
+#[cfg(test)]
+mod trees;
+#[cfg(test)]
 mod values;

@@ -1,0 +1,357 @@
+//! The real `serve` over feeds and sinks that fail or take little at a time, and over lines that are too long (`serving`).
+
+ghost use Rattle.std.specs.Prelude.{◌≡◌, false};
+
+use crate::again::again;
+use engine::{Engine, EngineFault};
+use plant_config::Plant;
+use serving::{Failed, Feed, Reading, ServeFault, Sink, Writing, fault_number, serve};
+use std::alloc::{AllocError, Global};
+use std::sync::Wait;
+use std::test::Fail;
+
+/// More calls than a session makes, and more bytes than it reads or writes.
+const NO_LIMIT: usize = 1_000_000_000;
+
+/// A feed that gives at most so many bytes a read, and fails after so many reads.
+#[derive(Drop)]
+struct Pieces<'a> {
+    bytes: &'a [u8],
+    most: usize,
+    reads: usize,
+    broken: bool,
+}
+
+impl Feed for Pieces<'_> {
+    ghost use Rattle.std.specs.Prelude.{None};
+
+    ghost remaining = { λ _. None };
+
+    ghost broken = { λ s. s.broken };
+
+    fn read(&mut self, buf: &mut [u8]) -> Result<usize, Failed> {
+        if self.reads == 0 {
+            self.broken = true;
+            return Err(Failed);
+        }
+        self.reads -= 1;
+        let n = self.bytes.len().min(self.most).min(buf.len());
+        let (now, rest) = self.bytes.split_at(n);
+        for (place, byte) in buf.iter_mut().zip(now) {
+            *place = *byte;
+        }
+        self.bytes = rest;
+        Ok(n)
+    }
+
+    fn failed(&self) -> bool {
+        self.broken
+    }
+}
+
+/// A sink that takes at most so many bytes a write, and fails after so many writes.
+#[derive(Drop)]
+struct Taken {
+    bytes: Vec<u8>,
+    most: usize,
+    writes: usize,
+    broken: bool,
+}
+
+impl Sink for Taken {
+    ghost use Rattle.std.specs.Prelude.{None};
+
+    ghost written = { λ _. None };
+
+    ghost broken = { λ s. s.broken };
+
+    fn write(&mut self, buf: &[u8]) -> Result<usize, Failed> {
+        let n = buf.len().min(self.most.max(1));
+        let (now, _) = buf.split_at(n);
+        if self.writes == 0 || self.bytes.extend_from_slice(now).is_err() {
+            self.broken = true;
+            return Err(Failed);
+        }
+        self.writes -= 1;
+        Ok(n)
+    }
+
+    fn failed(&self) -> bool {
+        self.broken
+    }
+}
+
+/// The example plant.
+const SOURCE: &[u8] =
+    b"VAR_GLOBAL a AT %ID0 : DINT; c : BOOL; END_VAR PROGRAM p c := 100 / a > 10; END_PROGRAM";
+
+/// The stored run and its answers.
+const INPUT: &[u8] = b"scan 0 a=5\nscan 10 a=0\nscan 20 a=50\nrestart 1 p\nscan 30 a=50\n";
+
+const OUTPUT: &[u8] =
+    b"ALARM 0 T1 NORM UNACK\nDONE 0 1\nFAULT 10 p 1 DIVZERO\nDONE 10 1\nDONE 20 0\nREPLY OK\nALARM 30 T1 UNACK RTNUN\nDONE 30 1\n";
+
+/// The engine of the example plant.
+fn engine(alloc: Global) -> Result<Engine, AllocError> {
+    match Plant::first(alloc, SOURCE) {
+        Ok(plant) => Engine::new(alloc, plant),
+        Err(_) => Err(AllocError),
+    }
+}
+
+/// Serves a feed to a sink, from an engine's beginning on; tells how many events there are then.
+fn served<H: Wait>(
+    rt: &H,
+    alloc: Global,
+    feed: &mut Pieces,
+    sink: &mut Taken,
+) -> (Result<(), ServeFault>, u64)
+    requires feed { feed.old.broken ≡ false }
+    requires sink { sink.old.broken ≡ false }
+{
+    match engine(alloc) {
+        Ok(mut engine) => {
+            let outcome = serve(rt, alloc, &mut engine, feed, sink);
+            (outcome, engine.events())
+        }
+        Err(AllocError) => (Err(ServeFault::Memory), 0),
+    }
+}
+
+/// How many bytes a read and a write take at most, and how many reads and writes there are before one fails.
+#[derive(Clone, Copy, Drop)]
+struct Ends {
+    read: usize,
+    reads: usize,
+    write: usize,
+    writes: usize,
+}
+
+/// Ends that take what there is, and don't fail.
+const WHOLE: Ends = Ends {
+    read: NO_LIMIT,
+    reads: NO_LIMIT,
+    write: NO_LIMIT,
+    writes: NO_LIMIT,
+};
+
+/// A feed that gives at most so many bytes a read, and fails after so many reads.
+fn feed(read: usize, reads: usize) -> Ends {
+    Ends {
+        read,
+        reads,
+        ..WHOLE
+    }
+}
+
+/// A sink that takes at most so many bytes a write, and fails after so many writes.
+fn sink(write: usize, writes: usize) -> Ends {
+    Ends {
+        write,
+        writes,
+        ..WHOLE
+    }
+}
+
+/// How a session ends, after how many events, and what it wrote.
+fn session<H: Wait>(
+    rt: &H,
+    alloc: Global,
+    input: &[u8],
+    ends: Ends,
+) -> (Result<(), ServeFault>, u64, Vec<u8>) {
+    let mut feed = Pieces {
+        bytes: input,
+        most: ends.read,
+        reads: ends.reads,
+        broken: false,
+    };
+    let mut sink = Taken {
+        bytes: Vec::new(alloc),
+        most: ends.write,
+        writes: ends.writes,
+        broken: false,
+    };
+    let (outcome, events) = served(rt, alloc, &mut feed, &mut sink);
+    (outcome, events, sink.bytes)
+}
+
+/// How many bytes a session writes that has this outcome, if they are a beginning of the stored run's answers. Where it has another
+/// outcome it is tried again: memory may have been refused.
+fn written<H: Wait>(
+    rt: &H,
+    alloc: Global,
+    ends: Ends,
+    want: Result<(), ServeFault>,
+) -> Option<usize> {
+    let (mut outcome, _, mut text) = session(rt, alloc, INPUT, ends);
+    if outcome != want {
+        (outcome, _, text) = session(rt, alloc, INPUT, ends);
+    }
+    if outcome == want && OUTPUT.starts_with(text.as_slice()) {
+        Some(text.len())
+    } else {
+        None
+    }
+}
+
+// Each read fails in turn, however many bytes a read gives.
+#[test]
+fn a_feed_may_fail_at_each_read(rt: HostRuntime) {
+    for read in [1, 5, 64] {
+        for reads in 0..=INPUT.len().div_ceil(read) {
+            let wrote = written(&rt, rt.alloc(), feed(read, reads), Err(ServeFault::Read));
+            assert!(rt; wrote.is_some(), "{read} {reads}");
+        }
+    }
+}
+
+// Each write fails in turn, however many bytes a write takes.
+#[test]
+fn a_sink_may_fail_at_each_write(rt: HostRuntime) {
+    for (write, least) in [(1, OUTPUT.len()), (4, OUTPUT.len() / 4), (NO_LIMIT, 5)] {
+        for writes in 0..least {
+            let wrote = written(&rt, rt.alloc(), sink(write, writes), Err(ServeFault::Write));
+            assert!(rt; wrote.is_some(), "{write} {writes}");
+        }
+    }
+}
+
+#[test]
+fn streams_may_take_little(rt: HostRuntime) {
+    for write in [1, 2, 7] {
+        for read in [1, 3, NO_LIMIT] {
+            let little = Ends {
+                read,
+                write,
+                ..WHOLE
+            };
+            let wrote = written(&rt, rt.alloc(), little, Ok(()));
+            assert!(rt; wrote == Some(OUTPUT.len()), "{read} {write}");
+        }
+    }
+}
+
+/// How many events there are after a session whose first write fails.
+fn events_when_cut<H: Wait>(rt: &H, alloc: Global) -> Result<u64, AllocError> {
+    match session(rt, alloc, INPUT, sink(1, 0)) {
+        (Err(ServeFault::Write), events, _) => Ok(events),
+        _ => Err(AllocError),
+    }
+}
+
+#[test]
+fn a_failed_write_stops_after_its_event(rt: HostRuntime) -> Result<(), Fail> {
+    assert!(rt; again(|| events_when_cut(&rt, rt.alloc()))? == 1);
+    Ok(())
+}
+
+/// What a session writes for a line of this many bytes and what follows it, if a read gives at most so many bytes.
+fn answered<H: Wait>(
+    rt: &H,
+    alloc: Global,
+    first: &[u8],
+    len: usize,
+    end: &[u8],
+    read: usize,
+) -> Result<Vec<u8>, AllocError> {
+    let mut input = Vec::from_slice(alloc, first)?;
+    input.resize(len, b'x')?;
+    input.extend_from_slice(end)?;
+    match session(rt, alloc, input.as_slice(), feed(read, NO_LIMIT)) {
+        (Ok(()), _, text) => Ok(text),
+        _ => Err(AllocError),
+    }
+}
+
+// A line has at most 1,048,576 bytes without its line end, read in pieces of any size; what follows a longer one is answered.
+#[test]
+fn lines_have_a_longest(rt: HostRuntime) -> Result<(), Fail> {
+    let (long, order, remark) = (1_048_576, b"ack 1 ".as_slice(), b"#".as_slice());
+    for (first, len, end, want) in [
+        (
+            order,
+            long,
+            b"\nscan 0 a=50\n".as_slice(),
+            b"REPLY O1\nDONE 0 0\n".as_slice(),
+        ),
+        (order, long, b"\r\nscan 0 a=50", b"REPLY O1\nDONE 0 0\n"),
+        (order, long, b"", b"REPLY O1\n"),
+        (order, long, b"\r", b"REFUSED L1\n"),
+        (order, long, b"\r\r\nscan 0 a=50", b"REFUSED L1\nDONE 0 0\n"),
+        (
+            order,
+            long + 1,
+            b"\nscan 0 a=50\n",
+            b"REFUSED L1\nDONE 0 0\n",
+        ),
+        (
+            order,
+            long + 1,
+            b"\r\nscan 0 a=50\n",
+            b"REFUSED L1\nDONE 0 0\n",
+        ),
+        (order, long + 1, b"", b"REFUSED L1\n"),
+        (remark, long, b"\nscan 0 a=50\n", b"DONE 0 0\n"),
+        (
+            remark,
+            long + 1,
+            b"\nscan 0 a=50\n",
+            b"REFUSED L1\nDONE 0 0\n",
+        ),
+        (
+            order,
+            3 * long,
+            b"\nscan 0 a=50\n",
+            b"REFUSED L1\nDONE 0 0\n",
+        ),
+    ] {
+        for read in [NO_LIMIT, 1000] {
+            let text = again(|| answered(&rt, rt.alloc(), first, len, end, read))?;
+            assert!(rt; text.as_slice() == want, "{len} {read}");
+        }
+    }
+    Ok(())
+}
+
+/// The answers to bytes in memory, which std reads and writes.
+fn in_memory<H: Wait>(rt: &H, alloc: Global) -> Result<Vec<u8>, AllocError> {
+    let mut engine = engine(alloc)?;
+    let mut feed = Reading::new(INPUT);
+    let mut sink = Writing::new(Vec::new(alloc));
+    match serve(rt, alloc, &mut engine, &mut feed, &mut sink) {
+        Ok(()) if !feed.failed() && !sink.failed() => Ok(sink.to),
+        _ => Err(AllocError),
+    }
+}
+
+#[test]
+fn std_gives_feeds_and_sinks(rt: HostRuntime) -> Result<(), Fail> {
+    assert!(rt; again(|| in_memory(&rt, rt.alloc()))?.as_slice() == OUTPUT);
+    Ok(())
+}
+
+/// The texts of the server's and the engine's refusals.
+fn texts(alloc: Global) -> Result<String, AllocError> {
+    let mut text = String::new(alloc);
+    for fault in [ServeFault::Memory, ServeFault::Read, ServeFault::Write] {
+        text.push_str(fault.text())?;
+    }
+    for fault in [
+        EngineFault::MomentBack,
+        EngineFault::MomentRange,
+        EngineFault::ImageName,
+        EngineFault::ImageKind,
+        EngineFault::HistoryFull,
+    ] {
+        text.push_str(fault_number(fault))?;
+    }
+    Ok(text)
+}
+
+#[test]
+fn refusals_have_texts(rt: HostRuntime) -> Result<(), Fail> {
+    let want = b"MEMORYREADWRITEE1E2E3E4E6";
+    assert!(rt; again(|| texts(rt.alloc()))?.as_bytes() == want.as_slice());
+    Ok(())
+}
