@@ -1,0 +1,4 @@
+pub mod Calls
+pub mod Timers
+pub mod States
+pub mod Edges
