@@ -12,7 +12,11 @@ mod alarms;
 #[cfg(test)]
 mod commands;
 #[cfg(test)]
+mod engines;
+#[cfg(test)]
 mod laws;
+#[cfg(test)]
+mod plants;
 #[cfg(test)]
 mod sessions;
 #[cfg(test)]

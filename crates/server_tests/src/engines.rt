@@ -1,0 +1,96 @@
+//! What no session of lines shows of an engine: events that are made ready and then committed, and a restart by its own call (`engine`).
+
+ghost use Rattle.std.specs.Prelude.{IfSome};
+ghost use Rattle.engine.specs.Engines.{Fits, FitsOrder};
+
+use crate::again::again;
+use alarm_machine::Verb;
+use engine::{Engine, Order, Prepared, PreparedOrder};
+use plant_config::Plant;
+use std::alloc::{AllocError, Global};
+use std::test::Fail;
+
+/// A condition that is TRUE from the first scan on, in which the program stops.
+const SOURCE: &[u8] =
+    b"VAR_GLOBAL a AT %ID0 : DINT; c : BOOL; x : DINT; END_VAR PROGRAM p c := TRUE; x := 100 / a; END_PROGRAM";
+
+/// The engine of a program that stops in its first scan after it has set the alarm's condition.
+fn engine(alloc: Global) -> Result<Engine, AllocError> {
+    match Plant::first(alloc, SOURCE) {
+        Ok(plant) => Engine::new(alloc, plant),
+        Err(_) => Err(AllocError),
+    }
+}
+
+/// The text of the code of an engine's first alarm.
+fn code(engine: &Engine) -> &'static str {
+    if engine.plant().alarms() == 0 {
+        return "";
+    }
+    engine.state(0).code().text()
+}
+
+/// A scan at moment 7 made ready; it is made ready again where memory was refused.
+fn ready(alloc: Global, engine: &mut Engine) -> Option<Prepared>
+    ensures { IfSome result (λ p. Fits engine.new p) }
+{
+    match engine.prepare(alloc, &[], 7) {
+        Ok(prepared) => Some(prepared),
+        Err(_) => engine.prepare(alloc, &[], 7).ok(),
+    }
+}
+
+/// An acknowledgement of the alarm made ready; it is made ready again where memory was refused.
+fn ready_order(alloc: Global, engine: &mut Engine) -> Option<PreparedOrder>
+    ensures { IfSome result (λ p. FitsOrder engine.new p) }
+{
+    let order = Order {
+        verb: Verb::Ack,
+        target: Some(0),
+    };
+    match engine.prepare_order(alloc, 1, order) {
+        Ok(prepared) => Some(prepared),
+        Err(_) => engine.prepare_order(alloc, 1, order).ok(),
+    }
+}
+
+// What is made ready shows nothing until it is committed.
+#[test]
+fn what_is_made_ready_is_committed(rt: HostRuntime) -> Result<(), Fail> {
+    let alloc = rt.alloc();
+    let mut engine = again(|| engine(alloc))?;
+    let scan = ready(alloc, &mut engine).ok_or("refused")?;
+    assert!(rt; engine.events() == 0 && engine.moment() == 0);
+    assert!(rt; code(&engine).as_bytes() == b"NORM".as_slice());
+    let report = engine.commit(scan);
+    assert!(rt; report.moment == 7 && engine.events() == 1 && engine.moment() == 7);
+    assert!(rt; code(&engine).as_bytes() == b"UNACK".as_slice());
+    let order = ready_order(alloc, &mut engine).ok_or("refused")?;
+    assert!(rt; engine.events() == 1);
+    assert!(rt; code(&engine).as_bytes() == b"UNACK".as_slice());
+    let _ = engine.commit_order(order);
+    assert!(rt; engine.events() == 2);
+    assert!(rt; code(&engine).as_bytes() == b"ACKED".as_slice());
+    Ok(())
+}
+
+/// Restarts the program. It is restarted again where memory was refused.
+fn restarted(alloc: Global, engine: &mut Engine) -> bool {
+    let first = engine.restart(alloc, 1, Some(0)).is_ok();
+    first || engine.restart(alloc, 1, Some(0)).is_ok()
+}
+
+// A program that has stopped is restarted, and stops again in the next scan.
+#[test]
+fn a_program_is_restarted(rt: HostRuntime) -> Result<(), Fail> {
+    let alloc = rt.alloc();
+    let mut engine = again(|| engine(alloc))?;
+    for events in [1, 3] {
+        let scan = ready(alloc, &mut engine).ok_or("refused")?;
+        let report = engine.commit(scan);
+        assert!(rt; report.faults.len() == 1 && engine.events() == events);
+        assert!(rt; restarted(alloc, &mut engine));
+    }
+    assert!(rt; engine.events() == 4);
+    Ok(())
+}
