@@ -21,7 +21,7 @@ pub data PlainCommand : Type 0 where
 abbrev pub plain_command : Command → PlainCommand
 plain_command command.Nothing = Nothing
 plain_command command.Unknown = Unknown
-plain_command (command.Scan moment pairs) = Scan moment pairs
+plain_command (command.Scan moment pairs) = Scan moment pairs.now
 plain_command (command.Order v console target) = Order v console target.now
 
 -- the command of the words after scan: MOMENT NAME=VALUE ..

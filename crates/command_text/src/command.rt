@@ -1,5 +1,5 @@
 use alarm_machine::Verb;
-use plant_types::{Items, Pair};
+use plant_types::Pair;
 
 /// The command that a line asks for.
 #[derive(Drop)]
@@ -9,7 +9,7 @@ pub enum Command<'a> {
     /// No command: the line is refused (L1).
     Unknown,
     /// A scan at a moment, in milliseconds, with the values given for inputs, in the line's order.
-    Scan(u64, Items<Pair>),
+    Scan(u64, &'a [Pair]),
     /// An order from the console of this number: to acknowledge the alarm with this tag (ISA-18.2), or to restart the program with this name (this profile).
     /// The word is as the line has it, and may name nothing.
     Order(Verb, u32, &'a [u8]),

@@ -1,11 +1,14 @@
-ghost use Rattle.std.specs.Prelude.{◌≡◌, ◌∷◌, [], IfOk, MatchOption, None, Some, string_bytes, true};
+ghost use Rattle.std.specs.Prelude.{◌≡◌, ◌∷◌, [], IfOk, MatchOption, None, Some, true, if◌then◌else◌};
+ghost use Rattle.std.specs.Option.{option_map};
+ghost use Rattle.plant_types.specs.Pairs.{PlainPair};
 ghost use Rattle.plant_types.specs.Words.{is_name};
 ghost use Rattle.command_text.specs.Given.{given_of, pair_of, pairs_of, cut_at};
 ghost use Rattle.command_text.specs.Words.{words_of};
 
 use crate::numbers::whole;
+use crate::pool::Pool;
 use crate::words::next_word;
-use plant_types::{Given, Items, Pair, is_name, same_word};
+use plant_types::{Given, is_name, same_word};
 use std::alloc::{AllocError, Global};
 use std::str;
 
@@ -38,47 +41,47 @@ fn given(word: &[u8]) -> Option<Given>
     Some(Given::Whole(n))
 }
 
-/// Makes a string of a name's bytes. Fails only where memory was refused.
-fn name_text(alloc: Global, name: &[u8]) -> Result<String, AllocError>
+/// The bytes of a name as a text.
+fn name_text(name: &[u8]) -> &str
     requires { is_name name.now ≡ true }
-    ensures { IfOk result (λ t. string_bytes t ≡ name.now) }
+    ensures { result.now ≡ name.now }
 {
     match str::from_utf8(name) {
-        Ok(text) => String::from_str(alloc, text),
+        Ok(text) => text,
         Err(_) => unreachable!(),
     }
 }
 
-/// Parses `NAME=VALUE`; `None` for any other word. Fails only where memory was refused.
+/// Parses `NAME=VALUE`; `None` for any other word.
 #[tactic(auto, unfolding(crate::specs::Given::pair_of))]
-fn pair(alloc: Global, word: &[u8]) -> Result<Option<Pair>, AllocError>
-    ensures { IfOk result (λ p. p ≡ pair_of word.now) }
+fn pair(word: &[u8]) -> Option<(&str, Given)>
+    ensures { option_map (λ p. record { name = p.0.now; given = p.1 }) result ≡ pair_of word.now }
 {
     let Some((name, value)) = cut_at(word, b'=') else {
-        return Ok(None);
+        return None;
     };
     if !is_name(name) {
-        return Ok(None);
+        return None;
     }
-    let Some(given) = given(value) else {
-        return Ok(None);
-    };
-    let name = name_text(alloc, name)?;
-    Ok(Some(Pair { name, given }))
+    match given(value) {
+        Some(given) => Some((name_text(name), given)),
+        None => None,
+    }
 }
 
-/// Parses each word of a line as `NAME=VALUE`; `None` if one of them isn't. Fails only where memory was refused.
-pub(crate) fn pairs(alloc: Global, words: &[u8]) -> Result<Option<Items<Pair>>, AllocError>
-    ensures { IfOk result (λ p. p ≡ pairs_of (words_of words.now)) }
+/// Parses each word of a line as `NAME=VALUE`, and lists the pairs in a pool in place of those in it; false if one of the words isn't
+/// such a pair. Fails if allocation fails.
+pub(crate) fn list_pairs(alloc: Global, words: &[u8], pool: &mut Pool) -> Result<bool, AllocError>
+    ensures { IfOk result (λ all. pairs_of (words_of words.now) ≡ (if all then Some pool.new else None)) }
 {
-    let mut found = Vec::new(alloc);
+    pool.clear();
     let mut rest = words;
     while let Some((word, after)) = next_word(rest) {
-        match pair(alloc, word)? {
-            Some(pair) => found.push(pair)?,
-            None => return Ok(None),
+        match pair(word) {
+            Some((name, given)) => pool.push(alloc, name, given)?,
+            None => return Ok(false),
         }
         rest = after;
     }
-    Ok(Some(Items::from_vec(found)))
+    Ok(true)
 }

@@ -8,8 +8,10 @@ mod given;
 mod lines;
 mod numbers;
 mod parse;
+mod pool;
 mod words;
 
 pub use command::Command;
 pub use lines::{push_alarm, push_done, push_fault, push_out, push_refused, push_reply};
 pub use parse::read_command;
+pub use pool::Pool;

@@ -3,8 +3,9 @@ ghost use Rattle.command_text.specs.Words.{words_of};
 ghost use Rattle.command_text.specs.Commands.{scan_of, order_of, command_in, command_of, is_remark, plain_command};
 
 use crate::command::Command;
-use crate::given::pairs;
+use crate::given::list_pairs;
 use crate::numbers::{number, short_number};
+use crate::pool::Pool;
 use crate::words::next_word;
 use alarm_machine::Verb;
 use std::alloc::{AllocError, Global};
@@ -14,7 +15,11 @@ const LONGEST_LINE: usize = 1_048_576;
 
 /// Parses the words after `scan`: a moment, then a pair for each input that is given. Fails only where memory was refused.
 #[tactic(auto, unfolding(crate::specs::Commands::scan_of))]
-fn parse_scan<'a>(alloc: Global, words: &'a [u8]) -> Result<Command<'a>, AllocError>
+fn parse_scan<'a>(
+    alloc: Global,
+    pool: &'a mut Pool,
+    words: &'a [u8],
+) -> Result<Command<'a>, AllocError>
     ensures { IfOk result (λ c. plain_command c ≡ scan_of (words_of words.now)) }
 {
     let Some((moment, image)) = next_word(words) else {
@@ -23,9 +28,10 @@ fn parse_scan<'a>(alloc: Global, words: &'a [u8]) -> Result<Command<'a>, AllocEr
     let Some(moment) = number(moment) else {
         return Ok(Command::Unknown);
     };
-    match pairs(alloc, image)? {
-        Some(pairs) => Ok(Command::Scan(moment, pairs)),
-        None => Ok(Command::Unknown),
+    if list_pairs(alloc, image, pool)? {
+        Ok(Command::Scan(moment, pool.as_slice()))
+    } else {
+        Ok(Command::Unknown)
     }
 }
 
@@ -51,14 +57,18 @@ fn parse_order<'a>(verb: Verb, words: &'a [u8]) -> Command<'a>
 
 /// Parses the words of a line: the first is the command's name. Fails only where memory was refused.
 #[tactic(auto, unfolding(crate::specs::Commands::command_in))]
-fn parse_words<'a>(alloc: Global, words: &'a [u8]) -> Result<Command<'a>, AllocError>
+fn parse_words<'a>(
+    alloc: Global,
+    pool: &'a mut Pool,
+    words: &'a [u8],
+) -> Result<Command<'a>, AllocError>
     ensures { IfOk result (λ c. plain_command c ≡ command_in (words_of words.now)) }
 {
     let Some((first, others)) = next_word(words) else {
         return Ok(Command::Nothing);
     };
     if first == b"scan".as_slice() {
-        parse_scan(alloc, others)
+        parse_scan(alloc, pool, others)
     } else if first == b"ack".as_slice() {
         Ok(parse_order(Verb::Ack, others))
     } else if first == b"restart".as_slice() {
@@ -81,9 +91,14 @@ fn is_remark(line: &[u8]) -> bool
     }
 }
 
-/// Parses a line, without its line end. A line of more than 1,048,576 bytes is no command. Fails only where memory was refused.
+/// Parses a line, without its line end. A line of more than 1,048,576 bytes is no command. The pairs of a scan stand in the pool, in
+/// place of those of an earlier line. Fails if allocation fails.
 #[tactic(auto, unfolding(crate::specs::Commands::command_of))]
-pub fn read_command<'a>(alloc: Global, line: &'a [u8]) -> Result<Command<'a>, AllocError>
+pub fn read_command<'a>(
+    alloc: Global,
+    pool: &'a mut Pool,
+    line: &'a [u8],
+) -> Result<Command<'a>, AllocError>
     ensures { IfOk result (λ c. plain_command c ≡ command_of line.now) }
 {
     if line.len() > LONGEST_LINE {
@@ -92,5 +107,5 @@ pub fn read_command<'a>(alloc: Global, line: &'a [u8]) -> Result<Command<'a>, Al
     if is_remark(line) {
         return Ok(Command::Nothing);
     }
-    parse_words(alloc, line)
+    parse_words(alloc, pool, line)
 }

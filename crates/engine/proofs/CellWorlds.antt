@@ -10,7 +10,7 @@ use Rattle.alarm_machine.specs.Alarms.{PlainAlarm, after_scan}
 use Rattle.st_resolve.specs.declared.logic.Variable.{Variable}
 use Rattle.st_resolve.specs.Source.{Source}
 use Rattle.st_resolve.specs.Faults.{first_fault}
-use Rattle.st_walk.specs.Worlds.{World, Stands, assign, path_of}
+use Rattle.st_walk.specs.Worlds.{World, value_at, Stands, assign, path_of}
 use Rattle.st_walk.specs.Slots.{cell}
 use Rattle.st_walk.proofs.Standing.{cell_holds, cell_written}
 use Rattle.plant_config.specs.declared.rows.AlarmRow.{AlarmRow}
@@ -21,7 +21,7 @@ use Rattle.engine.specs.Steps.{with_cell}
 use Rattle.engine.proofs.Images.{has_number}
 
 -- an input that is set in cells and in the world
-input_stands : (source : Source) (cells : List ℤ) (w : World) (input : ℕ × Value) → first_fault source ≡ None → input.0 < length source.globals → Stands source cells w → Stands source (with_cell cells input) (with_input source w input)
+input_stands : (source : Source) (cells : List ℤ) (w : World) (input : ℕ × Value) → first_fault source ≡ None → input.0 < length source.globals → Stands source cells w → Stands source (with_cell cells input) (with_input source.globals w input)
 input_stands source cells w input sound within stands =
     let set_to : Option Variable → World = λ o. option_map_or (λ global. assign w (path_of global.name) (worth input.1)) o w in
     elim (slice_get_cases source.globals input.0).1 [
@@ -30,20 +30,20 @@ input_stands source cells w input sound within stands =
     ]
 
 -- an image that is set in cells and in the world
-pub inputs_stand : (source : Source) (image : List (ℕ × Value)) (cells : List ℤ) (w : World) → first_fault source ≡ None → All (has_number (length source.globals)) image → Stands source cells w → Stands source (fold with_cell cells image) (with_inputs source image w)
+pub inputs_stand : (source : Source) (image : List (ℕ × Value)) (cells : List ℤ) (w : World) → first_fault source ≡ None → All (has_number (length source.globals)) image → Stands source cells w → Stands source (fold with_cell cells image) (with_inputs source.globals image w)
 inputs_stand source [] cells w sound within stands = stands
 inputs_stand source (input ∷ image) cells w sound within stands =
     let P = has_number (length source.globals) in
-    inputs_stand source image (with_cell cells input) (with_input source w input) sound (All-tail P input image within) (input_stands source cells w input sound (All-head P input image within) stands)
+    inputs_stand source image (with_cell cells input) (with_input source.globals w input) sound (All-tail P input image within) (input_stands source cells w input sound (All-head P input image within) stands)
 
 -- two ways to look at numbers give the same for the globals
 abbrev pub SameGlobals : Source → (ℕ → ℤ) → (ℕ → ℤ) → Type 0
 SameGlobals source f g = (n : ℕ) → n < length source.globals → f n ≡ g n
 
 -- the cells of the globals have the globals' values
-pub values_stand : (source : Source) (cells : List ℤ) (w : World) → Stands source cells w → SameGlobals source (cell cells) (global_in source w)
+pub values_stand : (source : Source) (cells : List ℤ) (w : World) → Stands source cells w → SameGlobals source (cell cells) (global_in source.globals w)
 values_stand source cells w stands n within =
-    let value : Option Variable → ℤ = λ o. option_map_or (λ global. w (path_of global.name)) o (pos 0) in
+    let value : Option Variable → ℤ = λ o. option_map_or (λ global. value_at w (path_of global.name)) o (pos 0) in
     elim (slice_get_cases source.globals n).1 [
       | inl there ↦ cell_holds source cells w n there.0 there.2 stands ∙ sym (ap value there.2)
       | inr past ↦ absurd (omega (arith, within, past.0))

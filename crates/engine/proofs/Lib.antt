@@ -1,7 +1,9 @@
 mod AlarmExamples
 pub mod CellWorlds
+pub mod GlobalNames
 pub mod Images
 pub mod OrderLaws
+pub mod Outs
 pub mod ProgramRuns
 pub mod Systems
 pub mod Twins

@@ -90,11 +90,11 @@ reached_skip source t whole i cells after flags faults h set walks r =
 
 -- a program ran to its end
 reached_done : (source : Source) (t : ℕ) (whole : Scanned) (i : ℕ) (cells after : List ℤ) (flags : List Bool) (faults : List (Place × Trap)) → i < length flags → get_or flags i false ≡ false
-    → ((w : World) → Stands source cells w → Agree source (run_program source w) (Done after))
+    → ((w : World) → Stands source cells w → Agree source (run_program source i t w) (Done after))
     → Reached source t whole i cells flags faults → Reached source t whole (i + 1) after flags faults
 reached_done source t whole i cells after flags faults h unset walks r =
     let others : World → Scanned = programs_from source t (i + 1) (drop (i + 1) flags) in
-    let e = run_ended source (run_program source r.world) after others (walks r.world r.stands) in
+    let e = run_ended source (run_program source i t r.world) after others (walks r.world r.stands) in
     record {
       world = e.world;
       stands = e.stands;
@@ -115,11 +115,11 @@ reached_next source t whole i cells after flags faults false h unset walks r = r
 
 -- a program trapped: it is faulted from then on, and the fault is reported
 trapped : (source : Source) (t : ℕ) (whole : Scanned) (i : ℕ) (cells after : List ℤ) (flags : List Bool) (faults : List (Place × Trap)) (place : Place) (trap : Trap) → i < length flags → get_or flags i false ≡ false
-    → ((w : World) → Stands source cells w → Agree source (run_program source w) (Trapped after (place_spot source place) trap))
+    → ((w : World) → Stands source cells w → Agree source (run_program source i t w) (Trapped after (place_spot source place) trap))
     → Reached source t whole i cells flags faults → Reached source t whole (i + 1) after (slice_set flags i true) (faults ++ (place, trap) ∷ [])
 trapped source t whole i cells after flags faults place trap h unset walks r =
     let others : World → Scanned = programs_from source t (i + 1) (drop (i + 1) flags) in
-    let s = run_trapped source (run_program source r.world) after (place_spot source place) trap others (walks r.world r.stands) in
+    let s = run_trapped source (run_program source i t r.world) after (place_spot source place) trap others (walks r.world r.stands) in
     let reported = map (located source) faults in
     let within : i < length (slice_set flags i true) = omega (arith, length-set {A = Bool}) in
     let front : take (i + 1) (slice_set flags i true) ≡ take i flags ++ true ∷ [] =

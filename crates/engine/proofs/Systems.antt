@@ -1,5 +1,5 @@
 -- How the system goes on by one event, and what each step keeps.
-use Rattle.std.proofs.Common.{◌≡◌, ℕ, ◌+◌, ◌<◌, ◌≤◌, ◌^◌, ℤ, Bool, true, false, List, [], ◌∷◌, ◌++◌, length, map, All, fold, ap, refl, sym, ◌∙◌, subst, zero-add, arith, Option, Some, None, Ok, Err, suc}
+use Rattle.std.proofs.Common.{◌≡◌, ℕ, ◌+◌, ◌<◌, ◌≤◌, ◌^◌, ℤ, Bool, true, false, List, [], ◌∷◌, ◌++◌, length, map, All, fold, ap, refl, sym, ◌∙◌, subst, zero-add, arith, Option, Some, None, Ok, Err, suc, zero, replicate}
 use Rattle.std.specs.declared.result.Result.{Result}
 use Rattle.std.proofs.lemmas.List.{length-map, length-set}
 use Rattle.std.proofs.lemmas.List.Elements.{All-nil, All-cons, All-weaker}
@@ -12,9 +12,9 @@ use Rattle.alarm_machine.specs.Codes.{PlainChange, code_of, change_between}
 use Rattle.alarm_machine.specs.Alarms.{PlainAlarm}
 use Rattle.st_tree.specs.Meaning.{Ran, Done, Trapped}
 use Rattle.st_resolve.specs.declared.logic.Variable.{Variable}
-use Rattle.st_resolve.specs.Source.{Source}
+use Rattle.st_resolve.specs.Source.{PlainProgram, Source}
 use Rattle.st_resolve.specs.Faults.{first_fault}
-use Rattle.st_walk.specs.Worlds.{World, Stands, opening_world}
+use Rattle.st_walk.specs.Worlds.{World, Stands, opening, run_program}
 use Rattle.st_walk.specs.Slots.{cell}
 use Rattle.plant_config.specs.declared.rows.AlarmRow.{AlarmRow}
 use Rattle.plant_config.specs.Plants.{PlainPlant, IsPlant}
@@ -26,7 +26,9 @@ use Rattle.engine.specs.declared.event.EngineFault.{EngineFault}
 use Rattle.engine.specs.declared.event.EngineFault.TheVariants as refusal
 use Rattle.engine.specs.declared.state.Effect.{Effect}
 use Rattle.engine.specs.declared.state.Effect.TheVariants as effect
-use Rattle.engine.specs.Programs.{Scanned, after_run, run_of, programs_from, with_inputs, global_in, world_after}
+use Rattle.st_walk.specs.Runs.{paths_of}
+use Rattle.plant_config.specs.Names.{globals_of, programs_of, body_paths}
+use Rattle.engine.specs.Programs.{Scanned, opening_faulted, after_run, programs_from, with_inputs, global_in, world_after}
 use Rattle.engine.specs.Orders.{order_outcome, alarms_by, faulted_by, reply_by}
 use Rattle.engine.specs.System.{System, system, step, taken_scan, scan_event, order_event, opening_system, opening_alarm, scanned_by, after_scan_event, ordered, alarms_after, changes_from, outputs_from, out_at, outs_from}
 use Rattle.engine.specs.Reports.{PlainReport}
@@ -75,31 +77,31 @@ length-after_run (Trapped w spot trap) others n h = ap suc (h w)
 length-programs_from : (source : Source) (t n : ℕ) (flags : List Bool) (w : World) → length ((programs_from source t n flags w).faulted) ≡ length flags
 length-programs_from source t n [] w = refl
 length-programs_from source t n (true ∷ flags) w = ap suc (length-programs_from source t (n + 1) flags w)
-length-programs_from source t n (false ∷ flags) w = length-after_run (run_of source n t w) (programs_from source t (n + 1) flags) (length flags) (length-programs_from source t (n + 1) flags)
+length-programs_from source t n (false ∷ flags) w = length-after_run (run_program source n t w) (programs_from source t (n + 1) flags) (length flags) (length-programs_from source t (n + 1) flags)
 
-length-world_after : (source : Source) (image : List (ℕ × Value)) (t : ℕ) (flags : List Bool) (w : World) → length ((world_after source image t flags w).faulted) ≡ length flags
+length-world_after : (plant : PlainPlant) (image : List (ℕ × Value)) (t : ℕ) (flags : List Bool) (w : World) → length ((world_after plant image t flags w).faulted) ≡ length flags
 unfolding world_after
-length-world_after source image t flags w = length-programs_from source t 0 flags (with_inputs source image w)
+length-world_after plant image t flags w = length-programs_from plant.source t 0 flags (with_inputs (globals_of plant) image w)
 
 -- an alarm for each row of the database
 pub system_alarms : (plant : PlainPlant) (history : List Event) → length ((system plant history).alarms) ≡ length plant.alarms
 system_alarms plant history =
     system_keeps plant (λ s. length s.alarms ≡ length plant.alarms)
     (λ s. elim [
-      | event.Scan image t ↦ λ h. length-alarms_after (global_in plant.source (scanned_by plant s image t).world) t plant.alarms s.alarms h
+      | event.Scan image t ↦ λ h. length-alarms_after (global_in (globals_of plant) (scanned_by plant s image t).world) t plant.alarms s.alarms h
       | event.Order console order ↦ λ h. length-alarms_by (ordered plant s console order) s.alarms ∙ h
     ])
     history (length-map plant.alarms opening_alarm)
 
 -- a flag for each program
-pub system_faulted : (plant : PlainPlant) (history : List Event) → length ((system plant history).faulted) ≡ 1
+pub system_faulted : (plant : PlainPlant) (history : List Event) → length ((system plant history).faulted) ≡ length (programs_of plant)
 system_faulted plant history =
-    system_keeps plant (λ s. length s.faulted ≡ 1)
+    system_keeps plant (λ s. length s.faulted ≡ length (programs_of plant))
     (λ s. elim [
-      | event.Scan image t ↦ λ h. length-world_after plant.source image t s.faulted s.world ∙ h
+      | event.Scan image t ↦ λ h. length-world_after plant image t s.faulted s.world ∙ h
       | event.Order console order ↦ λ h. length-faulted_by (ordered plant s console order) s.faulted ∙ h
     ])
-    history refl
+    history (length-map (programs_of plant) (λ (program : List ℕ). false))
 
 events_from : (plant : PlainPlant) (s : System) (history : List Event) → (fold (step plant) s history).events ≡ s.events + length history
 events_from plant s [] = omega arith
@@ -116,15 +118,21 @@ pub kept_alarms : (plant : PlainPlant) (history : List Event) (k : PlainState) �
 kept_alarms plant history k held = ap length held.alarms_are ∙ system_alarms plant history
 
 -- and a flag for each program
-pub kept_faulted : (plant : PlainPlant) (history : List Event) (k : PlainState) → IsState plant (system plant history) k → length k.faulted ≡ 1
+pub kept_faulted : (plant : PlainPlant) (history : List Event) (k : PlainState) → IsState plant (system plant history) k → length k.faulted ≡ length (programs_of plant)
 kept_faulted plant history k held = ap length held.faulted_is ∙ system_faulted plant history
+
+-- and its outputs are those of its cells
+pub kept_outputs : (plant : PlainPlant) (history : List Event) (k : PlainState) → IsState plant (system plant history) k → k.outputs ≡ outputs_from 0 plant.source.globals (cell k.cells)
+kept_outputs plant history k held =
+    let world = (system plant history).world in
+    held.outputs_are ∙ sym (outputs_stand plant.source (cell k.cells) (global_in (globals_of plant) world) (values_stand plant.source k.cells world held.world_stands))
 
 -- what the programs leave in cells is what they leave in the system's world
 runs_world : (plant : PlainPlant) (sys : System) (old new : PlainState) (image : List (ℕ × Value)) (t : ℕ) (r : PlainReport) → first_fault plant.source ≡ None → All (has_number (length plant.source.globals)) image → IsState plant sys old → ScanRan plant old image t new r
     → ProgramsRan plant.source (scanned_by plant sys image t) new.cells new.faulted r.faults
 unfolding world_after
 runs_world plant sys old new image t r sound within held made =
-    let w = with_inputs plant.source image sys.world in
+    let w = with_inputs (globals_of plant) image sys.world in
     subst (λ (flags : List Bool). ProgramsRan plant.source (programs_from plant.source t 0 flags w) new.cells new.faulted r.faults) held.faulted_is
     (made.programs w (inputs_stand plant.source image old.cells sys.world sound within held.world_stands))
 
@@ -133,7 +141,7 @@ scan_agrees : (plant : PlainPlant) (sys : System) (old new : PlainState) (image 
     → IsState plant (after_scan_event plant sys image t) new
 scan_agrees plant sys old new image t r is sound within held made =
     let runs = runs_world plant sys old new image t r sound within held made in
-    let look = global_in plant.source (scanned_by plant sys image t).world in
+    let look = global_in (globals_of plant) (scanned_by plant sys image t).world in
     let now = values_stand plant.source new.cells (scanned_by plant sys image t).world runs.world_stands in
     record {
       world_stands = runs.world_stands;
@@ -169,23 +177,27 @@ outs_within n (global ∷ globals) before now =
     one_more None rest = rest
     one_more (Some v) rest = All-cons (λ (x : ℕ × Value). x.0 < n + suc (length globals)) (n, v) (outs_from (n + 1) globals before now) (omega arith) rest
 
+-- a path for each body
+as_many_paths : (plant : PlainPlant) → length (paths_of plant.source) ≡ length (body_paths plant)
+as_many_paths plant = length-map plant.source.programs (λ (p : PlainProgram). p.name ∷ []) ∙ sym (length-map plant.source.programs (λ (p : PlainProgram). p.name))
+
 -- what a scan reports is what its event did
 scan_reports : (plant : PlainPlant) (sys : System) (old new : PlainState) (image : List (ℕ × Value)) (t : ℕ) (r : PlainReport) → IsPlant plant → first_fault plant.source ≡ None → All (has_number (length plant.source.globals)) image → length old.alarms ≡ length plant.alarms → IsState plant sys old → ScanRan plant old image t new r
     → IsReport plant sys (event.Scan image t) r
 scan_reports plant sys old new image t r is sound within each held made =
     let runs = runs_world plant sys old new image t r sound within held made in
     let after = scan_agrees plant sys old new image t r is sound within held made in
-    let look = global_in plant.source (scanned_by plant sys image t).world in
+    let look = global_in (globals_of plant) (scanned_by plant sys image t).world in
     let before = values_stand plant.source old.cells sys.world held.world_stands in
     let now = values_stand plant.source new.cells (scanned_by plant sys image t).world runs.world_stands in
     record {
       moment_is = made.reported_at;
       faults_are = runs.faults_are;
-      faults_within = made.faults_within;
+      faults_within = subst (λ n. All (λ f. f.0.path < n) r.faults) (as_many_paths plant) made.faults_within;
       changes_are = made.changes_are ∙ ap (λ a. changes_from 0 a new.alarms) held.alarms_are ∙ ap (changes_from 0 sys.alarms) after.alarms_are;
       changes_within = subst (λ (l : List (ℕ × PlainChange)). All (λ c. c.0 < length plant.alarms) l) (sym made.changes_are) (numbers_more (changes_from 0 old.alarms new.alarms) (0 + length old.alarms) (length plant.alarms) (omega arith) (changes_within 0 old.alarms new.alarms));
       outs_within = subst (λ (l : List (ℕ × Value)). All (λ o. o.0 < length plant.source.globals) l) (sym made.outs_are) (numbers_more (outs_from 0 plant.source.globals (cell old.cells) (cell new.cells)) (0 + length plant.source.globals) (length plant.source.globals) (omega arith) (outs_within 0 plant.source.globals (cell old.cells) (cell new.cells)));
-      outs_are = made.outs_are ∙ outs_stand plant.source (cell old.cells) (global_in plant.source sys.world) (cell new.cells) look before now;
+      outs_are = made.outs_are ∙ outs_stand plant.source (cell old.cells) (global_in (globals_of plant) sys.world) (cell new.cells) look before now;
     }
 
 -- a scan that was made ready from what an engine holds fits that engine, where it has room
@@ -218,21 +230,29 @@ order_agrees e p old held fits =
       in_range = held.in_range;
     })
 
+-- no program is faulted at first
+pub opening_flags : (programs : List (List ℕ)) (n : ℕ) (flags : List Bool) → n ≡ length programs → flags ≡ replicate n false → flags ≡ opening_faulted programs
+opening_flags programs n flags many are = are ∙ unset n programs many
+  where
+    unset : (n : ℕ) (xs : List (List ℕ)) → n ≡ length xs → replicate n false ≡ map (λ (program : List ℕ). false) xs
+    unset n [] same = rw same refl
+    unset zero (x ∷ xs) same = absurd (omega (arith, same))
+    unset (suc n) (x ∷ xs) same = ap (λ l. false ∷ l) (unset n xs (omega (arith, same)))
+
 -- before the first event
-pub opening_agrees : (plant : PlainPlant) (k : PlainState) → IsPlant plant → first_fault plant.source ≡ None → length plant.source.globals < 2 ^ 32 → Stands plant.source k.cells opening_world → k.faulted ≡ false ∷ [] → k.alarms ≡ map opening_alarm plant.alarms → k.outputs ≡ outputs_from 0 plant.source.globals (cell k.cells) → k.moment ≡ 0 → IsEngine plant [] k
-opening_agrees plant k is sound numbered stands faulted alarms outputs moment =
+pub opening_agrees : (plant : PlainPlant) (k : PlainState) → IsPlant plant → first_fault plant.source ≡ None → Stands plant.source k.cells (opening plant.source) → k.faulted ≡ opening_faulted (programs_of plant) → k.alarms ≡ map opening_alarm plant.alarms → k.outputs ≡ outputs_from 0 plant.source.globals (cell k.cells) → k.moment ≡ 0 → IsEngine plant [] k
+opening_agrees plant k is sound stands faulted alarms outputs moment =
     record {
       state_is = subst (λ s. IsState plant s k) (sym (system_none plant)) (record {
         world_stands = stands;
         faulted_is = faulted;
         alarms_are = alarms;
-        outputs_are = outputs ∙ outputs_stand plant.source (cell k.cells) (global_in plant.source opening_world) (values_stand plant.source k.cells opening_world stands);
+        outputs_are = outputs ∙ outputs_stand plant.source (cell k.cells) (global_in (globals_of plant) (opening plant.source)) (values_stand plant.source k.cells (opening plant.source) stands);
         moment_is = moment;
         in_range = rw moment (omega arith);
       });
       plant_is = is;
       sound = sound;
-      numbered = numbered;
     }
 
 -- the event of a scan, by what an engine keeps and how many events there were

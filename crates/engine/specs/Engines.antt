@@ -10,7 +10,7 @@ use Rattle.alarm_machine.specs.Alarms.{PlainAlarm}
 use Rattle.alarm_machine.specs.declared.states.OrderFault.{OrderFault}
 use Rattle.plant_config.specs.Plants.{PlainPlant, IsPlant}
 use Rattle.plant_config.specs.Code.{plant_code}
-use Rattle.plant_config.specs.Names.{body_paths}
+use Rattle.plant_config.specs.Names.{globals_of, body_paths}
 use Rattle.alarm_machine.specs.declared.limits.TheConstants.{LAST_MOMENT}
 use Rattle.engine.specs.declared.event.Event.{Event}
 use Rattle.engine.specs.contracts.event.Event as event_row
@@ -61,7 +61,7 @@ pub record IsReport (plant : PlainPlant) (sys : System) (e : Event) (r : PlainRe
   pub changes_are : r.changes ≡ changes_of plant sys e
   pub changes_within : All (λ c. c.0 < length plant.alarms) r.changes
   pub outs_are : r.outs ≡ outs_of plant sys e
-  pub outs_within : All (λ o. o.0 < length plant.source.globals) r.outs
+  pub outs_within : All (λ o. o.0 < length (globals_of plant)) r.outs
 
 -- a scan was taken: its event is the last of the history, and the report is what it did
 pub record TakesScan (old new : PlainEngine) (pairs : List PlainPair) (t : ℕ) (r : PlainReport) : Type 0 where
@@ -95,9 +95,8 @@ pub record FitsOrder (e : PlainEngine) (p : PlainPreparedOrder) : Type 0 where
   pub done_is : p.done ≡ ordered e.plant (state_of e) p.console p.order
   pub reply_is : p.reply ≡ reply_to e.plant (state_of e) p.console p.order
 
--- what an engine keeps is what the system after its history has; what holds of each plant holds of this one, its source has no fault, and its globals can be numbered
+-- what an engine keeps is what the system after its history has; what holds of each plant holds of this one, and its source has no fault
 pub record IsEngine (plant : PlainPlant) (history : List Event) (k : PlainState) : Type 0 where
   pub state_is : IsState plant (system plant history) k
   pub plant_is : IsPlant plant
   pub sound : first_fault plant.source ≡ None
-  pub numbered : length plant.source.globals < 2 ^ 32

@@ -1,3 +1,4 @@
+pub mod Indexed
 pub mod Programs
 pub mod Image
 pub mod Orders

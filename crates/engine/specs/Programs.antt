@@ -1,12 +1,15 @@
 -- What a scan's programs make of the world, by the source.
-use Rattle.std.specs.Prelude.{ℕ, ◌+◌, ℤ, pos, Bool, true, false, List, [], ◌∷◌, fold, slice_get}
+use Rattle.std.specs.Prelude.{ℕ, ◌+◌, ℤ, pos, Bool, true, false, List, [], ◌∷◌, map, fold, slice_get}
 use Rattle.std.specs.Option.{option_map_or}
 use Rattle.plant_types.specs.declared.values.Value.{Value}
 use Rattle.plant_types.specs.declared.values.Trap.{Trap}
 use Rattle.plant_types.specs.Values.{worth}
 use Rattle.st_tree.specs.Meaning.{Ran, Done, Trapped, Spot}
 use Rattle.st_resolve.specs.Source.{Source}
-use Rattle.st_walk.specs.Worlds.{World, assign, path_of, run_program}
+use Rattle.st_resolve.specs.declared.logic.Variable.{Variable}
+use Rattle.st_walk.specs.Worlds.{World, value_at, assign, path_of, run_program}
+use Rattle.plant_config.specs.Plants.{PlainPlant}
+use Rattle.plant_config.specs.Names.{globals_of}
 
 -- what a scan's programs leave: the world, for each program whether it is faulted, and the faults in program order
 pub record Scanned : Type 0 where
@@ -14,25 +17,21 @@ pub record Scanned : Type 0 where
   pub faulted : List Bool
   pub faults : List (Spot × Trap)
 
--- before the first event no program is faulted
-abbrev pub opening_faulted : Source → List Bool
-opening_faulted source = false ∷ []
+-- before the first event none of the programs is faulted
+abbrev pub opening_faulted : List (List ℕ) → List Bool
+opening_faulted programs = map (λ (program : List ℕ). false) programs
 
 -- the value of a global by its number, in a world
-abbrev pub global_in : Source → World → ℕ → ℤ
-global_in source w n = option_map_or (λ global. w (path_of global.name)) (slice_get source.globals n) (pos 0)
+abbrev pub global_in : List Variable → World → ℕ → ℤ
+global_in globals w n = option_map_or (λ global. value_at w (path_of global.name)) (slice_get globals n) (pos 0)
 
 -- an input gets its value
-abbrev pub with_input : Source → World → ℕ × Value → World
-with_input source w input = option_map_or (λ global. assign w (path_of global.name) (worth input.1)) (slice_get source.globals input.0) w
+abbrev pub with_input : List Variable → World → ℕ × Value → World
+with_input globals w input = option_map_or (λ global. assign w (path_of global.name) (worth input.1)) (slice_get globals input.0) w
 
 -- the named inputs are set, the others keep their values
-abbrev pub with_inputs : Source → List (ℕ × Value) → World → World
-with_inputs source image w = fold (with_input source) w image
-
--- what the program of a number does at a moment: here is one program, and no moment counts in it
-abbrev pub run_of : Source → ℕ → ℕ → World → Ran World
-run_of source n t w = run_program source w
+abbrev pub with_inputs : List Variable → List (ℕ × Value) → World → World
+with_inputs globals image w = fold (with_input globals) w image
 
 -- a program's flag is put before those of the programs after it
 abbrev pub with_flag : Bool → Scanned → Scanned
@@ -51,8 +50,8 @@ after_run (Trapped w spot trap) others = with_flag true (with_fault spot trap (o
 abbrev pub programs_from : Source → ℕ → ℕ → List Bool → World → Scanned
 programs_from source t n [] w = record { world = w; faulted = []; faults = [] }
 programs_from source t n (true ∷ flags) w = with_flag true (programs_from source t (n + 1) flags w)
-programs_from source t n (false ∷ flags) w = after_run (run_of source n t w) (programs_from source t (n + 1) flags)
+programs_from source t n (false ∷ flags) w = after_run (run_program source n t w) (programs_from source t (n + 1) flags)
 
 -- a scan with an image at moment t: the inputs are set, then the programs run
-unfoldable pub world_after : Source → List (ℕ × Value) → ℕ → List Bool → World → Scanned
-world_after source image t flags w = programs_from source t 0 flags (with_inputs source image w)
+unfoldable pub world_after : PlainPlant → List (ℕ × Value) → ℕ → List Bool → World → Scanned
+world_after plant image t flags w = programs_from plant.source t 0 flags (with_inputs (globals_of plant) image w)

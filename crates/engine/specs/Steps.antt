@@ -1,24 +1,34 @@
 -- The parts of a scan over cells.
-use Rattle.std.specs.Prelude.{◌≡◌, ℕ, ◌<◌, ◌≤◌, ℤ, Bool, true, false, List, length, map, fold, slice_set, All, Option, Some, None, Ok}
+use Rattle.std.specs.Prelude.{◌≡◌, ℕ, ◌<◌, ◌≤◌, ℤ, Bool, true, false, not, List, length, map, fold, slice_set, All, Option, Some, None, Ok}
+use Rattle.std.specs.Ordering.{int_eq}
 use Rattle.plant_types.specs.declared.values.Value.{Value}
 use Rattle.plant_types.specs.declared.values.Trap.{Trap}
 use Rattle.plant_types.specs.declared.values.Place.{Place}
 use Rattle.plant_types.specs.Pairs.{PlainPair}
-use Rattle.plant_types.specs.Values.{worth}
+use Rattle.plant_types.specs.Values.{kind_of, worth}
 use Rattle.st_tree.specs.Meaning.{Ran, Done, Trapped}
 use Rattle.st_resolve.specs.Source.{Source}
-use Rattle.st_walk.specs.Worlds.{World, Stands}
+use Rattle.st_walk.specs.Worlds.{World, Stands, run_program}
 use Rattle.st_walk.specs.Slots.{cell}
 use Rattle.st_walk.specs.Runs.{paths_of, place_spot}
 use Rattle.plant_config.specs.Plants.{PlainPlant}
+use Rattle.plant_config.specs.Names.{globals_of}
 use Rattle.alarm_machine.specs.declared.limits.TheConstants.{LAST_MOMENT}
 use Rattle.engine.specs.declared.event.Event.TheVariants as event
 use Rattle.engine.specs.Reports.{PlainReport}
-use Rattle.engine.specs.Programs.{Scanned, run_of, programs_from}
-use Rattle.engine.specs.System.{taken_scan, alarms_after, changes_from, outputs_from, outs_from}
+use Rattle.engine.specs.Programs.{Scanned, programs_from}
+use Rattle.engine.specs.System.{taken_scan, shown, alarms_after, changes_from, outputs_from, outs_from}
 use Rattle.engine.specs.Engines.{PlainState, PlainPrepared, PlainPreparedOrder}
 use Rattle.engine.specs.declared.event.Order.{Order}
 use Rattle.engine.specs.Orders.{order_outcome, reply_by}
+
+-- an output, with the value that it has now
+abbrev pub output_in : (ℕ → ℤ) → ℕ × Value → ℕ × Value
+output_in now output = (output.0, shown (kind_of output.1) (now output.0))
+
+-- whether the number of an output isn't what it was before
+abbrev pub differs : (ℕ → ℤ) → (ℕ → ℤ) → ℕ × Value → Bool
+differs before now output = not (int_eq (before output.0) (now output.0))
 
 -- an input gets its value
 abbrev pub with_cell : List ℤ → ℕ × Value → List ℤ
@@ -27,7 +37,7 @@ with_cell cells input = slice_set cells input.0 (worth input.1)
 -- what a program does, by its flag: a faulted one is skipped
 abbrev pub run_by : Bool → Source → ℕ → ℕ → World → Ran World
 run_by true source n t w = Done w
-run_by false source n t w = run_of source n t w
+run_by false source n t w = run_program source n t w
 
 -- how a run over cells ended, by its fault
 abbrev pub ended_by : Source → Option (Place × Trap) → List ℤ → Ran (List ℤ)
@@ -46,8 +56,8 @@ pub record ScanRan (plant : PlainPlant) (old : PlainState) (image : List (ℕ ×
   pub faults_within : All (λ f. f.0.path < length (paths_of plant.source)) r.faults
   pub alarms_are : new.alarms ≡ alarms_after (cell new.cells) t plant.alarms old.alarms
   pub changes_are : r.changes ≡ changes_from 0 old.alarms new.alarms
-  pub outputs_are : new.outputs ≡ outputs_from 0 plant.source.globals (cell new.cells)
-  pub outs_are : r.outs ≡ outs_from 0 plant.source.globals (cell old.cells) (cell new.cells)
+  pub outputs_are : new.outputs ≡ outputs_from 0 (globals_of plant) (cell new.cells)
+  pub outs_are : r.outs ≡ outs_from 0 (globals_of plant) (cell old.cells) (cell new.cells)
   pub moment_is : new.moment ≡ t
   pub reported_at : r.moment ≡ t
   pub in_range : t ≤ LAST_MOMENT
@@ -56,7 +66,7 @@ pub record ScanRan (plant : PlainPlant) (old : PlainState) (image : List (ℕ ×
 pub record IsPreparedScan (plant : PlainPlant) (old : PlainState) (events : ℕ) (pairs : List PlainPair) (t : ℕ) (p : PlainPrepared) : Type 0 where
   pub image : List (ℕ × Value)
   pub event_is : p.event ≡ event.Scan image t
-  pub taken : taken_scan plant.source.globals old.moment events pairs t ≡ Ok p.event
+  pub taken : taken_scan (globals_of plant) old.moment events pairs t ≡ Ok p.event
   pub ran : ScanRan plant old image t p.state p.report
 
 -- an order made ready from a state: what it does, and its reply

@@ -11,12 +11,13 @@ use Rattle.plant_types.specs.declared.values.Region.{Region}
 use Rattle.plant_types.specs.declared.values.Region.TheVariants as region
 use Rattle.st_tree.specs.Meaning.{Spot}
 use Rattle.st_resolve.specs.declared.logic.Variable.{Variable}
-use Rattle.st_walk.specs.Worlds.{World, opening_world}
+use Rattle.st_walk.specs.Worlds.{World, opening}
 use Rattle.alarm_machine.specs.declared.states.OrderFault.{OrderFault}
 use Rattle.alarm_machine.specs.Codes.{PlainChange, code_of, change_between}
 use Rattle.alarm_machine.specs.Alarms.{PlainAlarm, new_alarm, after_scan}
 use Rattle.plant_config.specs.declared.rows.AlarmRow.{AlarmRow}
 use Rattle.plant_config.specs.Plants.{PlainPlant}
+use Rattle.plant_config.specs.Names.{globals_of, programs_of}
 use Rattle.alarm_machine.specs.declared.limits.TheConstants.{LAST_MOMENT}
 use Rattle.engine.specs.declared.event.TheConstants.{MOST_EVENTS}
 use Rattle.engine.specs.declared.event.Event.{Event}
@@ -45,8 +46,8 @@ opening_alarm row = new_alarm row.latching row.max_shelve_ms
 -- before the first event
 abbrev pub opening_system : PlainPlant → System
 opening_system plant = record {
-  world = opening_world;
-  faulted = opening_faulted plant.source;
+  world = opening plant.source;
+  faulted = opening_faulted (programs_of plant);
   alarms = map opening_alarm plant.alarms;
   moment = 0;
   events = 0;
@@ -65,13 +66,13 @@ alarms_after now t (row ∷ rows) (a ∷ alarms) = after_scan (is_true (now row.
 
 -- what the programs make of a state's world
 abbrev pub scanned_by : PlainPlant → System → List (ℕ × Value) → ℕ → Scanned
-scanned_by plant sys image t = world_after plant.source image t sys.faulted sys.world
+scanned_by plant sys image t = world_after plant image t sys.faulted sys.world
 
 -- a scan: the programs, then each alarm
 abbrev pub after_scan_event : PlainPlant → System → List (ℕ × Value) → ℕ → System
 after_scan_event plant sys image t =
     let logic = scanned_by plant sys image t in
-    record { world = logic.world; faulted = logic.faulted; alarms = alarms_after (global_in plant.source logic.world) t plant.alarms sys.alarms; moment = t; events = sys.events + 1 }
+    record { world = logic.world; faulted = logic.faulted; alarms = alarms_after (global_in (globals_of plant) logic.world) t plant.alarms sys.alarms; moment = t; events = sys.events + 1 }
 
 -- what an order does in a state, or why it is refused
 abbrev pub ordered : PlainPlant → System → ℕ → Order → Result Effect OrderFault
@@ -104,7 +105,7 @@ taken_scan globals last events pairs t =
 
 -- the event that a scan of these pairs is in a state, or its refusal
 abbrev pub scan_event : PlainPlant → System → List PlainPair → ℕ → Result Event EngineFault
-scan_event plant sys pairs t = taken_scan plant.source.globals sys.moment sys.events pairs t
+scan_event plant sys pairs t = taken_scan (globals_of plant) sys.moment sys.events pairs t
 
 -- the event that an order is, or its refusal: E6 where the history is full
 unfoldable pub order_event : System → ℕ → Order → Result Event EngineFault
@@ -149,7 +150,7 @@ outputs_from n (global ∷ globals) now =
 
 -- the outputs in a state
 abbrev pub outputs_of : PlainPlant → System → List (ℕ × Value)
-outputs_of plant sys = outputs_from 0 plant.source.globals (global_in plant.source sys.world)
+outputs_of plant sys = outputs_from 0 (globals_of plant) (global_in (globals_of plant) sys.world)
 
 -- the value of an output, if it isn't what it was before
 abbrev pub out_at : ℕ → Variable → (ℕ → ℤ) → (ℕ → ℤ) → Option Value
@@ -165,4 +166,4 @@ outs_from n (global ∷ globals) before now = elim (out_at n global before now) 
 
 -- the outputs that an event changed
 abbrev pub outs_of : PlainPlant → System → Event → List (ℕ × Value)
-outs_of plant sys e = outs_from 0 plant.source.globals (global_in plant.source sys.world) (global_in plant.source (step plant sys e).world)
+outs_of plant sys e = outs_from 0 (globals_of plant) (global_in (globals_of plant) sys.world) (global_in (globals_of plant) (step plant sys e).world)

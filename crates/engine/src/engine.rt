@@ -8,6 +8,8 @@ ghost use Rattle.engine.specs.System.{scan_event, order_event, reply_to, outputs
 ghost use Rattle.engine.specs.Engines.{state_of, Fits, FitsOrder, IsReport, TakesScan};
 
 use crate::event::{EngineFault, Event, MOST_EVENTS, Order, Reply, Report};
+use crate::image::Input;
+use crate::indexed::IndexedPlant;
 use crate::orders::{PreparedOrder, prepared_order};
 use crate::scan::{Prepared, prepared_scan};
 use crate::state::{State, alarm_state, apply, opening_state};
@@ -16,13 +18,18 @@ use plant_config::Plant;
 use plant_types::{Pair, Value};
 use std::alloc::{AllocError, Global};
 use std::marker::Model;
+use std::mem::replace;
 
 /// A plant, and what the events so far made of it.
 #[derive(Drop)]
 pub struct Engine {
-    plant: Plant,
+    plant: IndexedPlant,
     history: Vec<Event>,
     state: State,
+    /// A state of which only the room is used: that of an earlier event.
+    spare: Option<State>,
+    /// Room for the inputs of a scan.
+    inputs: Vec<Input>,
 }
 
 impl Model for Engine {
@@ -41,17 +48,21 @@ impl Model for Engine {
 }
 
 impl Engine {
-    /// The engine of a plant before the first event: each variable is FALSE or 0, no program is faulted, and each alarm is normal.
-    ///
-    /// Fails if allocation fails, or if the plant has 2^32 globals or more.
+    /// The engine of a plant before the first event: each variable has its initial value, no program is faulted, and each alarm is
+    /// normal. Fails if allocation fails.
     pub fn new(alloc: Global, plant: Plant) -> Result<Engine, AllocError>
         ensures { IfOk result (λ e. (e.plant ≡ plant) × (e.history ≡ [])) }
     {
         let state = opening_state(alloc, &plant)?;
+        let plant = IndexedPlant::new(alloc, plant)?;
+        let history = Vec::new(alloc);
+        let inputs = Vec::new(alloc);
         Ok(Engine {
             plant,
-            history: Vec::new(alloc),
+            history,
             state,
+            spare: None,
+            inputs,
         })
     }
 
@@ -59,7 +70,7 @@ impl Engine {
     pub fn plant(&self) -> &Plant
         ensures { result.now ≡ self.now.plant }
     {
-        &self.plant
+        self.plant.plant()
     }
 
     /// How many events the history has, at most 1,000,000.
@@ -96,8 +107,8 @@ impl Engine {
     /// The pairs name inputs, letter case ignored; the moment is in milliseconds. The refusals, in the order in which they are tested:
     /// `MomentRange` (E2) above 4,000,000,000,000, `MomentBack` (E1) before the last scan, `ImageName` (E3) for a name that is no input
     /// or comes twice, `ImageKind` (E4) for a value that doesn't fit its input, `HistoryFull` (E6) at 1,000,000 events. `Memory` comes
-    /// only if allocation fails: of the image, of the copies of the cells, the programs' flags and the alarms, of the outputs, of the
-    /// report's lists, of a flag for each global and of the small letters of each name.
+    /// only if allocation fails: of the image, of room for its inputs and for a state, of a flag for each global if the image has more than
+    /// 16 inputs, and of the report's lists.
     pub fn prepare(
         &mut self,
         alloc: Global,
@@ -111,7 +122,16 @@ impl Engine {
         ensures err { IfErr result (λ e. IsDue e (scan_event self.old.plant (state_of self.old) pairs.now moment)) }
     {
         let events = self.history.len();
-        let prepared = prepared_scan(alloc, &self.plant, &self.state, events, pairs, moment)?;
+        let prepared = prepared_scan(
+            alloc,
+            &self.plant,
+            &self.state,
+            &mut self.spare,
+            &mut self.inputs,
+            events,
+            pairs,
+            moment,
+        )?;
         self.history.reserve(1)?;
         Ok(prepared)
     }
@@ -130,7 +150,7 @@ impl Engine {
             report,
         } = prepared;
         self.history.push_reserved(event);
-        self.state = state;
+        self.spare = Some(replace(&mut self.state, state));
         report
     }
 
@@ -152,7 +172,7 @@ impl Engine {
         if self.history.len() >= MOST_EVENTS {
             return Err(EngineFault::HistoryFull);
         }
-        let prepared = prepared_order(&self.plant, &self.state, console, order);
+        let prepared = prepared_order(self.plant.plant(), &self.state, console, order);
         self.history.reserve(1)?;
         Ok(prepared)
     }

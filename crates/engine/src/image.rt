@@ -1,15 +1,20 @@
 //! The image of a scan: inputs by number, with values of their kinds.
 
-ghost use Rattle.std.specs.Prelude.{◌≡◌, ◌<◌, ◌^◌, length, All, IfOk, IfErr, IfSome, OnOk, Ok, ◌≤◌};
+ghost use Rattle.std.specs.Prelude.{◌≡◌, ◌<◌, ◌^◌, length, All, IfOk, IfErr, IfSome, OnOk, Ok, Some, None, ◌≤◌, ◌==◌, if◌then◌else◌};
+ghost use Rattle.std.specs.List.{list_any};
+ghost use Rattle.plant_config.specs.Names.{globals_of};
 ghost use Rattle.engine.specs.Image.{input_of, inputs_of, has_twin, values_of, image_of, IsDue};
 ghost use Rattle.engine.specs.System.{taken_scan};
 ghost use Rattle.engine.specs.declared.event.Event.TheVariants.{Scan};
 
 use crate::event::{EngineFault, MOST_EVENTS};
+use crate::indexed::IndexedPlant;
 use alarm_machine::LAST_MOMENT;
 use plant_types::{Given, Items, Kind, Pair, Region, Value, fitted};
-use st_resolve::Flat;
 use std::alloc::{AllocError, Global};
+
+/// How many inputs are few: these are compared with each other.
+const FEW: usize = 16;
 
 /// An input by its number and kind, and what is given for it.
 #[derive(Clone, Copy)]
@@ -19,49 +24,53 @@ pub struct Input {
     pub given: Given,
 }
 
-/// The input that a pair names, with what is given for it; `None` for a name of no input. Fails if allocation fails.
-fn input_of(alloc: Global, flat: &Flat, pair: &Pair) -> Result<Option<Input>, AllocError>
-    requires { length flat.now.globals < 2 ^ 32 }
-    ensures input { IfOk result (λ input. input ≡ input_of flat.now.globals pair.now) }
-    ensures within { IfOk result (λ input. IfSome input (λ p. p.number < length flat.now.globals)) }
+/// The input that a pair names, with what is given for it; `None` for a name of no input.
+fn input_of(plant: &IndexedPlant, pair: &Pair) -> Option<Input>
+    requires { length (globals_of plant.now) < 2 ^ 32 }
+    ensures input { result ≡ input_of (globals_of plant.now) pair.now }
+    ensures within { IfSome result (λ p. p.number < length (globals_of plant.now)) }
 {
-    let Some(number) = flat.slot(alloc, pair.name.as_str())? else {
-        return Ok(None);
+    let Some(number) = plant.global_number(pair.name.as_str()) else {
+        return None;
     };
-    match flat.globals().get(number) {
+    match plant.plant().flat().globals().get(number) {
         Some(global) => match global.region {
-            Some(Region::Input) => Ok(Some(Input {
+            Some(Region::Input) => Some(Input {
                 number: number as u32,
                 kind: global.kind,
                 given: pair.given,
-            })),
-            _ => Ok(None),
+            }),
+            _ => None,
         },
-        None => Ok(None),
+        None => None,
     }
 }
 
-/// The inputs that pairs name, in order; `None` if one names no input. Fails if allocation fails.
-fn inputs_of(alloc: Global, flat: &Flat, pairs: &[Pair]) -> Result<Option<Items<Input>>, AllocError>
-    requires { length flat.now.globals < 2 ^ 32 }
-    ensures inputs { IfOk result (λ inputs. inputs ≡ inputs_of flat.now.globals pairs.now) }
-    ensures within { IfOk result (λ inputs. IfSome inputs (All (λ p. p.number < length flat.now.globals))) }
+/// Lists the inputs that pairs name, in order, in place of those listed before; false if one names no input. Fails if allocation fails.
+fn list_inputs(
+    plant: &IndexedPlant,
+    pairs: &[Pair],
+    inputs: &mut Vec<Input>,
+) -> Result<bool, AllocError>
+    requires { length (globals_of plant.now) < 2 ^ 32 }
+    ensures inputs { IfOk result (λ all. inputs_of (globals_of plant.now) pairs.now ≡ (if all then Some inputs.new.items else None)) }
+    ensures within { OnOk result (All (λ p. p.number < length (globals_of plant.now)) inputs.new.items) }
 {
-    let mut found = Vec::new(alloc);
+    inputs.clear();
     for pair in pairs {
-        match input_of(alloc, flat, pair)? {
-            Some(input) => found.push(input)?,
-            None => return Ok(None),
+        match input_of(plant, pair) {
+            Some(input) => inputs.push(input)?,
+            None => return Ok(false),
         }
     }
-    Ok(Some(Items::from_vec(found)))
+    Ok(true)
 }
 
 /// The values of inputs, in order; `None` if one doesn't fit its input's kind. Fails if allocation fails.
 fn values_of(alloc: Global, inputs: &[Input]) -> Result<Option<Items<(u32, Value)>>, AllocError>
     ensures { IfOk result (λ values. values ≡ values_of inputs.now) }
 {
-    let mut found = Vec::new(alloc);
+    let mut found = Vec::with_capacity(alloc, inputs.len())?;
     for input in inputs {
         match fitted(input.kind, input.given) {
             Some(value) => found.push((input.number, value))?,
@@ -71,11 +80,35 @@ fn values_of(alloc: Global, inputs: &[Input]) -> Result<Option<Items<(u32, Value
     Ok(Some(Items::from_vec(found)))
 }
 
-/// Whether an input is named twice, among so many globals. Fails if allocation fails.
+/// Whether a number is that of one of the inputs.
+fn is_named(inputs: &[Input], number: u32) -> bool
+    ensures { result ≡ list_any (λ q. q.number == number) inputs.now }
+{
+    inputs.iter().any(|input| input.number == number)
+}
+
+/// Whether an input is named twice, by a look at each two of them.
+fn has_twin_of_few(inputs: &[Input]) -> bool
+    ensures { result ≡ has_twin inputs.now }
+{
+    let mut rest = inputs;
+    while let Some((first, others)) = rest.split_first() {
+        if is_named(others, first.number) {
+            return true;
+        }
+        rest = others;
+    }
+    false
+}
+
+/// Whether an input is named twice, among so many globals. A few inputs take no memory. Fails if allocation fails.
 fn has_twin(alloc: Global, globals: usize, inputs: &[Input]) -> Result<bool, AllocError>
     requires { All (λ p. p.number < globals) inputs.now }
     ensures { IfOk result (λ twin. twin ≡ has_twin inputs.now) }
 {
+    if inputs.len() <= FEW {
+        return Ok(has_twin_of_few(inputs));
+    }
     let mut seen = vec![in alloc; false; globals]?;
     for input in inputs {
         let number = input.number as usize;
@@ -87,17 +120,23 @@ fn has_twin(alloc: Global, globals: usize, inputs: &[Input]) -> Result<bool, All
     Ok(false)
 }
 
-/// The image that pairs give, or why it is refused.
+/// The image that pairs give, or why it is refused. A list of inputs lends its room.
 #[tactic(auto, unfolding(crate::specs::Image::image_of))]
-fn image_of(alloc: Global, flat: &Flat, pairs: &[Pair]) -> Result<Items<(u32, Value)>, EngineFault>
-    requires { length flat.now.globals < 2 ^ 32 }
-    ensures ok { IfOk result (λ image. image_of flat.now.globals pairs.now ≡ Ok image) }
-    ensures err { IfErr result (λ e. IsDue e (image_of flat.now.globals pairs.now)) }
+fn image_of(
+    alloc: Global,
+    plant: &IndexedPlant,
+    pairs: &[Pair],
+    inputs: &mut Vec<Input>,
+) -> Result<Items<(u32, Value)>, EngineFault>
+    requires { length (globals_of plant.now) < 2 ^ 32 }
+    ensures ok { IfOk result (λ image. image_of (globals_of plant.now) pairs.now ≡ Ok image) }
+    ensures err { IfErr result (λ e. IsDue e (image_of (globals_of plant.now) pairs.now)) }
 {
-    let Some(inputs) = inputs_of(alloc, flat, pairs)? else {
+    if !list_inputs(plant, pairs, inputs)? {
         return Err(EngineFault::ImageName);
-    };
-    if has_twin(alloc, flat.globals().len(), inputs.as_slice())? {
+    }
+    let globals = plant.plant().flat().globals().len();
+    if has_twin(alloc, globals, inputs.as_slice())? {
         return Err(EngineFault::ImageName);
     }
     match values_of(alloc, inputs.as_slice())? {
@@ -106,20 +145,21 @@ fn image_of(alloc: Global, flat: &Flat, pairs: &[Pair]) -> Result<Items<(u32, Va
     }
 }
 
-/// The image of a scan after a last moment and so many events, or why the scan is refused.
+/// The image of a scan after a last moment and so many events, or why the scan is refused. A list of inputs lends its room.
 #[tactic(auto, unfolding(crate::specs::System::taken_scan))]
 pub fn taken_image(
     alloc: Global,
-    flat: &Flat,
+    plant: &IndexedPlant,
+    inputs: &mut Vec<Input>,
     last: u64,
     events: usize,
     pairs: &[Pair],
     moment: u64,
 ) -> Result<Items<(u32, Value)>, EngineFault>
-    requires { length flat.now.globals < 2 ^ 32 }
-    ensures ok { IfOk result (λ image. taken_scan flat.now.globals last events pairs.now moment ≡ Ok (Scan image moment)) }
+    requires { length (globals_of plant.now) < 2 ^ 32 }
+    ensures ok { IfOk result (λ image. taken_scan (globals_of plant.now) last events pairs.now moment ≡ Ok (Scan image moment)) }
     ensures range { OnOk result (moment ≤ LAST_MOMENT) }
-    ensures err { IfErr result (λ e. IsDue e (taken_scan flat.now.globals last events pairs.now moment)) }
+    ensures err { IfErr result (λ e. IsDue e (taken_scan (globals_of plant.now) last events pairs.now moment)) }
 {
     if moment > LAST_MOMENT {
         return Err(EngineFault::MomentRange);
@@ -127,7 +167,7 @@ pub fn taken_image(
     if moment < last {
         return Err(EngineFault::MomentBack);
     }
-    let image = image_of(alloc, flat, pairs)?;
+    let image = image_of(alloc, plant, pairs, inputs)?;
     if events >= MOST_EVENTS {
         return Err(EngineFault::HistoryFull);
     }

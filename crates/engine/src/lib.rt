@@ -8,6 +8,7 @@
 mod engine;
 mod event;
 mod image;
+mod indexed;
 mod orders;
 mod scan;
 mod state;

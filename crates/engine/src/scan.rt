@@ -2,14 +2,17 @@
 
 ghost use Rattle.std.specs.Prelude.{◌≡◌, ◌<◌, ◌≤◌, ◌^◌, length, IfOk, IfErr};
 ghost use Rattle.alarm_machine.specs.declared.limits.TheConstants.{LAST_MOMENT};
+ghost use Rattle.plant_config.specs.Names.{globals_of, programs_of};
 ghost use Rattle.engine.specs.Image.{IsDue};
-ghost use Rattle.engine.specs.System.{taken_scan};
+ghost use Rattle.engine.specs.System.{taken_scan, outputs_from};
+ghost use Rattle.st_walk.specs.Slots.{cell};
 ghost use Rattle.engine.specs.Steps.{ScanRan, IsPreparedScan};
 
 use crate::event::{EngineFault, Event, Report};
-use crate::image::taken_image;
-use crate::state::State;
-use crate::steps::{outputs, outs, run_programs, set_inputs, step_alarms};
+use crate::image::{Input, taken_image};
+use crate::indexed::IndexedPlant;
+use crate::state::{State, copied_cells, copied_flags, empty_state};
+use crate::steps::{changed, renewed, run_programs, set_inputs, step_alarms};
 use plant_config::Plant;
 use plant_types::{Pair, Value};
 use std::alloc::{AllocError, Global};
@@ -31,29 +34,38 @@ impl Model for Prepared {
     ghost view = { λ p. record { event = p.event; state = p.state; report = p.report } };
 }
 
-/// Runs a scan on copies, and returns the state that it leaves and what it reports. Fails if allocation fails.
+/// Runs a scan on a copy of a state, and returns the state that it leaves, in the room of another, and what it reports. Fails if
+/// allocation fails.
 fn run_scan(
     alloc: Global,
     plant: &Plant,
     old: &State,
+    room: State,
     image: &[(u32, Value)],
     moment: u64,
 ) -> Result<(State, Report), AllocError>
-    requires programs { length old.now.faulted ≡ 1 }
+    requires programs { length old.now.faulted ≡ length (programs_of plant.now) }
     requires alarms { length old.now.alarms ≡ length plant.now.alarms }
-    requires globals { length plant.now.source.globals < 2 ^ 32 }
+    requires outputs { old.now.outputs ≡ outputs_from 0 (globals_of plant.now) (cell old.now.cells) }
     requires range { moment ≤ LAST_MOMENT }
     ensures { IfOk result (λ r. ScanRan plant.now old.now image.now moment r.0 r.1) }
 {
-    let flat = plant.flat();
-    let mut cells = old.cells.copy(alloc)?;
+    let State {
+        cells: room_of_cells,
+        faulted: room_of_flags,
+        alarms: room_of_alarms,
+        outputs: room_of_outputs,
+        moment: _,
+    } = room;
+    let mut cells = copied_cells(alloc, &old.cells, room_of_cells)?;
     set_inputs(image, &mut cells);
-    let mut faulted = Vec::from_slice(alloc, old.faulted.as_slice())?;
-    let faults = run_programs(alloc, flat, moment, &mut cells, &mut faulted)?;
+    let mut faulted = copied_flags(old.faulted.as_slice(), room_of_flags)?;
+    let faults = run_programs(alloc, plant, moment, &mut cells, &mut faulted)?;
     let rows = plant.alarm_rows();
-    let (alarms, changes) = step_alarms(alloc, rows, &cells, moment, old.alarms.as_slice())?;
-    let outputs = outputs(alloc, flat.globals(), &cells)?;
-    let outs = outs(alloc, flat.globals(), &old.cells, &cells)?;
+    let before = old.alarms.as_slice();
+    let (alarms, changes) = step_alarms(alloc, rows, &cells, moment, before, room_of_alarms)?;
+    let outputs = renewed(old.outputs.as_slice(), &cells, room_of_outputs)?;
+    let outs = changed(alloc, outputs.as_slice(), &old.cells, &cells)?;
     let state = State {
         cells,
         faulted,
@@ -70,23 +82,31 @@ fn run_scan(
     Ok((state, report))
 }
 
-/// Makes a scan ready after so many events, or returns why it is refused.
+/// Makes a scan ready after so many events, in the room of a spare state if there is one and of a list of inputs, or
+/// returns why it is refused.
 pub fn prepared_scan(
     alloc: Global,
-    plant: &Plant,
+    plant: &IndexedPlant,
     old: &State,
+    spare: &mut Option<State>,
+    inputs: &mut Vec<Input>,
     events: usize,
     pairs: &[Pair],
     moment: u64,
 ) -> Result<Prepared, EngineFault>
-    requires programs { length old.now.faulted ≡ 1 }
+    requires programs { length old.now.faulted ≡ length (programs_of plant.now) }
     requires alarms { length old.now.alarms ≡ length plant.now.alarms }
-    requires globals { length plant.now.source.globals < 2 ^ 32 }
+    requires globals { length (globals_of plant.now) < 2 ^ 32 }
+    requires outputs { old.now.outputs ≡ outputs_from 0 (globals_of plant.now) (cell old.now.cells) }
     ensures ok { IfOk result (IsPreparedScan plant.now old.now events pairs.now moment) }
-    ensures err { IfErr result (λ e. IsDue e (taken_scan plant.now.source.globals old.now.moment events pairs.now moment)) }
+    ensures err { IfErr result (λ e. IsDue e (taken_scan (globals_of plant.now) old.now.moment events pairs.now moment)) }
 {
-    let image = taken_image(alloc, plant.flat(), old.moment, events, pairs, moment)?;
-    let (state, report) = run_scan(alloc, plant, old, image.as_slice(), moment)?;
+    let image = taken_image(alloc, plant, inputs, old.moment, events, pairs, moment)?;
+    let room = match spare.take() {
+        Some(state) => state,
+        None => empty_state(alloc),
+    };
+    let (state, report) = run_scan(alloc, plant.plant(), old, room, image.as_slice(), moment)?;
     Ok(Prepared {
         event: Event::Scan(image, moment),
         state,

@@ -45,20 +45,16 @@ pub enum Effect {
     Restarted(u32),
 }
 
-/// The state before the first event: each variable is FALSE or 0, no program is faulted, and each alarm is normal.
-///
-/// Fails if allocation fails, or if the plant has 2^32 globals or more.
+/// The state before the first event: each variable has its initial value, no program is faulted, and each alarm is normal. Fails if
+/// allocation fails.
 pub fn opening_state(alloc: Global, plant: &Plant) -> Result<State, AllocError>
     ensures { IfOk result (IsEngine plant.now []) }
 {
     let globals = plant.flat().globals();
-    if globals.len() > u32::MAX as usize {
-        return Err(AllocError);
-    }
     let cells = Cells::opening(alloc, plant.flat())?;
     let outputs = outputs(alloc, globals, &cells)?;
     let alarms = opening_alarms(alloc, plant.alarm_rows())?;
-    let faulted = vec![in alloc; false]?;
+    let faulted = vec![in alloc; false; plant.programs() as usize]?;
     Ok(State {
         cells,
         faulted,
@@ -66,6 +62,39 @@ pub fn opening_state(alloc: Global, plant: &Plant) -> Result<State, AllocError>
         outputs,
         moment: 0,
     })
+}
+
+/// A state that holds nothing, to be written over.
+pub fn empty_state(alloc: Global) -> State {
+    State {
+        cells: Cells::new(Vec::new(alloc)),
+        faulted: Vec::new(alloc),
+        alarms: Vec::new(alloc),
+        outputs: Vec::new(alloc),
+        moment: 0,
+    }
+}
+
+/// A copy of cells, in the room of other cells if these are as many. Fails if allocation fails.
+pub fn copied_cells(alloc: Global, cells: &Cells, room: Cells) -> Result<Cells, AllocError>
+    ensures { IfOk result (λ copy. copy ≡ cells.now) }
+{
+    if room.len() != cells.len() {
+        return cells.copy(alloc);
+    }
+    let mut copy = room;
+    copy.copy_from(cells);
+    Ok(copy)
+}
+
+/// A copy of flags, in the room of other flags. Fails if allocation fails.
+pub fn copied_flags(flags: &[bool], room: Vec<bool>) -> Result<Vec<bool>, AllocError>
+    ensures { IfOk result (λ copy. copy.items ≡ flags.now) }
+{
+    let mut copy = room;
+    copy.clear();
+    copy.extend_from_slice(flags)?;
+    Ok(copy)
 }
 
 /// The state of the alarm of a number.

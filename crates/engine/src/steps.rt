@@ -1,24 +1,26 @@
 //! The parts of a scan: inputs, programs, alarms and outputs.
 
 ghost use Rattle.std.specs.Prelude.{◌≡◌, ◌<◌, ◌^◌, length, fold, map, IfOk, IfSome, All, ◌≤◌};
+ghost use Rattle.std.specs.List.{filter};
 ghost use Rattle.plant_types.specs.Values.{is_true};
 ghost use Rattle.alarm_machine.specs.declared.limits.TheConstants.{LONGEST_SHELVE_MS};
 ghost use Rattle.st_walk.specs.Worlds.{World, Stands};
 ghost use Rattle.st_walk.specs.Slots.{cell};
 ghost use Rattle.st_walk.specs.Runs.{paths_of, Agree};
+ghost use Rattle.plant_config.specs.Names.{programs_of};
 ghost use Rattle.engine.specs.Programs.{programs_from};
-ghost use Rattle.engine.specs.System.{shown, opening_alarm, suppression, alarms_after, changes_from, is_output, outputs_from, out_at, outs_from};
-ghost use Rattle.engine.specs.Steps.{with_cell, run_by, ended_by, ProgramsRan};
+ghost use Rattle.engine.specs.System.{shown, opening_alarm, suppression, alarms_after, changes_from, is_output, outputs_from};
+ghost use Rattle.engine.specs.Steps.{with_cell, run_by, ended_by, ProgramsRan, output_in, differs};
 
 use alarm_machine::{Alarm, Change};
-use plant_config::AlarmRow;
+use plant_config::{AlarmRow, Plant};
 use plant_types::{Given, Kind, Place, Region, Trap, Value, fitted};
-use st_resolve::{Flat, Variable};
+use st_resolve::Variable;
 use st_walk::{Cells, Walked, walk};
 use std::alloc::{AllocError, Global};
 
 /// The number that a global holds; 0 if there is no such global.
-fn number_at(cells: &Cells, global: u32) -> i64
+fn cell(cells: &Cells, global: u32) -> i64
     ensures { result ≡ cell cells.now global }
 {
     let slot = global as usize;
@@ -43,20 +45,20 @@ pub fn set_inputs(image: &[(u32, Value)], cells: &mut Cells)
 
 /// Runs the program of a number, from 0, unless it is faulted, and returns its fault. What it assigned before a fault is kept.
 fn run_program(
-    flat: &Flat,
+    plant: &Plant,
     program: u32,
     moment: u64,
     cells: &mut Cells,
     is_faulted: bool,
 ) -> Option<(Place, Trap)>
-    requires { program < 1 }
-    ensures ran { (w : World) → Stands flat.now cells.old w → Agree flat.now (run_by is_faulted flat.now program moment w) (ended_by flat.now result cells.new) }
-    ensures within { IfSome result (λ fault. fault.0.path < length (paths_of flat.now)) }
+    requires { program < length (programs_of plant.now) }
+    ensures ran { (w : World) → Stands plant.now.source cells.old w → Agree plant.now.source (run_by is_faulted plant.now.source program moment w) (ended_by plant.now.source result cells.new) }
+    ensures within { IfSome result (λ fault. fault.0.path < length (paths_of plant.now.source)) }
 {
     if is_faulted {
         return None;
     }
-    match walk(flat, program, cells, moment) {
+    match walk(plant.flat(), program, cells, moment) {
         Walked::Done => None,
         Walked::Trapped(place, trap) => Some((place, trap)),
     }
@@ -67,20 +69,21 @@ fn run_program(
 /// Fails if allocation fails.
 pub fn run_programs(
     alloc: Global,
-    flat: &Flat,
+    plant: &Plant,
     moment: u64,
     cells: &mut Cells,
     faulted: &mut Vec<bool>,
 ) -> Result<Vec<(Place, Trap)>, AllocError>
-    requires { length faulted.old.items ≡ 1 }
-    ensures ran { IfOk result (λ faults. (w : World) → Stands flat.now cells.old w → ProgramsRan flat.now (programs_from flat.now moment 0 faulted.old.items w) cells.new faulted.new.items faults.items) }
-    ensures within { IfOk result (λ faults. All (λ f. f.0.path < length (paths_of flat.now)) faults.items) }
+    requires { length faulted.old.items ≡ length (programs_of plant.now) }
+    ensures ran { IfOk result (λ faults. (w : World) → Stands plant.now.source cells.old w → ProgramsRan plant.now.source (programs_from plant.now.source moment 0 faulted.old.items w) cells.new faulted.new.items faults.items) }
+    ensures within { IfOk result (λ faults. All (λ f. f.0.path < length (paths_of plant.now.source)) faults.items) }
 {
     let mut faults = Vec::new(alloc);
-    for program in 0..faulted.len() {
-        let fault = run_program(flat, program as u32, moment, cells, faulted[program]);
+    for program in 0..plant.programs() {
+        let at = program as usize;
+        let fault = run_program(plant, program, moment, cells, faulted[at]);
         if let Some(fault) = fault {
-            faulted[program] = true;
+            faulted[at] = true;
             faults.push(fault)?;
         }
     }
@@ -103,7 +106,7 @@ pub fn opening_alarms(alloc: Global, rows: &[AlarmRow]) -> Result<Vec<Alarm>, Al
 fn is_set(cells: &Cells, global: u32) -> bool
     ensures { result ≡ is_true (cell cells.now global) }
 {
-    number_at(cells, global) != 0
+    cell(cells, global) != 0
 }
 
 /// Whether an alarm is suppressed.
@@ -116,21 +119,23 @@ fn is_suppressed(cells: &Cells, row: &AlarmRow) -> bool
     }
 }
 
-/// The alarms after a scan, each stepped by itself, and the changes of their codes in the order of the database. Fails if allocation
-/// fails.
+/// The alarms after a scan, each stepped by itself, in the room of other alarms, and the changes of their codes in the order of the
+/// database. Fails if allocation fails.
 pub fn step_alarms(
     alloc: Global,
     rows: &[AlarmRow],
     cells: &Cells,
     moment: u64,
     alarms: &[Alarm],
+    room: Vec<Alarm>,
 ) -> Result<(Vec<Alarm>, Vec<(u32, Change)>), AllocError>
     requires few { length rows.now < 2 ^ 32 }
     requires each { length alarms.now ≡ length rows.now }
     ensures alarms { IfOk result (λ r. r.0.items ≡ alarms_after (cell cells.now) moment rows.now alarms.now) }
     ensures changes { IfOk result (λ r. r.1.items ≡ changes_from 0 alarms.now (alarms_after (cell cells.now) moment rows.now alarms.now)) }
 {
-    let mut next = Vec::new(alloc);
+    let mut next = room;
+    next.clear();
     let mut changes = Vec::new(alloc);
     for (i, row) in rows.iter().enumerate() {
         let mut alarm = alarms[i];
@@ -177,43 +182,42 @@ pub fn outputs(
     for (i, global) in globals.iter().enumerate() {
         if is_output(global.region) {
             let number = i as u32;
-            outputs.push((number, shown(global.kind, number_at(cells, number))))?;
+            outputs.push((number, shown(global.kind, cell(cells, number))))?;
         }
     }
     Ok(outputs)
 }
 
-/// The value of an output, if it isn't what it was before.
-fn out_at(number: u32, global: &Variable, before: &Cells, now: &Cells) -> Option<Value>
-    ensures { result ≡ out_at number global.now (cell before.now) (cell now.now) }
+/// The outputs with the values that they have in cells, in the room of other outputs. Fails if allocation fails.
+pub fn renewed(
+    outputs: &[(u32, Value)],
+    cells: &Cells,
+    room: Vec<(u32, Value)>,
+) -> Result<Vec<(u32, Value)>, AllocError>
+    ensures { IfOk result (λ renewed. renewed.items ≡ map (output_in (cell cells.now)) outputs.now) }
 {
-    if !is_output(global.region) {
-        return None;
+    let mut renewed = room;
+    renewed.clear();
+    for (global, value) in outputs {
+        renewed.push((*global, shown(value.kind(), cell(cells, *global))))?;
     }
-    let value = number_at(now, number);
-    if number_at(before, number) == value {
-        None
-    } else {
-        Some(shown(global.kind, value))
-    }
+    Ok(renewed)
 }
 
-/// The outputs whose value isn't what it was before, in order of declaration. Fails if allocation fails.
-pub fn outs(
+/// The outputs whose number isn't what it was before, in order. Fails if allocation fails.
+pub fn changed(
     alloc: Global,
-    globals: &[Variable],
+    outputs: &[(u32, Value)],
     before: &Cells,
     now: &Cells,
 ) -> Result<Vec<(u32, Value)>, AllocError>
-    requires { length globals.now < 2 ^ 32 }
-    ensures { IfOk result (λ outs. outs.items ≡ outs_from 0 globals.now (cell before.now) (cell now.now)) }
+    ensures { IfOk result (λ changed. changed.items ≡ filter (differs (cell before.now) (cell now.now)) outputs.now) }
 {
-    let mut outs = Vec::new(alloc);
-    for (i, global) in globals.iter().enumerate() {
-        let number = i as u32;
-        if let Some(value) = out_at(number, global, before, now) {
-            outs.push((number, value))?;
+    let mut changed = Vec::new(alloc);
+    for (global, value) in outputs {
+        if cell(before, *global) != cell(now, *global) {
+            changed.push((*global, *value))?;
         }
     }
-    Ok(outs)
+    Ok(changed)
 }

@@ -27,6 +27,8 @@ unfit_is_refused text source (fault.Name unit) spelled h = (source, spelled, h)
 unfit_is_refused text source (fault.Kind unit) spelled h = (source, spelled, h)
 unfit_is_refused text source (fault.Constant unit) spelled h = (source, spelled, h)
 unfit_is_refused text source fault.Turns spelled h = (source, spelled, h)
+unfit_is_refused text source fault.Programs spelled h = (source, spelled, h)
+unfit_is_refused text source fault.Slots spelled h = (source, spelled, h)
 unfit_is_refused text source fault.Condition spelled h = (source, spelled, h)
 
 pub unfit_result_is_refused : (text : List ℕ) (source : Source) (r : Result PlainPlant ConfigFault) → Spelled text source → IfErr r (IsUnfit source) → IfErr r (IsRefused text)

@@ -18,8 +18,8 @@ use Rattle.plant_config.specs.declared.fault.ConfigFault.{ConfigFault}
 use Rattle.plant_config.specs.declared.fault.ConfigFault.TheVariants as fault
 use Rattle.plant_config.specs.Logic.{logic_of}
 use Rattle.plant_config.specs.Plants.{PlainPlant}
-use Rattle.plant_config.specs.Example.{condition_of, example}
-use Rattle.plant_config.specs.Accepted.{HasUnit, Spelled, Accepted, unit_of, IsRefused}
+use Rattle.plant_config.specs.Example.{condition_number, example}
+use Rattle.plant_config.specs.Accepted.{HasUnit, Spelled, Accepted, IsRefused}
 
 -- a text is accepted, or refused for another reason than Memory
 abbrev pub Decided : List ℕ → Type 0
@@ -39,28 +39,31 @@ read_by ts (Some found) is = read_whole ts found.0 found.1 is
 read_by ts None is = fails (λ u spelled. none_read ts u is spelled)
 
 -- ---- a source has a first fault or none, and that is never Memory
-which_is_no_memory : (a b c d e : Bool) → which_fault a b c d e ≡ Some first.Memory → ⊥
-which_is_no_memory true b c d e h = cc
-which_is_no_memory false true c d e h = cc
-which_is_no_memory false false true d e h = cc
-which_is_no_memory false false false true e h = cc
-which_is_no_memory false false false false true h = cc
-which_is_no_memory false false false false false h = cc
+which_is_no_memory : (a b c : Option (List ℕ)) (d e f : Bool) → which_fault a b c d e f ≡ Some first.Memory → ⊥
+which_is_no_memory (Some x) b c d e f h = cc
+which_is_no_memory None (Some x) c d e f h = cc
+which_is_no_memory None None (Some x) d e f h = cc
+which_is_no_memory None None None true e f h = cc
+which_is_no_memory None None None false true f h = cc
+which_is_no_memory None None None false false true h = cc
+which_is_no_memory None None None false false false h = cc
 
 unfit : (text : List ℕ) (source : Source) (f : FirstFault) → Spelled text source → first_fault source ≡ Some f → Decided text
-unfit text source first.Memory spelled is = absurd (which_is_no_memory _ _ _ _ _ is)
-unfit text source (first.Name globals) spelled is = inr (fault.Name (unit_of globals source), (source, spelled, (globals, is, refl)), λ e. cc)
-unfit text source first.Kind spelled is = inr (fault.Kind source.name, (source, spelled, (is, refl)), λ e. cc)
-unfit text source first.Constant spelled is = inr (fault.Constant source.name, (source, spelled, (is, refl)), λ e. cc)
+unfit text source first.Memory spelled is = absurd (which_is_no_memory _ _ _ _ _ _ is)
+unfit text source (first.Name unit) spelled is = inr (fault.Name unit, (source, spelled, is), λ e. cc)
+unfit text source (first.Kind unit) spelled is = inr (fault.Kind unit, (source, spelled, is), λ e. cc)
+unfit text source (first.Constant unit) spelled is = inr (fault.Constant unit, (source, spelled, is), λ e. cc)
 unfit text source first.Turns spelled is = inr (fault.Turns, (source, spelled, is), λ e. cc)
+unfit text source first.Programs spelled is = inr (fault.Programs, (source, spelled, is), λ e. cc)
+unfit text source first.Slots spelled is = inr (fault.Slots, (source, spelled, is), λ e. cc)
 
-sound : (text : List ℕ) (source : Source) (o : Option ℕ) → Spelled text source → first_fault source ≡ None → condition_of source ≡ o → Decided text
+sound : (text : List ℕ) (source : Source) (o : Option ℕ) → Spelled text source → first_fault source ≡ None → condition_number source.globals ≡ o → Decided text
 sound text source (Some n) spelled is found = inl (example source n, record { spelled = spelled; sound = is; example = record { number = n; condition = found; built = refl } })
 sound text source None spelled is found = inr (fault.Condition, (source, spelled, (is, found)), λ e. cc)
 
 of_source : (text : List ℕ) (source : Source) (o : Option FirstFault) → Spelled text source → first_fault source ≡ o → Decided text
 of_source text source (Some f) spelled is = unfit text source f spelled is
-of_source text source None spelled is = sound text source (condition_of source) spelled is refl
+of_source text source None spelled is = sound text source (condition_number source.globals) spelled is refl
 
 -- ---- from the text
 of_unit : (text : List ℕ) (unit : PlainUnit) (o : Option Source) → HasUnit text unit → logic_of unit ≡ o → Decided text

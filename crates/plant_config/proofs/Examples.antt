@@ -7,8 +7,10 @@ use Rattle.plant_types.specs.declared.values.Kind.{Kind}
 use Rattle.plant_types.specs.declared.values.Kind.TheVariants as kind
 use Rattle.st_resolve.specs.declared.logic.Variable.{Variable}
 use Rattle.st_resolve.specs.Source.{Source}
+use Rattle.st_resolve.specs.Faults.{first_fault}
+use Rattle.st_resolve.proofs.Right.{few_variables, few_programs}
 use Rattle.plant_config.specs.Plants.{IsBoolGlobal, IsAlarmRow, IsPlant}
-use Rattle.plant_config.specs.Example.{is_bool, is_condition, condition_of, example, example_alarm}
+use Rattle.plant_config.specs.Example.{is_bool, is_condition, condition_number, example, example_alarm}
 
 both_true : (a b : Bool) → (a && b) ≡ true → b ≡ true
 both_true true b h = h
@@ -23,7 +25,7 @@ any_global : Variable
 any_global = record { name = []; region = None; kind = kind.Bool }
 
 -- the condition is a BOOL global
-condition_is_bool : (source : Source) (n : ℕ) → condition_of source ≡ Some n → IsBoolGlobal source.globals n
+condition_is_bool : (source : Source) (n : ℕ) → condition_number source.globals ≡ Some n → IsBoolGlobal source.globals n
 condition_is_bool source n found =
     record {
       within = (position-Some is_condition source.globals n any_global found).0;
@@ -39,9 +41,11 @@ one_of_one P x holds zero d within = holds
 one_of_one P x holds (suc k) d within = absurd (omega arith)
 
 -- the plant around a source is a plant
-pub example_is_plant : (source : Source) (n : ℕ) → condition_of source ≡ Some n → IsPlant (example source n)
-example_is_plant source n found =
+pub example_is_plant : (source : Source) (n : ℕ) → first_fault source ≡ None → condition_number source.globals ≡ Some n → IsPlant (example source n)
+example_is_plant source n sound found =
     record {
+      globals = (let few = few_variables source sound in omega (arith, few));
+      programs = (let few = few_programs source sound in omega (arith, few));
       few = lit≤ tt;
       areas = lit≤ tt;
       alarms =

@@ -15,8 +15,8 @@ use Rattle.plant_config.specs.declared.fault.ConfigFault.{ConfigFault}
 use Rattle.plant_config.specs.declared.fault.ConfigFault.TheVariants as fault
 use Rattle.plant_config.specs.Logic.{logic_of}
 use Rattle.plant_config.specs.Plants.{PlainPlant}
-use Rattle.plant_config.specs.Example.{condition_of, example}
-use Rattle.plant_config.specs.Accepted.{HasUnit, Spelled, Accepted, Unspelled, unit_of, IsUnfit, IsRefused, SameRefusal}
+use Rattle.plant_config.specs.Example.{condition_number, example}
+use Rattle.plant_config.specs.Accepted.{HasUnit, Spelled, Accepted, Unspelled, IsUnfit, IsRefused, SameRefusal}
 
 same_some : {A : Type 0} (x y : A) → Some x ≡ Some y → x ≡ y
 same_some x y e = cc
@@ -45,21 +45,23 @@ built_or_not text source unit a has none = none_some source (sym none ∙ ap log
 -- the refusal by the first fault, else whether there is a condition
 abbrev refusal_by : Source → Option FirstFault → Option ℕ → Option ConfigFault
 refusal_by source (Some first.Memory) condition = Some fault.Memory
-refusal_by source (Some (first.Name globals)) condition = Some (fault.Name (unit_of globals source))
-refusal_by source (Some first.Kind) condition = Some (fault.Kind source.name)
-refusal_by source (Some first.Constant) condition = Some (fault.Constant source.name)
+refusal_by source (Some (first.Name unit)) condition = Some (fault.Name unit)
+refusal_by source (Some (first.Kind unit)) condition = Some (fault.Kind unit)
+refusal_by source (Some (first.Constant unit)) condition = Some (fault.Constant unit)
 refusal_by source (Some first.Turns) condition = Some fault.Turns
+refusal_by source (Some first.Programs) condition = Some fault.Programs
+refusal_by source (Some first.Slots) condition = Some fault.Slots
 refusal_by source None None = Some fault.Condition
 refusal_by source None (Some number) = None
 
 abbrev refusal_of : Source → Option ConfigFault
-refusal_of source = refusal_by source (first_fault source) (condition_of source)
+refusal_of source = refusal_by source (first_fault source) (condition_number source.globals)
 
-by_first : (source : Source) (found : FirstFault) → first_fault source ≡ Some found → refusal_of source ≡ refusal_by source (Some found) (condition_of source)
-by_first source found e = ap (λ o. refusal_by source o (condition_of source)) e
+by_first : (source : Source) (found : FirstFault) → first_fault source ≡ Some found → refusal_of source ≡ refusal_by source (Some found) (condition_number source.globals)
+by_first source found e = ap (λ o. refusal_by source o (condition_number source.globals)) e
 
-without_fault : (source : Source) (condition : Option ℕ) → first_fault source ≡ None → condition_of source ≡ condition → refusal_of source ≡ refusal_by source None condition
-without_fault source condition e h = ap (λ o. refusal_by source o (condition_of source)) e ∙ ap (refusal_by source None) h
+without_fault : (source : Source) (condition : Option ℕ) → first_fault source ≡ None → condition_number source.globals ≡ condition → refusal_of source ≡ refusal_by source None condition
+without_fault source condition e h = ap (λ o. refusal_by source o (condition_number source.globals)) e ∙ ap (refusal_by source None) h
 
 -- a refusal of a source is Memory, or the one that it has
 its_refusal : (source : Source) (f : ConfigFault) → IsUnfit source f → (f ≡ fault.Memory) ⊎ (refusal_of source ≡ Some f)
@@ -67,10 +69,12 @@ its_refusal source fault.Memory h = inl refl
 its_refusal source (fault.Spelling line column) h = absurd h
 its_refusal source (fault.Grammar line column) h = absurd h
 its_refusal source fault.NotYet h = absurd h
-its_refusal source (fault.Name unit) h = inr (by_first source (first.Name h.0) h.1 ∙ ap (λ u. Some (fault.Name u)) (sym h.2))
-its_refusal source (fault.Kind unit) h = inr (by_first source first.Kind h.0 ∙ ap (λ u. Some (fault.Kind u)) (sym h.1))
-its_refusal source (fault.Constant unit) h = inr (by_first source first.Constant h.0 ∙ ap (λ u. Some (fault.Constant u)) (sym h.1))
+its_refusal source (fault.Name unit) h = inr (by_first source (first.Name unit) h)
+its_refusal source (fault.Kind unit) h = inr (by_first source (first.Kind unit) h)
+its_refusal source (fault.Constant unit) h = inr (by_first source (first.Constant unit) h)
 its_refusal source fault.Turns h = inr (by_first source first.Turns h)
+its_refusal source fault.Programs h = inr (by_first source first.Programs h)
+its_refusal source fault.Slots h = inr (by_first source first.Slots h)
 its_refusal source fault.Condition h = inr (without_fault source None h.0 h.1)
 
 -- ---- the refusal of a text
@@ -94,6 +98,8 @@ reason text (fault.Name unit) h = of_source text (fault.Name unit) h
 reason text (fault.Kind unit) h = of_source text (fault.Kind unit) h
 reason text (fault.Constant unit) h = of_source text (fault.Constant unit) h
 reason text fault.Turns h = of_source text fault.Turns h
+reason text fault.Programs h = of_source text fault.Programs h
+reason text fault.Slots h = of_source text fault.Slots h
 reason text fault.Condition h = of_source text fault.Condition h
 
 -- ---- what is accepted
@@ -118,7 +124,7 @@ refusal_is_memory text (Err f) h plant accepted = accepted_is_taken text plant f
 pub accepted_once : (text : List ℕ) (a b : PlainPlant) → Accepted text a → Accepted text b → a ≡ b
 accepted_once text a b x y =
     let same = one_source text a.source b.source x.spelled y.spelled in
-    let number : x.example.number ≡ y.example.number = same_some _ _ (sym x.example.condition ∙ (ap condition_of same ∙ y.example.condition)) in
+    let number : x.example.number ≡ y.example.number = same_some _ _ (sym x.example.condition ∙ (ap (λ source. condition_number source.globals) same ∙ y.example.condition)) in
     x.example.built ∙ (ap (λ s. example s x.example.number) same ∙ (ap (example b.source) number ∙ sym y.example.built))
 
 -- ---- one refusal
@@ -131,6 +137,8 @@ memory_too (fault.Name unit) = tt
 memory_too (fault.Kind unit) = tt
 memory_too (fault.Constant unit) = tt
 memory_too fault.Turns = tt
+memory_too fault.Programs = tt
+memory_too fault.Slots = tt
 memory_too fault.Condition = tt
 
 itself : (f : ConfigFault) → SameRefusal f f
@@ -142,6 +150,8 @@ itself (fault.Name unit) = refl
 itself (fault.Kind unit) = refl
 itself (fault.Constant unit) = refl
 itself fault.Turns = tt
+itself fault.Programs = tt
+itself fault.Slots = tt
 itself fault.Condition = tt
 
 first_is : (f g h : ConfigFault) → f ≡ g → SameRefusal g h → SameRefusal f h

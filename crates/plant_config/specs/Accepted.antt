@@ -1,5 +1,5 @@
 -- Which texts are accepted as a plant's source, and why the others aren't.
-use Rattle.std.specs.Prelude.{◌≡◌, ⊤, ℕ, ◌≤◌, Bool, if◌then◌else◌, List, length, Some, None, codes}
+use Rattle.std.specs.Prelude.{◌≡◌, ⊤, ℕ, ◌≤◌, List, length, Some, None}
 use Rattle.st_lexer.specs.declared.token.Token.{Token}
 use Rattle.st_lexer.specs.Lexes.{Lexes, Stops, unmarked, start_of}
 use Rattle.st_lexer.specs.Places.{line_at, column_at}
@@ -13,7 +13,7 @@ use Rattle.plant_config.specs.declared.fault.ConfigFault.{ConfigFault}
 use Rattle.plant_config.specs.declared.fault.ConfigFault.TheVariants as fault
 use Rattle.plant_config.specs.Logic.{logic_of}
 use Rattle.plant_config.specs.Plants.{PlainPlant}
-use Rattle.plant_config.specs.Example.{condition_of, IsExample}
+use Rattle.plant_config.specs.Example.{condition_number, IsExample}
 
 -- a text has tokens, and these spell a unit
 pub record HasUnit (text : List ℕ) (unit : PlainUnit) : Type 0 where
@@ -43,21 +43,19 @@ pub record Unspelled (text : List ℕ) (line column : ℕ) : Type 0 where
   pub line_is : line ≡ line_at (unmarked text) (start_of text tokens token)
   pub column_is : column ≡ column_at (unmarked text) (start_of text tokens token)
 
--- the unit of a fault: the globals, or the program by its name
-abbrev pub unit_of : Bool → Source → List ℕ
-unit_of globals source = if globals then codes "VAR_GLOBAL" else source.name
-
 -- why a source is refused, Memory apart: its first fault, or else that it has no condition
 abbrev pub IsUnfit : Source → ConfigFault → Type 0
 IsUnfit source fault.Memory = ⊤
 IsUnfit source (fault.Spelling line column) = ⊥
 IsUnfit source (fault.Grammar line column) = ⊥
 IsUnfit source fault.NotYet = ⊥
-IsUnfit source (fault.Name unit) = (globals : Bool) × (first_fault source ≡ Some (first.Name globals)) × (unit ≡ unit_of globals source)
-IsUnfit source (fault.Kind unit) = (first_fault source ≡ Some first.Kind) × (unit ≡ source.name)
-IsUnfit source (fault.Constant unit) = (first_fault source ≡ Some first.Constant) × (unit ≡ source.name)
+IsUnfit source (fault.Name unit) = first_fault source ≡ Some (first.Name unit)
+IsUnfit source (fault.Kind unit) = first_fault source ≡ Some (first.Kind unit)
+IsUnfit source (fault.Constant unit) = first_fault source ≡ Some (first.Constant unit)
 IsUnfit source fault.Turns = first_fault source ≡ Some first.Turns
-IsUnfit source fault.Condition = (first_fault source ≡ None) × (condition_of source ≡ None)
+IsUnfit source fault.Programs = first_fault source ≡ Some first.Programs
+IsUnfit source fault.Slots = first_fault source ≡ Some first.Slots
+IsUnfit source fault.Condition = (first_fault source ≡ None) × (condition_number source.globals ≡ None)
 
 -- why a text is refused, Memory apart: it has no tokens, or these spell no unit, or not all of the unit is built, or its source is refused
 abbrev pub IsRefused : List ℕ → ConfigFault → Type 0
@@ -84,6 +82,10 @@ SameRefusal (fault.Constant unit) fault.Memory = ⊤
 SameRefusal (fault.Constant unit) (fault.Constant other) = unit ≡ other
 SameRefusal fault.Turns fault.Memory = ⊤
 SameRefusal fault.Turns fault.Turns = ⊤
+SameRefusal fault.Programs fault.Memory = ⊤
+SameRefusal fault.Programs fault.Programs = ⊤
+SameRefusal fault.Slots fault.Memory = ⊤
+SameRefusal fault.Slots fault.Slots = ⊤
 SameRefusal fault.Condition fault.Memory = ⊤
 SameRefusal fault.Condition fault.Condition = ⊤
 SameRefusal _ _ = ⊥

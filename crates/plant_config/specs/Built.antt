@@ -1,4 +1,4 @@
--- What of the language is built so far: programs without function blocks, and variables that begin at FALSE or 0.
+-- What of the language is built so far: programs without function blocks.
 use Rattle.std.specs.Prelude.{Bool, true, false, ◌&&◌, Option, Some, None}
 use Rattle.std.specs.List.{list_all}
 use Rattle.st_parser.specs.declared.unit.PouKind.{PouKind}
@@ -55,14 +55,9 @@ abbrev pub sort_built : Sort → Bool
 sort_built (sort.Kind kind) = true
 sort_built (sort.Block name) = false
 
--- no initial value is written
-abbrev pub begins_built : {A : Type 0} → Option A → Bool
-begins_built None = true
-begins_built (Some e) = false
-
--- a declaration of variables of a kind, without an initial value
+-- a declaration of variables of a kind, whose initial value takes no output of an instance
 abbrev pub declaration_built : PlainDeclaration → Bool
-declaration_built d = sort_built d.sort && begins_built d.initial
+declaration_built d = sort_built d.sort && option_built d.initial
 
 -- a section of such declarations
 abbrev pub section_built : PlainSection → Bool

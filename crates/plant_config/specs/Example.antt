@@ -45,12 +45,12 @@ is_bool _ = false
 abbrev pub is_condition : Variable → Bool
 is_condition global = same_word global.name (codes "c") && is_bool global.kind
 
--- the number of the one that is, where there is one
-abbrev pub condition_of : Source → Option ℕ
-condition_of source = position is_condition source.globals
+-- the number of the first global that is, where there is one
+abbrev pub condition_number : List Variable → Option ℕ
+condition_number globals = position is_condition globals
 
 -- a plant is the one that is built in, around its own source and the condition of this
 pub record IsExample (plant : PlainPlant) : Type 0 where
   pub number : ℕ
-  pub condition : condition_of plant.source ≡ Some number
+  pub condition : condition_number plant.source.globals ≡ Some number
   pub built : plant ≡ example plant.source number

@@ -18,4 +18,6 @@ config_line (fault.Name unit) = codes "CONFIG C6 p.st " ++ unit
 config_line (fault.Kind unit) = codes "CONFIG C7 p.st " ++ unit
 config_line (fault.Constant unit) = codes "CONFIG C9 p.st " ++ unit
 config_line fault.Turns = codes "CONFIG C10 TURNS"
+config_line fault.Programs = codes "CONFIG C10 PROGRAMS"
+config_line fault.Slots = codes "CONFIG C10 SLOTS"
 config_line fault.Condition = codes "CONFIG C14 1 condition"

@@ -1,13 +1,19 @@
 -- The names of a plant's parts by their numbers, and the numbers by their names.
-use Rattle.std.specs.Prelude.{ℕ, List, [], ◌∷◌, if◌then◌else◌, Option, Some, None, slice_get, position}
+use Rattle.std.specs.Prelude.{ℕ, List, [], map, Option, slice_get, slice_index_or, position}
 use Rattle.std.specs.Option.{option_map_or}
 use Rattle.std.specs.Str.{bytes_eq}
 use Rattle.plant_types.specs.Words.{same_word}
+use Rattle.st_resolve.specs.declared.logic.Variable.{Variable}
+use Rattle.st_resolve.specs.Source.{PlainProgram}
 use Rattle.plant_config.specs.Plants.{PlainPlant}
+
+-- the globals, in order of declaration
+abbrev pub globals_of : PlainPlant → List Variable
+globals_of plant = plant.source.globals
 
 -- the names of the programs, in order
 abbrev pub programs_of : PlainPlant → List (List ℕ)
-programs_of plant = plant.source.name ∷ []
+programs_of plant = map (λ (p : PlainProgram). p.name) plant.source.programs
 
 -- the paths of the bodies in which a trap may occur, in order
 abbrev pub body_paths : PlainPlant → List (List ℕ)
@@ -27,12 +33,20 @@ area_of plant area = option_map_or (λ name. name) (slice_get plant.areas area) 
 
 -- the name of a global
 abbrev pub global_of : PlainPlant → ℕ → List ℕ
-global_of plant global = option_map_or (λ variable. variable.name) (slice_get plant.source.globals global) []
+global_of plant global = option_map_or (λ variable. variable.name) (slice_get (globals_of plant) global) []
 
 -- the first alarm with a tag; letter case counts
 abbrev pub alarm_number : PlainPlant → List ℕ → Option ℕ
 alarm_number plant tag = position (λ row. bytes_eq row.tag tag) plant.alarms
 
--- the program with a name; letter case is ignored
+-- the first program with a name; letter case is ignored
 abbrev pub program_number : PlainPlant → List ℕ → Option ℕ
-program_number plant name = if same_word plant.source.name name then Some 0 else None
+program_number plant name = position (λ program. same_word program name) (programs_of plant)
+
+-- the name of a program
+abbrev pub program_at : PlainPlant → ℕ → List ℕ
+program_at plant program = slice_index_or (programs_of plant) program []
+
+-- the path of the body of a number
+abbrev pub body_path : PlainPlant → ℕ → List ℕ
+body_path plant path = slice_index_or (body_paths plant) path []

@@ -1,5 +1,5 @@
 -- A plant as contracts see it.
-use Rattle.std.specs.Prelude.{◌≡◌, ℕ, ◌<◌, ◌≤◌, List, length, slice_get, IfSome, All}
+use Rattle.std.specs.Prelude.{◌≡◌, ℕ, ◌<◌, ◌≤◌, ◌^◌, List, length, slice_get, IfSome, All}
 use Rattle.plant_types.specs.declared.values.Kind.TheVariants as kind
 use Rattle.st_resolve.specs.declared.logic.Variable.{Variable}
 use Rattle.plant_config.specs.declared.rows.AlarmRow.{AlarmRow}
@@ -27,8 +27,10 @@ pub record IsAlarmRow (plant : PlainPlant) (row : AlarmRow) : Type 0 where
   pub suppress : IfSome row.suppress (IsBoolGlobal plant.source.globals)
   pub shelve : row.max_shelve_ms ≤ 2592000000
 
--- what holds of each plant
+-- what holds of each plant: globals and programs can be numbered by 32 bits
 pub record IsPlant (plant : PlainPlant) : Type 0 where
+  pub globals : length plant.source.globals < 2 ^ 32
+  pub programs : length plant.source.programs < 2 ^ 32
   pub few : length plant.alarms ≤ 20000
   pub areas : length plant.areas ≤ 64
   pub alarms : All (IsAlarmRow plant) plant.alarms

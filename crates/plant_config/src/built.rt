@@ -105,11 +105,11 @@ fn body_built(body: &[Stmt<Text>]) -> bool
     true
 }
 
-/// Whether the variables of a declaration have a kind and no initial value.
+/// Whether the variables of a declaration have a kind, and their initial value takes no output of an instance.
 fn declaration_built(declaration: &Declaration) -> bool
     ensures { result ≡ declaration_built (view_declaration declaration.now) }
 {
-    matches!(declaration.sort, Sort::Kind(_)) && declaration.initial.is_none()
+    matches!(declaration.sort, Sort::Kind(_)) && option_built(&declaration.initial)
 }
 
 /// Whether each declaration of a section is built.
@@ -156,10 +156,22 @@ fn own_sections_built(sections: &[Section]) -> bool
 }
 
 /// Whether a program is built; a function block isn't.
-pub fn program_built(pou: &Pou) -> bool
+fn program_built(pou: &Pou) -> bool
     ensures { result ≡ program_built (view_pou pou.now) }
 {
     matches!(pou.kind, PouKind::Program)
         && own_sections_built(&pou.sections)
         && body_built(&pou.body)
+}
+
+/// The same of all blocks and programs of a unit.
+pub fn programs_built(pous: &[Pou]) -> bool
+    ensures { result ≡ list_all program_built (map view_pou pous.now) }
+{
+    for pou in pous {
+        if !program_built(pou) {
+            return false;
+        }
+    }
+    true
 }

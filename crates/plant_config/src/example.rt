@@ -1,7 +1,7 @@
 //! The plant that is built in, around the logic of a source.
 
-ghost use Rattle.std.specs.Prelude.{◌≡◌, ◌∷◌, [], ◌<◌, position, IfOk};
-ghost use Rattle.plant_config.specs.Example.{example_areas, example_consoles, example_alarm, is_bool, is_condition};
+ghost use Rattle.std.specs.Prelude.{◌≡◌, ◌∷◌, [], ◌<◌, length, IfOk, IfSome};
+ghost use Rattle.plant_config.specs.Example.{example_areas, example_consoles, example_alarm, is_bool, is_condition, condition_number};
 
 use crate::rows::{AlarmRow, Console};
 use plant_types::{Items, Kind, Text, same_word};
@@ -65,7 +65,8 @@ fn is_condition(global: &Variable) -> bool
 
 /// The number of the first global that can be the alarm's condition.
 pub fn condition_number(globals: &[Variable]) -> Option<usize>
-    ensures { result ≡ position is_condition globals.now }
+    ensures number { result ≡ condition_number globals.now }
+    ensures within { IfSome result (λ number. number < length globals.now) }
 {
     globals.iter().position(is_condition)
 }

@@ -18,16 +18,20 @@ pub enum ConfigFault {
     /// C5: a token with which no unit can go on, or the text's end.
     Grammar { line: usize, column: usize },
     /// The source has what isn't built yet: a function block, a variable of another type than BOOL, DINT and TIME, a call, an output of
-    /// an instance, an initial value, VAR_EXTERNAL, or not exactly one program.
+    /// an instance or VAR_EXTERNAL.
     NotYet,
-    /// C6: a name that isn't declared, is declared twice or is a standard block's, in a unit: `VAR_GLOBAL`, or the program by its name.
+    /// C6: a name that isn't declared, is declared twice or is a standard block's, in a unit: `VAR_GLOBAL`, or a program by its name.
     Name { unit: Text },
-    /// C7: an operand, right side, test, selector, bound or step of another kind, or an assigned input, in a unit.
+    /// C7: an operand, initial value, right side, test, selector, bound or step of another kind, or an assigned input, in a unit.
     Kind { unit: Text },
-    /// C9: a bound or step of a FOR that reads a variable or traps, a step 0, or a control variable that isn't allowed, in a unit.
+    /// C9: an initial value, or a bound or step of a FOR, that reads a variable or traps, a step 0, or a control variable that isn't allowed, in a unit.
     Constant { unit: Text },
     /// C10: a FOR of more than 10,000 turns.
     Turns,
+    /// C10: more than 512 programs.
+    Programs,
+    /// C10: more than 65,536 variables.
+    Slots,
     /// C14: the alarm's condition is no BOOL global.
     Condition,
 }
@@ -59,6 +63,8 @@ impl ConfigFault {
             ConfigFault::Kind { unit } => line_with_unit(alloc, "CONFIG C7 p.st ", unit),
             ConfigFault::Constant { unit } => line_with_unit(alloc, "CONFIG C9 p.st ", unit),
             ConfigFault::Turns => String::from_str(alloc, "CONFIG C10 TURNS"),
+            ConfigFault::Programs => String::from_str(alloc, "CONFIG C10 PROGRAMS"),
+            ConfigFault::Slots => String::from_str(alloc, "CONFIG C10 SLOTS"),
             ConfigFault::Condition => String::from_str(alloc, "CONFIG C14 1 condition"),
         }
     }

@@ -5,17 +5,16 @@ ghost use Rattle.st_lexer.specs.Lexes.{Lexes};
 ghost use Rattle.st_parser.specs.Declarations.{SpellsUnit};
 ghost use Rattle.st_parser.specs.Lexemes.{lexemes};
 ghost use Rattle.st_parser.specs.Units.{view_unit};
-ghost use Rattle.st_resolve.specs.Source.{source_of};
+ghost use Rattle.st_resolve.specs.Source.{Source, source_of};
 ghost use Rattle.st_resolve.specs.Faults.{first_fault, Refuses};
-ghost use Rattle.plant_config.specs.Accepted.{Spelled, IsRefused, IsUnfit, unit_of};
+ghost use Rattle.plant_config.specs.Accepted.{Spelled, IsRefused, IsUnfit};
 
 use crate::fault::ConfigFault;
 use crate::logic::logic_of;
-use plant_types::Text;
 use st_lexer::{LexFault, Token, lex, place_of};
 use st_parser::{ParseFault, Unit, parse};
 use st_resolve::{FirstFault, Flat, Logic};
-use std::alloc::{AllocError, Global};
+use std::alloc::Global;
 
 /// The logic that a text spells, made ready to run, or why there is none.
 pub fn flat_of(alloc: Global, text: &[u8]) -> Result<Flat, ConfigFault>
@@ -24,7 +23,7 @@ pub fn flat_of(alloc: Global, text: &[u8]) -> Result<Flat, ConfigFault>
     ensures refused { IfErr result (IsRefused text.now) }
 {
     let logic = spelled_logic(alloc, text)?;
-    let flat = resolved(alloc, &logic)?;
+    let flat = resolved(alloc, logic)?;
     Ok(flat)
 }
 
@@ -71,46 +70,27 @@ fn unit(alloc: Global, text: &[u8], tokens: &[Token]) -> Result<Unit, ConfigFaul
 }
 
 /// The logic made ready to run, or the refusal by its first fault.
-fn resolved(alloc: Global, logic: &Logic) -> Result<Flat, ConfigFault>
-    ensures flat { IfOk result (λ flat. (flat ≡ source_of logic.now) × (first_fault flat ≡ None)) }
-    ensures refused { IfErr result (IsUnfit (source_of logic.now)) }
+fn resolved(alloc: Global, logic: Logic) -> Result<Flat, ConfigFault>
+    ensures flat { IfOk result (λ flat. (flat ≡ source_of logic) × (first_fault flat ≡ None)) }
+    ensures refused { IfErr result (IsUnfit (source_of logic)) }
 {
     match Flat::of(alloc, logic) {
         Ok(flat) => Ok(flat),
-        Err(fault) => Err(unfit(alloc, fault, logic)?),
+        Err(fault) => Err(unfit(fault)),
     }
 }
 
-/// The refusal of a logic by its first fault: C6, C7, C9 or C10. Fails if allocation fails.
-fn unfit(alloc: Global, fault: FirstFault, logic: &Logic) -> Result<ConfigFault, AllocError>
-    requires { Refuses (first_fault (source_of logic.now)) fault }
-    ensures { IfOk result (IsUnfit (source_of logic.now)) }
+/// The refusal of a source by its first fault: C6, C7, C9 or C10.
+fn unfit(fault: FirstFault) -> ConfigFault
+    ensures { (source : Source) → Refuses (first_fault source) fault → IsUnfit source result }
 {
     match fault {
-        FirstFault::Memory => Err(AllocError),
-        FirstFault::Name { globals } => {
-            let unit = unit_name(alloc, globals, logic)?;
-            Ok(ConfigFault::Name { unit })
-        }
-        FirstFault::Kind => {
-            let unit = unit_name(alloc, false, logic)?;
-            Ok(ConfigFault::Kind { unit })
-        }
-        FirstFault::Constant => {
-            let unit = unit_name(alloc, false, logic)?;
-            Ok(ConfigFault::Constant { unit })
-        }
-        FirstFault::Turns => Ok(ConfigFault::Turns),
-    }
-}
-
-/// The name of the unit of a fault: `VAR_GLOBAL` for the globals, else the program's. Fails if allocation fails.
-fn unit_name(alloc: Global, globals: bool, logic: &Logic) -> Result<Text, AllocError>
-    ensures { IfOk result (λ name. name ≡ unit_of globals (source_of logic.now)) }
-{
-    if globals {
-        Text::from_str(alloc, "VAR_GLOBAL")
-    } else {
-        logic.program.name.copy(alloc)
+        FirstFault::Memory => ConfigFault::Memory,
+        FirstFault::Name { unit } => ConfigFault::Name { unit },
+        FirstFault::Kind { unit } => ConfigFault::Kind { unit },
+        FirstFault::Constant { unit } => ConfigFault::Constant { unit },
+        FirstFault::Turns => ConfigFault::Turns,
+        FirstFault::Programs => ConfigFault::Programs,
+        FirstFault::Slots => ConfigFault::Slots,
     }
 }

@@ -1,18 +1,21 @@
 //! The plant, its parts and their names.
 
 ghost use Rattle.std.specs.Prelude.{◌≡◌, ◌<◌, length, position, IfSome, IfOk, IfErr, None};
+ghost use Rattle.plant_types.specs.Words.{same_word};
+ghost use Rattle.st_resolve.specs.declared.logic.Program.{Program};
+ghost use Rattle.st_resolve.specs.Faults.{first_fault};
 ghost use Rattle.std.specs.Str.{bytes_eq};
 ghost use Rattle.plant_config.specs.Plants.{PlainPlant, IsPlant};
 ghost use Rattle.plant_config.specs.Accepted.{Accepted, IsRefused, IsUnfit};
 ghost use Rattle.plant_config.specs.Example.{IsExample};
 ghost use Rattle.plant_config.specs.declared.fault.ConfigFault.TheVariants as fault;
-ghost use Rattle.plant_config.specs.Names.{alarm_number, program_number, programs_of, body_paths, tag_of, area_of, global_of, priority_of};
+ghost use Rattle.plant_config.specs.Names.{alarm_number, globals_of, program_number, programs_of, program_at, body_paths, body_path, tag_of, area_of, global_of, priority_of};
 
 use crate::fault::ConfigFault;
 use crate::rows::{AlarmRow, Console};
 use crate::{example, front};
 use plant_types::{Text, same_word};
-use st_resolve::Flat;
+use st_resolve::{Flat, Program};
 use std::alloc::Global;
 use std::marker::Model;
 
@@ -44,8 +47,7 @@ impl Plant {
     /// The plant that is built in, around the logic of a source: areas north and south, console 1 for north and 2 for south, and
     /// the alarm T1 in north on the BOOL global `c`. The source is Structured Text (IEC 61131-3, this profile).
     ///
-    /// Every fault but `Memory` is the first that the source has, in the order of `ConfigFault`. `Memory` comes if allocation fails, or if
-    /// the number of the global `c` is 2^32 or more.
+    /// Every fault but `Memory` is the first that the source has, in the order of `ConfigFault`. `Memory` comes if allocation fails.
     pub fn first(alloc: Global, source: &[u8]) -> Result<Plant, ConfigFault>
         ensures plant { IfOk result (Accepted source.now) }
         ensures refused { IfErr result (IsRefused source.now) }
@@ -58,15 +60,14 @@ impl Plant {
 
     /// The plant that is built in, around a source's logic.
     fn around(alloc: Global, flat: Flat) -> Result<Plant, ConfigFault>
+        requires { first_fault flat ≡ None }
         ensures plant { IfOk result (λ plant. (plant.source ≡ flat) × IsExample plant) }
         ensures refused { IfErr result (IsUnfit flat) }
     {
         let Some(number) = example::condition_number(flat.globals()) else {
             return Err(ConfigFault::Condition);
         };
-        let Ok(condition) = u32::try_from(number) else {
-            return Err(ConfigFault::Memory);
-        };
+        let condition = number as u32;
         let areas = example::areas(alloc)?;
         let consoles = example::consoles(alloc)?;
         let alarms = example::alarms(alloc, condition)?;
@@ -117,11 +118,12 @@ impl Plant {
         self.areas.len() as u32
     }
 
-    /// How many programs there are: one.
+    /// How many programs there are.
     pub fn programs(&self) -> u32
-        ensures { result ≡ length (programs_of self.now) }
+        ensures count { result ≡ length (programs_of self.now) }
+        ensures plant { IsPlant self.now }
     {
-        1
+        self.flat.programs().len() as u32
     }
 
     /// The number of the alarm with a tag; `None` if there is none. Letter case counts.
@@ -136,10 +138,9 @@ impl Plant {
     pub fn program_number(&self, name: &str) -> Option<u32>
         ensures { result ≡ program_number self.now name.now }
     {
-        if same_word(self.flat.program().as_bytes(), name.as_bytes()) {
-            Some(0)
-        } else {
-            None
+        match program_row(self.flat.programs(), name) {
+            Some(number) => Some(number as u32),
+            None => None,
         }
     }
 
@@ -169,7 +170,7 @@ impl Plant {
 
     /// The name of a global variable, as declared.
     pub fn global(&self, global: u32) -> &str
-        requires { global < length self.now.source.globals }
+        requires { global < length (globals_of self.now) }
         ensures { result.now ≡ global_of self.now global }
     {
         self.flat.globals()[global as usize].name.as_str()
@@ -178,19 +179,26 @@ impl Plant {
     /// The name of a program, as declared.
     pub fn program(&self, program: u32) -> &str
         requires { program < length (programs_of self.now) }
-        ensures { result.now ≡ self.now.source.name }
+        ensures { result.now ≡ program_at self.now program }
     {
-        prove!(program == 0);
-        self.flat.program()
+        self.flat.programs()[program as usize].name.as_str()
     }
 
     /// The path of the body in which a trap occurred, as a fault prints it: the program's name, as declared.
     pub fn path(&self, path: u32) -> &str
         requires { path < length (body_paths self.now) }
-        ensures { result.now ≡ self.now.source.name }
+        ensures { result.now ≡ body_path self.now path }
     {
         self.program(path)
     }
+}
+
+/// The number of the first program with a name, letter case ignored; `None` if there is none.
+fn program_row(programs: &[Program], name: &str) -> Option<usize>
+    ensures number { result ≡ position (λ (program : Program). same_word program.name name.now) programs.now }
+    ensures within { IfSome result (λ number. number < length programs.now) }
+{
+    programs.iter().position(|program| same_word(program.name.as_bytes(), name.as_bytes()))
 }
 
 /// The number of the first row with a tag; `None` if there is none.

@@ -3,19 +3,19 @@
 use crate::again::again;
 use alarm_machine::{Change, Code, OrderFault, Verb};
 use command_text::{
-    Command, push_alarm, push_done, push_fault, push_out, push_refused, push_reply, read_command,
+    Command, Pool, push_alarm, push_done, push_fault, push_out, push_refused, push_reply,
+    read_command,
 };
 use plant_types::{Given, Trap, Value};
 use std::alloc::{AllocError, Global};
 use std::test::Fail;
 
-/// The moment of a scan and the value of its one pair, or nothing.
+/// The moment of a scan and the value of its one pair, or nothing. The pool has had another line before.
 fn value_of(alloc: Global, line: &[u8]) -> Result<Option<(u64, Given)>, AllocError> {
-    match read_command(alloc, line)? {
-        Command::Scan(moment, pairs) => match pairs.as_slice() {
-            [pair] => Ok(Some((moment, pair.given))),
-            _ => Ok(None),
-        },
+    let mut pool = Pool::new(alloc);
+    let _ = read_command(alloc, &mut pool, b"scan 1 longer=2 c=3")?;
+    match read_command(alloc, &mut pool, line)? {
+        Command::Scan(moment, [pair]) => Ok(Some((moment, pair.given))),
         _ => Ok(None),
     }
 }
@@ -42,8 +42,12 @@ fn scans_give_values(rt: HostRuntime) -> Result<(), Fail> {
 }
 
 /// The order that a line is, or nothing.
-fn order_of<'a>(alloc: Global, line: &'a [u8]) -> Option<(Verb, u32, &'a [u8])> {
-    match read_command(alloc, line) {
+fn order_of<'a>(
+    alloc: Global,
+    pool: &'a mut Pool,
+    line: &'a [u8],
+) -> Option<(Verb, u32, &'a [u8])> {
+    match read_command(alloc, pool, line) {
         Ok(Command::Order(verb, console, word)) => Some((verb, console, word)),
         _ => None,
     }
@@ -67,8 +71,9 @@ fn orders_have_a_console_and_a_word(rt: HostRuntime) {
             b"Pump_1".as_slice(),
         ),
     ] {
+        let mut pool = Pool::new(rt.alloc());
         assert!(rt;
-            order_of(rt.alloc(), line) == Some((verb, console, word)),
+            order_of(rt.alloc(), &mut pool, line) == Some((verb, console, word)),
             "{line:?}"
         );
     }

@@ -11,9 +11,9 @@ use st_walk::Cells;
 use std::alloc::{AllocError, Global};
 use std::test::Fail;
 
-/// A source with declarations in two parts each; the program and the condition are spelled in two ways.
+/// A source with declarations in two parts each, and two programs; the first program and the condition are spelled in two ways.
 const SOURCE: &[u8] =
-    b"VAR_GLOBAL Feed AT %ID0 : DINT; b, C : BOOL; END_VAR VAR_GLOBAL x AT %QD0 : TIME; m AT %MD0 : DINT; END_VAR PROGRAM Pump VAR y : TIME; END_VAR VAR z : DINT; END_VAR c := b AND NOT (b); END_PROGRAM";
+    b"VAR_GLOBAL Feed AT %ID0 : DINT; b, C : BOOL; END_VAR VAR_GLOBAL x AT %QD0 : TIME; m AT %MD0 : DINT; END_VAR PROGRAM Pump VAR y : TIME; END_VAR VAR z : DINT; END_VAR c := b AND NOT (b); END_PROGRAM PROGRAM Fill VAR y : BOOL; END_VAR y := b; END_PROGRAM";
 
 fn kind_text(kind: Kind) -> &'static str {
     match kind {
@@ -32,18 +32,22 @@ fn region_text(region: Option<Region>) -> &'static str {
     }
 }
 
-/// Appends the variables of a program, the globals first, and its name.
+/// Appends the globals, and each program's name after its own variables.
 fn push_variables(text: &mut String, flat: &Flat) -> Result<(), AllocError> {
     for global in flat.globals() {
         text.push_str(global.name.as_str())?;
         text.push_str(region_text(global.region))?;
         text.push_str(kind_text(global.kind))?;
     }
-    for local in flat.locals() {
-        text.push_str(local.name.as_str())?;
-        text.push_str(kind_text(local.kind))?;
+    for program in flat.programs() {
+        for local in &program.locals {
+            text.push_str(local.name.as_str())?;
+            text.push_str(kind_text(local.kind))?;
+        }
+        text.push_str(program.name.as_str())?;
+        text.push_str(" ")?;
     }
-    text.push_str(flat.program())
+    Ok(())
 }
 
 /// Appends the names that a plant gives for numbers, each after a space.
@@ -59,6 +63,12 @@ fn push_names(text: &mut String, plant: &Plant) -> Result<(), AllocError> {
     for row in plant.alarm_rows() {
         text.push_str(" ")?;
         text.push_str(row.text.as_str())?;
+    }
+    for program in 0..plant.programs() {
+        text.push_str(" ")?;
+        text.push_str(plant.program(program))?;
+        text.push_str(" ")?;
+        text.push_str(plant.path(program))?;
     }
     Ok(())
 }
@@ -77,17 +87,18 @@ fn described(alloc: Global) -> Result<String, AllocError> {
 #[test]
 fn plants_show_their_names(rt: HostRuntime) -> Result<(), Fail> {
     let want =
-        b"Feed %I DINT, b BOOL, C BOOL, x %Q TIME, m %M DINT, y TIME, z DINT, Pump T1 north south Feed ratio high";
+        b"Feed %I DINT, b BOOL, C BOOL, x %Q TIME, m %M DINT, y TIME, z DINT, Pump y BOOL, Fill  T1 north south Feed ratio high Pump Pump Fill Fill";
     assert!(rt; again(|| described(rt.alloc()))?.as_bytes() == want.as_slice());
     Ok(())
 }
 
 /// The numbers that a plant gives for names.
-fn numbers(plant: &Plant) -> [Option<u32>; 6] {
+fn numbers(plant: &Plant) -> [Option<u32>; 7] {
     [
         plant.alarm_number("T1"),
         plant.alarm_number("t1"),
         plant.program_number("PUMP"),
+        plant.program_number("fill"),
         plant.program_number("p"),
         Some(plant.programs()),
         Some(plant.alarms()),
@@ -110,7 +121,7 @@ fn plant(alloc: Global) -> Result<Plant, AllocError> {
 #[test]
 fn plants_show_their_numbers(rt: HostRuntime) -> Result<(), Fail> {
     let plant = again(|| plant(rt.alloc()))?;
-    let want = [Some(0), None, Some(0), None, Some(1), Some(1)];
+    let want = [Some(0), None, Some(0), Some(1), None, Some(2), Some(1)];
     assert!(rt; numbers(&plant) == want);
     for (shown, want) in plant.consoles().iter().zip([(1, Some(0)), (2, Some(1))]) {
         assert!(rt; console(shown) == want);
@@ -127,13 +138,13 @@ fn copied(alloc: Global) -> Result<(i64, i64), AllocError> {
     let plant = plant(alloc)?;
     let mut cells = Cells::opening(alloc, plant.flat())?;
     let mut copy = cells.copy(alloc)?;
-    if copy.len() < 7 || cells.len() != copy.len() || cells.is_empty() {
+    if copy.len() != 8 || cells.len() != copy.len() || cells.is_empty() {
         return Ok((-1, -1));
     }
-    copy.set(6, 7);
-    let before = cells.get(6);
+    copy.set(7, 7);
+    let before = cells.get(7);
     cells.copy_from(&copy);
-    Ok((before, cells.get(6)))
+    Ok((before, cells.get(7)))
 }
 
 #[test]
@@ -156,8 +167,8 @@ fn body_of(alloc: Global, source: &[u8]) -> Result<Vec<Stmt<Text>>, AllocError> 
     }
 }
 
-/// The first fault of a source's statements in a program whose one variable is the global y, a DINT.
-fn first_fault(alloc: Global, source: &[u8]) -> Result<Option<FirstFault>, AllocError> {
+/// The number of the first fault of a source's statements, in a program whose one variable is the global y, a DINT; 0 without a fault.
+fn fault_number(alloc: Global, source: &[u8]) -> Result<u32, AllocError> {
     let body = body_of(alloc, source)?;
     let mut globals = Vec::new(alloc);
     globals.push(Variable {
@@ -168,38 +179,43 @@ fn first_fault(alloc: Global, source: &[u8]) -> Result<Option<FirstFault>, Alloc
     let program = Program {
         name: Text::from_str(alloc, "p")?,
         locals: Vec::new(alloc),
+        starts: Vec::new(alloc),
         body,
     };
-    match Flat::of(alloc, &Logic { globals, program }) {
-        Ok(_) => Ok(None),
+    let mut programs = Vec::new(alloc);
+    programs.push(program)?;
+    let starts = Vec::new(alloc);
+    let logic = Logic {
+        globals,
+        starts,
+        programs,
+    };
+    match Flat::of(alloc, logic) {
+        Ok(_) => Ok(0),
         Err(FirstFault::Memory) => Err(AllocError),
-        Err(fault) => Ok(Some(fault)),
+        Err(FirstFault::Name { .. }) => Ok(6),
+        Err(FirstFault::Kind { .. }) => Ok(7),
+        Err(FirstFault::Constant { .. }) => Ok(9),
+        Err(_) => Ok(10),
     }
 }
 
 // A call of what is no instance, an output of what has none, and names that are nothing at all.
 #[test]
 fn calls_of_what_is_no_instance_are_faults(rt: HostRuntime) -> Result<(), Fail> {
-    let name = Some(FirstFault::Name { globals: false });
     for (source, want) in [
-        (b"PROGRAM p t(); END_PROGRAM".as_slice(), name),
-        (b"PROGRAM p ton(); END_PROGRAM".as_slice(), name),
-        (b"PROGRAM p y(a := zz); END_PROGRAM".as_slice(), name),
-        (b"PROGRAM p y(a => zz); END_PROGRAM".as_slice(), name),
-        (b"PROGRAM p y := y.q; END_PROGRAM".as_slice(), name),
-        (b"PROGRAM p y := zz.q; END_PROGRAM".as_slice(), name),
-        (
-            b"PROGRAM p y(); END_PROGRAM".as_slice(),
-            Some(FirstFault::Kind),
-        ),
-        (
-            b"PROGRAM p y(zz := 1, zz => y); END_PROGRAM".as_slice(),
-            Some(FirstFault::Kind),
-        ),
-        (b"PROGRAM p y := 1; END_PROGRAM".as_slice(), None),
+        (b"PROGRAM p t(); END_PROGRAM".as_slice(), 6),
+        (b"PROGRAM p ton(); END_PROGRAM".as_slice(), 6),
+        (b"PROGRAM p y(a := zz); END_PROGRAM".as_slice(), 6),
+        (b"PROGRAM p y(a => zz); END_PROGRAM".as_slice(), 6),
+        (b"PROGRAM p y := y.q; END_PROGRAM".as_slice(), 6),
+        (b"PROGRAM p y := zz.q; END_PROGRAM".as_slice(), 6),
+        (b"PROGRAM p y(); END_PROGRAM".as_slice(), 7),
+        (b"PROGRAM p y(zz := 1, zz => y); END_PROGRAM".as_slice(), 7),
+        (b"PROGRAM p y := 1; END_PROGRAM".as_slice(), 0),
     ] {
         assert!(rt;
-            again(|| first_fault(rt.alloc(), source))? == want,
+            again(|| fault_number(rt.alloc(), source))? == want,
             "{source:?}"
         );
     }

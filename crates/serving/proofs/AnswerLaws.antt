@@ -1,10 +1,15 @@
 -- What answers are made of.
-use Rattle.std.proofs.Common.{◌≡◌, ℕ, suc, Bool, true, false, List, [], ◌∷◌, length, ap, refl}
+use Rattle.std.proofs.Common.{◌≡◌, ℕ, zero, suc, map, Bool, true, false, List, [], ◌∷◌, length, ap, refl}
+use Rattle.std.specs.Prelude.{slice_index_or}
 use Rattle.std.specs.Str.{IsUtf8, is_utf8}
 use Rattle.plant_types.specs.declared.values.Place.{Place}
 use Rattle.plant_types.specs.declared.values.Trap.{Trap}
 use Rattle.serving.specs.Answers.{spots_of}
-use Rattle.st_resolve.specs.Source.{Source}
+use Rattle.command_text.specs.Lines.{path_text}
+use Rattle.st_resolve.specs.Source.{PlainProgram, Source}
+use Rattle.st_walk.specs.Runs.{place_spot}
+use Rattle.plant_config.specs.Plants.{PlainPlant}
+use Rattle.plant_config.specs.Names.{body_path}
 use Rattle.std.proofs.lemmas.Str.{IsUtf8-from_is_utf8}
 
 not_text : (v : Bool) (bytes : List ℕ) → is_utf8 bytes ≡ v → (IsUtf8 bytes → ⊥) → v ≡ false
@@ -16,6 +21,15 @@ pub is_utf8-none : (bytes : List ℕ) → (IsUtf8 bytes → ⊥) → is_utf8 byt
 is_utf8-none bytes n = not_text (is_utf8 bytes) bytes refl n
 
 -- as many spots as places
+-- the path of a body, as it is printed, is that of its number
+body_text : (programs : List PlainProgram) (n : ℕ) → slice_index_or (map (λ (p : PlainProgram). p.name) programs) n [] ≡ path_text (slice_index_or (map (λ (p : PlainProgram). p.name ∷ []) programs) n [])
+body_text [] n = refl
+body_text (p ∷ ps) zero = refl
+body_text (p ∷ ps) (suc n) = body_text ps n
+
+pub path_is : (plant : PlainPlant) (place : Place) → body_path plant place.path ≡ path_text (place_spot plant.source place).path
+path_is plant place = body_text plant.source.programs place.path
+
 pub spots_length : (source : Source) (faults : List (Place × Trap)) → length (spots_of source faults) ≡ length faults
 spots_length source [] = refl
 spots_length source (f ∷ faults) = ap suc (spots_length source faults)

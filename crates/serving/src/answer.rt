@@ -1,7 +1,7 @@
 ghost use Rattle.std.specs.Prelude.{◌≡◌, ◌++◌, ◌⊎◌, ◌<◌, ◌^◌, ◌+◌, OnOk, OnErr, IfSome, All, length, false};
 ghost use Rattle.command_text.specs.Lines.{path_text};
 ghost use Rattle.engine.specs.Engines.{state_of};
-ghost use Rattle.plant_config.specs.Names.{tag_of, global_of};
+ghost use Rattle.plant_config.specs.Names.{tag_of, globals_of, global_of, body_paths};
 ghost use Rattle.st_walk.specs.Runs.{place_spot};
 ghost use Rattle.engine.specs.Orders.{is_restart};
 ghost use Rattle.engine.specs.System.{system, scan_event, order_event};
@@ -9,7 +9,8 @@ ghost use Rattle.serving.specs.Answers.{spots_of, named_by, target_of, tag_for, 
 
 use alarm_machine::{Change, Verb};
 use command_text::{
-    Command, push_alarm, push_done, push_fault, push_out, push_refused, push_reply, read_command,
+    Command, Pool, push_alarm, push_done, push_fault, push_out, push_refused, push_reply,
+    read_command,
 };
 use engine::{Engine, EngineFault, Order, Reply, Report};
 use plant_config::Plant;
@@ -47,9 +48,10 @@ fn push_alarms(
 
 /// Returns the path of a place: the names that lead to it, with points between them.
 fn path_text<'a>(plant: &'a Plant, place: &Place) -> &'a str
+    requires { place.now.path < length (body_paths plant.now) }
     ensures { result.now ≡ path_text (place_spot plant.now.source place.now).path }
 {
-    if place.path == 0 { plant.path(0) } else { "" }
+    plant.path(place.path)
 }
 
 /// Appends a FAULT line for each program that stopped.
@@ -59,6 +61,7 @@ fn push_faults(
     moment: u64,
     faults: &[(Place, Trap)],
 ) -> Result<(), AllocError>
+    requires { All (λ f. f.0.path < length (body_paths plant.now)) faults.now }
     ensures { OnOk result (text.new.items ≡ text.old.items ++ fault_lines moment (spots_of plant.now.source faults.now)) }
 {
     for (place, trap) in faults {
@@ -80,7 +83,7 @@ fn push_outs(
     moment: u64,
     outs: &[(u32, Value)],
 ) -> Result<(), AllocError>
-    requires { All (λ o. o.0 < length plant.now.source.globals) outs.now }
+    requires { All (λ o. o.0 < length (globals_of plant.now)) outs.now }
     ensures { OnOk result (text.new.items ≡ text.old.items ++ out_lines plant.now moment outs.now) }
 {
     for (output, value) in outs {
@@ -92,8 +95,9 @@ fn push_outs(
 /// Appends the answer to a scan that was taken: its faults, its alarms, its outputs, and how many lines these are.
 #[tactic(auto, using(crate::proofs::AnswerLaws::spots_length), unfolding(crate::specs::Answers::report_text))]
 fn push_report(text: &mut Vec<u8>, plant: &Plant, report: &Report) -> Result<(), AllocError>
+    requires faults { All (λ f. f.0.path < length (body_paths plant.now)) report.now.faults }
     requires changes { All (λ c. c.0 < length plant.now.alarms) report.now.changes }
-    requires outs { All (λ o. o.0 < length plant.now.source.globals) report.now.outs }
+    requires outs { All (λ o. o.0 < length (globals_of plant.now)) report.now.outs }
     ensures { OnOk result (text.new.items ≡ text.old.items ++ report_text plant.now report.now.moment (spots_of plant.now.source report.now.faults) report.now.changes report.now.outs) }
 {
     let faults = report.faults.as_slice();
@@ -206,11 +210,13 @@ fn answer_order(
     }
 }
 
-/// Does what a line asks for, and appends its answer. It fails where an allocation failed: before the line took effect or after it.
+/// Does what a line asks for, with the pool as room for its pairs, and appends its answer. It fails where an allocation failed: before
+/// the line took effect or after it.
 #[tactic(auto, unfolding(crate::specs::Answers::after_line, crate::specs::Answers::line_answer))]
 pub(crate) fn answer_line(
     alloc: Global,
     engine: &mut Engine,
+    pool: &mut Pool,
     text: &mut Vec<u8>,
     line: &[u8],
 ) -> Result<(), AllocError>
@@ -219,10 +225,10 @@ pub(crate) fn answer_line(
     ensures text { OnOk result (text.new.items ≡ text.old.items ++ line_answer engine.old.plant engine.old.history line.now) }
     ensures err { OnErr result ((engine.new.history ≡ engine.old.history) ⊎ (engine.new.history ≡ after_line engine.old.plant engine.old.history line.now)) }
 {
-    match read_command(alloc, line)? {
+    match read_command(alloc, pool, line)? {
         Command::Nothing => Ok(()),
         Command::Unknown => push_refused(text, "L1"),
-        Command::Scan(moment, pairs) => answer_scan(alloc, engine, text, moment, pairs.as_slice()),
+        Command::Scan(moment, pairs) => answer_scan(alloc, engine, text, moment, pairs),
         Command::Order(verb, console, word) => {
             answer_order(alloc, engine, text, verb, console, word)
         }

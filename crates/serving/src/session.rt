@@ -8,6 +8,7 @@ ghost use Rattle.serving.specs.Session.{Answered, Stopped, Serves, Continues, Is
 use crate::answer::answer_line;
 use crate::fault::ServeFault;
 use crate::streams::{Failed, Feed, Sink};
+use command_text::Pool;
 use engine::Engine;
 use memchr::memchr;
 use std::alloc::{AllocError, Global};
@@ -42,6 +43,7 @@ fn answer<S: Sink>(
     alloc: Global,
     engine: &mut Engine,
     sink: &mut S,
+    pool: &mut Pool,
     text: &mut Vec<u8>,
     line: &[u8],
 ) -> Result<(), ServeFault>
@@ -50,7 +52,7 @@ fn answer<S: Sink>(
         → Serves result (whole ∷ []) engine.old engine.new (S.written sink.old) (S.written sink.new) }
 {
     text.clear();
-    answer_line(alloc, engine, text, line)?;
+    answer_line(alloc, engine, pool, text, line)?;
     put_all(sink, text.as_slice())
 }
 
@@ -92,12 +94,14 @@ fn hold(held: &mut Vec<u8>, bytes: &[u8]) -> Result<(), AllocError>
     held.extend_from_slice(kept)
 }
 
-/// What a session keeps between two pieces of its input: the bytes of a line that hasn't ended yet, and room for an answer.
+/// What a session keeps between two pieces of its input: the bytes of a line that hasn't ended yet, and room for an answer and for
+/// the pairs of a line.
 #[derive(Drop)]
 struct Session {
     alloc: Global,
     held: Vec<u8>,
     text: Vec<u8>,
+    pool: Pool,
 }
 
 impl Session {
@@ -115,11 +119,25 @@ impl Session {
             → Serves result (ended_lines (raw ++ (line.now ++ 10 ∷ []))) engine.old engine.new (S.written sink.old) (S.written sink.new) }
     {
         if self.held.is_empty() {
-            return answer(self.alloc, engine, sink, &mut self.text, without_cr(line));
+            return answer(
+                self.alloc,
+                engine,
+                sink,
+                &mut self.pool,
+                &mut self.text,
+                without_cr(line),
+            );
         }
         hold(&mut self.held, line)?;
         let line = without_cr(self.held.as_slice());
-        answer(self.alloc, engine, sink, &mut self.text, line)?;
+        answer(
+            self.alloc,
+            engine,
+            sink,
+            &mut self.pool,
+            &mut self.text,
+            line,
+        )?;
         self.held.clear();
         Ok(())
     }
@@ -158,6 +176,7 @@ impl Session {
             self.alloc,
             engine,
             sink,
+            &mut self.pool,
             &mut self.text,
             self.held.as_slice(),
         )
@@ -220,6 +239,7 @@ pub fn serve<H: Wait, F: Feed, S: Sink>(
         alloc,
         held: Vec::new(alloc),
         text: Vec::new(alloc),
+        pool: Pool::new(alloc),
     };
     let mut piece = empty_piece(alloc)?;
     for _ in rt.forever() {

@@ -31,7 +31,7 @@ fn word_or_literal(piece: &[u8]) -> Option<TokenKind>
 
 // The word, keyword or literal at the front of a text, and its length.
 #[tactic(auto, unfolding(crate::specs::Reading::front_token))]
-fn next_word(text: &[u8]) -> Option<(Piece, usize)>
+fn next_lettered(text: &[u8]) -> Option<(Piece, usize)>
     ensures { result ≡ front_token lettered_len word_or_literal text.now }
 {
     let n = lettered_len(text);
@@ -115,7 +115,7 @@ fn next_piece(text: &[u8]) -> Option<(Piece, usize)>
     let (first, rest) = text.split_first()?;
     match first_of(*first) {
         First::Blank => Some((Piece::Blank, 1)),
-        First::Letter => next_word(text),
+        First::Letter => next_lettered(text),
         First::Digit => next_integer(text),
         First::Percent => next_address(rest),
         First::Mark => next_mark(*first, rest),

@@ -11,8 +11,8 @@ use Rattle.st_tree.specs.declared.tree.Binary.{Binary}
 use Rattle.st_tree.specs.declared.tree.Binary.TheVariants as b
 use Rattle.st_tree.specs.Plain.{PlainExpr, literal, read, output_of, unary}
 use Rattle.st_parser.specs.Lexemes.{Lexeme, word, keyword, integer, symbol}
-use Rattle.st_parser.specs.Grammar.{literal_of, prefix_of, operator_of, level_of, top, is_signed, in_parentheses, constant, negative, variable, output, parens, before_operand, between_operands, SpellsExpr, IsExpression}
-use Rattle.st_parser.specs.Reading.{Answer, ◌>>=◌, operator_at, if_allowed, next_symbol, minus_at, constant_at, operand, prefixed, chain, climb, tree_of, expression_at}
+use Rattle.st_parser.specs.Grammar.{literal_of, prefix_of, operator_of, level_of, top, begins_negative, in_parentheses, constant, negative, variable, output, parens, before_operand, between_operands, SpellsExpr, IsExpression}
+use Rattle.st_parser.specs.Reading.{Answer, ◌>>=◌, operator_at, if_allowed, is_symbol, minus_at, constant_at, operand, prefixed, chain, climb, tree_of, expression_at}
 use Rattle.st_parser.proofs.Chain.{stops, goes}
 use Rattle.st_parser.proofs.Steps.{both_ways, same_some}
 
@@ -69,7 +69,7 @@ pub stops_above : (l : ℕ) (t : Lexeme) (op : Binary) (ts : List Lexeme) → op
 stops_above l t op ts is h = ap (if_allowed l) is ∙ (let no : nat_le l (level_of op) ≡ false = grind (arith, nat_tests) in ap (λ z. cond z (Some op) None) no)
 
 -- no operator is a point
-operator_no_point : (t : Lexeme) (op : Binary) (ts : List Lexeme) → operator_of t ≡ Some op → next_symbol s.Point (t ∷ ts) ≡ false
+operator_no_point : (t : Lexeme) (op : Binary) (ts : List Lexeme) → operator_of t ≡ Some op → is_symbol s.Point (t ∷ ts) ≡ false
 operator_no_point (symbol s.Point) op ts h = absurd (cc)
 operator_no_point (symbol _) op ts h = refl
 operator_no_point _ op ts h = refl
@@ -95,12 +95,12 @@ constant_read inner (keyword w) e ts h = ap (λ o. constant_at o ts) h
 constant_read inner (symbol w) e ts h = ap (λ o. constant_at o ts) h
 constant_read inner t e ts h = ap (λ o. constant_at o ts) h
 
-minus_read : (inner : ℕ → List Lexeme → Answer) (x rest : List Lexeme) → is_signed (symbol s.Minus ∷ x) ≡ false → 0 < length x → minus_at inner (x ++ rest) ≡ prefixed u.Negate (inner top (x ++ rest))
+minus_read : (inner : ℕ → List Lexeme → Answer) (x rest : List Lexeme) → begins_negative (symbol s.Minus ∷ x) ≡ false → 0 < length x → minus_at inner (x ++ rest) ≡ prefixed u.Negate (inner top (x ++ rest))
 minus_read inner [] rest alone some = absurd (omega arith)
 minus_read inner (integer n ∷ x) rest alone some = absurd (cc)
 minus_read inner (_ ∷ x) rest alone some = refl
 
-prefix_read : (inner : ℕ → List Lexeme → Answer) (t : Lexeme) (op : Unary) (x rest : List Lexeme) → prefix_of t ≡ Some op → is_signed (t ∷ x) ≡ false → 0 < length x → operand inner (t ∷ (x ++ rest)) ≡ prefixed op (inner top (x ++ rest))
+prefix_read : (inner : ℕ → List Lexeme → Answer) (t : Lexeme) (op : Unary) (x rest : List Lexeme) → prefix_of t ≡ Some op → begins_negative (t ∷ x) ≡ false → 0 < length x → operand inner (t ∷ (x ++ rest)) ≡ prefixed op (inner top (x ++ rest))
 unfolding operand
 prefix_read inner (keyword k.Not) op x rest h alone some = ap (λ o. prefixed o (inner top (x ++ rest))) (same_some _ _ h)
 prefix_read inner (symbol s.Minus) op x rest h alone some = minus_read inner x rest alone some ∙ ap (λ o. prefixed o (inner top (x ++ rest))) (same_some _ _ h)
@@ -114,7 +114,7 @@ negative_read : (inner : ℕ → List Lexeme → Answer) (n : ℕ) (ts : List Le
 unfolding operand
 negative_read inner n ts small = let so : nat_le n 2147483648 ≡ true = grind (arith, nat_tests) in ap (λ z. cond z (Some (literal (Value (value.Dint (neg_ℤ (pos n)))), 1, ts)) None) so
 
-variable_read : (inner : ℕ → List Lexeme → Answer) (name : List ℕ) (ts : List Lexeme) → next_symbol s.Point ts ≡ false → operand inner (word name ∷ ts) ≡ Some (read name, 1, ts)
+variable_read : (inner : ℕ → List Lexeme → Answer) (name : List ℕ) (ts : List Lexeme) → is_symbol s.Point ts ≡ false → operand inner (word name ∷ ts) ≡ Some (read name, 1, ts)
 unfolding operand
 variable_read inner name ts alone = rw alone refl
 
@@ -143,7 +143,7 @@ begun : (limit level : ℕ) (all : List Lexeme) (e : PlainExpr (List ℕ)) (rest
 begun limit level all e rest n depth is small some =
     record { deeper = limit; below = refl; seen = n; fuel = suc limit; shallow = small; room = omega arith; is = ap (λ (o : Answer). o >>= λ r. chain (climb limit) limit level (suc limit) r.0 r.1 r.2) is }
 
-pub complete : (d limit m l : ℕ) (ts : List Lexeme) (e : PlainExpr (List ℕ)) (rest : List Lexeme) → d ≤ limit → l ≤ m → SpellsExpr d m ts e → operator_at (m + 1) rest ≡ None → next_symbol s.Point rest ≡ false → Reached limit l (ts ++ rest) e rest d
+pub complete : (d limit m l : ℕ) (ts : List Lexeme) (e : PlainExpr (List ℕ)) (rest : List Lexeme) → d ≤ limit → l ≤ m → SpellsExpr d m ts e → operator_at (m + 1) rest ≡ None → is_symbol s.Point rest ≡ false → Reached limit l (ts ++ rest) e rest d
 complete zero limit m l ts e rest le lm p stop alone = absurd p
 complete (suc d) zero m l ts e rest le lm p stop alone = absurd (omega arith)
 complete (suc d) (suc limit) m l ts e rest le lm (constant t kind is) stop alone =
@@ -164,7 +164,7 @@ complete (suc d) (suc limit) m l ts e rest le lm (before_operand t op a x kind s
     let w = whole limit top (x ++ rest) a rest d (omega arith) (stops_at_top top rest (omega arith)) h in
     let small = w.shallow in
     let some = some_lexeme d top x a part in
-    let unsigned : is_signed (t ∷ x) ≡ false = sym (ap is_signed is) ∙ signs in
+    let unsigned : begins_negative (t ∷ x) ≡ false = sym (ap begins_negative is) ∙ signs in
     rw (is, tree) (begun limit l (t ∷ (x ++ rest)) (unary op a) rest (w.seen + 1) (suc d) (prefix_read (climb limit) t op x rest kind unsigned some ∙ ap (prefixed op) w.is) (omega arith) (omega arith))
 complete (suc d) (suc limit) m l ts e rest le lm (between_operands t op a c x y kind tight is tree left right) stop alone =
     let after_it = t ∷ (y ++ rest) in
@@ -200,7 +200,7 @@ ends (keyword k.By ∷ ts) = true
 ends (keyword k.Do ∷ ts) = true
 ends _ = false
 
-ends_stop : (ts : List Lexeme) → ends ts ≡ true → (operator_at 0 ts ≡ None) × (next_symbol s.Point ts ≡ false)
+ends_stop : (ts : List Lexeme) → ends ts ≡ true → (operator_at 0 ts ≡ None) × (is_symbol s.Point ts ≡ false)
 ends_stop (symbol s.Comma ∷ ts) h = (refl, refl)
 ends_stop (symbol s.Close ∷ ts) h = (refl, refl)
 ends_stop (symbol s.Semicolon ∷ ts) h = (refl, refl)

@@ -10,8 +10,8 @@ use Rattle.st_parser.specs.Lexemes.{Lexeme, word, keyword, integer, symbol}
 use Rattle.st_parser.specs.Phrases.{Each, Perhaps, After}
 use Rattle.st_parser.specs.Grammar.{IsExpression}
 use Rattle.st_parser.specs.Statements.{IsArgument, for_input, for_output, Arguments, none, some, IsNumber, plain, negative, IsLabel, range, IsBranch, test, IsChoice, labelled, Otherwise, nothing, instead, Statement, bare, assignment, calling, branching, selecting, repeating, Ended, ended, Sequence, sequence, SpellsStmt, IsBody}
-use Rattle.st_parser.specs.Reading.{word_at, next_symbol, next_keyword, symbol_at, keyword_at, all_at, perhaps_at, after_symbol, after_keyword, listed_at, expression_at}
-use Rattle.st_parser.specs.ReadingStatements.{taken_at, given_at, called_at, assigned_at, argued_at, argument_at, arguments_at, negative_at, number_at, label_at, next_label, next_stmt, simple_at, branch_at, choice_at, otherwise_at, branches_at, choices_at, if_at, case_at, bounds_at, for_at, stmt_at, ended_at, as_body, item_at, sequence_at, body_at}
+use Rattle.st_parser.specs.Reading.{word_at, is_symbol, is_keyword, symbol_at, keyword_at, all_at, perhaps_at, after_symbol, after_keyword, listed_at, expression_at}
+use Rattle.st_parser.specs.ReadingStatements.{taken_at, given_at, called_at, assigned_at, argued_at, argument_at, arguments_at, negative_at, number_at, label_at, is_label, is_statement, simple_at, branch_at, choice_at, otherwise_at, branches_at, choices_at, if_at, case_at, bounds_at, for_at, stmt_at, ended_at, as_body, item_at, sequence_at, body_at}
 use Rattle.st_parser.proofs.Many.{Front, Finds, turned, with_first_some, all_found, perhaps_found, after_symbol_found, after_keyword_found, listed_found, three_parts}
 use Rattle.st_parser.proofs.Sound.{expression_found}
 use Rattle.st_parser.proofs.Steps.{true_or_false, bind_some, same_some, passed, word_found, symbol_found, keyword_found, next_is_symbol, next_is_keyword}
@@ -52,7 +52,7 @@ given_found name ts a rest h =
 argued_found : (name : List ℕ) (ts : List Lexeme) (a : PlainArgument (List ℕ)) (rest : List Lexeme) → argued_at name ts ≡ Some (a, rest) → Front IsArgument (word name ∷ ts) a rest
 unfolding argued_at
 argued_found name ts a rest h =
-    elim (true_or_false (next_symbol s.Gives ts)) as (λ _. Front IsArgument (word name ∷ ts) a rest) [
+    elim (true_or_false (is_symbol s.Gives ts)) as (λ _. Front IsArgument (word name ∷ ts) a rest) [
       | inl yes' ↦ subst (λ l. Front IsArgument (word name ∷ l) a rest) (sym (next_is_symbol s.Gives ts yes')) (taken_found name (drop 1 ts) a rest (chosen _ _ _ (a, rest) yes' h))
       | inr no' ↦ given_found name ts a rest (left_out _ _ _ (a, rest) no' h)
     ]
@@ -66,11 +66,11 @@ argument_found ts a rest h =
 arguments_found : Finds Arguments arguments_at
 unfolding arguments_at
 arguments_found ts all rest h =
-    elim (true_or_false (next_symbol s.Close ts)) as (λ _. Front Arguments ts all rest) [
+    elim (true_or_false (is_symbol s.Close ts)) as (λ _. Front Arguments ts all rest) [
       | inl yes' ↦
-          turned Arguments ts ([], ts) (all, rest) (chosen (next_symbol s.Close ts) (Some ([], ts)) (listed_at argument_at ts) (all, rest) yes' h) record { front = []; whole = refl; spelled = none refl refl }
+          turned Arguments ts ([], ts) (all, rest) (chosen (is_symbol s.Close ts) (Some ([], ts)) (listed_at argument_at ts) (all, rest) yes' h) record { front = []; whole = refl; spelled = none refl refl }
       | inr no' ↦
-          let f = listed_found IsArgument anything argument_at argument_found ts all rest (left_out (next_symbol s.Close ts) (Some ([], ts)) (listed_at argument_at ts) (all, rest) no' h) in
+          let f = listed_found IsArgument anything argument_at argument_found ts all rest (left_out (is_symbol s.Close ts) (Some ([], ts)) (listed_at argument_at ts) (all, rest) no' h) in
           record { front = f.front; whole = f.whole; spelled = some f.spelled }
     ]
 
@@ -99,9 +99,9 @@ label_found : Finds IsLabel label_at
 unfolding label_at
 label_found ts label rest h =
     let (low, was_low, h1) = bind_some (number_at ts) _ (label, rest) h in
-    let (high, was_high, is) = bind_some (perhaps_at (next_symbol s.Range) (after_symbol s.Range number_at) low.1) _ (label, rest) h1 in
+    let (high, was_high, is) = bind_some (perhaps_at (is_symbol s.Range) (after_symbol s.Range number_at) low.1) _ (label, rest) h1 in
     let f = number_found ts low.0 low.1 was_low in
-    let g = perhaps_found (After (symbol s.Range) IsNumber) (next_symbol s.Range) anything (after_symbol s.Range number_at) (after_symbol_found IsNumber anything number_at s.Range number_found) low.1 high.0 high.1 was_high in
+    let g = perhaps_found (After (symbol s.Range) IsNumber) (is_symbol s.Range) anything (after_symbol s.Range number_at) (after_symbol_found IsNumber anything number_at s.Range number_found) low.1 high.0 high.1 was_high in
     turned IsLabel ts (record { low = low.0; high = unwrap_or high.0 low.0 }, high.1) (label, rest) is record {
       front = f.front ++ g.front;
       whole = f.whole ∙ ap (λ l. f.front ++ l) g.whole ∙ sym (append_assoc f.front g.front high.1);
@@ -125,11 +125,11 @@ bounds_found ts all rest h =
     let (from, was_from, h1) = bind_some (expression_at ts) _ (all, rest) h in
     let (up, was_up, h2) = bind_some (keyword_at k.To from.1) _ (all, rest) h1 in
     let (to, was_to, h3) = bind_some (expression_at up) _ (all, rest) h2 in
-    let (by, was_by, is) = bind_some (perhaps_at (next_keyword k.By) (after_keyword k.By expression_at) to.1) _ (all, rest) h3 in
+    let (by, was_by, is) = bind_some (perhaps_at (is_keyword k.By) (after_keyword k.By expression_at) to.1) _ (all, rest) h3 in
     let f = expression_found ts from.0 from.1 was_from in
     let e2 = keyword_found k.To from.1 up was_up in
     let t = expression_found up to.0 to.1 was_to in
-    let b = perhaps_found (After (keyword k.By) IsExpression) (next_keyword k.By) anything (after_keyword k.By expression_at) (after_keyword_found IsExpression anything expression_at k.By expression_found) to.1 by.0 by.1 was_by in
+    let b = perhaps_found (After (keyword k.By) IsExpression) (is_keyword k.By) anything (after_keyword k.By expression_at) (after_keyword_found IsExpression anything expression_at k.By expression_found) to.1 by.0 by.1 was_by in
     let here : Bounds ts (from.0, to.0, by.0) by.1 = record {
       w = f.front;
       x = t.front;
@@ -201,13 +201,13 @@ module _ (P : List Lexeme → PlainBody (List ℕ) → Type 0) (inner : List Lex
   otherwise_found : Finds (Otherwise P) (otherwise_at inner)
   unfolding otherwise_at
   otherwise_found ts last rest h =
-      elim (true_or_false (next_keyword k.Else ts)) as (λ _. Front (Otherwise P) ts last rest) [
+      elim (true_or_false (is_keyword k.Else ts)) as (λ _. Front (Otherwise P) ts last rest) [
         | inl yes' ↦
             let e1 = next_is_keyword k.Else ts yes' in
-            let g = finds (drop 1 ts) last rest (chosen (next_keyword k.Else ts) (inner (drop 1 ts)) (Some (done, ts)) (last, rest) yes' h) in
+            let g = finds (drop 1 ts) last rest (chosen (is_keyword k.Else ts) (inner (drop 1 ts)) (Some (done, ts)) (last, rest) yes' h) in
             record { front = keyword k.Else ∷ g.front; whole = e1 ∙ ap (λ l. keyword k.Else ∷ l) g.whole; spelled = instead g.front refl g.spelled }
         | inr no' ↦
-            turned (Otherwise P) ts (done, ts) (last, rest) (left_out (next_keyword k.Else ts) (inner (drop 1 ts)) (Some (done, ts)) (last, rest) no' h) record { front = []; whole = refl; spelled = nothing refl refl }
+            turned (Otherwise P) ts (done, ts) (last, rest) (left_out (is_keyword k.Else ts) (inner (drop 1 ts)) (Some (done, ts)) (last, rest) no' h) record { front = []; whole = refl; spelled = nothing refl refl }
       ]
 
   -- branches, the first of which has nothing before it
@@ -215,18 +215,18 @@ module _ (P : List Lexeme → PlainBody (List ℕ) → Type 0) (inner : List Lex
   unfolding branches_at
   branches_found ts branches rest h =
       let (first, was_first, h1) = bind_some (branch_at inner ts) _ (branches, rest) h in
-      let (m, was_others, is) = with_first_some (first.0 ∷ []) (all_at (next_keyword k.Elsif) (after_keyword k.Elsif (branch_at inner)) first.1) (branches, rest) h1 in
+      let (m, was_others, is) = with_first_some (first.0 ∷ []) (all_at (is_keyword k.Elsif) (after_keyword k.Elsif (branch_at inner)) first.1) (branches, rest) h1 in
       let f = branch_found ts first.0 first.1 was_first in
-      let g = all_found (After (keyword k.Elsif) (IsBranch P)) (next_keyword k.Elsif) anything (after_keyword k.Elsif (branch_at inner)) (after_keyword_found (IsBranch P) anything (branch_at inner) k.Elsif branch_found) first.1 m.0 m.1 was_others in
+      let g = all_found (After (keyword k.Elsif) (IsBranch P)) (is_keyword k.Elsif) anything (after_keyword k.Elsif (branch_at inner)) (after_keyword_found (IsBranch P) anything (branch_at inner) k.Elsif branch_found) first.1 m.0 m.1 was_others in
       led (IsBranch P) (After (keyword k.Elsif) (IsBranch P)) ts first.0 first.1 m.0 m.1 branches rest f g is
 
   choices_found : (ts : List Lexeme) (choices : List (List Label × PlainBody (List ℕ))) (rest : List Lexeme) → choices_at inner ts ≡ Some (choices, rest) → Led (IsChoice P) (IsChoice P) ts choices rest
   unfolding choices_at
   choices_found ts choices rest h =
       let (first, was_first, h1) = bind_some (choice_at inner ts) _ (choices, rest) h in
-      let (m, was_others, is) = with_first_some (first.0 ∷ []) (all_at next_label (choice_at inner) first.1) (choices, rest) h1 in
+      let (m, was_others, is) = with_first_some (first.0 ∷ []) (all_at is_label (choice_at inner) first.1) (choices, rest) h1 in
       let f = choice_found ts first.0 first.1 was_first in
-      let g = all_found (IsChoice P) next_label anything (choice_at inner) choice_found first.1 m.0 m.1 was_others in
+      let g = all_found (IsChoice P) is_label anything (choice_at inner) choice_found first.1 m.0 m.1 was_others in
       led (IsChoice P) (IsChoice P) ts first.0 first.1 m.0 m.1 choices rest f g is
 
   if_found : (ts : List Lexeme) (stmt : PlainStmt (List ℕ)) (rest : List Lexeme) → if_at inner ts ≡ Some (stmt, rest) → Front (Statement P) (keyword k.If ∷ ts) stmt rest
@@ -313,7 +313,7 @@ module _ (P : List Lexeme → PlainBody (List ℕ) → Type 0) (inner : List Lex
   simple_found : (name : List ℕ) (ts : List Lexeme) (stmt : PlainStmt (List ℕ)) (rest : List Lexeme) → simple_at name ts ≡ Some (stmt, rest) → Front (Statement P) (word name ∷ ts) stmt rest
   unfolding simple_at
   simple_found name ts stmt rest h =
-      elim (true_or_false (next_symbol s.Open ts)) as (λ _. Front (Statement P) (word name ∷ ts) stmt rest) [
+      elim (true_or_false (is_symbol s.Open ts)) as (λ _. Front (Statement P) (word name ∷ ts) stmt rest) [
         | inl yes' ↦ subst (λ l. Front (Statement P) (word name ∷ l) stmt rest) (sym (next_is_symbol s.Open ts yes')) (called_found name (drop 1 ts) stmt rest (chosen _ _ _ (stmt, rest) yes' h))
         | inr no' ↦ assigned_found name ts stmt rest (left_out _ _ _ (stmt, rest) no' h)
       ]
@@ -350,8 +350,8 @@ as_body_some (Some r) body rest h =
 
 sequence_finds : (d : ℕ) → Finds (Ended (SpellsStmt d)) (item_at d) → Finds (Sequence (SpellsStmt d)) (sequence_at d)
 sequence_finds d items ts body rest h =
-    let (all, was, is) = as_body_some (all_at next_stmt (item_at d) ts) body rest h in
-    let f = all_found (Ended (SpellsStmt d)) next_stmt anything (item_at d) items ts all rest was in
+    let (all, was, is) = as_body_some (all_at is_statement (item_at d) ts) body rest h in
+    let f = all_found (Ended (SpellsStmt d)) is_statement anything (item_at d) items ts all rest was in
     record { front = f.front; whole = f.whole; spelled = sequence all f.spelled is }
 
 item_found : (d : ℕ) → Finds (Ended (SpellsStmt d)) (item_at d)

@@ -8,9 +8,9 @@ use Rattle.st_parser.specs.Lexemes.{Lexeme, word, keyword, address, symbol}
 use Rattle.st_parser.specs.Phrases.{Perhaps, After, listed}
 use Rattle.st_parser.specs.Grammar.{IsExpression}
 use Rattle.st_parser.specs.Declarations.{IsName, kind_of_word, sort_of, Declares, declaration, DeclaresGlobal, placed, anywhere, Globals, globals, section_of, IsSection, variables, opening_keyword, closing_keyword, IsPou, organised, SpellsUnit, unit}
-use Rattle.st_parser.specs.Reading.{word_at, next_symbol, next_keyword, next_word, symbol_at, keyword_at, with_first, all_at, perhaps_at, after_symbol, others_at, table_at, expression_at}
+use Rattle.st_parser.specs.Reading.{word_at, is_symbol, is_keyword, is_word, symbol_at, keyword_at, with_first, all_at, perhaps_at, after_symbol, others_at, table_at, expression_at}
 use Rattle.st_parser.specs.ReadingStatements.{body_at}
-use Rattle.st_parser.specs.ReadingUnits.{address_at, initial_at, declared_at, placed_at, declaration_at, global_at, globals_at, next_section, section_at, pou_of, next_pou, pou_at, unit_at}
+use Rattle.st_parser.specs.ReadingUnits.{address_at, initial_at, declared_at, placed_at, declaration_at, global_at, globals_at, is_section, section_at, pou_of, is_pou, pou_at, unit_at}
 use Rattle.st_parser.specs.Units.{PlainDeclaration, PlainUnit}
 use Rattle.st_parser.specs.declared.unit.PouKind.{PouKind}
 use Rattle.st_parser.specs.declared.unit.SectionKind.TheVariants as section
@@ -56,9 +56,9 @@ record Tail (names : List (List ℕ)) (region : Option Region) (what : Sort) (ts
 initial_found : (names : List (List ℕ)) (region : Option Region) (what : Sort) (ts : List Lexeme) (d : PlainDeclaration) (rest : List Lexeme) → initial_at names region what ts ≡ Some (d, rest) → Tail names region what ts d rest
 unfolding initial_at
 initial_found names region what ts d rest h =
-    let (initial, was_initial, h1) = bind_some (perhaps_at (next_symbol s.Becomes) (after_symbol s.Becomes expression_at) ts) _ (d, rest) h in
+    let (initial, was_initial, h1) = bind_some (perhaps_at (is_symbol s.Becomes) (after_symbol s.Becomes expression_at) ts) _ (d, rest) h in
     let (left, was_left, is) = bind_some (symbol_at s.Semicolon initial.1) _ (d, rest) h1 in
-    let f = perhaps_found (After (symbol s.Becomes) IsExpression) (next_symbol s.Becomes) anything (after_symbol s.Becomes expression_at) (after_symbol_found IsExpression anything expression_at s.Becomes expression_found) ts initial.0 initial.1 was_initial in
+    let f = perhaps_found (After (symbol s.Becomes) IsExpression) (is_symbol s.Becomes) anything (after_symbol s.Becomes expression_at) (after_symbol_found IsExpression anything expression_at s.Becomes expression_found) ts initial.0 initial.1 was_initial in
     let e1 = symbol_found s.Semicolon initial.1 left was_left in
     let here : Tail names region what ts (record { names = names; region = region; sort = what; initial = initial.0 }) left = record {
       initial = initial.0;
@@ -128,7 +128,7 @@ global_found ts d rest h =
     let (name, was_name, h1) = bind_some (word_at ts) _ (d, rest) h in
     let e0 = word_found ts name was_name in
     let inside : Front DeclaresGlobal (word name.0 ∷ name.1) d rest =
-    elim (true_or_false (next_keyword k.At name.1)) as (λ _. Front DeclaresGlobal (word name.0 ∷ name.1) d rest) [
+    elim (true_or_false (is_keyword k.At name.1)) as (λ _. Front DeclaresGlobal (word name.0 ∷ name.1) d rest) [
       | inl yes' ↦ subst (λ l. Front DeclaresGlobal (word name.0 ∷ l) d rest) (sym (next_is_keyword k.At name.1 yes')) (placed_found name.0 (drop 1 name.1) d rest (chosen _ _ _ (d, rest) yes' h1))
       | inr no' ↦ let f = declared_found name.0 name.1 d rest (left_out _ _ _ (d, rest) no' h1) in record { front = f.front; whole = f.whole; spelled = anywhere f.spelled }
     ] in
@@ -139,10 +139,10 @@ globals_found : Finds Globals globals_at
 unfolding globals_at
 globals_found ts sec rest h =
     let (inside, was_inside, h1) = bind_some (keyword_at k.VarGlobal ts) _ (sec, rest) h in
-    let (all, was_all, h2) = bind_some (all_at next_word global_at inside) _ (sec, rest) h1 in
+    let (all, was_all, h2) = bind_some (all_at is_word global_at inside) _ (sec, rest) h1 in
     let (left, was_left, is) = bind_some (keyword_at k.EndVar all.1) _ (sec, rest) h2 in
     let e0 = keyword_found k.VarGlobal ts inside was_inside in
-    let f = all_found DeclaresGlobal next_word anything global_at global_found inside all.0 all.1 was_all in
+    let f = all_found DeclaresGlobal is_word anything global_at global_found inside all.0 all.1 was_all in
     let e1 = keyword_found k.EndVar all.1 left was_left in
     turned Globals ts (record { kind = section.Global; declarations = all.0 }, left) (sec, rest) is record {
       front = keyword k.VarGlobal ∷ (f.front ++ keyword k.EndVar ∷ []);
@@ -154,10 +154,10 @@ section_found : (kind : PouKind) → Finds (IsSection kind) (section_at kind)
 unfolding section_at
 section_found kind ts sec rest h =
     let (what, was_what, h1) = bind_some (table_at (section_of kind) ts) _ (sec, rest) h in
-    let (all, was_all, h2) = bind_some (all_at next_word declaration_at what.1) _ (sec, rest) h1 in
+    let (all, was_all, h2) = bind_some (all_at is_word declaration_at what.1) _ (sec, rest) h1 in
     let (left, was_left, is) = bind_some (keyword_at k.EndVar all.1) _ (sec, rest) h2 in
     let t = told_found (section_of kind) ts what.0 what.1 was_what in
-    let f = all_found Declares next_word anything declaration_at declaration_found what.1 all.0 all.1 was_all in
+    let f = all_found Declares is_word anything declaration_at declaration_found what.1 all.0 all.1 was_all in
     let e1 = keyword_found k.EndVar all.1 left was_left in
     turned (IsSection kind) ts (record { kind = what.0; declarations = all.0 }, left) (sec, rest) is record {
       front = t.t ∷ (f.front ++ keyword k.EndVar ∷ []);
@@ -179,12 +179,12 @@ unfolding pou_at
 pou_found ts p rest h =
     let (kind, was_kind, h0) = bind_some (table_at pou_of ts) _ (p, rest) h in
     let (name, was_name, h1) = bind_some (word_at kind.1) _ (p, rest) h0 in
-    let (sections, was_sections, h2) = bind_some (all_at (next_section kind.0) (section_at kind.0) name.1) _ (p, rest) h1 in
+    let (sections, was_sections, h2) = bind_some (all_at (is_section kind.0) (section_at kind.0) name.1) _ (p, rest) h1 in
     let (body, was_body, h3) = bind_some (body_at sections.1) _ (p, rest) h2 in
     let (left, was_left, is) = bind_some (keyword_at (closing_keyword kind.0) body.1) _ (p, rest) h3 in
     let t = told_found pou_of ts kind.0 kind.1 was_kind in
     let e1 = word_found kind.1 name was_name in
-    let f = all_found (IsSection kind.0) (next_section kind.0) anything (section_at kind.0) (section_found kind.0) name.1 sections.0 sections.1 was_sections in
+    let f = all_found (IsSection kind.0) (is_section kind.0) anything (section_at kind.0) (section_found kind.0) name.1 sections.0 sections.1 was_sections in
     let g = body_found sections.1 body.0 body.1 was_body in
     let e2 = keyword_found (closing_keyword kind.0) body.1 left was_left in
     turned IsPou ts (record { kind = kind.0; name = name.0; sections = sections.0; body = body.0 }, left) (p, rest) is record {
@@ -197,10 +197,10 @@ pou_found ts p rest h =
 unit_found : (ts : List Lexeme) (u : PlainUnit) (rest : List Lexeme) → unit_at ts ≡ Some (u, rest) → Front SpellsUnit ts u rest
 unfolding unit_at
 unit_found ts u rest h =
-    let (gs, was_gs, h1) = bind_some (all_at (next_keyword k.VarGlobal) globals_at ts) _ (u, rest) h in
-    let (ps, was_ps, is) = bind_some (all_at next_pou pou_at gs.1) _ (u, rest) h1 in
-    let f = all_found Globals (next_keyword k.VarGlobal) anything globals_at globals_found ts gs.0 gs.1 was_gs in
-    let g = all_found IsPou next_pou anything pou_at pou_found gs.1 ps.0 ps.1 was_ps in
+    let (gs, was_gs, h1) = bind_some (all_at (is_keyword k.VarGlobal) globals_at ts) _ (u, rest) h in
+    let (ps, was_ps, is) = bind_some (all_at is_pou pou_at gs.1) _ (u, rest) h1 in
+    let f = all_found Globals (is_keyword k.VarGlobal) anything globals_at globals_found ts gs.0 gs.1 was_gs in
+    let g = all_found IsPou is_pou anything pou_at pou_found gs.1 ps.0 ps.1 was_ps in
     turned SpellsUnit ts (record { globals = gs.0; pous = ps.0 }, ps.1) (u, rest) is record {
       front = f.front ++ g.front;
       whole = f.whole ∙ ap (λ l. f.front ++ l) g.whole ∙ sym (append_assoc f.front g.front ps.1);

@@ -9,7 +9,7 @@ use Rattle.st_lexer.specs.declared.token.Symbol.{Symbol}
 use Rattle.st_lexer.specs.declared.token.Symbol.TheVariants as s
 use Rattle.st_parser.specs.Lexemes.{Lexeme, keyword, symbol}
 use Rattle.st_parser.specs.Phrases.{Each, Perhaps, absent, present, After, after, Listed, listed}
-use Rattle.st_parser.specs.Reading.{◌>>=◌, next_symbol, next_keyword, symbol_at, keyword_at, ahead, with_first, many, all_at, perhaps_at, after_symbol, after_keyword, others_at, listed_at}
+use Rattle.st_parser.specs.Reading.{◌>>=◌, is_symbol, is_keyword, symbol_at, keyword_at, ahead, with_first, many, all_at, perhaps_at, after_symbol, after_keyword, others_at, listed_at}
 use Rattle.st_parser.proofs.Steps.{true_or_false, bind_some, same_some, symbol_found, keyword_found}
 
 -- a phrase at the front
@@ -139,29 +139,29 @@ module _ {A : Type 0} (Q : List Lexeme → A → Type 0) (may : List Lexeme → 
   after_keyword_read t reads x rest a (after y is spelled) h =
       rw is (ap (λ b. cond b (Some (y ++ rest)) None >>= one_at) (true_same keyword_type t t refl) ∙ reads y rest a spelled h)
 
-  pub after_symbol_begins : (t : Symbol) → ((ts : List Lexeme) → may (symbol t ∷ ts) ≡ true) → Begins (After (symbol t) Q) (next_symbol t) may
+  pub after_symbol_begins : (t : Symbol) → ((ts : List Lexeme) → may (symbol t ∷ ts) ≡ true) → Begins (After (symbol t) Q) (is_symbol t) may
   after_symbol_begins t follows x rest a (after y is spelled) = (rw is (true_same symbol_type t t refl), rw is (follows (y ++ rest)), (let q = ap length is in omega arith))
 
-  pub symbol_next : (t : Symbol) (x rest : List Lexeme) (a : A) → After (symbol t) Q x a → next_symbol t (x ++ rest) ≡ true
+  pub symbol_next : (t : Symbol) (x rest : List Lexeme) (a : A) → After (symbol t) Q x a → is_symbol t (x ++ rest) ≡ true
   symbol_next t x rest a (after y is spelled) = rw is (true_same symbol_type t t refl)
 
-  pub keyword_next : (t : Keyword) (x rest : List Lexeme) (a : A) → After (keyword t) Q x a → next_keyword t (x ++ rest) ≡ true
+  pub keyword_next : (t : Keyword) (x rest : List Lexeme) (a : A) → After (keyword t) Q x a → is_keyword t (x ++ rest) ≡ true
   keyword_next t x rest a (after y is spelled) = rw is (true_same keyword_type t t refl)
 
-  pub after_keyword_begins : (t : Keyword) → ((ts : List Lexeme) → may (keyword t ∷ ts) ≡ true) → Begins (After (keyword t) Q) (next_keyword t) may
+  pub after_keyword_begins : (t : Keyword) → ((ts : List Lexeme) → may (keyword t ∷ ts) ≡ true) → Begins (After (keyword t) Q) (is_keyword t) may
   after_keyword_begins t follows x rest a (after y is spelled) = (rw is (true_same keyword_type t t refl), rw is (follows (y ++ rest)), (let q = ap length is in omega arith))
 
-  pub others_read : Reads Q one_at may → ((ts : List Lexeme) → may (symbol s.Comma ∷ ts) ≡ true) → (items : List A) (ts rest : List Lexeme) → Each (After (symbol s.Comma) Q) ts items → may rest ≡ true → next_symbol s.Comma rest ≡ false → others_at one_at (ts ++ rest) ≡ Some (items, rest)
-  others_read reads commas items ts rest each h stop = all_read (After (symbol s.Comma) Q) (next_symbol s.Comma) may (after_symbol s.Comma one_at) (after_symbol_read s.Comma reads) (after_symbol_begins s.Comma commas) items ts rest each h stop
+  pub others_read : Reads Q one_at may → ((ts : List Lexeme) → may (symbol s.Comma ∷ ts) ≡ true) → (items : List A) (ts rest : List Lexeme) → Each (After (symbol s.Comma) Q) ts items → may rest ≡ true → is_symbol s.Comma rest ≡ false → others_at one_at (ts ++ rest) ≡ Some (items, rest)
+  others_read reads commas items ts rest each h stop = all_read (After (symbol s.Comma) Q) (is_symbol s.Comma) may (after_symbol s.Comma one_at) (after_symbol_read s.Comma reads) (after_symbol_begins s.Comma commas) items ts rest each h stop
 
   pub others_found : Finds Q one_at → Finds (Each (After (symbol s.Comma) Q)) (others_at one_at)
-  others_found finds = all_found (After (symbol s.Comma) Q) (next_symbol s.Comma) may (after_symbol s.Comma one_at) (after_symbol_found s.Comma finds)
+  others_found finds = all_found (After (symbol s.Comma) Q) (is_symbol s.Comma) may (after_symbol s.Comma one_at) (after_symbol_found s.Comma finds)
 
   -- after the first of a list
   others_follow : ((ts : List Lexeme) → may (symbol s.Comma ∷ ts) ≡ true) → (items : List A) (ts rest : List Lexeme) → Each (After (symbol s.Comma) Q) ts items → may rest ≡ true → may (ts ++ rest) ≡ true
-  others_follow commas items ts rest each h = may_follow (After (symbol s.Comma) Q) (next_symbol s.Comma) may (after_symbol s.Comma one_at) (after_symbol_begins s.Comma commas) items ts rest each h
+  others_follow commas items ts rest each h = may_follow (After (symbol s.Comma) Q) (is_symbol s.Comma) may (after_symbol s.Comma one_at) (after_symbol_begins s.Comma commas) items ts rest each h
 
-  pub listed_read : Reads Q one_at may → ((ts : List Lexeme) → may (symbol s.Comma ∷ ts) ≡ true) → (items : List A) (ts rest : List Lexeme) → Listed Q ts items → may rest ≡ true → next_symbol s.Comma rest ≡ false → listed_at one_at (ts ++ rest) ≡ Some (items, rest)
+  pub listed_read : Reads Q one_at may → ((ts : List Lexeme) → may (symbol s.Comma ∷ ts) ≡ true) → (items : List A) (ts rest : List Lexeme) → Listed Q ts items → may rest ≡ true → is_symbol s.Comma rest ≡ false → listed_at one_at (ts ++ rest) ≡ Some (items, rest)
   listed_read reads commas items ts rest (listed a others x y spelled each is all) h stop =
       rw (is, append_assoc x y rest, reads x (y ++ rest) a spelled (others_follow commas others y rest each h), others_read reads commas others y rest each h stop, all) refl
 

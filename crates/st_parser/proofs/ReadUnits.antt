@@ -9,9 +9,9 @@ use Rattle.st_parser.specs.Phrases.{Each, Perhaps, After, after, listed}
 use Rattle.st_parser.specs.Grammar.{IsExpression}
 use Rattle.st_parser.specs.Statements.{IsBody}
 use Rattle.st_parser.specs.Declarations.{IsName, sort_of, Declares, declaration, DeclaresGlobal, placed, anywhere, Globals, globals, section_of, IsSection, variables, opening_keyword, closing_keyword, IsPou, organised, SpellsUnit, unit}
-use Rattle.st_parser.specs.Reading.{word_at, next_symbol, next_keyword, next_word, keyword_at, all_at, after_symbol, expression_at}
-use Rattle.st_parser.specs.ReadingStatements.{next_stmt, body_at}
-use Rattle.st_parser.specs.ReadingUnits.{initial_at, declared_at, placed_at, declaration_at, global_at, globals_at, next_section, section_at, pou_of, next_pou, pou_at, unit_at}
+use Rattle.st_parser.specs.Reading.{word_at, is_symbol, is_keyword, is_word, keyword_at, all_at, after_symbol, expression_at}
+use Rattle.st_parser.specs.ReadingStatements.{is_statement, body_at}
+use Rattle.st_parser.specs.ReadingUnits.{initial_at, declared_at, placed_at, declaration_at, global_at, globals_at, is_section, section_at, pou_of, is_pou, pou_at, unit_at}
 use Rattle.st_parser.specs.Units.{PlainDeclaration, PlainSection, PlainPou, PlainUnit}
 use Rattle.st_parser.specs.declared.unit.PouKind.{PouKind}
 use Rattle.st_parser.specs.declared.unit.PouKind.TheVariants as pou
@@ -29,7 +29,7 @@ initial_read : (names : List (List ℕ)) (region : Option Region) (what : Sort) 
     → initial_at names region what (y ++ symbol s.Semicolon ∷ rest) ≡ Some (record { names = names; region = region; sort = what; initial = initial }, rest)
 unfolding initial_at
 initial_read names region what initial y rest p =
-    let read = perhaps_read (After (symbol s.Becomes) IsExpression) (next_symbol s.Becomes) ends (after_symbol s.Becomes expression_at) (after_symbol_read IsExpression ends expression_at s.Becomes (λ x rest e p h. expression_read x rest e p h)) (symbol_next IsExpression ends expression_at s.Becomes) initial y (symbol s.Semicolon ∷ rest) p refl refl in
+    let read = perhaps_read (After (symbol s.Becomes) IsExpression) (is_symbol s.Becomes) ends (after_symbol s.Becomes expression_at) (after_symbol_read IsExpression ends expression_at s.Becomes (λ x rest e p h. expression_read x rest e p h)) (symbol_next IsExpression ends expression_at s.Becomes) initial y (symbol s.Semicolon ∷ rest) p refl refl in
     rw read refl
 
 word_read : Reads IsName word_at anything
@@ -43,7 +43,7 @@ declared_read name others t what initial x y rest each is p =
     rw (others_read IsName anything word_at word_read (λ ts. refl) others x (symbol s.Colon ∷ t ∷ (y ++ symbol s.Semicolon ∷ rest)) each refl refl, is) (initial_read (name ∷ others) None what initial y rest p)
 
 -- the names of a declaration begin with a word, and no AT is after it
-no_at : (others : List (List ℕ)) (x rest : List Lexeme) → Each (After (symbol s.Comma) IsName) x others → next_keyword k.At (x ++ symbol s.Colon ∷ rest) ≡ false
+no_at : (others : List (List ℕ)) (x rest : List Lexeme) → Each (After (symbol s.Comma) IsName) x others → is_keyword k.At (x ++ symbol s.Colon ∷ rest) ≡ false
 no_at [] x rest each = rw each refl
 no_at (n ∷ others) x rest (y, z, is, after w is_y more, each) = rw (is, is_y) refl
 
@@ -53,7 +53,7 @@ record Parted (ts : List Lexeme) (d : PlainDeclaration) (rest : List Lexeme) : T
   pub tail : List Lexeme
   pub is : ts ++ rest ≡ word name ∷ tail
   pub read : declared_at name tail ≡ Some (d, rest)
-  pub alone : next_keyword k.At tail ≡ false
+  pub alone : is_keyword k.At tail ≡ false
 
 parted : (ts : List Lexeme) (d : PlainDeclaration) (rest : List Lexeme) → Declares ts d → Parted ts d rest
 parted ts d rest (declaration names t what initial x y (listed name others v w first each is_x is_names) is_what p is_ts is_d) =
@@ -80,16 +80,16 @@ global_read x rest d (anywhere p) h =
     rw (parts.is, parts.alone) parts.read
 
 -- what begins with a word
-word_begins : (ts rest tail : List Lexeme) (name : List ℕ) → ts ++ rest ≡ word name ∷ tail → next_word (ts ++ rest) ≡ true
+word_begins : (ts rest tail : List Lexeme) (name : List ℕ) → ts ++ rest ≡ word name ∷ tail → is_word (ts ++ rest) ≡ true
 word_begins ts rest tail name is = rw is refl
 
 some_names : (ts : List Lexeme) (d : PlainDeclaration) → Declares ts d → 0 < length ts
 some_names ts d p = let parts = parted ts d [] p in let q = ap length parts.is in let r = length-append ts [] in omega arith
 
-declaration_begins : Begins Declares next_word anything
+declaration_begins : Begins Declares is_word anything
 declaration_begins x rest d p = let parts = parted x d rest p in (word_begins x rest parts.tail parts.name parts.is, refl, some_names x d p)
 
-global_begins : Begins DeclaresGlobal next_word anything
+global_begins : Begins DeclaresGlobal is_word anything
 global_begins x rest d (placed name r t what initial y is_what p is_x is_d) = (rw is_x refl, refl, (let q = ap length is_x in omega arith))
 global_begins x rest d (anywhere p) = declaration_begins x rest d p
 
@@ -97,25 +97,25 @@ global_begins x rest d (anywhere p) = declaration_begins x rest d p
 globals_read : Reads Globals globals_at anything
 unfolding globals_at
 globals_read x rest sec (globals all y each is_x is) h =
-    rw (is_x, append_assoc y (keyword k.EndVar ∷ []) rest, all_read DeclaresGlobal next_word anything global_at global_read global_begins all y (keyword k.EndVar ∷ rest) each refl refl, is) refl
+    rw (is_x, append_assoc y (keyword k.EndVar ∷ []) rest, all_read DeclaresGlobal is_word anything global_at global_read global_begins all y (keyword k.EndVar ∷ rest) each refl refl, is) refl
 
-globals_begin : Begins Globals (next_keyword k.VarGlobal) anything
+globals_begin : Begins Globals (is_keyword k.VarGlobal) anything
 globals_begin x rest sec (globals all y each is_x is) = (rw is_x refl, refl, (let q = ap length is_x in omega arith))
 
 section_read : (kind : PouKind) → Reads (IsSection kind) (section_at kind) anything
 unfolding section_at
 section_read kind x rest sec (variables t what all y is_what each is_x is) h =
-    rw (is_x, is_what, append_assoc y (keyword k.EndVar ∷ []) rest, all_read Declares next_word anything declaration_at declaration_read declaration_begins all y (keyword k.EndVar ∷ rest) each refl refl, is) refl
+    rw (is_x, is_what, append_assoc y (keyword k.EndVar ∷ []) rest, all_read Declares is_word anything declaration_at declaration_read declaration_begins all y (keyword k.EndVar ∷ rest) each refl refl, is) refl
 
 there : {A : Type 0} (o : Option A) (a : A) → o ≡ Some a → is_some o ≡ true
 there o a is = ap is_some is
 
-section_begins : (kind : PouKind) → Begins (IsSection kind) (next_section kind) anything
+section_begins : (kind : PouKind) → Begins (IsSection kind) (is_section kind) anything
 section_begins kind x rest sec (variables t what all y is_what each is_x is) = (rw is_x (there (section_of kind t) what is_what), refl, (let q = ap length is_x in omega arith))
 
 -- ---- blocks and programs
 -- no statement begins a section
-no_section : (kind : PouKind) (ts : List Lexeme) → next_stmt ts ≡ true → next_section kind ts ≡ false
+no_section : (kind : PouKind) (ts : List Lexeme) → is_statement ts ≡ true → is_section kind ts ≡ false
 no_section pou.Block (word name ∷ ts) h = refl
 no_section pou.Block (keyword k.If ∷ ts) h = refl
 no_section pou.Block (keyword k.Case ∷ ts) h = refl
@@ -129,7 +129,7 @@ no_section pou.Program (symbol s.Semicolon ∷ ts) h = refl
 no_section _ [] h = absurd (cc)
 no_section _ (_ ∷ ts) h = absurd (cc)
 
-closing_is_no_section : (kind : PouKind) (ts : List Lexeme) → next_section kind (keyword (closing_keyword kind) ∷ ts) ≡ false
+closing_is_no_section : (kind : PouKind) (ts : List Lexeme) → is_section kind (keyword (closing_keyword kind) ∷ ts) ≡ false
 closing_is_no_section pou.Block ts = refl
 closing_is_no_section pou.Program ts = refl
 
@@ -145,18 +145,18 @@ opened : (kind : PouKind) → pou_of (keyword (opening_keyword kind)) ≡ Some k
 opened pou.Block = refl
 opened pou.Program = refl
 
-body_is_no_section : (kind : PouKind) (y rest : List Lexeme) (body : PlainBody (List ℕ)) → IsBody y body → next_section kind (y ++ keyword (closing_keyword kind) ∷ rest) ≡ false
+body_is_no_section : (kind : PouKind) (y rest : List Lexeme) (body : PlainBody (List ℕ)) → IsBody y body → is_section kind (y ++ keyword (closing_keyword kind) ∷ rest) ≡ false
 body_is_no_section kind y rest body p =
-    elim (body_begins y (keyword (closing_keyword kind) ∷ rest) body p) as (λ _. next_section kind (y ++ keyword (closing_keyword kind) ∷ rest) ≡ false) [
+    elim (body_begins y (keyword (closing_keyword kind) ∷ rest) body p) as (λ _. is_section kind (y ++ keyword (closing_keyword kind) ∷ rest) ≡ false) [
       | inl none ↦ rw none (closing_is_no_section kind rest)
       | inr some ↦ no_section kind (y ++ keyword (closing_keyword kind) ∷ rest) some
     ]
 
 inside_read : (kind : PouKind) (name : List ℕ) (sections : List PlainSection) (body : PlainBody (List ℕ)) (y z rest : List Lexeme) → Each (IsSection kind) y sections → IsBody z body
-    → (all_at (next_section kind) (section_at kind) (y ++ (z ++ keyword (closing_keyword kind) ∷ rest)) ≡ Some (sections, z ++ keyword (closing_keyword kind) ∷ rest)) × (body_at (z ++ keyword (closing_keyword kind) ∷ rest) ≡ Some (body, keyword (closing_keyword kind) ∷ rest))
+    → (all_at (is_section kind) (section_at kind) (y ++ (z ++ keyword (closing_keyword kind) ∷ rest)) ≡ Some (sections, z ++ keyword (closing_keyword kind) ∷ rest)) × (body_at (z ++ keyword (closing_keyword kind) ∷ rest) ≡ Some (body, keyword (closing_keyword kind) ∷ rest))
 inside_read kind name sections body y z rest each is_body =
     let after_it = z ++ keyword (closing_keyword kind) ∷ rest in (
-      all_read (IsSection kind) (next_section kind) anything (section_at kind) (section_read kind) (section_begins kind) sections y after_it each refl (body_is_no_section kind z rest body is_body),
+      all_read (IsSection kind) (is_section kind) anything (section_at kind) (section_read kind) (section_begins kind) sections y after_it each refl (body_is_no_section kind z rest body is_body),
       body_read z (keyword (closing_keyword kind) ∷ rest) body is_body (closing_stops kind rest),
     )
 
@@ -169,12 +169,12 @@ pou_read x rest p (organised pou.Program name sections body y z each is_body is_
     let inside = inside_read pou.Program name sections body y z rest each is_body in
     rw (is_x, two_parts y z (keyword k.EndProgram) rest, inside.0, inside.1, is) refl
 
-pou_begins : Begins IsPou next_pou anything
+pou_begins : Begins IsPou is_pou anything
 pou_begins x rest p (organised pou.Block name sections body y z each is_body is_x is) = (rw is_x refl, refl, (let q = ap length is_x in omega arith))
 pou_begins x rest p (organised pou.Program name sections body y z each is_body is_x is) = (rw is_x refl, refl, (let q = ap length is_x in omega arith))
 
 -- ---- units
-no_globals : (pous : List PlainPou) (y : List Lexeme) → Each IsPou y pous → next_keyword k.VarGlobal y ≡ false
+no_globals : (pous : List PlainPou) (y : List Lexeme) → Each IsPou y pous → is_keyword k.VarGlobal y ≡ false
 no_globals [] y each = rw each refl
 no_globals (p ∷ pous) y (v, w, is, organised pou.Block name sections body x z eachs is_body is_v is_p, each) = rw (is, is_v) refl
 no_globals (p ∷ pous) y (v, w, is, organised pou.Program name sections body x z eachs is_body is_v is_p, each) = rw (is, is_v) refl
@@ -182,6 +182,6 @@ no_globals (p ∷ pous) y (v, w, is, organised pou.Program name sections body x 
 pub unit_read : (ts : List Lexeme) (u : PlainUnit) → SpellsUnit ts u → unit_at ts ≡ Some (u, [])
 unfolding unit_at
 unit_read ts u (unit gs ps x y each_global each_pou is what) =
-    let first = all_read Globals (next_keyword k.VarGlobal) anything globals_at globals_read globals_begin gs x y each_global refl (no_globals ps y each_pou) in
-    let second : all_at next_pou pou_at y ≡ Some (ps, []) = ap (all_at next_pou pou_at) (sym (append-nil y)) ∙ all_read IsPou next_pou anything pou_at pou_read pou_begins ps y [] each_pou refl refl in
+    let first = all_read Globals (is_keyword k.VarGlobal) anything globals_at globals_read globals_begin gs x y each_global refl (no_globals ps y each_pou) in
+    let second : all_at is_pou pou_at y ≡ Some (ps, []) = ap (all_at is_pou pou_at) (sym (append-nil y)) ∙ all_read IsPou is_pou anything pou_at pou_read pou_begins ps y [] each_pou refl refl in
     rw (is, first, second, what) refl

@@ -10,8 +10,8 @@ use Rattle.st_tree.specs.declared.tree.Unary.TheVariants as u
 use Rattle.st_tree.specs.declared.tree.Binary.{Binary}
 use Rattle.st_tree.specs.Plain.{PlainExpr, literal, read, output_of, unary, binary}
 use Rattle.st_parser.specs.Lexemes.{Lexeme, word, keyword, integer, symbol}
-use Rattle.st_parser.specs.Grammar.{literal_of, prefix_of, operator_of, level_of, top, is_signed, in_parentheses, Production, constant, negative, variable, output, parens, before_operand, between_operands, SpellsExpr, IsExpression}
-use Rattle.st_parser.specs.Reading.{Answer, word_at, operator_at, if_allowed, next_symbol, part_at, reference_at, minus_at, constant_at, operand, prefixed, close_group, symbol_at, chain, climb, tree_of, expression_at}
+use Rattle.st_parser.specs.Grammar.{literal_of, prefix_of, operator_of, level_of, top, begins_negative, in_parentheses, Production, constant, negative, variable, output, parens, before_operand, between_operands, SpellsExpr, IsExpression}
+use Rattle.st_parser.specs.Reading.{Answer, word_at, operator_at, if_allowed, is_symbol, part_at, reference_at, minus_at, constant_at, operand, prefixed, close_group, symbol_at, chain, climb, tree_of, expression_at}
 use Rattle.st_parser.proofs.Chain.{stops, too_deep, goes, fails}
 use Rattle.st_parser.proofs.Complete.{starts_with, stops_at_top, some_lexeme}
 use Rattle.st_parser.proofs.Many.{Front}
@@ -69,19 +69,19 @@ atom d front rest e r p is =
     let at_once : Started (d + 1) (front ++ rest) (e, 1, rest) = record { front = front; whole = refl; spelled = p; small = omega arith } in
     subst (Started (d + 1) (front ++ rest)) is at_once
 
-same_sign : (t v : Lexeme) (x y : List Lexeme) → is_signed (t ∷ v ∷ x) ≡ is_signed (t ∷ v ∷ y)
+same_sign : (t v : Lexeme) (x y : List Lexeme) → begins_negative (t ∷ v ∷ x) ≡ begins_negative (t ∷ v ∷ y)
 same_sign (symbol s.Minus) (integer n) x y = refl
 same_sign (symbol s.Minus) v x y = refl
 same_sign t v x y = refl
 
-unsigned_front : (t : Lexeme) (x rest : List Lexeme) → 0 < length x → is_signed (t ∷ (x ++ rest)) ≡ false → is_signed (t ∷ x) ≡ false
+unsigned_front : (t : Lexeme) (x rest : List Lexeme) → 0 < length x → begins_negative (t ∷ (x ++ rest)) ≡ false → begins_negative (t ∷ x) ≡ false
 unsigned_front t [] rest some h = absurd (omega arith)
 unsigned_front t (v ∷ x) rest some h = same_sign t v x (x ++ rest) ∙ h
 
-prefix_started : (d : ℕ) (t : Lexeme) (op : Unary) (ts : List Lexeme) (q r : Read) → prefix_of t ≡ Some op → is_signed (t ∷ ts) ≡ false → Parsed d top ts q → (unary op q.0, q.1 + 1, q.2) ≡ r → Started (d + 1) (t ∷ ts) r
+prefix_started : (d : ℕ) (t : Lexeme) (op : Unary) (ts : List Lexeme) (q r : Read) → prefix_of t ≡ Some op → begins_negative (t ∷ ts) ≡ false → Parsed d top ts q → (unary op q.0, q.1 + 1, q.2) ≡ r → Started (d + 1) (t ∷ ts) r
 prefix_started d t op ts q r kind signs p is =
     let le = p.small in
-    let unsigned : is_signed (t ∷ p.front) ≡ false = unsigned_front t p.front q.2 (some_lexeme q.1 top p.front q.0 p.spelled) (ap (λ l. is_signed (t ∷ l)) (sym p.whole) ∙ signs) in
+    let unsigned : begins_negative (t ∷ p.front) ≡ false = unsigned_front t p.front q.2 (some_lexeme q.1 top p.front q.0 p.spelled) (ap (λ l. begins_negative (t ∷ l)) (sym p.whole) ∙ signs) in
     let one_on : Started (d + 1) (t ∷ ts) (unary op q.0, q.1 + 1, q.2) = record {
       front = t ∷ p.front;
       whole = ap (λ l. t ∷ l) p.whole;
@@ -111,7 +111,7 @@ part_started d name ts r h =
 
 reference_started : (d : ℕ) (name : List ℕ) (ts : List Lexeme) (r : Read) → reference_at name ts ≡ Some r → Started (d + 1) (word name ∷ ts) r
 reference_started d name ts r h =
-    elim (true_or_false (next_symbol s.Point ts)) as (λ _. Started (d + 1) (word name ∷ ts) r) [
+    elim (true_or_false (is_symbol s.Point ts)) as (λ _. Started (d + 1) (word name ∷ ts) r) [
       | inl yes' ↦
           let is = next_is_symbol s.Point ts yes' in
           let p = part_started d name (drop 1 ts) r (ap (λ b. cond b (part_at name (drop 1 ts)) (Some (read name, 1, ts))) (sym yes') ∙ h) in

@@ -9,7 +9,7 @@ use Rattle.st_lexer.specs.declared.token.Symbol.{Symbol}
 use Rattle.st_lexer.specs.declared.token.TokenKind.{TokenKind}
 use Rattle.st_lexer.specs.declared.token.TokenKind.TheVariants as kind
 use Rattle.st_parser.specs.Lexemes.{Lexeme, word, keyword, symbol, lexeme_of, first_name}
-use Rattle.st_parser.specs.Reading.{Answer, tree_of, ◌>>=◌, word_at, next_symbol, next_keyword, symbol_at, keyword_at}
+use Rattle.st_parser.specs.Reading.{Answer, tree_of, ◌>>=◌, word_at, is_symbol, is_keyword, symbol_at, keyword_at}
 use Rattle.st_parser.specs.Outcome.{Fails}
 use Rattle.st_parser.specs.declared.fault.Stop.{Stop}
 use Rattle.st_parser.specs.declared.fault.Stop.TheVariants as stop
@@ -37,30 +37,30 @@ pub passed : {A : Type 0} (b : Bool) (o : Option A) (y : A) → cond b o None �
 passed true o y h = (refl, h)
 passed false o y h = absurd (cc)
 
-symbol_next : (wanted : Symbol) (ts : List Lexeme) → next_symbol wanted ts ≡ true → ts ≡ symbol wanted ∷ drop 1 ts
+symbol_next : (wanted : Symbol) (ts : List Lexeme) → is_symbol wanted ts ≡ true → ts ≡ symbol wanted ∷ drop 1 ts
 symbol_next wanted (symbol found ∷ ts) h = ap (λ x. symbol x ∷ ts) (same_true symbol_type tt found wanted h)
 symbol_next wanted [] h = absurd (cc)
 symbol_next wanted (_ ∷ ts) h = absurd (cc)
 
-keyword_next : (wanted : Keyword) (ts : List Lexeme) → next_keyword wanted ts ≡ true → ts ≡ keyword wanted ∷ drop 1 ts
+keyword_next : (wanted : Keyword) (ts : List Lexeme) → is_keyword wanted ts ≡ true → ts ≡ keyword wanted ∷ drop 1 ts
 keyword_next wanted (keyword found ∷ ts) h = ap (λ x. keyword x ∷ ts) (same_true keyword_type tt found wanted h)
 keyword_next wanted [] h = absurd (cc)
 keyword_next wanted (_ ∷ ts) h = absurd (cc)
 
-pub next_is_symbol : (wanted : Symbol) (ts : List Lexeme) → next_symbol wanted ts ≡ true → ts ≡ symbol wanted ∷ drop 1 ts
+pub next_is_symbol : (wanted : Symbol) (ts : List Lexeme) → is_symbol wanted ts ≡ true → ts ≡ symbol wanted ∷ drop 1 ts
 next_is_symbol = symbol_next
 
-pub next_is_keyword : (wanted : Keyword) (ts : List Lexeme) → next_keyword wanted ts ≡ true → ts ≡ keyword wanted ∷ drop 1 ts
+pub next_is_keyword : (wanted : Keyword) (ts : List Lexeme) → is_keyword wanted ts ≡ true → ts ≡ keyword wanted ∷ drop 1 ts
 next_is_keyword = keyword_next
 
 pub symbol_found : (wanted : Symbol) (ts rest : List Lexeme) → symbol_at wanted ts ≡ Some rest → ts ≡ symbol wanted ∷ rest
 symbol_found wanted ts rest h =
-    let p = passed (next_symbol wanted ts) (Some (drop 1 ts)) rest h in
+    let p = passed (is_symbol wanted ts) (Some (drop 1 ts)) rest h in
     symbol_next wanted ts p.0 ∙ ap (λ r. symbol wanted ∷ r) (same_some _ _ p.1)
 
 pub keyword_found : (wanted : Keyword) (ts rest : List Lexeme) → keyword_at wanted ts ≡ Some rest → ts ≡ keyword wanted ∷ rest
 keyword_found wanted ts rest h =
-    let p = passed (next_keyword wanted ts) (Some (drop 1 ts)) rest h in
+    let p = passed (is_keyword wanted ts) (Some (drop 1 ts)) rest h in
     keyword_next wanted ts p.0 ∙ ap (λ r. keyword wanted ∷ r) (same_some _ _ p.1)
 
 pub word_found : (ts : List Lexeme) (r : List ℕ × List Lexeme) → word_at ts ≡ Some r → ts ≡ word r.0 ∷ r.1

@@ -69,9 +69,9 @@ abbrev pub top : ℕ
 top = 8
 
 -- a minus directly before an integer, which is one literal with it
-abbrev pub is_signed : List Lexeme → Bool
-is_signed (symbol s.Minus ∷ integer n ∷ ts) = true
-is_signed _ = false
+abbrev pub begins_negative : List Lexeme → Bool
+begins_negative (symbol s.Minus ∷ integer n ∷ ts) = true
+begins_negative _ = false
 
 -- an integer in parentheses is a DINT, and no longer an integer without a kind
 abbrev pub in_parentheses : PlainExpr (List ℕ) → PlainExpr (List ℕ)
@@ -85,7 +85,7 @@ pub data Production (P : ℕ → List Lexeme → PlainExpr (List ℕ) → Type 0
   variable : (name : List ℕ) → ts ≡ word name ∷ [] → e ≡ read name → Production P level ts e
   output : (name part : List ℕ) → ts ≡ word name ∷ symbol s.Point ∷ word part ∷ [] → e ≡ output_of name part → Production P level ts e
   parens : (a : PlainExpr (List ℕ)) (x : List Lexeme) → ts ≡ symbol s.Open ∷ (x ++ symbol s.Close ∷ []) → e ≡ in_parentheses a → P 0 x a → Production P level ts e
-  before_operand : (t : Lexeme) (op : Unary) (a : PlainExpr (List ℕ)) (x : List Lexeme) → prefix_of t ≡ Some op → is_signed ts ≡ false → ts ≡ t ∷ x → e ≡ unary op a → P top x a → Production P level ts e
+  before_operand : (t : Lexeme) (op : Unary) (a : PlainExpr (List ℕ)) (x : List Lexeme) → prefix_of t ≡ Some op → begins_negative ts ≡ false → ts ≡ t ∷ x → e ≡ unary op a → P top x a → Production P level ts e
   between_operands : (t : Lexeme) (op : Binary) (a c : PlainExpr (List ℕ)) (x y : List Lexeme) → operator_of t ≡ Some op → level ≤ level_of op → ts ≡ x ++ t ∷ y → e ≡ binary op a c → P (level_of op) x a → P (level_of op + 1) y c → Production P level ts e
 
 -- within a depth: each parenthesis and each operator is one deeper than its parts

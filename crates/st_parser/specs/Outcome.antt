@@ -14,9 +14,9 @@ Fails stop.Memory answer = Unit {0}
 Fails (stop.Left n) answer = answer ≡ None
 
 -- what is returned, seen by view, is the answer, unless memory was refused
-abbrev pub Gives : {X Y : Type 0} → (X → Y) → Result X Stop → Option Y → Type 0
-Gives view (Ok x) answer = answer ≡ Some (view x)
-Gives view (Err e) answer = Fails e answer
+abbrev pub Returns : {X Y : Type 0} → (X → Y) → Result X Stop → Option Y → Type 0
+Returns view (Ok x) answer = answer ≡ Some (view x)
+Returns view (Err e) answer = Fails e answer
 
 -- the lexemes spell no unit, or memory was refused
 abbrev pub SpellNone : List Lexeme → ParseFault → Type 0

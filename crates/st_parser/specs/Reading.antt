@@ -28,23 +28,23 @@ word_at (word name ∷ ts) = Some (name, ts)
 word_at _ = None
 
 -- whether this symbol, this keyword, a word is next
-abbrev pub next_symbol : Symbol → List Lexeme → Bool
-next_symbol wanted (symbol found ∷ ts) = sameb symbol_type found wanted
-next_symbol wanted _ = false
+abbrev pub is_symbol : Symbol → List Lexeme → Bool
+is_symbol wanted (symbol found ∷ ts) = sameb symbol_type found wanted
+is_symbol wanted _ = false
 
-abbrev pub next_keyword : Keyword → List Lexeme → Bool
-next_keyword wanted (keyword found ∷ ts) = sameb keyword_type found wanted
-next_keyword wanted _ = false
+abbrev pub is_keyword : Keyword → List Lexeme → Bool
+is_keyword wanted (keyword found ∷ ts) = sameb keyword_type found wanted
+is_keyword wanted _ = false
 
-abbrev pub next_word : List Lexeme → Bool
-next_word (word name ∷ ts) = true
-next_word _ = false
+abbrev pub is_word : List Lexeme → Bool
+is_word (word name ∷ ts) = true
+is_word _ = false
 
 abbrev pub symbol_at : Symbol → List Lexeme → Option (List Lexeme)
-symbol_at wanted ts = if next_symbol wanted ts then Some (drop 1 ts) else None
+symbol_at wanted ts = if is_symbol wanted ts then Some (drop 1 ts) else None
 
 abbrev pub keyword_at : Keyword → List Lexeme → Option (List Lexeme)
-keyword_at wanted ts = if next_keyword wanted ts then Some (drop 1 ts) else None
+keyword_at wanted ts = if is_keyword wanted ts then Some (drop 1 ts) else None
 
 -- ---- phrases of phrases
 abbrev pub ahead : {A : Type 0} → A → List A × List Lexeme → Option (List A × List Lexeme)
@@ -75,7 +75,7 @@ abbrev pub after_keyword : {A : Type 0} → Keyword → (List Lexeme → Option 
 after_keyword wanted one_at ts = keyword_at wanted ts >>= one_at
 
 abbrev pub others_at : {A : Type 0} → (List Lexeme → Option (A × List Lexeme)) → List Lexeme → Option (List A × List Lexeme)
-others_at one_at ts = all_at (next_symbol s.Comma) (after_symbol s.Comma one_at) ts
+others_at one_at ts = all_at (is_symbol s.Comma) (after_symbol s.Comma one_at) ts
 
 abbrev pub listed_at : {A : Type 0} → (List Lexeme → Option (A × List Lexeme)) → List Lexeme → Option (List A × List Lexeme)
 listed_at one_at ts = one_at ts >>= λ a. with_first (a.0 ∷ []) (others_at one_at a.1)
@@ -122,7 +122,7 @@ part_at name ts = word_at ts >>= λ part. Some (output_of name part.0, 1, part.1
 
 -- after a word
 abbrev pub reference_at : List ℕ → List Lexeme → Answer
-reference_at name ts = if next_symbol s.Point ts then part_at name (drop 1 ts) else Some (read name, 1, ts)
+reference_at name ts = if is_symbol s.Point ts then part_at name (drop 1 ts) else Some (read name, 1, ts)
 
 -- after a minus
 abbrev pub minus_at : (ℕ → List Lexeme → Answer) → List Lexeme → Answer

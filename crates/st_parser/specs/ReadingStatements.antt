@@ -7,7 +7,7 @@ use Rattle.st_tree.specs.declared.tree.Label.{Label}
 use Rattle.st_tree.specs.Plain.{PlainExpr, PlainArgument, input, output, PlainStmt, empty, assign, call, choose, select, repeat, PlainBody, done}
 use Rattle.st_tree.specs.View.{body_of, branches_of, choices_of}
 use Rattle.st_parser.specs.Lexemes.{Lexeme, word, keyword, integer, symbol}
-use Rattle.st_parser.specs.Reading.{◌>>=◌, word_at, next_symbol, next_keyword, symbol_at, keyword_at, with_first, all_at, perhaps_at, after_symbol, after_keyword, listed_at, expression_at}
+use Rattle.st_parser.specs.Reading.{◌>>=◌, word_at, is_symbol, is_keyword, symbol_at, keyword_at, with_first, all_at, perhaps_at, after_symbol, after_keyword, listed_at, expression_at}
 
 -- ---- calls
 -- after an output's name and its arrow
@@ -20,13 +20,13 @@ given_at name ts = symbol_at s.Becomes ts >>= λ right. expression_at right >>= 
 
 -- after an argument's name
 unfoldable pub argued_at : List ℕ → List Lexeme → Option (PlainArgument (List ℕ) × List Lexeme)
-argued_at name ts = if next_symbol s.Gives ts then taken_at name (drop 1 ts) else given_at name ts
+argued_at name ts = if is_symbol s.Gives ts then taken_at name (drop 1 ts) else given_at name ts
 
 unfoldable pub argument_at : List Lexeme → Option (PlainArgument (List ℕ) × List Lexeme)
 argument_at ts = word_at ts >>= λ name. argued_at name.0 name.1
 
 unfoldable pub arguments_at : List Lexeme → Option (List (PlainArgument (List ℕ)) × List Lexeme)
-arguments_at ts = if next_symbol s.Close ts then Some ([], ts) else listed_at argument_at ts
+arguments_at ts = if is_symbol s.Close ts then Some ([], ts) else listed_at argument_at ts
 
 -- ---- labels
 abbrev pub negative_at : List Lexeme → Option (ℤ × List Lexeme)
@@ -39,23 +39,23 @@ number_at (symbol s.Minus ∷ ts) = negative_at ts
 number_at _ = None
 
 unfoldable pub label_at : List Lexeme → Option (Label × List Lexeme)
-label_at ts = number_at ts >>= λ low. perhaps_at (next_symbol s.Range) (after_symbol s.Range number_at) low.1 >>= λ high. Some (record { low = low.0; high = unwrap_or high.0 low.0 }, high.1)
+label_at ts = number_at ts >>= λ low. perhaps_at (is_symbol s.Range) (after_symbol s.Range number_at) low.1 >>= λ high. Some (record { low = low.0; high = unwrap_or high.0 low.0 }, high.1)
 
 -- whether a label is next
-abbrev pub next_label : List Lexeme → Bool
-next_label (integer n ∷ ts) = true
-next_label (symbol s.Minus ∷ ts) = true
-next_label _ = false
+abbrev pub is_label : List Lexeme → Bool
+is_label (integer n ∷ ts) = true
+is_label (symbol s.Minus ∷ ts) = true
+is_label _ = false
 
 -- ---- statements
 -- whether a statement or a bare semicolon is next
-abbrev pub next_stmt : List Lexeme → Bool
-next_stmt (word name ∷ ts) = true
-next_stmt (keyword k.If ∷ ts) = true
-next_stmt (keyword k.Case ∷ ts) = true
-next_stmt (keyword k.For ∷ ts) = true
-next_stmt (symbol s.Semicolon ∷ ts) = true
-next_stmt _ = false
+abbrev pub is_statement : List Lexeme → Bool
+is_statement (word name ∷ ts) = true
+is_statement (keyword k.If ∷ ts) = true
+is_statement (keyword k.Case ∷ ts) = true
+is_statement (keyword k.For ∷ ts) = true
+is_statement (symbol s.Semicolon ∷ ts) = true
+is_statement _ = false
 
 -- after an instance's name and its parenthesis
 unfoldable pub called_at : List ℕ → List Lexeme → Option (PlainStmt (List ℕ) × List Lexeme)
@@ -67,11 +67,11 @@ assigned_at name ts = symbol_at s.Becomes ts >>= λ right. expression_at right >
 
 -- after a word
 unfoldable pub simple_at : List ℕ → List Lexeme → Option (PlainStmt (List ℕ) × List Lexeme)
-simple_at name ts = if next_symbol s.Open ts then called_at name (drop 1 ts) else assigned_at name ts
+simple_at name ts = if is_symbol s.Open ts then called_at name (drop 1 ts) else assigned_at name ts
 
 -- the first value, the bound and the step of a FOR
 unfoldable pub bounds_at : List Lexeme → Option ((PlainExpr (List ℕ) × PlainExpr (List ℕ) × Option (PlainExpr (List ℕ))) × List Lexeme)
-bounds_at ts = expression_at ts >>= λ from. keyword_at k.To from.1 >>= λ up. expression_at up >>= λ to. perhaps_at (next_keyword k.By) (after_keyword k.By expression_at) to.1 >>= λ by. Some ((from.0, to.0, by.0), by.1)
+bounds_at ts = expression_at ts >>= λ from. keyword_at k.To from.1 >>= λ up. expression_at up >>= λ to. perhaps_at (is_keyword k.By) (after_keyword k.By expression_at) to.1 >>= λ by. Some ((from.0, to.0, by.0), by.1)
 
 -- inner finds a list of inner statements
 module _ (inner : List Lexeme → Option (PlainBody (List ℕ) × List Lexeme)) where
@@ -82,15 +82,15 @@ module _ (inner : List Lexeme → Option (PlainBody (List ℕ) × List Lexeme)) 
   choice_at ts = listed_at label_at ts >>= λ labels. symbol_at s.Colon labels.1 >>= λ colon. inner colon >>= λ body. Some ((labels.0, body.0), body.1)
 
   unfoldable pub otherwise_at : List Lexeme → Option (PlainBody (List ℕ) × List Lexeme)
-  otherwise_at ts = if next_keyword k.Else ts then inner (drop 1 ts) else Some (done, ts)
+  otherwise_at ts = if is_keyword k.Else ts then inner (drop 1 ts) else Some (done, ts)
 
   -- the branches of an IF
   unfoldable pub branches_at : List Lexeme → Option (List (PlainExpr (List ℕ) × PlainBody (List ℕ)) × List Lexeme)
-  branches_at ts = branch_at ts >>= λ first. with_first (first.0 ∷ []) (all_at (next_keyword k.Elsif) (after_keyword k.Elsif branch_at) first.1)
+  branches_at ts = branch_at ts >>= λ first. with_first (first.0 ∷ []) (all_at (is_keyword k.Elsif) (after_keyword k.Elsif branch_at) first.1)
 
   -- the choices of a CASE
   unfoldable pub choices_at : List Lexeme → Option (List (List Label × PlainBody (List ℕ)) × List Lexeme)
-  choices_at ts = choice_at ts >>= λ first. with_first (first.0 ∷ []) (all_at next_label choice_at first.1)
+  choices_at ts = choice_at ts >>= λ first. with_first (first.0 ∷ []) (all_at is_label choice_at first.1)
 
   -- after IF
   unfoldable pub if_at : List Lexeme → Option (PlainStmt (List ℕ) × List Lexeme)
@@ -127,11 +127,11 @@ as_body (Some all) = Some (body_of all.0, all.1)
 -- a statement with its semicolon, within the depth
 abbrev pub item_at : ℕ → List Lexeme → Option (PlainStmt (List ℕ) × List Lexeme)
 item_at zero ts = None
-item_at (suc d) ts = ended_at (λ l. as_body (all_at next_stmt (item_at d) l)) ts
+item_at (suc d) ts = ended_at (λ l. as_body (all_at is_statement (item_at d) l)) ts
 
 -- statements, within the depth
 abbrev pub sequence_at : ℕ → List Lexeme → Option (PlainBody (List ℕ) × List Lexeme)
-sequence_at d ts = as_body (all_at next_stmt (item_at d) ts)
+sequence_at d ts = as_body (all_at is_statement (item_at d) ts)
 
 unfoldable pub body_at : List Lexeme → Option (PlainBody (List ℕ) × List Lexeme)
 body_at ts = sequence_at 64 ts

@@ -5,7 +5,7 @@ use Rattle.plant_types.specs.declared.values.Region.{Region}
 use Rattle.st_lexer.specs.declared.token.Symbol.TheVariants as s
 use Rattle.st_parser.specs.Lexemes.{Lexeme, keyword, address}
 use Rattle.st_parser.specs.Declarations.{kind_of_word, sort_of, section_of, closing_keyword}
-use Rattle.st_parser.specs.Reading.{◌>>=◌, word_at, next_symbol, next_keyword, next_word, symbol_at, keyword_at, with_first, all_at, perhaps_at, after_symbol, others_at, table_next, table_at, expression_at}
+use Rattle.st_parser.specs.Reading.{◌>>=◌, word_at, is_symbol, is_keyword, is_word, symbol_at, keyword_at, with_first, all_at, perhaps_at, after_symbol, others_at, table_next, table_at, expression_at}
 use Rattle.st_parser.specs.ReadingStatements.{body_at}
 use Rattle.st_parser.specs.Units.{PlainDeclaration, PlainSection, PlainPou, PlainUnit}
 use Rattle.st_parser.specs.declared.unit.PouKind.{PouKind}
@@ -21,7 +21,7 @@ address_at _ = None
 -- after what is declared: an initial value, and the semicolon
 unfoldable pub initial_at : List (List ℕ) → Option Region → Sort → List Lexeme → Option (PlainDeclaration × List Lexeme)
 initial_at names region what ts =
-    perhaps_at (next_symbol s.Becomes) (after_symbol s.Becomes expression_at) ts >>= λ initial. symbol_at s.Semicolon initial.1 >>= λ rest.
+    perhaps_at (is_symbol s.Becomes) (after_symbol s.Becomes expression_at) ts >>= λ initial. symbol_at s.Semicolon initial.1 >>= λ rest.
     Some (record { names = names; region = region; sort = what; initial = initial.0 }, rest)
 
 -- after the first name
@@ -36,17 +36,17 @@ unfoldable pub declaration_at : List Lexeme → Option (PlainDeclaration × List
 declaration_at ts = word_at ts >>= λ name. declared_at name.0 name.1
 
 unfoldable pub global_at : List Lexeme → Option (PlainDeclaration × List Lexeme)
-global_at ts = word_at ts >>= λ name. if next_keyword k.At name.1 then placed_at name.0 (drop 1 name.1) else declared_at name.0 name.1
+global_at ts = word_at ts >>= λ name. if is_keyword k.At name.1 then placed_at name.0 (drop 1 name.1) else declared_at name.0 name.1
 
 unfoldable pub globals_at : List Lexeme → Option (PlainSection × List Lexeme)
-globals_at ts = keyword_at k.VarGlobal ts >>= λ inside. all_at next_word global_at inside >>= λ all. keyword_at k.EndVar all.1 >>= λ rest. Some (record { kind = section.Global; declarations = all.0 }, rest)
+globals_at ts = keyword_at k.VarGlobal ts >>= λ inside. all_at is_word global_at inside >>= λ all. keyword_at k.EndVar all.1 >>= λ rest. Some (record { kind = section.Global; declarations = all.0 }, rest)
 
 -- whether a section is next that a block or a program may have
-abbrev pub next_section : PouKind → List Lexeme → Bool
-next_section kind ts = is_some (table_next (section_of kind) ts)
+abbrev pub is_section : PouKind → List Lexeme → Bool
+is_section kind ts = is_some (table_next (section_of kind) ts)
 
 unfoldable pub section_at : PouKind → List Lexeme → Option (PlainSection × List Lexeme)
-section_at kind ts = table_at (section_of kind) ts >>= λ what. all_at next_word declaration_at what.1 >>= λ all. keyword_at k.EndVar all.1 >>= λ rest. Some (record { kind = what.0; declarations = all.0 }, rest)
+section_at kind ts = table_at (section_of kind) ts >>= λ what. all_at is_word declaration_at what.1 >>= λ all. keyword_at k.EndVar all.1 >>= λ rest. Some (record { kind = what.0; declarations = all.0 }, rest)
 
 -- the kind of unit that a keyword opens
 abbrev pub pou_of : Lexeme → Option PouKind
@@ -54,13 +54,13 @@ pou_of (keyword k.FunctionBlock) = Some pou.Block
 pou_of (keyword k.Program) = Some pou.Program
 pou_of _ = None
 
-abbrev pub next_pou : List Lexeme → Bool
-next_pou ts = is_some (table_next pou_of ts)
+abbrev pub is_pou : List Lexeme → Bool
+is_pou ts = is_some (table_next pou_of ts)
 
 unfoldable pub pou_at : List Lexeme → Option (PlainPou × List Lexeme)
 pou_at ts =
-    table_at pou_of ts >>= λ kind. word_at kind.1 >>= λ name. all_at (next_section kind.0) (section_at kind.0) name.1 >>= λ sections. body_at sections.1 >>= λ body. keyword_at (closing_keyword kind.0) body.1 >>= λ rest.
+    table_at pou_of ts >>= λ kind. word_at kind.1 >>= λ name. all_at (is_section kind.0) (section_at kind.0) name.1 >>= λ sections. body_at sections.1 >>= λ body. keyword_at (closing_keyword kind.0) body.1 >>= λ rest.
     Some (record { kind = kind.0; name = name.0; sections = sections.0; body = body.0 }, rest)
 
 unfoldable pub unit_at : List Lexeme → Option (PlainUnit × List Lexeme)
-unit_at ts = all_at (next_keyword k.VarGlobal) globals_at ts >>= λ globals. all_at next_pou pou_at globals.1 >>= λ pous. Some (record { globals = globals.0; pous = pous.0 }, pous.1)
+unit_at ts = all_at (is_keyword k.VarGlobal) globals_at ts >>= λ globals. all_at is_pou pou_at globals.1 >>= λ pous. Some (record { globals = globals.0; pous = pous.0 }, pous.1)

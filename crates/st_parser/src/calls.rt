@@ -1,7 +1,7 @@
 //! The arguments of a call.
 
 ghost use Rattle.std.specs.Prelude.{map};
-ghost use Rattle.st_parser.specs.Outcome.{Gives};
+ghost use Rattle.st_parser.specs.Outcome.{Returns};
 ghost use Rattle.st_parser.specs.ReadingStatements.{argument_at, arguments_at};
 ghost use Rattle.st_tree.specs.View.{view_argument};
 
@@ -17,7 +17,7 @@ use std::alloc::Global;
 /// Parses an argument.
 #[tactic(auto, unfolding(crate::specs::ReadingStatements::argument_at, crate::specs::ReadingStatements::argued_at))]
 fn argument(alloc: Global, reader: &mut Reader) -> Result<Argument<Text>, Stop>
-    ensures { Gives (λ a. (view_argument a, reader.new)) result (argument_at reader.old) }
+    ensures { Returns (λ a. (view_argument a, reader.new)) result (argument_at reader.old) }
 {
     let name = reader.word(alloc)?;
     if reader.is_symbol(Symbol::Gives) {
@@ -39,7 +39,7 @@ impl Phrase for CommaArgument {
 
     ghost use Rattle.std.specs.Prelude.{List, ℕ};
     ghost use Rattle.st_lexer.specs.declared.token.Symbol.TheVariants.{Comma};
-    ghost use Rattle.st_parser.specs.Reading.{next_symbol, after_symbol};
+    ghost use Rattle.st_parser.specs.Reading.{is_symbol, after_symbol};
     ghost use Rattle.st_parser.specs.ReadingStatements.{argument_at};
     ghost use Rattle.st_tree.specs.Plain.{PlainArgument};
     ghost use Rattle.st_tree.specs.View.{view_argument};
@@ -48,7 +48,7 @@ impl Phrase for CommaArgument {
 
     ghost view = { view_argument };
 
-    ghost starts = { λ _. next_symbol Comma };
+    ghost starts = { λ _. is_symbol Comma };
 
     ghost one_at = { λ _. after_symbol Comma argument_at };
 
@@ -64,7 +64,7 @@ impl Phrase for CommaArgument {
 /// Parses the arguments of a call, up to its closing parenthesis.
 #[tactic(auto, unfolding(crate::specs::ReadingStatements::arguments_at))]
 pub fn arguments(alloc: Global, reader: &mut Reader) -> Result<Vec<Argument<Text>>, Stop>
-    ensures { Gives (λ a. (map view_argument a.items, reader.new)) result (arguments_at reader.old) }
+    ensures { Returns (λ a. (map view_argument a.items, reader.new)) result (arguments_at reader.old) }
 {
     if reader.is_symbol(Symbol::Close) {
         return Ok(Vec::new(alloc));

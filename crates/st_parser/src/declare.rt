@@ -2,9 +2,9 @@
 
 ghost use Rattle.std.specs.Prelude.{◌≡◌, ◌∷◌, [], option_map};
 ghost use Rattle.st_parser.specs.Declarations.{kind_of_word, sort_of, section_of};
-ghost use Rattle.st_parser.specs.Outcome.{Gives};
-ghost use Rattle.st_parser.specs.Reading.{with_first, others_at, word_at, perhaps_at, next_symbol, after_symbol, expression_at, table_next, table_at};
-ghost use Rattle.st_parser.specs.ReadingUnits.{address_at, initial_at, declared_at, placed_at, declaration_at, global_at, globals_at, next_section as next_section_of, section_at};
+ghost use Rattle.st_parser.specs.Outcome.{Returns};
+ghost use Rattle.st_parser.specs.Reading.{with_first, others_at, word_at, perhaps_at, is_symbol, after_symbol, expression_at, table_next, table_at};
+ghost use Rattle.st_parser.specs.ReadingUnits.{address_at, initial_at, declared_at, placed_at, declaration_at, global_at, globals_at, is_section, section_at};
 ghost use Rattle.st_parser.specs.Units.{view_declaration, view_section};
 ghost use Rattle.st_tree.specs.View.{view_expr};
 
@@ -32,7 +32,7 @@ fn next_kind(reader: &Reader) -> Option<Kind>
 
 /// Parses a kind.
 fn kind(reader: &mut Reader) -> Result<Kind, Stop>
-    ensures { Gives (λ kind. (kind, reader.new)) result (table_at kind_of_word reader.old) }
+    ensures { Returns (λ kind. (kind, reader.new)) result (table_at kind_of_word reader.old) }
 {
     match next_kind(reader) {
         Some(kind) => {
@@ -45,7 +45,7 @@ fn kind(reader: &mut Reader) -> Result<Kind, Stop>
 
 /// Parses a kind or the name of a block type.
 fn sort(alloc: Global, reader: &mut Reader) -> Result<Sort, Stop>
-    ensures { Gives (λ sort. (sort, reader.new)) result (table_at sort_of reader.old) }
+    ensures { Returns (λ sort. (sort, reader.new)) result (table_at sort_of reader.old) }
 {
     match reader.peek() {
         Some(TokenKind::Word) => {
@@ -70,7 +70,7 @@ fn sort(alloc: Global, reader: &mut Reader) -> Result<Sort, Stop>
 
 /// Parses an address.
 fn address(reader: &mut Reader) -> Result<Region, Stop>
-    ensures { Gives (λ region. (region, reader.new)) result (address_at reader.old) }
+    ensures { Returns (λ region. (region, reader.new)) result (address_at reader.old) }
 {
     match reader.peek() {
         Some(TokenKind::Address(region)) => {
@@ -83,7 +83,7 @@ fn address(reader: &mut Reader) -> Result<Region, Stop>
 
 /// Parses `:=` and an initial value, if it is next.
 fn initial_value(alloc: Global, reader: &mut Reader) -> Result<Option<Expr<Text>>, Stop>
-    ensures { Gives (λ o. (option_map view_expr o, reader.new)) result (perhaps_at (next_symbol Symbol.Becomes) (after_symbol Symbol.Becomes expression_at) reader.old) }
+    ensures { Returns (λ o. (option_map view_expr o, reader.new)) result (perhaps_at (is_symbol Symbol.Becomes) (after_symbol Symbol.Becomes expression_at) reader.old) }
 {
     if reader.is_symbol(Symbol::Becomes) {
         reader.symbol(Symbol::Becomes)?;
@@ -103,7 +103,7 @@ fn end_of_declaration(
     sort: Sort,
     reader: &mut Reader,
 ) -> Result<Declaration, Stop>
-    ensures { Gives (λ d. (view_declaration d, reader.new)) result (initial_at names.items region sort reader.old) }
+    ensures { Returns (λ d. (view_declaration d, reader.new)) result (initial_at names.items region sort reader.old) }
 {
     let initial = initial_value(alloc, reader)?;
     reader.symbol(Symbol::Semicolon)?;
@@ -124,13 +124,13 @@ impl Phrase for CommaName {
 
     ghost use Rattle.std.specs.Prelude.{List, ℕ};
     ghost use Rattle.st_lexer.specs.declared.token.Symbol.TheVariants.{Comma};
-    ghost use Rattle.st_parser.specs.Reading.{next_symbol, after_symbol, word_at};
+    ghost use Rattle.st_parser.specs.Reading.{is_symbol, after_symbol, word_at};
 
     ghost Plain = { List ℕ };
 
     ghost view = { λ name. name };
 
-    ghost starts = { λ _. next_symbol Comma };
+    ghost starts = { λ _. is_symbol Comma };
 
     ghost one_at = { λ _. after_symbol Comma word_at };
 
@@ -145,7 +145,7 @@ impl Phrase for CommaName {
 
 /// Parses the names after a first one, each with its comma.
 fn more_names(alloc: Global, first: Text, reader: &mut Reader) -> Result<Vec<Text>, Stop>
-    ensures { Gives (λ names. (names.items, reader.new)) result (with_first (first ∷ []) (others_at word_at reader.old)) }
+    ensures { Returns (λ names. (names.items, reader.new)) result (with_first (first ∷ []) (others_at word_at reader.old)) }
 {
     parse_after(alloc, &CommaName, first, reader)
 }
@@ -153,7 +153,7 @@ fn more_names(alloc: Global, first: Text, reader: &mut Reader) -> Result<Vec<Tex
 /// Parses the rest of a declaration after its first name.
 #[tactic(auto, unfolding(crate::specs::ReadingUnits::declared_at))]
 fn declared(alloc: Global, first: Text, reader: &mut Reader) -> Result<Declaration, Stop>
-    ensures { Gives (λ d. (view_declaration d, reader.new)) result (declared_at first reader.old) }
+    ensures { Returns (λ d. (view_declaration d, reader.new)) result (declared_at first reader.old) }
 {
     let names = more_names(alloc, first, reader)?;
     reader.symbol(Symbol::Colon)?;
@@ -164,7 +164,7 @@ fn declared(alloc: Global, first: Text, reader: &mut Reader) -> Result<Declarati
 /// Parses the rest of a declaration after a global's name and `AT`.
 #[tactic(auto, unfolding(crate::specs::ReadingUnits::placed_at))]
 fn placed(alloc: Global, name: Text, reader: &mut Reader) -> Result<Declaration, Stop>
-    ensures { Gives (λ d. (view_declaration d, reader.new)) result (placed_at name reader.old) }
+    ensures { Returns (λ d. (view_declaration d, reader.new)) result (placed_at name reader.old) }
 {
     let mut names = Vec::new(alloc);
     names.push(name)?;
@@ -177,7 +177,7 @@ fn placed(alloc: Global, name: Text, reader: &mut Reader) -> Result<Declaration,
 /// Parses a declaration of a block or a program.
 #[tactic(auto, unfolding(crate::specs::ReadingUnits::declaration_at))]
 fn declaration(alloc: Global, reader: &mut Reader) -> Result<Declaration, Stop>
-    ensures { Gives (λ d. (view_declaration d, reader.new)) result (declaration_at reader.old) }
+    ensures { Returns (λ d. (view_declaration d, reader.new)) result (declaration_at reader.old) }
 {
     let name = reader.word(alloc)?;
     declared(alloc, name, reader)
@@ -186,7 +186,7 @@ fn declaration(alloc: Global, reader: &mut Reader) -> Result<Declaration, Stop>
 /// Parses a declaration of globals.
 #[tactic(auto, unfolding(crate::specs::ReadingUnits::global_at))]
 fn global(alloc: Global, reader: &mut Reader) -> Result<Declaration, Stop>
-    ensures { Gives (λ d. (view_declaration d, reader.new)) result (global_at reader.old) }
+    ensures { Returns (λ d. (view_declaration d, reader.new)) result (global_at reader.old) }
 {
     let name = reader.word(alloc)?;
     if reader.is_keyword(Keyword::At) {
@@ -204,7 +204,7 @@ struct LocalDeclaration;
 impl Phrase for LocalDeclaration {
     type Tree = Declaration;
 
-    ghost use Rattle.st_parser.specs.Reading.{next_word};
+    ghost use Rattle.st_parser.specs.Reading.{is_word};
     ghost use Rattle.st_parser.specs.ReadingUnits.{declaration_at};
     ghost use Rattle.st_parser.specs.Units.{PlainDeclaration, view_declaration};
 
@@ -212,7 +212,7 @@ impl Phrase for LocalDeclaration {
 
     ghost view = { view_declaration };
 
-    ghost starts = { λ _. next_word };
+    ghost starts = { λ _. is_word };
 
     ghost one_at = { λ _. declaration_at };
 
@@ -231,7 +231,7 @@ struct GlobalDeclaration;
 impl Phrase for GlobalDeclaration {
     type Tree = Declaration;
 
-    ghost use Rattle.st_parser.specs.Reading.{next_word};
+    ghost use Rattle.st_parser.specs.Reading.{is_word};
     ghost use Rattle.st_parser.specs.ReadingUnits.{global_at};
     ghost use Rattle.st_parser.specs.Units.{PlainDeclaration, view_declaration};
 
@@ -239,7 +239,7 @@ impl Phrase for GlobalDeclaration {
 
     ghost view = { view_declaration };
 
-    ghost starts = { λ _. next_word };
+    ghost starts = { λ _. is_word };
 
     ghost one_at = { λ _. global_at };
 
@@ -254,7 +254,7 @@ impl Phrase for GlobalDeclaration {
 /// Parses a section of globals.
 #[tactic(auto, unfolding(crate::specs::ReadingUnits::globals_at))]
 pub fn globals(alloc: Global, reader: &mut Reader) -> Result<Section, Stop>
-    ensures { Gives (λ s. (view_section s, reader.new)) result (globals_at reader.old) }
+    ensures { Returns (λ s. (view_section s, reader.new)) result (globals_at reader.old) }
 {
     reader.keyword(Keyword::VarGlobal)?;
     let declarations = parse_all(alloc, &GlobalDeclaration, reader)?;
@@ -280,7 +280,7 @@ fn next_section(pou: PouKind, reader: &Reader) -> Option<SectionKind>
 
 /// Whether a section of a block or a program is next.
 pub fn is_section(pou: PouKind, reader: &Reader) -> bool
-    ensures { result ≡ next_section_of pou reader.now }
+    ensures { result ≡ is_section pou reader.now }
 {
     next_section(pou, reader).is_some()
 }
@@ -288,7 +288,7 @@ pub fn is_section(pou: PouKind, reader: &Reader) -> bool
 /// Parses a section of a block or a program.
 #[tactic(auto, unfolding(crate::specs::ReadingUnits::section_at))]
 pub fn section(alloc: Global, pou: PouKind, reader: &mut Reader) -> Result<Section, Stop>
-    ensures { Gives (λ s. (view_section s, reader.new)) result (section_at pou reader.old) }
+    ensures { Returns (λ s. (view_section s, reader.new)) result (section_at pou reader.old) }
 {
     let Some(kind) = next_section(pou, reader) else {
         return Err(reader.stop());

@@ -5,7 +5,7 @@ ghost use Rattle.std.proofs.Common.{neg_ℤ};
 ghost use Rattle.st_tree.specs.Plain.{literal};
 ghost use Rattle.st_tree.specs.View.{view_expr};
 ghost use Rattle.st_parser.specs.Grammar.{level_of, top, in_parentheses};
-ghost use Rattle.st_parser.specs.Outcome.{Gives};
+ghost use Rattle.st_parser.specs.Outcome.{Returns};
 ghost use Rattle.st_parser.specs.Reading.{operator_at, reference_at, minus_at, operand as operand_at, prefixed as prefixed_at, chain as chain_at, climb, expression_at};
 
 use crate::fault::Stop;
@@ -105,7 +105,7 @@ fn negated(n: u32) -> i32
 
 /// Parses an expression.
 pub fn expression(alloc: Global, reader: &mut Reader) -> Result<Expr<Text>, Stop>
-    ensures { Gives (λ e. (view_expr e, reader.new)) result (expression_at reader.old) }
+    ensures { Returns (λ e. (view_expr e, reader.new)) result (expression_at reader.old) }
 {
     let (expr, _depth) = climb(alloc, DEPTH, 0, reader)?;
     Ok(expr)
@@ -119,7 +119,7 @@ fn climb(
     level_wanted: u32,
     reader: &mut Reader,
 ) -> Result<(Expr<Text>, u32), Stop>
-    ensures read { Gives (λ x. (view_expr x.0, x.1, reader.new)) result (climb limit level_wanted reader.old) }
+    ensures read { Returns (λ x. (view_expr x.0, x.1, reader.new)) result (climb limit level_wanted reader.old) }
     ensures deep { IfOk result (λ x. x.1 ≤ limit) }
 {
     if limit == 0 {
@@ -144,7 +144,7 @@ fn leaf(value: Value, reader: &mut Reader) -> (Expr<Text>, u32)
 #[tactic(auto, unfolding(crate::specs::Reading::operand))]
 fn operand(alloc: Global, deeper: u32, reader: &mut Reader) -> Result<(Expr<Text>, u32), Stop>
     requires { deeper < u32.MAX }
-    ensures read { Gives (λ x. (view_expr x.0, x.1, reader.new)) result (operand_at (climb deeper) reader.old) }
+    ensures read { Returns (λ x. (view_expr x.0, x.1, reader.new)) result (operand_at (climb deeper) reader.old) }
     ensures deep { IfOk result (λ x. x.1 ≤ deeper + 1) }
 {
     match reader.peek() {
@@ -181,7 +181,7 @@ fn operand(alloc: Global, deeper: u32, reader: &mut Reader) -> Result<(Expr<Text
 
 /// Parses the rest of a reference after its first word: a point and the name of an output, or nothing.
 fn reference(alloc: Global, word: Text, reader: &mut Reader) -> Result<(Expr<Text>, u32), Stop>
-    ensures read { Gives (λ x. (view_expr x.0, x.1, reader.new)) result (reference_at word reader.old) }
+    ensures read { Returns (λ x. (view_expr x.0, x.1, reader.new)) result (reference_at word reader.old) }
     ensures deep { IfOk result (λ x. x.1 ≡ 1) }
 {
     if reader.is_symbol(Symbol::Point) {
@@ -197,7 +197,7 @@ fn reference(alloc: Global, word: Text, reader: &mut Reader) -> Result<(Expr<Tex
 #[cycle(expr)]
 fn minus(alloc: Global, deeper: u32, reader: &mut Reader) -> Result<(Expr<Text>, u32), Stop>
     requires { deeper < u32.MAX }
-    ensures read { Gives (λ x. (view_expr x.0, x.1, reader.new)) result (minus_at (climb deeper) reader.old) }
+    ensures read { Returns (λ x. (view_expr x.0, x.1, reader.new)) result (minus_at (climb deeper) reader.old) }
     ensures deep { IfOk result (λ x. x.1 ≤ deeper + 1) }
 {
     match reader.peek() {
@@ -221,7 +221,7 @@ fn prefixed(
     reader: &mut Reader,
 ) -> Result<(Expr<Text>, u32), Stop>
     requires { deeper < u32.MAX }
-    ensures read { Gives (λ x. (view_expr x.0, x.1, reader.new)) result (prefixed_at op (climb deeper top reader.old)) }
+    ensures read { Returns (λ x. (view_expr x.0, x.1, reader.new)) result (prefixed_at op (climb deeper top reader.old)) }
     ensures deep { IfOk result (λ x. x.1 ≤ deeper + 1) }
 {
     let (inner, depth) = climb(alloc, deeper, TOP, reader)?;
@@ -240,7 +240,7 @@ fn chain(
 ) -> Result<(Expr<Text>, u32), Stop>
     requires some { 0 < limit }
     requires fits { first_depth ≤ limit }
-    ensures read { Gives (λ x. (view_expr x.0, x.1, reader.new)) result (chain_at (climb (limit - 1)) (limit - 1) level_wanted limit (view_expr first) first_depth reader.old) }
+    ensures read { Returns (λ x. (view_expr x.0, x.1, reader.new)) result (chain_at (climb (limit - 1)) (limit - 1) level_wanted limit (view_expr first) first_depth reader.old) }
     ensures deep { IfOk result (λ x. x.1 ≤ limit) }
 {
     let mut left = first;

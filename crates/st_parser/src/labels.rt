@@ -1,9 +1,9 @@
 //! The labels of a CASE.
 
 ghost use Rattle.std.specs.Prelude.{◌≡◌};
-ghost use Rattle.st_parser.specs.Outcome.{Gives};
-ghost use Rattle.st_parser.specs.Reading.{listed_at, perhaps_at, next_symbol, after_symbol};
-ghost use Rattle.st_parser.specs.ReadingStatements.{number_at, label_at, next_label, negative_at};
+ghost use Rattle.st_parser.specs.Outcome.{Returns};
+ghost use Rattle.st_parser.specs.Reading.{listed_at, perhaps_at, is_symbol, after_symbol};
+ghost use Rattle.st_parser.specs.ReadingStatements.{number_at, label_at, is_label, negative_at};
 
 use crate::fault::Stop;
 use crate::phrases::{Phrase, parse_after};
@@ -14,7 +14,7 @@ use std::alloc::Global;
 
 /// Whether a label is next.
 pub fn is_label(reader: &Reader) -> bool
-    ensures { result ≡ next_label reader.now }
+    ensures { result ≡ is_label reader.now }
 {
     match reader.peek() {
         Some(TokenKind::Integer(_)) => true,
@@ -25,7 +25,7 @@ pub fn is_label(reader: &Reader) -> bool
 
 /// Parses the integer after a minus, and returns the negative number.
 fn negative(reader: &mut Reader) -> Result<i64, Stop>
-    ensures { Gives (λ n. (n, reader.new)) result (negative_at reader.old) }
+    ensures { Returns (λ n. (n, reader.new)) result (negative_at reader.old) }
 {
     match reader.peek() {
         Some(TokenKind::Integer(n)) if n <= 2147483648 => {
@@ -39,7 +39,7 @@ fn negative(reader: &mut Reader) -> Result<i64, Stop>
 /// Parses an integer, with its minus if it has one.
 #[tactic(auto, unfolding(crate::specs::ReadingStatements::number_at))]
 fn number(reader: &mut Reader) -> Result<i64, Stop>
-    ensures { Gives (λ n. (n, reader.new)) result (number_at reader.old) }
+    ensures { Returns (λ n. (n, reader.new)) result (number_at reader.old) }
 {
     match reader.peek() {
         Some(TokenKind::Integer(n)) if n <= 2147483647 => {
@@ -56,7 +56,7 @@ fn number(reader: &mut Reader) -> Result<i64, Stop>
 
 /// Parses `..` and the end of a range, if they are next.
 fn range_end(reader: &mut Reader) -> Result<Option<i64>, Stop>
-    ensures { Gives (λ high. (high, reader.new)) result (perhaps_at (next_symbol Symbol.Range) (after_symbol Symbol.Range number_at) reader.old) }
+    ensures { Returns (λ high. (high, reader.new)) result (perhaps_at (is_symbol Symbol.Range) (after_symbol Symbol.Range number_at) reader.old) }
 {
     if reader.is_symbol(Symbol::Range) {
         reader.symbol(Symbol::Range)?;
@@ -70,7 +70,7 @@ fn range_end(reader: &mut Reader) -> Result<Option<i64>, Stop>
 /// Parses a label.
 #[tactic(auto, unfolding(crate::specs::ReadingStatements::label_at))]
 fn label(reader: &mut Reader) -> Result<Label, Stop>
-    ensures { Gives (λ label. (label, reader.new)) result (label_at reader.old) }
+    ensures { Returns (λ label. (label, reader.new)) result (label_at reader.old) }
 {
     let low = number(reader)?;
     let high = range_end(reader)?.unwrap_or(low);
@@ -85,7 +85,7 @@ impl Phrase for CommaLabel {
     type Tree = Label;
 
     ghost use Rattle.st_lexer.specs.declared.token.Symbol.TheVariants.{Comma};
-    ghost use Rattle.st_parser.specs.Reading.{next_symbol, after_symbol};
+    ghost use Rattle.st_parser.specs.Reading.{is_symbol, after_symbol};
     ghost use Rattle.st_parser.specs.ReadingStatements.{label_at};
     ghost use Rattle.st_tree.specs.declared.tree.Label.{Label};
 
@@ -93,7 +93,7 @@ impl Phrase for CommaLabel {
 
     ghost view = { λ label. label };
 
-    ghost starts = { λ _. next_symbol Comma };
+    ghost starts = { λ _. is_symbol Comma };
 
     ghost one_at = { λ _. after_symbol Comma label_at };
 
@@ -108,7 +108,7 @@ impl Phrase for CommaLabel {
 
 /// Parses the labels of a choice, with commas between them.
 pub fn labels(alloc: Global, reader: &mut Reader) -> Result<Vec<Label>, Stop>
-    ensures { Gives (λ labels. (labels.items, reader.new)) result (listed_at label_at reader.old) }
+    ensures { Returns (λ labels. (labels.items, reader.new)) result (listed_at label_at reader.old) }
 {
     let first = label(reader)?;
     parse_after(alloc, &CommaLabel, first, reader)

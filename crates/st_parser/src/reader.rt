@@ -2,8 +2,8 @@
 
 ghost use Rattle.std.specs.Prelude.{◌≡◌, ◌∷◌, [], length, drop, MatchOption};
 ghost use Rattle.st_parser.specs.Lexemes.{lexemes, lexeme_of, first_name, slice_of};
-ghost use Rattle.st_parser.specs.Reading.{word_at, next_symbol, next_keyword, next_word, symbol_at, keyword_at};
-ghost use Rattle.st_parser.specs.Outcome.{Gives};
+ghost use Rattle.st_parser.specs.Reading.{word_at, is_symbol, is_keyword, is_word, symbol_at, keyword_at};
+ghost use Rattle.st_parser.specs.Outcome.{Returns};
 
 use crate::fault::Stop;
 use plant_types::Text;
@@ -60,7 +60,7 @@ impl<'a> Reader<'a> {
 
     /// Whether this symbol is next.
     pub fn is_symbol(&self, wanted: Symbol) -> bool
-        ensures { result ≡ next_symbol wanted self.now }
+        ensures { result ≡ is_symbol wanted self.now }
     {
         match self.peek() {
             Some(TokenKind::Symbol(found)) => found == wanted,
@@ -70,7 +70,7 @@ impl<'a> Reader<'a> {
 
     /// Whether this keyword is next.
     pub fn is_keyword(&self, wanted: Keyword) -> bool
-        ensures { result ≡ next_keyword wanted self.now }
+        ensures { result ≡ is_keyword wanted self.now }
     {
         match self.peek() {
             Some(TokenKind::Keyword(found)) => found == wanted,
@@ -80,7 +80,7 @@ impl<'a> Reader<'a> {
 
     /// Whether a word is next.
     pub fn is_word(&self) -> bool
-        ensures { result ≡ next_word self.now }
+        ensures { result ≡ is_word self.now }
     {
         match self.peek() {
             Some(TokenKind::Word) => true,
@@ -99,7 +99,7 @@ impl<'a> Reader<'a> {
 
     /// Goes past this symbol; fails if another token is next.
     pub fn symbol(&mut self, wanted: Symbol) -> Result<(), Stop>
-        ensures { Gives (λ _. self.new) result (symbol_at wanted self.old) }
+        ensures { Returns (λ _. self.new) result (symbol_at wanted self.old) }
     {
         if self.is_symbol(wanted) {
             self.advance();
@@ -111,7 +111,7 @@ impl<'a> Reader<'a> {
 
     /// Goes past this keyword; fails if another token is next.
     pub fn keyword(&mut self, wanted: Keyword) -> Result<(), Stop>
-        ensures { Gives (λ _. self.new) result (keyword_at wanted self.old) }
+        ensures { Returns (λ _. self.new) result (keyword_at wanted self.old) }
     {
         if self.is_keyword(wanted) {
             self.advance();
@@ -123,7 +123,7 @@ impl<'a> Reader<'a> {
 
     /// Parses a word, and returns it as it is spelled.
     pub fn word(&mut self, alloc: Global) -> Result<Text, Stop>
-        ensures { Gives (λ name. (name, self.new)) result (word_at self.old) }
+        ensures { Returns (λ name. (name, self.new)) result (word_at self.old) }
     {
         let Some((first, rest)) = self.tokens.split_first() else {
             return Err(self.stop());

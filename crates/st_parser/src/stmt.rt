@@ -1,9 +1,9 @@
 //! Statements.
 
 ghost use Rattle.std.specs.Prelude.{◌≡◌, ◌∷◌, [], map, ◌<◌};
-ghost use Rattle.st_parser.specs.Outcome.{Gives};
-ghost use Rattle.st_parser.specs.Reading.{all_at, with_first, perhaps_at, next_keyword, after_keyword, expression_at};
-ghost use Rattle.st_parser.specs.ReadingStatements.{assigned_at, called_at, simple_at, branch_at, branches_at, choice_at, choices_at, otherwise_at, if_at, case_at, bounds_at, for_at, stmt_at, item_at, sequence_at, body_at, next_stmt, next_label};
+ghost use Rattle.st_parser.specs.Outcome.{Returns};
+ghost use Rattle.st_parser.specs.Reading.{all_at, with_first, perhaps_at, is_keyword, after_keyword, expression_at};
+ghost use Rattle.st_parser.specs.ReadingStatements.{assigned_at, called_at, simple_at, branch_at, branches_at, choice_at, choices_at, otherwise_at, if_at, case_at, bounds_at, for_at, stmt_at, item_at, sequence_at, body_at, is_statement, is_label};
 ghost use Rattle.st_tree.specs.View.{view_expr, view_option, view_stmt, view_body, view_branch, view_choice};
 
 use crate::calls::arguments;
@@ -21,14 +21,14 @@ const DEPTH: u32 = 64;
 
 /// Parses statements, as many as there are.
 pub fn statements(alloc: Global, reader: &mut Reader) -> Result<Vec<Stmt<Text>>, Stop>
-    ensures { Gives (λ b. (view_body b.items, reader.new)) result (body_at reader.old) }
+    ensures { Returns (λ b. (view_body b.items, reader.new)) result (body_at reader.old) }
 {
     body(alloc, DEPTH, reader)
 }
 
 /// Whether a statement or a bare semicolon is next.
 fn is_statement(reader: &Reader) -> bool
-    ensures { result ≡ next_stmt reader.now }
+    ensures { result ≡ is_statement reader.now }
 {
     match reader.peek() {
         Some(TokenKind::Word) => true,
@@ -43,7 +43,7 @@ fn is_statement(reader: &Reader) -> bool
 /// Parses the rest of an assignment after the variable's name.
 #[tactic(auto, unfolding(crate::specs::ReadingStatements::assigned_at))]
 fn assignment(alloc: Global, word: Text, reader: &mut Reader) -> Result<Stmt<Text>, Stop>
-    ensures { Gives (λ s. (view_stmt s, reader.new)) result (assigned_at word reader.old) }
+    ensures { Returns (λ s. (view_stmt s, reader.new)) result (assigned_at word reader.old) }
 {
     reader.symbol(Symbol::Becomes)?;
     let value = expression(alloc, reader)?;
@@ -53,7 +53,7 @@ fn assignment(alloc: Global, word: Text, reader: &mut Reader) -> Result<Stmt<Tex
 /// Parses the rest of a call after the instance's name and its parenthesis.
 #[tactic(auto, unfolding(crate::specs::ReadingStatements::called_at))]
 fn call(alloc: Global, word: Text, reader: &mut Reader) -> Result<Stmt<Text>, Stop>
-    ensures { Gives (λ s. (view_stmt s, reader.new)) result (called_at word reader.old) }
+    ensures { Returns (λ s. (view_stmt s, reader.new)) result (called_at word reader.old) }
 {
     let arguments = arguments(alloc, reader)?;
     reader.symbol(Symbol::Close)?;
@@ -63,7 +63,7 @@ fn call(alloc: Global, word: Text, reader: &mut Reader) -> Result<Stmt<Text>, St
 /// Parses the rest of a statement after its first word.
 #[tactic(auto, unfolding(crate::specs::ReadingStatements::simple_at))]
 fn simple(alloc: Global, word: Text, reader: &mut Reader) -> Result<Stmt<Text>, Stop>
-    ensures { Gives (λ s. (view_stmt s, reader.new)) result (simple_at word reader.old) }
+    ensures { Returns (λ s. (view_stmt s, reader.new)) result (simple_at word reader.old) }
 {
     if reader.is_symbol(Symbol::Open) {
         reader.advance();
@@ -75,7 +75,7 @@ fn simple(alloc: Global, word: Text, reader: &mut Reader) -> Result<Stmt<Text>, 
 
 /// Parses `BY` and the step of a `FOR`, if they are next.
 fn step(alloc: Global, reader: &mut Reader) -> Result<Option<Expr<Text>>, Stop>
-    ensures { Gives (λ o. (view_option o, reader.new)) result (perhaps_at (next_keyword Keyword.By) (after_keyword Keyword.By expression_at) reader.old) }
+    ensures { Returns (λ o. (view_option o, reader.new)) result (perhaps_at (is_keyword Keyword.By) (after_keyword Keyword.By expression_at) reader.old) }
 {
     if reader.is_keyword(Keyword::By) {
         reader.keyword(Keyword::By)?;
@@ -92,7 +92,7 @@ fn bounds(
     alloc: Global,
     reader: &mut Reader,
 ) -> Result<(Expr<Text>, Expr<Text>, Option<Expr<Text>>), Stop>
-    ensures { Gives (λ b. ((view_expr b.0, view_expr b.1, view_option b.2), reader.new)) result (bounds_at reader.old) }
+    ensures { Returns (λ b. ((view_expr b.0, view_expr b.1, view_option b.2), reader.new)) result (bounds_at reader.old) }
 {
     let from = expression(alloc, reader)?;
     reader.keyword(Keyword::To)?;
@@ -104,7 +104,7 @@ fn bounds(
 /// Parses statements that are at most `depth` deep, as many as there are.
 #[cycle(stmt)]
 fn body(alloc: Global, depth: u32, reader: &mut Reader) -> Result<Vec<Stmt<Text>>, Stop>
-    ensures { Gives (λ b. (view_body b.items, reader.new)) result (sequence_at depth reader.old) }
+    ensures { Returns (λ b. (view_body b.items, reader.new)) result (sequence_at depth reader.old) }
 {
     let mut body = Vec::new(alloc);
     // Each takes at least one token.
@@ -124,7 +124,7 @@ fn body(alloc: Global, depth: u32, reader: &mut Reader) -> Result<Vec<Stmt<Text>
 #[cycle(stmt)]
 #[tactic(auto, unfolding(crate::specs::ReadingStatements::ended_at))]
 fn item(alloc: Global, depth: u32, reader: &mut Reader) -> Result<Stmt<Text>, Stop>
-    ensures { Gives (λ s. (view_stmt s, reader.new)) result (item_at depth reader.old) }
+    ensures { Returns (λ s. (view_stmt s, reader.new)) result (item_at depth reader.old) }
 {
     if depth == 0 {
         return Err(reader.stop());
@@ -138,7 +138,7 @@ fn item(alloc: Global, depth: u32, reader: &mut Reader) -> Result<Stmt<Text>, St
 #[cycle(stmt)]
 #[tactic(auto, unfolding(crate::specs::ReadingStatements::stmt_at))]
 fn statement(alloc: Global, deeper: u32, reader: &mut Reader) -> Result<Stmt<Text>, Stop>
-    ensures { Gives (λ s. (view_stmt s, reader.new)) result (stmt_at (sequence_at deeper) reader.old) }
+    ensures { Returns (λ s. (view_stmt s, reader.new)) result (stmt_at (sequence_at deeper) reader.old) }
 {
     match reader.peek() {
         Some(TokenKind::Word) => {
@@ -166,7 +166,7 @@ fn statement(alloc: Global, deeper: u32, reader: &mut Reader) -> Result<Stmt<Tex
 #[cycle(stmt)]
 #[tactic(auto, unfolding(crate::specs::ReadingStatements::if_at))]
 fn if_statement(alloc: Global, deeper: u32, reader: &mut Reader) -> Result<Stmt<Text>, Stop>
-    ensures { Gives (λ s. (view_stmt s, reader.new)) result (if_at (sequence_at deeper) reader.old) }
+    ensures { Returns (λ s. (view_stmt s, reader.new)) result (if_at (sequence_at deeper) reader.old) }
 {
     let branches = branches(alloc, deeper, reader)?;
     let last = otherwise(alloc, deeper, reader)?;
@@ -178,7 +178,7 @@ fn if_statement(alloc: Global, deeper: u32, reader: &mut Reader) -> Result<Stmt<
 #[cycle(stmt)]
 #[tactic(auto, unfolding(crate::specs::ReadingStatements::branches_at))]
 fn branches(alloc: Global, deeper: u32, reader: &mut Reader) -> Result<Vec<Branch<Text>>, Stop>
-    ensures { Gives (λ b. (map view_branch b.items, reader.new)) result (branches_at (sequence_at deeper) reader.old) }
+    ensures { Returns (λ b. (map view_branch b.items, reader.new)) result (branches_at (sequence_at deeper) reader.old) }
 {
     let first = tested(alloc, deeper, reader)?;
     more_branches(alloc, deeper, first, reader)
@@ -192,7 +192,7 @@ fn more_branches(
     first: Branch<Text>,
     reader: &mut Reader,
 ) -> Result<Vec<Branch<Text>>, Stop>
-    ensures { Gives (λ b. (map view_branch b.items, reader.new)) result (with_first (view_branch first ∷ []) (all_at (next_keyword Keyword.Elsif) (after_keyword Keyword.Elsif (branch_at (sequence_at deeper))) reader.old)) }
+    ensures { Returns (λ b. (map view_branch b.items, reader.new)) result (with_first (view_branch first ∷ []) (all_at (is_keyword Keyword.Elsif) (after_keyword Keyword.Elsif (branch_at (sequence_at deeper))) reader.old)) }
 {
     let mut branches = Vec::new(alloc);
     branches.push(first)?;
@@ -214,7 +214,7 @@ fn more_branches(
 #[cycle(stmt)]
 #[tactic(auto, unfolding(crate::specs::ReadingStatements::branch_at))]
 fn tested(alloc: Global, deeper: u32, reader: &mut Reader) -> Result<Branch<Text>, Stop>
-    ensures { Gives (λ b. (view_branch b, reader.new)) result (branch_at (sequence_at deeper) reader.old) }
+    ensures { Returns (λ b. (view_branch b, reader.new)) result (branch_at (sequence_at deeper) reader.old) }
 {
     let test = expression(alloc, reader)?;
     reader.keyword(Keyword::Then)?;
@@ -226,7 +226,7 @@ fn tested(alloc: Global, deeper: u32, reader: &mut Reader) -> Result<Branch<Text
 #[cycle(stmt)]
 #[tactic(auto, unfolding(crate::specs::ReadingStatements::otherwise_at))]
 fn otherwise(alloc: Global, deeper: u32, reader: &mut Reader) -> Result<Vec<Stmt<Text>>, Stop>
-    ensures { Gives (λ b. (view_body b.items, reader.new)) result (otherwise_at (sequence_at deeper) reader.old) }
+    ensures { Returns (λ b. (view_body b.items, reader.new)) result (otherwise_at (sequence_at deeper) reader.old) }
 {
     if reader.is_keyword(Keyword::Else) {
         reader.advance();
@@ -240,7 +240,7 @@ fn otherwise(alloc: Global, deeper: u32, reader: &mut Reader) -> Result<Vec<Stmt
 #[cycle(stmt)]
 #[tactic(auto, unfolding(crate::specs::ReadingStatements::case_at))]
 fn case_statement(alloc: Global, deeper: u32, reader: &mut Reader) -> Result<Stmt<Text>, Stop>
-    ensures { Gives (λ s. (view_stmt s, reader.new)) result (case_at (sequence_at deeper) reader.old) }
+    ensures { Returns (λ s. (view_stmt s, reader.new)) result (case_at (sequence_at deeper) reader.old) }
 {
     let selector = expression(alloc, reader)?;
     reader.keyword(Keyword::Of)?;
@@ -254,7 +254,7 @@ fn case_statement(alloc: Global, deeper: u32, reader: &mut Reader) -> Result<Stm
 #[cycle(stmt)]
 #[tactic(auto, unfolding(crate::specs::ReadingStatements::choices_at))]
 fn choices(alloc: Global, deeper: u32, reader: &mut Reader) -> Result<Vec<Choice<Text>>, Stop>
-    ensures { Gives (λ c. (map view_choice c.items, reader.new)) result (choices_at (sequence_at deeper) reader.old) }
+    ensures { Returns (λ c. (map view_choice c.items, reader.new)) result (choices_at (sequence_at deeper) reader.old) }
 {
     let first = labelled(alloc, deeper, reader)?;
     more_choices(alloc, deeper, first, reader)
@@ -268,7 +268,7 @@ fn more_choices(
     first: Choice<Text>,
     reader: &mut Reader,
 ) -> Result<Vec<Choice<Text>>, Stop>
-    ensures { Gives (λ c. (map view_choice c.items, reader.new)) result (with_first (view_choice first ∷ []) (all_at next_label (choice_at (sequence_at deeper)) reader.old)) }
+    ensures { Returns (λ c. (map view_choice c.items, reader.new)) result (with_first (view_choice first ∷ []) (all_at is_label (choice_at (sequence_at deeper)) reader.old)) }
 {
     let mut choices = Vec::new(alloc);
     choices.push(first)?;
@@ -289,7 +289,7 @@ fn more_choices(
 #[cycle(stmt)]
 #[tactic(auto, unfolding(crate::specs::ReadingStatements::choice_at))]
 fn labelled(alloc: Global, deeper: u32, reader: &mut Reader) -> Result<Choice<Text>, Stop>
-    ensures { Gives (λ c. (view_choice c, reader.new)) result (choice_at (sequence_at deeper) reader.old) }
+    ensures { Returns (λ c. (view_choice c, reader.new)) result (choice_at (sequence_at deeper) reader.old) }
 {
     let labels = labels(alloc, reader)?;
     reader.symbol(Symbol::Colon)?;
@@ -301,7 +301,7 @@ fn labelled(alloc: Global, deeper: u32, reader: &mut Reader) -> Result<Choice<Te
 #[cycle(stmt)]
 #[tactic(auto, unfolding(crate::specs::ReadingStatements::for_at))]
 fn for_statement(alloc: Global, deeper: u32, reader: &mut Reader) -> Result<Stmt<Text>, Stop>
-    ensures { Gives (λ s. (view_stmt s, reader.new)) result (for_at (sequence_at deeper) reader.old) }
+    ensures { Returns (λ s. (view_stmt s, reader.new)) result (for_at (sequence_at deeper) reader.old) }
 {
     let word = reader.word(alloc)?;
     reader.symbol(Symbol::Becomes)?;

@@ -3,9 +3,9 @@
 ghost use Rattle.std.specs.Prelude.{◌≡◌, ◌-◌, List, length, IfErr, MatchResult};
 ghost use Rattle.st_parser.specs.Declarations.{SpellsUnit, closing_keyword};
 ghost use Rattle.st_parser.specs.Lexemes.{Lexeme, lexemes};
-ghost use Rattle.st_parser.specs.Outcome.{Gives, SpellNone, NamesOneOf};
+ghost use Rattle.st_parser.specs.Outcome.{Returns, SpellNone, NamesOneOf};
 ghost use Rattle.st_parser.specs.Reading.{table_next};
-ghost use Rattle.st_parser.specs.ReadingUnits.{pou_of, next_pou, pou_at, unit_at};
+ghost use Rattle.st_parser.specs.ReadingUnits.{pou_of, is_pou, pou_at, unit_at};
 ghost use Rattle.st_parser.specs.Units.{PlainUnit, view_unit, view_pou};
 
 use crate::declare::{globals, is_section, section};
@@ -25,7 +25,7 @@ impl Phrase for GlobalSection {
     type Tree = Section;
 
     ghost use Rattle.st_lexer.specs.declared.token.Keyword.TheVariants.{VarGlobal};
-    ghost use Rattle.st_parser.specs.Reading.{next_keyword};
+    ghost use Rattle.st_parser.specs.Reading.{is_keyword};
     ghost use Rattle.st_parser.specs.ReadingUnits.{globals_at};
     ghost use Rattle.st_parser.specs.Units.{PlainSection, view_section};
 
@@ -33,7 +33,7 @@ impl Phrase for GlobalSection {
 
     ghost view = { view_section };
 
-    ghost starts = { λ _. next_keyword VarGlobal };
+    ghost starts = { λ _. is_keyword VarGlobal };
 
     ghost one_at = { λ _. globals_at };
 
@@ -54,14 +54,14 @@ struct LocalSection {
 impl Phrase for LocalSection {
     type Tree = Section;
 
-    ghost use Rattle.st_parser.specs.ReadingUnits.{next_section, section_at};
+    ghost use Rattle.st_parser.specs.ReadingUnits.{is_section, section_at};
     ghost use Rattle.st_parser.specs.Units.{PlainSection, view_section};
 
     ghost Plain = { PlainSection };
 
     ghost view = { view_section };
 
-    ghost starts = { λ phrase. next_section phrase.pou };
+    ghost starts = { λ phrase. is_section phrase.pou };
 
     ghost one_at = { λ phrase. section_at phrase.pou };
 
@@ -74,7 +74,7 @@ impl Phrase for LocalSection {
 }
 
 /// The kind of unit that the next token opens, if it opens one.
-fn next_kind(reader: &Reader) -> Option<PouKind>
+fn next_pou_kind(reader: &Reader) -> Option<PouKind>
     ensures { result ≡ table_next pou_of reader.now }
 {
     match reader.peek()? {
@@ -86,9 +86,9 @@ fn next_kind(reader: &Reader) -> Option<PouKind>
 
 /// Whether a block or a program is next.
 fn is_pou(reader: &Reader) -> bool
-    ensures { result ≡ next_pou reader.now }
+    ensures { result ≡ is_pou reader.now }
 {
-    next_kind(reader).is_some()
+    next_pou_kind(reader).is_some()
 }
 
 /// The keyword at the end of a block or a program.
@@ -104,9 +104,9 @@ fn closing_keyword(kind: PouKind) -> Keyword
 /// Parses a block or a program.
 #[tactic(auto, unfolding(crate::specs::ReadingUnits::pou_at))]
 fn pou(alloc: Global, reader: &mut Reader) -> Result<Pou, Stop>
-    ensures { Gives (λ p. (view_pou p, reader.new)) result (pou_at reader.old) }
+    ensures { Returns (λ p. (view_pou p, reader.new)) result (pou_at reader.old) }
 {
-    let Some(kind) = next_kind(reader) else {
+    let Some(kind) = next_pou_kind(reader) else {
         return Err(reader.stop());
     };
     reader.advance();
@@ -129,14 +129,14 @@ struct AnyPou;
 impl Phrase for AnyPou {
     type Tree = Pou;
 
-    ghost use Rattle.st_parser.specs.ReadingUnits.{next_pou, pou_at};
+    ghost use Rattle.st_parser.specs.ReadingUnits.{is_pou, pou_at};
     ghost use Rattle.st_parser.specs.Units.{PlainPou, view_pou};
 
     ghost Plain = { PlainPou };
 
     ghost view = { view_pou };
 
-    ghost starts = { λ _. next_pou };
+    ghost starts = { λ _. is_pou };
 
     ghost one_at = { λ _. pou_at };
 
@@ -151,7 +151,7 @@ impl Phrase for AnyPou {
 /// Parses a unit.
 #[tactic(auto, unfolding(crate::specs::ReadingUnits::unit_at))]
 fn unit(alloc: Global, reader: &mut Reader) -> Result<Unit, Stop>
-    ensures { Gives (λ unit. (view_unit unit, reader.new)) result (unit_at reader.old) }
+    ensures { Returns (λ unit. (view_unit unit, reader.new)) result (unit_at reader.old) }
 {
     let globals = parse_all(alloc, &GlobalSection, reader)?;
     let pous = parse_all(alloc, &AnyPou, reader)?;

@@ -1,5 +1,5 @@
 -- Names that stand twice, as a list of them grows.
-use Rattle.std.proofs.Common.{◌≡◌, ◌∙◌, ap, sym, refl, ℕ, ◌+◌, ◌<◌, Bool, true, false, List, [], ◌∷◌, ◌++◌, take, drop, length, get_or, inl, inr}
+use Rattle.std.proofs.Common.{◌≡◌, ◌∙◌, ap, sym, refl, ℕ, ◌+◌, ◌<◌, Bool, true, false, not, List, [], ◌∷◌, ◌++◌, take, drop, length, get_or, inl, inr}
 use Rattle.std.proofs.lemmas.List.{map_push, take_more, drop_more, take-append-drop, map-append}
 use Rattle.std.proofs.lemmas.List.Folds.{list_any-append}
 use Rattle.std.proofs.lemmas.Bool.{cases_Bool, or_parts, or_cases, or_left, or_right, both_ways}
@@ -13,6 +13,15 @@ use Rattle.st_resolve.specs.declared.logic.Local.{Local}
 use Rattle.st_resolve.specs.Names.{own_words, is_standard, is_among, repeats, is_taken}
 use Rattle.st_resolve.specs.Faults.{globals_clash}
 
+-- what isn't true is false
+pub not_false : (b : Bool) → true ≡ not b → b ≡ false
+not_false false e = refl
+not_false true e = absurd (cc)
+
+pub not_true : (b : Bool) → false ≡ not b → b ≡ true
+not_true true e = refl
+not_true false e = absurd (cc)
+
 -- which of two words stands first doesn't matter
 pub turned : (x y : List ℕ) (b : Bool) → bytes_eq x y ≡ b → bytes_eq y x ≡ b
 turned x y true e = (bytes_decides y x).1 (sym ((bytes_decides x y).0 e))
@@ -22,7 +31,7 @@ turned x y false e =
       | inr no' ↦ no'
     ]
 
-repeats_push : (ws : List (List ℕ)) (x : List ℕ) → repeats ws ≡ false → is_among ws x ≡ false → repeats (ws ++ x ∷ []) ≡ false
+pub repeats_push : (ws : List (List ℕ)) (x : List ℕ) → repeats ws ≡ false → is_among ws x ≡ false → repeats (ws ++ x ∷ []) ≡ false
 repeats_push [] x once new = refl
 repeats_push (w ∷ ws) x once new =
     let before = or_parts (is_among ws w) (repeats ws) once in

@@ -1,10 +1,13 @@
-mod Positions
+pub mod Positions
 pub mod Clashes
 mod Joined
 mod Entries
-mod Found
 mod Passed
 pub mod Places
 mod Renaming
-pub mod Judged
+pub mod Looked
+mod Judged
+mod Steps
+pub mod Bodies
+pub mod Right
 pub mod Numbered

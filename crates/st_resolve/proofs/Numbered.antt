@@ -12,11 +12,11 @@ use Rattle.st_resolve.specs.Source.{Source}
 use Rattle.st_resolve.specs.Names.{global_words, find_global, is_among, is_standard, repeats}
 use Rattle.st_resolve.specs.Faults.{first_fault}
 use Rattle.st_resolve.proofs.Clashes.{turned}
-use Rattle.st_resolve.proofs.Judged.{names_right}
+use Rattle.st_resolve.proofs.Right.{names_right}
 use Rattle.st_resolve.proofs.Places.{word_at, found_number}
 
 pub words_apart : (source : Source) → first_fault source ≡ None → repeats (global_words source.globals) ≡ false
-words_apart source sound = (or_parts (list_any (λ (g : Variable). is_standard g.name) source.globals) (repeats (global_words source.globals)) (names_right source sound).globals_apart).1
+words_apart source sound = (or_parts (list_any (λ (g : Variable). is_standard g.name) source.globals) (repeats (global_words source.globals)) (names_right source sound).0).1
 
 apart : (words : List (List ℕ)) (k i : ℕ) (d : List ℕ) → repeats words ≡ false → k < i → i < length words → bytes_eq (get_or words k d) (get_or words i d) ≡ false
 apart [] k i d once before within = absurd (omega arith)

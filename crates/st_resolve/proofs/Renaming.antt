@@ -12,7 +12,9 @@ use Rattle.st_tree.specs.Kinds.{kind_of_expr, is_kind, same_kind, is_bit, unary_
 use Rattle.st_resolve.specs.declared.scope.Entry.{Entry}
 use Rattle.st_resolve.specs.Names.{reads_pass, option_passes, arguments_pass, passes, all_pass, branches_pass, choices_pass}
 use Rattle.st_resolve.specs.Loops.{constant_step, is_bound, is_step, is_control, outputs_assign, stmt_assigns, body_assigns, branches_assign, choices_assign, stmt_allowed, all_allowed, branches_allowed, choices_allowed, turns_of, stmt_short, all_short, branches_short, choices_short}
-use Rattle.st_resolve.specs.Faults.{kind_named, output_named, is_of, option_is_of, takes, stmt_fits, all_fit, branches_fit, choices_fit}
+use Rattle.st_tree.specs.Fits.{is_of, option_is_of, fits_option, stmt_fits, all_fit, branches_fit, choices_fit}
+use Rattle.st_resolve.specs.Faults.{kind_named, output_named, is_assignable, context_of}
+use Rattle.st_resolve.specs.Starts.{start_fits, starts_fit, start_constant, starts_constant}
 use Rattle.st_resolve.specs.Resolved.{renamed_expr, renamed_option, renamed_argument, renamed_stmt, renamed, renamed_branches, renamed_choices}
 
 module _ {V W : Type 0} (f : V → W) (test : W → Bool) where
@@ -67,10 +69,10 @@ module _ {V W : Type 0} (f : V → W) (look : W → Option Entry) where
   judged_same (unary op a) = ap (option_and_then (unary_kind op)) (judged_same a)
   judged_same (binary op a b) = λ i. option_and_then (λ k. option_and_then (binary_kind op k) (judged_same b i)) (judged_same a i)
 
-  of_same : (k : Kind) (e : PlainExpr V) → is_of seen k e ≡ is_of look k (renamed_expr f e)
+  of_same : (k : Kind) (e : PlainExpr V) → is_of (context_of seen) k e ≡ is_of (context_of look) k (renamed_expr f e)
   of_same k e = ap (is_kind k) (judged_same e)
 
-  option_of_same : (k : Kind) (o : Option (PlainExpr V)) → option_is_of seen k o ≡ option_is_of look k (renamed_option f o)
+  option_of_same : (k : Kind) (o : Option (PlainExpr V)) → option_is_of (context_of seen) k o ≡ option_is_of (context_of look) k (renamed_option f o)
   option_of_same k None = refl
   option_of_same k (Some e) = of_same k e
 
@@ -81,12 +83,29 @@ module _ {V W : Type 0} (f : V → W) (look : W → Option Entry) where
   bit_same (unary op a) = refl
   bit_same (binary op a b) = refl
 
-  takes_same : (o : Option Entry) (e : PlainExpr V) → takes seen o e ≡ takes look o (renamed_expr f e)
+  takes_same : (o : Option Entry) (e : PlainExpr V)
+      → (is_assignable o && fits_option (context_of seen) (option_map (λ (entry : Entry). entry.kind) o) e) ≡ (is_assignable o && fits_option (context_of look) (option_map (λ (entry : Entry). entry.kind) o) (renamed_expr f e))
   takes_same None e = refl
   takes_same (Some entry) e = λ i. not entry.is_input && (is_kind entry.kind (judged_same e i) || (same_kind entry.kind kind.Bool && bit_same e i))
 
+  suits_same : (o : Option Entry) (e : PlainExpr V) → fits_option (context_of seen) (option_map (λ (entry : Entry). entry.kind) o) e ≡ fits_option (context_of look) (option_map (λ (entry : Entry). entry.kind) o) (renamed_expr f e)
+  suits_same None e = refl
+  suits_same (Some entry) e = λ i. is_kind entry.kind (judged_same e i) || (same_kind entry.kind kind.Bool && bit_same e i)
+
+  start_fits_same : (s : PlainStmt V) → start_fits (context_of seen) s ≡ start_fits (context_of look) (renamed_stmt f s)
+  start_fits_same (empty number) = refl
+  start_fits_same (assign number v e) = suits_same (look (f v)) e
+  start_fits_same (call number instance arguments) = refl
+  start_fits_same (choose number branches last) = refl
+  start_fits_same (select number e choices last) = refl
+  start_fits_same (repeat number v from to by body) = refl
+
+  pub starts_fit_same : (body : PlainBody V) → starts_fit (context_of seen) body ≡ starts_fit (context_of look) (renamed f body)
+  starts_fit_same done = refl
+  starts_fit_same (next s rest) = λ i. start_fits_same s i && starts_fit_same rest i
+
   mutual
-    fits_same : (s : PlainStmt V) → stmt_fits seen s ≡ stmt_fits look (renamed_stmt f s)
+    fits_same : (s : PlainStmt V) → stmt_fits (context_of seen) s ≡ stmt_fits (context_of look) (renamed_stmt f s)
     fits_same (empty number) = refl
     fits_same (assign number v e) = takes_same (look (f v)) e
     fits_same (call number instance arguments) = refl
@@ -94,15 +113,15 @@ module _ {V W : Type 0} (f : V → W) (look : W → Option Entry) where
     fits_same (select number e choices last) = λ i. of_same kind.Dint e i && (choices_fit_same choices i && fit_same last i)
     fits_same (repeat number v from to by body) = λ i. of_same kind.Dint from i && (of_same kind.Dint to i && (option_of_same kind.Dint by i && fit_same body i))
 
-    pub fit_same : (body : PlainBody V) → all_fit seen body ≡ all_fit look (renamed f body)
+    pub fit_same : (body : PlainBody V) → all_fit (context_of seen) body ≡ all_fit (context_of look) (renamed f body)
     fit_same done = refl
     fit_same (next s rest) = λ i. fits_same s i && fit_same rest i
 
-    branches_fit_same : (branches : Branches V) → branches_fit seen branches ≡ branches_fit look (renamed_branches f branches)
+    branches_fit_same : (branches : Branches V) → branches_fit (context_of seen) branches ≡ branches_fit (context_of look) (renamed_branches f branches)
     branches_fit_same no_branch = refl
     branches_fit_same (branch e body rest) = λ i. of_same kind.Bool e i && (fit_same body i && branches_fit_same rest i)
 
-    choices_fit_same : (choices : Choices V) → choices_fit seen choices ≡ choices_fit look (renamed_choices f choices)
+    choices_fit_same : (choices : Choices V) → choices_fit (context_of seen) choices ≡ choices_fit (context_of look) (renamed_choices f choices)
     choices_fit_same no_choice = refl
     choices_fit_same (choice labels body rest) = λ i. fit_same body i && choices_fit_same rest i
 
@@ -143,6 +162,18 @@ module _ {V W : Type 0} (f : V → W) where
   constant_same (output_of instance name) = refl
   constant_same (unary op a) = ap (option_map (λ x. then_one x (eval_unary op))) (constant_same a)
   constant_same (binary op a b) = λ i. option_and_then (λ x. option_map (λ y. then_two x y (eval_binary op)) (constant_same b i)) (constant_same a i)
+
+  start_constant_same : (s : PlainStmt V) → start_constant s ≡ start_constant (renamed_stmt f s)
+  start_constant_same (empty number) = refl
+  start_constant_same (assign number v e) = ap is_bound (constant_same e)
+  start_constant_same (call number instance arguments) = refl
+  start_constant_same (choose number branches last) = refl
+  start_constant_same (select number e choices last) = refl
+  start_constant_same (repeat number v from to by body) = refl
+
+  pub starts_constant_same : (body : PlainBody V) → starts_constant body ≡ starts_constant (renamed f body)
+  starts_constant_same done = refl
+  starts_constant_same (next s rest) = λ i. start_constant_same s i && starts_constant_same rest i
 
   step_same : (o : Option (PlainExpr V)) → constant_step o ≡ constant_step (renamed_option f o)
   step_same None = refl

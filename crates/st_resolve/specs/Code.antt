@@ -9,7 +9,7 @@ use Rattle.st_tree.specs.Plain.{PlainBody}
 use Rattle.st_tree.specs.Code.{body_code}
 use Rattle.st_resolve.specs.declared.logic.Variable.{Variable}
 use Rattle.st_resolve.specs.declared.logic.Local.{Local}
-use Rattle.st_resolve.specs.Source.{Source}
+use Rattle.st_resolve.specs.Source.{PlainProgram, Source}
 
 abbrev kind_in : Kind → ℕ
 kind_in kind.Bool = 0
@@ -54,8 +54,13 @@ variable_code =
 abbrev pub local_code : Coded Local
 local_code = code_by (List ℕ × Kind) (coded× (coded_list coded_ℕ) kind_code) (λ l. (l.name, l.kind)) (λ p. record { name = p.0; kind = p.1 }) (λ _. refl)
 
--- the code of a source: that of its globals, its name, its own variables and its body
+abbrev pub program_code : Coded PlainProgram
+program_code =
+    code_by (List ℕ × (List Local × (PlainBody (List ℕ) × PlainBody (List ℕ)))) (coded× (coded_list coded_ℕ) (coded× (coded_list local_code) (coded× body_code body_code))) (λ p. (p.name, (p.locals, (p.starts, p.body))))
+    (λ p. record { name = p.0; locals = p.1.0; starts = p.1.1.0; body = p.1.1.1 }) (λ _. refl)
+
+-- the code of a source: that of its globals, their initial values and its programs
 abbrev pub source_code : Coded Source
 source_code =
-    code_by (List Variable × (List ℕ × (List Local × PlainBody (List ℕ)))) (coded× (coded_list variable_code) (coded× (coded_list coded_ℕ) (coded× (coded_list local_code) body_code))) (λ s. (s.globals, (s.name, (s.locals, s.body))))
-    (λ p. record { globals = p.0; name = p.1.0; locals = p.1.1.0; body = p.1.1.1 }) (λ _. refl)
+    code_by (List Variable × (PlainBody (List ℕ) × List PlainProgram)) (coded× (coded_list variable_code) (coded× body_code (coded_list program_code))) (λ s. (s.globals, (s.starts, s.programs)))
+    (λ p. record { globals = p.0; starts = p.1.0; programs = p.1.1 }) (λ _. refl)

@@ -1,20 +1,23 @@
--- The faults of a program, by names alone.
-use Rattle.std.specs.Prelude.{◌≡◌, ℕ, Bool, true, false, not, ◌&&◌, ◌||◌, List, ◌++◌, map, Option, Some, None, is_some, option_map, slice_get, ◌==◌}
+-- The faults of a source, by names alone.
+use Rattle.std.specs.Prelude.{◌≡◌, ℕ, ◌+◌, nat_lt, Bool, true, false, not, ◌&&◌, ◌||◌, if◌then◌else◌, List, [], ◌∷◌, ◌++◌, map, length, Option, Some, None, is_some, option_map, slice_get, ◌==◌}
 use Rattle.std.specs.List.{list_any}
+use Rattle.plant_types.specs.Words.{folded}
 use Rattle.plant_types.specs.declared.values.Kind.{Kind}
 use Rattle.plant_types.specs.declared.values.Kind.TheVariants as kind
 use Rattle.plant_types.specs.declared.values.Region.{Region}
 use Rattle.plant_types.specs.declared.values.Region.TheVariants as region
-use Rattle.st_tree.specs.Plain.{PlainExpr, PlainStmt, empty, assign, call, choose, select, repeat, PlainBody, done, next, Branches, no_branch, branch, Choices, no_choice, choice}
-use Rattle.st_tree.specs.Kinds.{kind_of_expr, is_kind, fits_kind, meant}
+use Rattle.st_tree.specs.Plain.{PlainBody}
+use Rattle.st_tree.specs.Kinds.{meant}
+use Rattle.st_tree.specs.Fits.{Context, all_fit}
 use Rattle.st_resolve.specs.declared.logic.Variable.{Variable}
 use Rattle.st_resolve.specs.declared.logic.Local.{Local}
 use Rattle.st_resolve.specs.declared.scope.Entry.{Entry}
 use Rattle.st_resolve.specs.declared.faults.FirstFault.{FirstFault}
 use Rattle.st_resolve.specs.declared.faults.FirstFault.TheVariants as fault
-use Rattle.st_resolve.specs.Source.{Source}
+use Rattle.st_resolve.specs.Source.{PlainProgram, Source, Scoped, scoped, globals_program, scoped_programs, scoped_units}
 use Rattle.st_resolve.specs.Loops.{all_allowed, all_short}
-use Rattle.st_resolve.specs.Names.{global_words, own_words, find_global, find_in, slot_in, kind_at, no_output, is_standard, repeats, all_pass}
+use Rattle.st_resolve.specs.Starts.{starts_fit, starts_constant}
+use Rattle.st_resolve.specs.Names.{global_words, own_words, find_global, find_in, slot_in, kind_at, no_output, is_standard, is_among, repeats, all_pass}
 
 -- a global's name is that of a standard block, or another global's
 abbrev pub globals_clash : List Variable → Bool
@@ -24,13 +27,13 @@ globals_clash globals = list_any (λ (global : Variable). is_standard global.nam
 abbrev pub is_global : List Variable → List ℕ → Bool
 is_global globals name = is_some (find_global globals name)
 
--- the program's name is that of a standard block, or a global's
-abbrev pub program_clashes : Source → Bool
-program_clashes source = is_standard source.name || is_global source.globals source.name
+-- the program's name is that of a standard block, a global's, or an earlier program's
+abbrev pub program_clashes : List (List ℕ) → Scoped → Bool
+program_clashes earlier p = is_standard p.name || (is_global p.globals p.name || is_among earlier (folded p.name))
 
 -- two of the program's own variables have one name
-abbrev pub locals_clash : Source → Bool
-locals_clash source = repeats (own_words source.locals)
+abbrev pub locals_clash : Scoped → Bool
+locals_clash p = repeats (own_words p.locals)
 
 -- the region of a variable is that of the inputs
 abbrev pub is_input : Option Region → Bool
@@ -50,100 +53,124 @@ abbrev pub entries_of : List Variable → List Local → List Entry
 entries_of globals locals = map entry_of globals ++ map own_entry locals
 
 -- a name in the body is that of a variable: the program's own, or a global
-abbrev pub is_known : Source → List ℕ → Bool
-is_known source name = is_some (find_in (global_words source.globals) (own_words source.locals) name)
+abbrev pub is_known : Scoped → List ℕ → Bool
+is_known p name = is_some (find_in (global_words p.globals) (length p.globals) (own_words p.locals) name)
 
 -- the number of the variable of a name in the body
-abbrev pub name_number : Source → List ℕ → ℕ
-name_number source name = slot_in (global_words source.globals) (own_words source.locals) name
+abbrev pub name_number : Scoped → List ℕ → ℕ
+name_number p name = slot_in (global_words p.globals) (length p.globals) (own_words p.locals) name
 
 -- the entry of the variable of a name in the body
-abbrev pub entry_named : Source → List ℕ → Option Entry
-entry_named source name = slice_get (entries_of source.globals source.locals) (name_number source name)
+abbrev pub entry_named : Scoped → List ℕ → Option Entry
+entry_named p name = slice_get (entries_of p.globals p.locals) (name_number p name)
 
 -- the body that is meant: its statements are numbered from 1, and each operator is that of its operands' kind
-abbrev pub meant_of : Source → PlainBody (List ℕ)
-meant_of source = meant (λ name. kind_at (entries_of source.globals source.locals) (name_number source name)) no_output source.body
+abbrev pub meant_of : Scoped → PlainBody (List ℕ)
+meant_of p = meant (λ name. kind_at (entries_of p.globals p.locals) (name_number p name)) no_output p.body
 
--- the program reads, assigns or calls a name that is neither its own nor a global's
-abbrev pub name_is_unknown : Source → Bool
-name_is_unknown source = not (all_pass (is_known source) (meant_of source))
+-- the initial values that are meant: each operator is that of its operands' kind
+abbrev pub meant_starts : Scoped → PlainBody (List ℕ)
+meant_starts p = meant (λ name. kind_at (entries_of p.globals p.locals) (name_number p name)) no_output p.starts
+
+-- the body or an initial value has a name that is neither the program's own nor a global's
+abbrev pub name_is_unknown : Scoped → Bool
+name_is_unknown p = not (all_pass (is_known p) (meant_starts p) && all_pass (is_known p) (meant_of p))
+
+-- a variable may be assigned unless it is an input of the plant
+abbrev pub is_assignable : Option Entry → Bool
+is_assignable None = false
+is_assignable (Some entry) = not entry.is_input
 
 module _ {V : Type 0} (look : V → Option Entry) where
   -- the kind of a variable
   abbrev pub kind_named : V → Option Kind
   kind_named v = option_map (λ (entry : Entry). entry.kind) (look v)
 
-  -- no variable is an instance, so none has an output
+  -- no variable is an instance, so none has an input or an output
   abbrev pub output_named : V → V → Option Kind
   output_named instance name = None
 
-  -- an expression is of a kind
-  abbrev pub is_of : Kind → PlainExpr V → Bool
-  is_of k e = is_kind k (kind_of_expr kind_named output_named e)
+  -- what is declared of the variables; none is an instance
+  abbrev pub context_of : Context V
+  context_of = record {
+    variable_kind = kind_named;
+    may_assign = λ v. is_assignable (look v);
+    is_instance = λ v. false;
+    input_kind = output_named;
+    output_kind = output_named;
+  }
 
-  -- an expression is of a kind, if there is one
-  abbrev pub option_is_of : Kind → Option (PlainExpr V) → Bool
-  option_is_of k None = true
-  option_is_of k (Some e) = is_of k e
+-- an initial value or an expression of the body has a wrong kind, or an input is assigned, or something is called
+abbrev pub kinds_misfit : Scoped → Bool
+kinds_misfit p = not (starts_fit (context_of (entry_named p)) (meant_starts p) && all_fit (context_of (entry_named p)) (meant_of p))
 
-  -- an expression may be assigned to a variable of its kind, and the integers 0 and 1 to a BOOL; nothing may be assigned to an input
-  abbrev pub takes : Option Entry → PlainExpr V → Bool
-  takes None e = false
-  takes (Some entry) e = not entry.is_input && fits_kind kind_named output_named entry.kind e
-
-  -- each right side, test, selector, bound and step has the kind that it must have, and nothing is called
-  abbrev mutual
-    pub stmt_fits : PlainStmt V → Bool
-    stmt_fits (empty number) = true
-    stmt_fits (assign number v e) = takes (look v) e
-    stmt_fits (call number instance arguments) = false
-    stmt_fits (choose number branches last) = branches_fit branches && all_fit last
-    stmt_fits (select number e choices last) = is_of kind.Dint e && (choices_fit choices && all_fit last)
-    stmt_fits (repeat number v from to by body) = is_of kind.Dint from && (is_of kind.Dint to && (option_is_of kind.Dint by && all_fit body))
-
-    pub all_fit : PlainBody V → Bool
-    all_fit done = true
-    all_fit (next s rest) = stmt_fits s && all_fit rest
-
-    pub branches_fit : Branches V → Bool
-    branches_fit no_branch = true
-    branches_fit (branch test body rest) = is_of kind.Bool test && (all_fit body && branches_fit rest)
-
-    pub choices_fit : Choices V → Bool
-    choices_fit no_choice = true
-    choices_fit (choice labels body rest) = all_fit body && choices_fit rest
-
--- an expression of the body has a wrong kind, or an input is assigned, or something is called
-abbrev pub kinds_misfit : Source → Bool
-kinds_misfit source = not (all_fit (entry_named source) (meant_of source))
-
--- a control variable isn't allowed or is assigned in its FOR, or a bound or step isn't constant, traps, or is a step of 0
-abbrev pub loops_wrong : Source → Bool
-loops_wrong source = not (all_allowed (entry_named source) (λ a b. name_number source a == name_number source b) (meant_of source))
+-- an initial value, bound or step isn't constant, traps, or is a step of 0, or a control variable isn't allowed or is assigned in its FOR
+abbrev pub constants_wrong : Scoped → Bool
+constants_wrong p = not (starts_constant (meant_starts p) && all_allowed (entry_named p) (λ a b. name_number p a == name_number p b) (meant_of p))
 
 -- a FOR has more than 10,000 turns
-abbrev pub loops_long : Source → Bool
-loops_long source = not (all_short (meant_of source))
+abbrev pub loops_long : Scoped → Bool
+loops_long p = not (all_short (meant_of p))
 
--- the first fault, by whether the globals' names clash, the program's names are wrong, its kinds, its control variables and bounds, or its turns
-abbrev pub which_fault : Bool → Bool → Bool → Bool → Bool → Option FirstFault
-which_fault true names kinds loops long = Some (fault.Name true)
-which_fault false true kinds loops long = Some (fault.Name false)
-which_fault false false true loops long = Some fault.Kind
-which_fault false false false true long = Some fault.Constant
-which_fault false false false false true = Some fault.Turns
-which_fault false false false false false = None
+-- a program's names are wrong: its own is taken, two of its variables have one, or its body has an unknown one
+abbrev pub is_misnamed : List (List ℕ) → Scoped → Bool
+is_misnamed earlier p = program_clashes earlier p || (locals_clash p || name_is_unknown p)
 
--- the first fault: that of least number (names, kinds, constants, turns), in the first unit that has it (the globals before the program)
+-- the name of the first program with wrong names, after earlier programs with these names
+abbrev pub first_misnamed : List (List ℕ) → List Scoped → Option (List ℕ)
+first_misnamed earlier [] = None
+first_misnamed earlier (p ∷ ps) = if is_misnamed earlier p then Some p.name else first_misnamed (earlier ++ folded p.name ∷ []) ps
+
+-- the first unit with wrong names, in order of text: the globals, or a program by its name
+abbrev pub misnamed_unit : Source → Option (List ℕ)
+misnamed_unit source =
+    let unit = globals_program source in
+    if globals_clash source.globals || name_is_unknown (scoped source.globals unit) then Some unit.name else first_misnamed [] (scoped_programs source)
+
+-- the name of the first unit that has a fault
+abbrev pub first_unit : (Scoped → Bool) → List Scoped → Option (List ℕ)
+first_unit has [] = None
+first_unit has (p ∷ ps) = if has p then Some p.name else first_unit has ps
+
+-- how many variables programs have of their own
+abbrev pub own_count : List PlainProgram → ℕ
+own_count [] = 0
+own_count (p ∷ ps) = length p.locals + own_count ps
+
+-- how many variables there are
+abbrev pub variable_count : Source → ℕ
+variable_count source = length source.globals + own_count source.programs
+
+-- there are more than 512 programs
+abbrev pub has_many_programs : Source → Bool
+has_many_programs source = nat_lt 512 (length source.programs)
+
+-- there are more than 65,536 variables
+abbrev pub has_many_variables : Source → Bool
+has_many_variables source = nat_lt 65536 (variable_count source)
+
+-- the first fault, by the units whose names, kinds, and constants are wrong, and by whether a FOR has too many turns, and there are too many programs or variables
+abbrev pub which_fault : Option (List ℕ) → Option (List ℕ) → Option (List ℕ) → Bool → Bool → Bool → Option FirstFault
+which_fault (Some unit) kinds constants long programs variables = Some (fault.Name unit)
+which_fault None (Some unit) constants long programs variables = Some (fault.Kind unit)
+which_fault None None (Some unit) long programs variables = Some (fault.Constant unit)
+which_fault None None None true programs variables = Some fault.Turns
+which_fault None None None false true variables = Some fault.Programs
+which_fault None None None false false true = Some fault.Slots
+which_fault None None None false false false = None
+
+-- the first fault: that of least number (names, kinds, constants, limits), in the first unit that has it
 abbrev pub first_fault : Source → Option FirstFault
 first_fault source =
-    which_fault (globals_clash source.globals) (program_clashes source || (locals_clash source || name_is_unknown source)) (kinds_misfit source) (loops_wrong source) (loops_long source)
+    let units = scoped_units source in
+    which_fault (misnamed_unit source) (first_unit kinds_misfit units) (first_unit constants_wrong units) (list_any loops_long units) (has_many_programs source) (has_many_variables source)
 
 -- a fault is the one that was found; memory may be refused at any time
 abbrev pub Refuses : Option FirstFault → FirstFault → Type 0
 Refuses found fault.Memory = Unit {0}
-Refuses found (fault.Name globals) = found ≡ Some (fault.Name globals)
-Refuses found fault.Kind = found ≡ Some fault.Kind
-Refuses found fault.Constant = found ≡ Some fault.Constant
+Refuses found (fault.Name unit) = found ≡ Some (fault.Name unit)
+Refuses found (fault.Kind unit) = found ≡ Some (fault.Kind unit)
+Refuses found (fault.Constant unit) = found ≡ Some (fault.Constant unit)
 Refuses found fault.Turns = found ≡ Some fault.Turns
+Refuses found fault.Programs = found ≡ Some fault.Programs
+Refuses found fault.Slots = found ≡ Some fault.Slots

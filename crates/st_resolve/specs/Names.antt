@@ -49,13 +49,13 @@ abbrev pub shifted : ℕ → Option ℕ → Option ℕ → Option ℕ
 shifted n (Some i) other = Some (n + i)
 shifted n None other = other
 
--- the number of the variable of a name, the globals counted first: a program's own variable hides a global
-abbrev pub find_in : List (List ℕ) → List (List ℕ) → List ℕ → Option ℕ
-find_in words own name = shifted (length words) (find_word own name) (find_word words name)
+-- the number of the variable of a name, where the globals have the first numbers and a program's own variables those from a number on: a variable of its own hides a global
+abbrev pub find_in : List (List ℕ) → ℕ → List (List ℕ) → List ℕ → Option ℕ
+find_in words base own name = shifted base (find_word own name) (find_word words name)
 
--- the number of the variable of a name; if there is none, the count of the variables
-abbrev pub slot_in : List (List ℕ) → List (List ℕ) → List ℕ → ℕ
-slot_in words own name = unwrap_or (find_in words own name) (length words + length own)
+-- the number of the variable of a name; if there is none, the number after the last of the program's own
+abbrev pub slot_in : List (List ℕ) → ℕ → List (List ℕ) → List ℕ → ℕ
+slot_in words base own name = unwrap_or (find_in words base own name) (base + length own)
 
 -- the kind of an entry; BOOL if there is none
 abbrev pub kind_or : Option Entry → Kind

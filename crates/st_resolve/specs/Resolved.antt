@@ -1,12 +1,15 @@
 -- Bodies with numbers of variables in place of names.
-use Rattle.std.specs.Prelude.{ℕ, Option, Some, None, List, map}
+use Rattle.std.specs.Prelude.{ℕ, ◌+◌, ◌-◌, Option, Some, None, List, [], ◌∷◌, map, length}
 use Rattle.plant_types.specs.declared.values.Kind.{Kind}
 use Rattle.st_tree.specs.Plain.{PlainExpr, literal, read, output_of, unary, binary, PlainArgument, input, output}
 use Rattle.st_tree.specs.Plain.{PlainStmt, empty, assign, call, choose, select, repeat, PlainBody, done, next, Branches, no_branch, branch, Choices, no_choice, choice}
 use Rattle.st_tree.specs.Numbers.{numbered_stmt, numbered, numbered_branches, numbered_choices}
 use Rattle.st_tree.specs.Kinds.{resolved_expr, resolved_argument, resolved_stmt, resolved_body, resolved_branches, resolved_choices}
 use Rattle.st_resolve.specs.declared.scope.Scope.{Scope}
-use Rattle.st_resolve.specs.Names.{slot_in, kind_at, no_output}
+use Rattle.st_resolve.specs.declared.logic.Variable.{Variable}
+use Rattle.st_resolve.specs.Source.{PlainProgram, Source, scoped, globals_program}
+use Rattle.st_resolve.specs.Names.{slot_in, kind_at, no_output, global_words, own_words}
+use Rattle.st_resolve.specs.Faults.{meant_of, meant_starts}
 
 module _ {V W : Type 0} (f : V → W) where
   -- an expression with other variables in the variables' places
@@ -47,9 +50,13 @@ module _ {V W : Type 0} (f : V → W) where
     renamed_choices no_choice = no_choice
     renamed_choices (choice labels body rest) = choice labels (renamed body) (renamed_choices rest)
 
+-- the number of the first of the program's own variables: they are the last ones of a scope
+abbrev pub base_of : Scope → ℕ
+base_of scope = length scope.entries.items - length scope.own
+
 -- the number of the variable of a name in a scope
 abbrev pub slot_of : Scope → List ℕ → ℕ
-slot_of scope name = slot_in scope.globals scope.own name
+slot_of scope name = slot_in scope.globals (base_of scope) scope.own name
 
 -- the kind of the variable of a name in a scope
 abbrev pub scope_kind : Scope → List ℕ → Kind
@@ -79,3 +86,27 @@ module _ (scope : Scope) where
 
   abbrev pub flat_choices : ℕ → Choices (List ℕ) → Choices ℕ
   flat_choices n choices = renamed_choices (slot_of scope) (resolved_choices (scope_kind scope) no_output (numbered_choices n choices))
+
+-- a program's body over numbers, where its own variables have the numbers from one on
+abbrev pub body_at : List Variable → ℕ → PlainProgram → PlainBody ℕ
+body_at globals base p = renamed (slot_in (global_words globals) base (own_words p.locals)) (meant_of (scoped globals p))
+
+-- the bodies of programs over numbers; the variables of each have the numbers after those of the programs before it
+abbrev pub bodies_from : List Variable → ℕ → List PlainProgram → List (PlainBody ℕ)
+bodies_from globals base [] = []
+bodies_from globals base (p ∷ ps) = body_at globals base p ∷ bodies_from globals (base + length p.locals) ps
+
+-- the initial values of a unit over numbers
+abbrev pub starts_at : List Variable → ℕ → PlainProgram → PlainBody ℕ
+starts_at globals base p = renamed (slot_in (global_words globals) base (own_words p.locals)) (meant_starts (scoped globals p))
+
+abbrev pub starts_from : List Variable → ℕ → List PlainProgram → List (PlainBody ℕ)
+starts_from globals base [] = []
+starts_from globals base (p ∷ ps) = starts_at globals base p ∷ starts_from globals (base + length p.locals) ps
+
+-- the initial values of all units over numbers: of the globals, then of each program
+abbrev pub starts_of : Source → List (PlainBody ℕ)
+starts_of source = starts_at source.globals (length source.globals) (globals_program source) ∷ starts_from source.globals (length source.globals) source.programs
+
+abbrev pub bodies_of : Source → List (PlainBody ℕ)
+bodies_of source = bodies_from source.globals (length source.globals) source.programs

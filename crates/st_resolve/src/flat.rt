@@ -1,40 +1,40 @@
-//! A program made ready to run.
+//! Programs made ready to run.
 
-ghost use Rattle.std.specs.Prelude.{◌≡◌, None, IfOk, MatchResult};
-ghost use Rattle.st_resolve.specs.Source.{source_of};
+ghost use Rattle.std.specs.Prelude.{◌≡◌, ◌<◌, Some, None, IfOk, MatchResult, length, map, slice_get};
+ghost use Rattle.st_resolve.specs.Source.{view_program, source_of};
 ghost use Rattle.st_resolve.specs.Names.{find_global};
-ghost use Rattle.st_resolve.specs.Faults.{first_fault, Refuses, name_number, meant_of};
-ghost use Rattle.st_resolve.specs.Resolved.{renamed};
-ghost use Rattle.st_resolve.specs.Flats.{IsScope, IsFlat};
+ghost use Rattle.st_resolve.specs.Faults.{variable_count, first_fault, Refuses};
+ghost use Rattle.st_resolve.specs.Resolved.{starts_of, bodies_of};
+ghost use Rattle.st_resolve.specs.Flats.{view_bodies};
 ghost use Rattle.st_tree.specs.View.{view_body};
 
 use crate::faults::FirstFault;
-use crate::kinds::all_fit;
-use crate::known::all_known;
-use crate::logic::{Local, Logic, Variable};
-use crate::loops::{all_allowed, all_short};
-use crate::resolve::resolve_body;
-use crate::scope::{Scope, scope_of};
-use plant_types::Text;
-use st_tree::{Stmt, copy_body};
+use crate::judging::{Findings, judge};
+use crate::logic::{Logic, Program, Variable};
+use crate::names::Names;
+use st_tree::Stmt;
 use std::alloc::{AllocError, Global};
 use std::marker::Model;
 
-/// A source without a fault, and its body over the numbers of its variables. Contracts see the source: its globals and the program's own
-/// variables in order of declaration, with their names as declared, and the program's name and plain body.
+/// The most programs that a source may have (this profile).
+const PROGRAMS: usize = 512;
+
+/// The most variables that a source may have (this profile).
+const VARIABLES: usize = 65536;
+
+/// A source without a fault, and its programs' bodies over the numbers of their variables: the globals have the first numbers, then the
+/// own variables of each program in turn. Contracts see the source: its globals and programs, in order and with their names as declared.
 #[derive(Drop)]
 pub struct Flat {
-    globals: Vec<Variable>,
-    program: Text,
-    locals: Vec<Local>,
-    source: Vec<Stmt<Text>>,
-    scope: Scope,
-    body: Vec<Stmt<usize>>,
+    logic: Logic,
+    names: Names,
+    variables: usize,
+    starts: Vec<Vec<Stmt<usize>>>,
+    bodies: Vec<Vec<Stmt<usize>>>,
 }
 
 impl Model for Flat {
-    ghost use Rattle.st_resolve.specs.Source.{Source};
-    ghost use Rattle.st_tree.specs.View.{view_body};
+    ghost use Rattle.st_resolve.specs.Source.{Source, source_of};
     ghost use Rattle.st_resolve.specs.Code.{source_code};
 
     ghost Value = { Source };
@@ -43,80 +43,50 @@ impl Model for Flat {
 
     ghost use Rattle.st_resolve.specs.Flats.{IsFlat};
 
-    ghost view = { λ flat. record { globals = flat.globals.items; name = flat.program; locals = flat.locals.items; body = view_body flat.source.items } };
+    ghost view = { λ flat. source_of flat.logic };
 
-    ghost invariant = { λ flat. IsFlat (record { globals = flat.globals.items; name = flat.program; locals = flat.locals.items; body = view_body flat.source.items }) flat.scope (view_body flat.body.items) };
-}
-
-/// Copies the globals. Fails if memory was refused.
-fn copy_globals(alloc: Global, globals: &[Variable]) -> Result<Vec<Variable>, AllocError>
-    ensures { IfOk result (λ copy. copy.items ≡ globals.now) }
-{
-    let mut copies = Vec::new(alloc);
-    for global in globals {
-        let name = global.name.copy(alloc)?;
-        let region = global.region;
-        let kind = global.kind;
-        copies.push(Variable { name, region, kind })?;
-    }
-    Ok(copies)
-}
-
-/// Copies a program's own variables. Fails if memory was refused.
-fn copy_locals(alloc: Global, locals: &[Local]) -> Result<Vec<Local>, AllocError>
-    ensures { IfOk result (λ copy. copy.items ≡ locals.now) }
-{
-    let mut copies = Vec::new(alloc);
-    for local in locals {
-        let name = local.name.copy(alloc)?;
-        let kind = local.kind;
-        copies.push(Local { name, kind })?;
-    }
-    Ok(copies)
-}
-
-/// Returns the program's body over the numbers of its variables, or its first fault. The declared names were checked already.
-fn checked(alloc: Global, logic: &Logic, scope: &Scope) -> Result<Vec<Stmt<usize>>, FirstFault>
-    requires { IsScope (source_of logic.now) scope.now }
-    ensures { MatchResult result (λ body. IsFlat (source_of logic.now) scope.now (view_body body.items)) (Refuses (first_fault (source_of logic.now))) }
-{
-    let mut number = 1;
-    let body = resolve_body(alloc, scope, &logic.program.body, &mut number)?;
-    if !all_known(scope.entries.len(), &body) {
-        return Err(FirstFault::Name { globals: false });
-    }
-    if !all_fit(&scope.entries, &body) {
-        return Err(FirstFault::Kind);
-    }
-    if !all_allowed(&scope.entries, &body) {
-        return Err(FirstFault::Constant);
-    }
-    if !all_short(&body) {
-        return Err(FirstFault::Turns);
-    }
-    Ok(body)
+    ghost invariant = { λ flat. IsFlat (source_of flat.logic) flat.names flat.variables flat.starts.items flat.bodies.items };
 }
 
 impl Flat {
-    /// Makes a program ready to run, or returns its first fault: a name of a global that is taken, then a name of the program that is
-    /// unknown or taken (C6), then a wrong kind or an assigned input (C7), then a control variable, bound or step that isn't allowed
-    /// (C9), then a FOR of more than 10,000 turns (C10). `Memory` only if memory was refused.
-    pub fn of(alloc: Global, logic: &Logic) -> Result<Flat, FirstFault>
-        ensures { MatchResult result (λ flat. (first_fault (source_of logic.now) ≡ None) × (flat ≡ source_of logic.now)) (Refuses (first_fault (source_of logic.now))) }
+    /// Makes the programs of a source ready to run, or returns its first fault: a name that is unknown or taken (C6), then a wrong kind
+    /// or an assigned input (C7), then an initial value, control variable, bound or step that isn't allowed (C9), each in the first unit
+    /// that has it;
+    /// then a FOR of more than 10,000 turns, more than 512 programs, and more than 65,536 variables (C10). `Memory` only if memory was
+    /// refused.
+    pub fn of(alloc: Global, logic: Logic) -> Result<Flat, FirstFault>
+        ensures { MatchResult result (λ flat. (first_fault (source_of logic) ≡ None) × (flat ≡ source_of logic)) (Refuses (first_fault (source_of logic))) }
     {
-        let scope = scope_of(alloc, logic)?;
-        let body = checked(alloc, logic, &scope)?;
-        let globals = copy_globals(alloc, &logic.globals)?;
-        let program = logic.program.name.copy(alloc)?;
-        let locals = copy_locals(alloc, &logic.program.locals)?;
-        let source = copy_body(alloc, &logic.program.body)?;
+        let (scope, findings) = judge(alloc, &logic)?;
+        let Findings {
+            starts,
+            bodies,
+            kinds,
+            constants,
+            is_long,
+        } = findings;
+        if let Some(unit) = kinds {
+            return Err(FirstFault::Kind { unit });
+        }
+        if let Some(unit) = constants {
+            return Err(FirstFault::Constant { unit });
+        }
+        if is_long {
+            return Err(FirstFault::Turns);
+        }
+        if logic.programs.len() > PROGRAMS {
+            return Err(FirstFault::Programs);
+        }
+        let variables = scope.entries.len();
+        if variables > VARIABLES {
+            return Err(FirstFault::Slots);
+        }
         Ok(Flat {
-            globals,
-            program,
-            locals,
-            source,
-            scope,
-            body,
+            logic,
+            names: scope.globals,
+            variables,
+            starts,
+            bodies,
         })
     }
 
@@ -125,35 +95,45 @@ impl Flat {
         ensures globals { result.now ≡ self.now.globals }
         ensures no_fault { first_fault self.now ≡ None }
     {
-        self.globals.as_slice()
+        self.logic.globals.as_slice()
     }
 
-    /// The program's own variables in order of declaration, numbered after the globals.
-    pub fn locals(&self) -> &[Local]
-        ensures { result.now ≡ self.now.locals }
+    /// The programs in order of text, numbered from 0, with their names as declared.
+    pub fn programs(&self) -> &[Program]
+        ensures programs { map view_program result.now ≡ self.now.programs }
+        ensures no_fault { first_fault self.now ≡ None }
     {
-        self.locals.as_slice()
+        self.logic.programs.as_slice()
     }
 
-    /// The program's name as declared.
-    pub fn program(&self) -> &str
-        ensures { result.now ≡ self.now.name }
+    /// How many variables there are: the globals, and each program's own.
+    pub fn variables(&self) -> usize
+        ensures { result ≡ variable_count self.now }
     {
-        self.program.as_str()
+        self.variables
     }
 
     /// The number of the global of a name, in any letter case; `None` if there is none. Fails if memory was refused.
     pub fn slot(&self, alloc: Global, name: &str) -> Result<Option<usize>, AllocError>
         ensures { IfOk result (λ slot. slot ≡ find_global self.now.globals name.now) }
     {
-        self.scope.globals.find(alloc, name)
+        self.names.find(alloc, name)
     }
 
-    /// The program's body over the numbers of its variables.
-    pub fn body(&self) -> &[Stmt<usize>]
-        ensures body { view_body result.now ≡ renamed (name_number self.now) (meant_of self.now) }
+    /// The initial values of each unit, as assignments over the numbers of variables: of the globals, then of each program in turn.
+    pub fn starts(&self) -> &[Vec<Stmt<usize>>]
+        ensures starts { view_bodies result.now ≡ starts_of self.now }
         ensures no_fault { first_fault self.now ≡ None }
     {
-        self.body.as_slice()
+        self.starts.as_slice()
+    }
+
+    /// The body of the program of a number, over the numbers of its variables.
+    pub fn body(&self, program: usize) -> &[Stmt<usize>]
+        requires { program < length self.now.programs }
+        ensures body { slice_get (bodies_of self.now) program ≡ Some (view_body result.now) }
+        ensures no_fault { first_fault self.now ≡ None }
+    {
+        self.bodies[program].as_slice()
     }
 }

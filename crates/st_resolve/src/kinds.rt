@@ -3,7 +3,9 @@
 ghost use Rattle.std.specs.Prelude.{◌≡◌, slice_get};
 ghost use Rattle.st_tree.specs.View.{view_expr, view_option, view_stmt, view_body, view_branches, view_choices};
 ghost use Rattle.st_tree.specs.Kinds.{kind_of_expr, is_kind};
-ghost use Rattle.st_resolve.specs.Faults.{kind_named, output_named, is_of, option_is_of, takes, stmt_fits, all_fit, branches_fit, choices_fit};
+ghost use Rattle.st_tree.specs.Fits.{is_of, option_is_of, takes, stmt_fits, all_fit, branches_fit, choices_fit};
+ghost use Rattle.st_resolve.specs.Starts.{start_fits, starts_fit};
+ghost use Rattle.st_resolve.specs.Faults.{kind_named, output_named, context_of};
 
 use crate::scope::Entry;
 use plant_types::Kind;
@@ -48,13 +50,13 @@ fn is_kind(kind: Kind, found: Option<Kind>) -> bool
 
 /// Whether an expression is of a kind.
 fn is_of(entries: &[Entry], kind: Kind, expr: &Expr<usize>) -> bool
-    ensures { result ≡ is_of (slice_get entries.now) kind (view_expr expr.now) }
+    ensures { result ≡ is_of (context_of (slice_get entries.now)) kind (view_expr expr.now) }
 {
     is_kind(kind, kind_of_expr(entries, expr))
 }
 
 fn option_is_of(entries: &[Entry], kind: Kind, expr: &Option<Expr<usize>>) -> bool
-    ensures { result ≡ option_is_of (slice_get entries.now) kind (view_option expr.now) }
+    ensures { result ≡ option_is_of (context_of (slice_get entries.now)) kind (view_option expr.now) }
 {
     match expr {
         Some(expr) => is_of(entries, kind, expr),
@@ -65,7 +67,7 @@ fn option_is_of(entries: &[Entry], kind: Kind, expr: &Option<Expr<usize>>) -> bo
 /// Whether an expression may be assigned to a variable: it has the variable's kind, or is the integer 0 or 1 for a BOOL (this profile).
 /// Nothing may be assigned to an input.
 fn takes(entries: &[Entry], slot: usize, expr: &Expr<usize>) -> bool
-    ensures { result ≡ takes (slice_get entries.now) (slice_get entries.now slot) (view_expr expr.now) }
+    ensures { result ≡ takes (context_of (slice_get entries.now)) slot (view_expr expr.now) }
 {
     match entry_at(entries, slot) {
         Some(entry) => {
@@ -77,9 +79,37 @@ fn takes(entries: &[Entry], slot: usize, expr: &Expr<usize>) -> bool
     }
 }
 
+/// Whether an initial value has its variable's kind, or is the integer 0 or 1 for a BOOL (this profile). An input may have one.
+fn start_fits(entries: &[Entry], stmt: &Stmt<usize>) -> bool
+    ensures { result ≡ start_fits (context_of (slice_get entries.now)) (view_stmt stmt.now) }
+{
+    match stmt {
+        Stmt::Assign(_, slot, expr) => match entry_at(entries, *slot) {
+            Some(entry) => {
+                is_of(entries, entry.kind, expr)
+                    || (is_kind(entry.kind, Some(Kind::Bool)) && is_bit(expr))
+            }
+            None => false,
+        },
+        _ => false,
+    }
+}
+
+/// Whether each initial value has its variable's kind.
+pub fn starts_fit(entries: &[Entry], starts: &[Stmt<usize>]) -> bool
+    ensures { result ≡ starts_fit (context_of (slice_get entries.now)) (view_body starts.now) }
+{
+    for stmt in starts {
+        if !start_fits(entries, stmt) {
+            return false;
+        }
+    }
+    true
+}
+
 #[cycle(fits)]
 fn stmt_fits(entries: &[Entry], stmt: &Stmt<usize>) -> bool
-    ensures { result ≡ stmt_fits (slice_get entries.now) (view_stmt stmt.now) }
+    ensures { result ≡ stmt_fits (context_of (slice_get entries.now)) (view_stmt stmt.now) }
 {
     match stmt {
         Stmt::Empty(_) => true,
@@ -108,7 +138,7 @@ fn stmt_fits(entries: &[Entry], stmt: &Stmt<usize>) -> bool
 
 #[cycle(fits)]
 fn branches_fit(entries: &[Entry], branches: &[Branch<usize>]) -> bool
-    ensures { result ≡ branches_fit (slice_get entries.now) (view_branches branches.now) }
+    ensures { result ≡ branches_fit (context_of (slice_get entries.now)) (view_branches branches.now) }
 {
     for branch in branches {
         if !is_of(entries, Kind::Bool, &branch.test) || !all_fit(entries, &branch.body) {
@@ -120,7 +150,7 @@ fn branches_fit(entries: &[Entry], branches: &[Branch<usize>]) -> bool
 
 #[cycle(fits)]
 fn choices_fit(entries: &[Entry], choices: &[Choice<usize>]) -> bool
-    ensures { result ≡ choices_fit (slice_get entries.now) (view_choices choices.now) }
+    ensures { result ≡ choices_fit (context_of (slice_get entries.now)) (view_choices choices.now) }
 {
     for choice in choices {
         if !all_fit(entries, &choice.body) {
@@ -133,7 +163,7 @@ fn choices_fit(entries: &[Entry], choices: &[Choice<usize>]) -> bool
 /// Whether each right side, test, selector, bound and step of a body has the kind that it must have, and nothing is called.
 #[cycle(fits)]
 pub fn all_fit(entries: &[Entry], body: &[Stmt<usize>]) -> bool
-    ensures { result ≡ all_fit (slice_get entries.now) (view_body body.now) }
+    ensures { result ≡ all_fit (context_of (slice_get entries.now)) (view_body body.now) }
 {
     for stmt in body {
         if !stmt_fits(entries, stmt) {

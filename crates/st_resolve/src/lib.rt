@@ -1,11 +1,13 @@
-//! Makes a program ready to run, or finds its first fault.
+//! Makes the programs of a source ready to run, or finds its first fault.
 //!
-//! The names, the kinds and the loops of a program over global variables are checked. In a program without a fault each name becomes a
-//! number, one for each variable: the globals in order of declaration, then the program's own. Nothing here runs a program.
+//! The names, the kinds and the loops of programs over global variables are checked. In a source without a fault each name becomes a
+//! number, one for each variable: the globals in order of declaration, then the own variables of each program in turn. Nothing here runs
+//! a program.
 #![tactic(auto)]
 
 mod faults;
 mod flat;
+mod judging;
 mod kinds;
 mod known;
 mod laws;

@@ -1,14 +1,17 @@
-//! A source that was parsed: global variables, and a program with its own variables.
+//! A source that was parsed: global variables, and programs with their own variables.
 
 use plant_types::{Kind, Region, Text};
 use st_tree::Stmt;
 
-/// A program and the global variables.
+/// The global variables and the programs.
 #[derive(Drop)]
 pub struct Logic {
     /// In order of declaration.
     pub globals: Vec<Variable>,
-    pub program: Program,
+    /// An assignment for each initial value that is written for a global.
+    pub starts: Vec<Stmt<Text>>,
+    /// In order of text.
+    pub programs: Vec<Program>,
 }
 
 /// A global variable, with its name as declared.
@@ -27,11 +30,13 @@ pub struct Local {
     pub kind: Kind,
 }
 
-/// A program (IEC 61131-3).
+/// A program (IEC 61131-3), with its name as declared.
 #[derive(Drop)]
 pub struct Program {
     pub name: Text,
     /// In order of declaration.
     pub locals: Vec<Local>,
+    /// An assignment for each initial value that is written for one of these.
+    pub starts: Vec<Stmt<Text>>,
     pub body: Vec<Stmt<Text>>,
 }

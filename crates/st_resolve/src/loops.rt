@@ -1,8 +1,9 @@
-//! The control variables, bounds and steps of a body's FOR statements (C9), and their turns (C10).
+//! Initial values that have to be constant, the control variables, bounds and steps of a body's FOR statements (C9), and their turns (C10).
 
 ghost use Rattle.std.specs.Prelude.{◌≡◌, ◌==◌, slice_get, map};
 ghost use Rattle.st_tree.specs.View.{view_expr, view_option, view_argument, view_stmt, view_body, view_branches, view_choices};
 ghost use Rattle.st_tree.specs.Constants.{constant_of};
+ghost use Rattle.st_resolve.specs.Starts.{start_constant, starts_constant};
 ghost use Rattle.st_resolve.specs.Loops.{constant_step, is_bound, is_step, is_control, outputs_assign, stmt_assigns, body_assigns, branches_assign, choices_assign, stmt_allowed, all_allowed, branches_allowed, choices_allowed, turns_of, stmt_short, all_short, branches_short, choices_short};
 
 use crate::scope::Entry;
@@ -116,6 +117,28 @@ fn body_assigns(slot: usize, body: &[Stmt<usize>]) -> bool
         }
     }
     false
+}
+
+/// Whether each initial value is constant and doesn't trap.
+pub fn starts_constant(starts: &[Stmt<usize>]) -> bool
+    ensures { result ≡ starts_constant (view_body starts.now) }
+{
+    for stmt in starts {
+        if !start_constant(stmt) {
+            return false;
+        }
+    }
+    true
+}
+
+/// Whether an initial value is constant and doesn't trap.
+fn start_constant(stmt: &Stmt<usize>) -> bool
+    ensures { result ≡ start_constant (view_stmt stmt.now) }
+{
+    match stmt {
+        Stmt::Assign(_, _, expr) => is_bound(expr),
+        _ => false,
+    }
 }
 
 #[cycle(allowed)]

@@ -1,11 +1,10 @@
 //! Names of variables, in an index.
 
-ghost use Rattle.std.specs.Prelude.{◌≡◌, ◌++◌, ◌∷◌, [], IfOk, IfErr, not, if◌then◌else◌, Some, None, true, false, MatchResult, string_bytes, ◌||◌, ◌<◌, ◌^◌, length, IfSome};
+ghost use Rattle.std.specs.Prelude.{◌≡◌, ◌++◌, ◌∷◌, [], IfOk, not, if◌then◌else◌, Some, None, string_bytes, ◌||◌, ◌<◌, ◌^◌, length, IfSome};
 ghost use Rattle.plant_types.specs.Words.{folded};
 ghost use Rattle.st_resolve.specs.Names.{find_word, is_standard, is_taken, is_among, global_words, own_words, repeats};
-ghost use Rattle.st_resolve.specs.Faults.{globals_clash, Refuses};
+ghost use Rattle.st_resolve.specs.Faults.{globals_clash};
 
-use crate::faults::FirstFault;
 use crate::logic::{Local, Variable};
 use indexmap::IndexSet;
 use plant_types::same_word;
@@ -54,11 +53,10 @@ impl Names {
         self.words.len()
     }
 
-    /// Adds a name if it isn't there yet, in any letter case. Returns whether it was added. The only fault is `Memory`.
-    pub fn add(&mut self, alloc: Global, name: &str) -> Result<bool, FirstFault>
+    /// Adds a name if it isn't there yet, in any letter case. Returns whether it was added. Fails if memory was refused.
+    pub fn add(&mut self, alloc: Global, name: &str) -> Result<bool, AllocError>
         ensures added { IfOk result (λ added. added ≡ not (is_among self.old (folded name.now))) }
         ensures names { IfOk result (λ added. self.new ≡ (if added then self.old ++ folded name.now ∷ [] else self.old)) }
-        ensures refused { IfErr result (λ fault. fault ≡ FirstFault.Memory) }
     {
         let word = small_letters(alloc, name)?;
         let (_, added) = self.words.insert_full(word)?;
@@ -82,49 +80,39 @@ pub fn is_standard(name: &[u8]) -> bool
     same_word(name, b"TON") || same_word(name, b"TOF") || same_word(name, b"R_TRIG")
 }
 
-/// Adds the name of a global. Fails if it is taken.
-fn add_global(alloc: Global, names: &mut Names, global: &Variable) -> Result<(), FirstFault>
-    ensures { MatchResult result (λ _. (is_taken names.old global.now.name ≡ false) × (names.new ≡ names.old ++ folded global.now.name ∷ [])) (Refuses (if is_taken names.old global.now.name then Some (FirstFault.Name true) else None)) }
+/// Adds the name of a global if it isn't taken, and returns whether it was added. Fails if memory was refused.
+fn add_global(alloc: Global, names: &mut Names, global: &Variable) -> Result<bool, AllocError>
+    ensures added { IfOk result (λ added. added ≡ not (is_taken names.old global.now.name)) }
+    ensures names { IfOk result (λ added. names.new ≡ (if added then names.old ++ folded global.now.name ∷ [] else names.old)) }
 {
     if is_standard(global.name.as_bytes()) {
-        return Err(FirstFault::Name { globals: true });
+        return Ok(false);
     }
-    if names.add(alloc, global.name.as_str())? {
-        Ok(())
-    } else {
-        Err(FirstFault::Name { globals: true })
-    }
+    names.add(alloc, global.name.as_str())
 }
 
-/// The names of the globals in order. Fails if one is a standard block's, or is declared twice.
-pub fn names_of(alloc: Global, globals: &[Variable]) -> Result<Names, FirstFault>
-    ensures { MatchResult result (λ names. (globals_clash globals.now ≡ false) × (names ≡ global_words globals.now)) (Refuses (if globals_clash globals.now then Some (FirstFault.Name true) else None)) }
+/// The names of the globals in order; `None` if one is a standard block's, or is declared twice. Fails if memory was refused.
+pub fn names_of(alloc: Global, globals: &[Variable]) -> Result<Option<Names>, AllocError>
+    ensures { IfOk result (λ names. names ≡ (if globals_clash globals.now then None else Some (global_words globals.now))) }
 {
     let mut names = Names::new(alloc);
     for global in globals {
-        add_global(alloc, &mut names, global)?;
+        if !add_global(alloc, &mut names, global)? {
+            return Ok(None);
+        }
     }
-    Ok(names)
+    Ok(Some(names))
 }
 
-/// Adds the name of a program's own variable. Fails if it is declared already.
-fn add_own(alloc: Global, names: &mut Names, local: &Local) -> Result<(), FirstFault>
-    ensures { MatchResult result (λ _. (is_among names.old (folded local.now.name) ≡ false) × (names.new ≡ names.old ++ folded local.now.name ∷ [])) (Refuses (if is_among names.old (folded local.now.name) then Some (FirstFault.Name false) else None)) }
-{
-    if names.add(alloc, local.name.as_str())? {
-        Ok(())
-    } else {
-        Err(FirstFault::Name { globals: false })
-    }
-}
-
-/// The names of a program's own variables in order. Fails if one is declared twice.
-pub fn own_names_of(alloc: Global, locals: &[Local]) -> Result<Names, FirstFault>
-    ensures { MatchResult result (λ names. (repeats (own_words locals.now) ≡ false) × (names ≡ own_words locals.now)) (Refuses (if repeats (own_words locals.now) then Some (FirstFault.Name false) else None)) }
+/// The names of a program's own variables in order; `None` if one is declared twice. Fails if memory was refused.
+pub fn own_names_of(alloc: Global, locals: &[Local]) -> Result<Option<Names>, AllocError>
+    ensures { IfOk result (λ names. names ≡ (if repeats (own_words locals.now) then None else Some (own_words locals.now))) }
 {
     let mut names = Names::new(alloc);
     for local in locals {
-        add_own(alloc, &mut names, local)?;
+        if !names.add(alloc, local.name.as_str())? {
+            return Ok(None);
+        }
     }
-    Ok(names)
+    Ok(Some(names))
 }

@@ -1,16 +1,15 @@
 //! The names that a program's body may use.
 
-ghost use Rattle.std.specs.Prelude.{◌≡◌, map, IfOk, MatchResult, true, false};
-ghost use Rattle.st_resolve.specs.Names.{find_in};
-ghost use Rattle.st_resolve.specs.Source.{source_of};
-ghost use Rattle.st_resolve.specs.Faults.{entry_of, entries_of, first_fault, Refuses};
-ghost use Rattle.st_resolve.specs.Flats.{IsScope};
-ghost use Rattle.st_resolve.specs.Resolved.{slot_of};
+ghost use Rattle.std.specs.Prelude.{◌≡◌, ◌<◌, ◌^◌, ◌++◌, ◌∷◌, [], ◌||◌, not, if◌then◌else◌, map, IfOk, MatchOption, is_some, true};
+ghost use Rattle.plant_types.specs.Words.{folded};
+ghost use Rattle.st_resolve.specs.Names.{find_in, find_word, own_words, is_standard, is_among, repeats};
+ghost use Rattle.st_resolve.specs.Faults.{entry_of, own_entry, globals_clash};
+ghost use Rattle.st_resolve.specs.Flats.{IsAlone, IsEntered};
+ghost use Rattle.st_resolve.specs.Resolved.{base_of, slot_of};
 
-use crate::faults::FirstFault;
-use crate::logic::{Local, Logic, Variable};
+use crate::logic::{Local, Program, Variable};
 use crate::names::{Names, is_standard, names_of, own_names_of};
-use plant_types::{Kind, Region};
+use plant_types::{Kind, Region, Text};
 use std::alloc::{AllocError, Global};
 
 /// The kind of a variable, and whose it is.
@@ -23,7 +22,8 @@ pub struct Entry {
     pub is_own: bool,
 }
 
-/// The names that a body may use, and an entry for each variable: the globals come first, then the program's own.
+/// The names that a program's body may use, and an entry for each variable: the globals come first, then the own variables of earlier
+/// programs, and then the program's own.
 #[derive(Drop)]
 pub struct Scope {
     pub globals: Names,
@@ -32,23 +32,31 @@ pub struct Scope {
 }
 
 impl Scope {
+    /// The number of the program's first own variable.
+    fn base(&self) -> usize
+        ensures number { result ≡ base_of self.now }
+        ensures small { result < 2 ^ 63 }
+    {
+        self.entries.len().saturating_sub(self.own.len())
+    }
+
     /// The number of the variable of a name, in any letter case; `None` if there is none. A program's own variable hides a global.
     pub fn find(&self, alloc: Global, name: &str) -> Result<Option<usize>, AllocError>
-        ensures { IfOk result (λ slot. slot ≡ find_in self.now.globals self.now.own name.now) }
+        ensures { IfOk result (λ slot. slot ≡ find_in self.now.globals (base_of self.now) self.now.own name.now) }
     {
         match self.own.find(alloc, name)? {
-            Some(i) => Ok(Some(self.globals.len() + i)),
+            Some(i) => Ok(Some(self.base() + i)),
             None => self.globals.find(alloc, name),
         }
     }
 
-    /// The number of the variable of a name, in any letter case; if there is none, the count of the variables.
+    /// The number of the variable of a name, in any letter case; if there is none, the number after the last of the program's own.
     pub fn slot(&self, alloc: Global, name: &str) -> Result<usize, AllocError>
         ensures { IfOk result (λ slot. slot ≡ slot_of self.now name.now) }
     {
         match self.find(alloc, name)? {
             Some(slot) => Ok(slot),
-            None => Ok(self.globals.len() + self.own.len()),
+            None => Ok(self.base() + self.own.len()),
         }
     }
 }
@@ -74,15 +82,10 @@ fn global_entries(alloc: Global, globals: &[Variable]) -> Result<Vec<Entry>, All
     Ok(entries)
 }
 
-/// The entries of the variables: the globals, then the program's own.
-fn entries_of(
-    alloc: Global,
-    globals: &[Variable],
-    locals: &[Local],
-) -> Result<Vec<Entry>, AllocError>
-    ensures { IfOk result (λ entries. entries.items ≡ entries_of globals.now locals.now) }
+/// Adds the entries of a program's own variables.
+fn add_entries(entries: &mut Vec<Entry>, locals: &[Local]) -> Result<(), AllocError>
+    ensures { IfOk result (λ _. entries.new.items ≡ entries.old.items ++ map own_entry locals.now) }
 {
-    let mut entries = global_entries(alloc, globals)?;
     for local in locals {
         entries.push(Entry {
             kind: local.kind,
@@ -90,24 +93,58 @@ fn entries_of(
             is_own: true,
         })?;
     }
-    Ok(entries)
+    Ok(())
 }
 
-/// The names that a program's body may use, or the first fault of the declared names.
-pub fn scope_of(alloc: Global, logic: &Logic) -> Result<Scope, FirstFault>
-    ensures { MatchResult result (λ scope. IsScope (source_of logic.now) scope) (Refuses (first_fault (source_of logic.now))) }
+/// The scope of the globals alone; `None` if one's name is a standard block's, or is declared twice.
+pub fn scope_of(alloc: Global, globals: &[Variable]) -> Result<Option<Scope>, AllocError>
+    ensures { IfOk result (λ scope. MatchOption scope (globals_clash globals.now ≡ true) (IsAlone globals.now)) }
 {
-    let globals = names_of(alloc, &logic.globals)?;
-    let program = &logic.program;
-    let taken = globals.find(alloc, program.name.as_str())?;
-    if is_standard(program.name.as_bytes()) || taken.is_some() {
-        return Err(FirstFault::Name { globals: false });
+    let Some(names) = names_of(alloc, globals)? else {
+        return Ok(None);
+    };
+    Ok(Some(Scope {
+        globals: names,
+        own: Names::new(alloc),
+        entries: global_entries(alloc, globals)?,
+    }))
+}
+
+/// Adds a program's name to those of earlier programs. Returns whether it is added: not if it is a standard block's, a global's, or
+/// there already.
+fn add_program(
+    alloc: Global,
+    globals: &Names,
+    earlier: &mut Names,
+    name: &Text,
+) -> Result<bool, AllocError>
+    ensures added { IfOk result (λ added. added ≡ not (is_standard name.now || (is_some (find_word globals.now name.now) || is_among earlier.old (folded name.now)))) }
+    ensures names { IfOk result (λ added. earlier.new ≡ (if added then earlier.old ++ folded name.now ∷ [] else earlier.old)) }
+{
+    if is_standard(name.as_bytes()) || globals.find(alloc, name.as_str())?.is_some() {
+        return Ok(false);
     }
-    let own = own_names_of(alloc, &program.locals)?;
-    let entries = entries_of(alloc, &logic.globals, &program.locals)?;
-    Ok(Scope {
-        globals,
-        own,
-        entries,
-    })
+    earlier.add(alloc, name.as_str())
+}
+
+/// Makes a scope that of the next program, and adds the program's name to those of earlier programs. Returns whether the names that it
+/// declares are right; what is left if they aren't is of no use.
+pub fn enter(
+    alloc: Global,
+    scope: &mut Scope,
+    earlier: &mut Names,
+    program: &Program,
+) -> Result<bool, AllocError>
+    ensures right { IfOk result (λ right. right ≡ not ((is_standard program.now.name || (is_some (find_word scope.old.globals program.now.name) || is_among earlier.old (folded program.now.name))) || repeats (own_words program.now.locals.items))) }
+    ensures entered { IfOk result (λ right. right ≡ true → IsEntered scope.old earlier.old program.now scope.new earlier.new) }
+{
+    if !add_program(alloc, &scope.globals, earlier, &program.name)? {
+        return Ok(false);
+    }
+    let Some(own) = own_names_of(alloc, &program.locals)? else {
+        return Ok(false);
+    };
+    scope.own = own;
+    add_entries(&mut scope.entries, &program.locals)?;
+    Ok(true)
 }

@@ -6,3 +6,12 @@ pub mod ConstantLaws
 pub mod ControlLaws
 pub mod KindLaws
 pub mod CostExamples
+pub mod FitExamples
+pub mod RangeLaws
+pub mod ControlRangeLaws
+pub mod RunLaws
+pub mod MappingLaws
+pub mod Mapped
+pub mod RenamingLaws
+pub mod MappingExamples
+mod RuleLaws

@@ -6,17 +6,18 @@ use Rattle.std.specs.declared.alloc.Global.{Global}
 use Rattle.st_tree.specs.declared.tree.Unary.{Unary}
 use Rattle.st_tree.specs.declared.tree.Binary.{Binary}
 use Rattle.st_tree.specs.declared.tree.Label.{Label}
+use Rattle.st_tree.specs.declared.tree.Argument.{Argument}
 use Rattle.st_tree.specs.declared.tree.Expr.{Expr, fold-roll-Expr}
 use Rattle.st_tree.specs.declared.tree.Expr.TheOpen.{Expr-F}
 use Rattle.st_tree.specs.declared.tree.Expr.TheVariants as expr
 use Rattle.st_tree.specs.declared.tree.Expr.TheVariants.{rolls-Unary, rolls-Binary}
 use Rattle.st_tree.specs.declared.tree.Branch.{Branch, roll-Branch, fold-roll-Branch, fold_out-Branch}
 use Rattle.st_tree.specs.declared.tree.Choice.{Choice, roll-Choice, fold-roll-Choice, fold_out-Choice}
-use Rattle.st_tree.specs.declared.tree.Stmt.{Stmt, If, Case, For, fold-roll-Stmt}
+use Rattle.st_tree.specs.declared.tree.Stmt.{Stmt, Call, If, Case, For, fold-roll-Stmt}
 use Rattle.st_tree.specs.declared.tree.Stmt.TheOpen.{Stmt-F}
-use Rattle.st_tree.specs.declared.tree.Stmt.TheVariants.{rolls-If, rolls-Case, rolls-For}
-use Rattle.st_tree.specs.Plain.{PlainExpr, unary, binary, PlainStmt, PlainBody, choose, select, repeat}
-use Rattle.st_tree.specs.View.{view_expr_step, view_step, view_branch_step, view_choice_step, view_expr, view_option, view_stmt, view_body, view_branch, view_branches, view_choice, view_choices}
+use Rattle.st_tree.specs.declared.tree.Stmt.TheVariants.{rolls-Call, rolls-If, rolls-Case, rolls-For}
+use Rattle.st_tree.specs.Plain.{PlainExpr, unary, binary, PlainStmt, PlainBody, call, choose, select, repeat}
+use Rattle.st_tree.specs.View.{view_expr_step, view_step, view_branch_step, view_choice_step, view_expr, view_option, view_argument, view_stmt, view_body, view_branch, view_branches, view_choice, view_choices}
 
 module _ {V : Type 0} where
   pub view_expr-Unary : (op : Unary) (a : Box (Expr V) Global) → view_expr (expr.Unary op a) ≡ unary op (view_expr a.value)
@@ -24,6 +25,11 @@ module _ {V : Type 0} where
 
   pub view_expr-Binary : (op : Binary) (a b : Box (Expr V) Global) → view_expr (expr.Binary op a b) ≡ binary op (view_expr a.value) (view_expr b.value)
   view_expr-Binary op a b = ap view_expr (sym (rolls-Binary op a b)) ∙ fold-roll-Expr V (PlainExpr V) view_expr_step (Expr-F.Binary op a b)
+
+  pub view_stmt-Call : (number : ℕ) (v : V) (arguments : Vec (Argument V) Global) → view_stmt (Call number v arguments) ≡ call number v (map view_argument arguments.items)
+  view_stmt-Call number v arguments =
+      ap view_stmt (sym (rolls-Call number v arguments))
+      ∙ fold-roll-Stmt V (PlainStmt V) (PlainExpr V × PlainBody V) (List Label × PlainBody V) view_step view_branch_step view_choice_step (Stmt-F.Call number v arguments)
 
   pub view_stmt-If : (number : ℕ) (branches : Vec (Branch V) Global) (last : Vec (Stmt V) Global) → view_stmt (If number branches last) ≡ choose number (view_branches branches.items) (view_body last.items)
   view_stmt-If number branches last =

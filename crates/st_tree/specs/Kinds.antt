@@ -3,7 +3,7 @@ use Rattle.std.specs.Prelude.{Bool, true, false, ◌&&◌, ◌||◌, if◌then�
 use Rattle.std.specs.Ordering.{int_eq}
 use Rattle.plant_types.specs.declared.values.Kind.{Kind}
 use Rattle.plant_types.specs.declared.values.Kind.TheVariants as kind
-use Rattle.plant_types.specs.Values.{kind_of}
+use Rattle.plant_types.specs.Values.{kind_of, is_in_range, worth}
 use Rattle.st_tree.specs.declared.tree.Literal.{Literal}
 use Rattle.st_tree.specs.declared.tree.Literal.TheVariants.{Integer, Value}
 use Rattle.st_tree.specs.declared.tree.Unary.{Unary}
@@ -24,6 +24,11 @@ same_kind _ _ = false
 abbrev pub literal_kind : Literal → Kind
 literal_kind (Integer n) = kind.Dint
 literal_kind (Value v) = kind_of v
+
+-- a literal is in the range of its kind
+abbrev pub literal_in_range : Literal → Bool
+literal_in_range (Integer n) = is_in_range kind.Dint n
+literal_in_range (Value v) = is_in_range (kind_of v) (worth v)
 
 -- of two BOOLs
 abbrev pub of_truths : Kind → Kind → Option Kind
@@ -79,9 +84,9 @@ binary_kind Multiply a b = of_numbers a b
 binary_kind Divide a b = of_numbers a b
 binary_kind Mod a b = of_numbers a b
 
--- the kind of an expression; none if an operator does not take its operands, or if a variable or an output has no kind
+-- the kind of an expression; none if a literal is outside the range of its kind, if an operator does not take its operands, or if a variable or an output has no kind
 abbrev pub kind_of_expr : {V : Type 0} → (V → Option Kind) → (V → V → Option Kind) → PlainExpr V → Option Kind
-kind_of_expr variable_kind output_kind (literal n) = Some (literal_kind n)
+kind_of_expr variable_kind output_kind (literal n) = if literal_in_range n then Some (literal_kind n) else None
 kind_of_expr variable_kind output_kind (read v) = variable_kind v
 kind_of_expr variable_kind output_kind (output_of instance name) = output_kind instance name
 kind_of_expr variable_kind output_kind (unary op a) = option_and_then (unary_kind op) (kind_of_expr variable_kind output_kind a)

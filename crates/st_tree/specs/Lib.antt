@@ -5,6 +5,11 @@ pub mod Controls
 pub mod Meaning
 pub mod Numbers
 pub mod Kinds
+pub mod Fits
+pub mod Ranges
+pub mod Mapping
+pub mod Alike
+pub mod Every
 pub mod Constants
 pub mod Costs
 pub mod Code

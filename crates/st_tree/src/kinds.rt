@@ -1,16 +1,17 @@
 //! The kinds of operands and of results.
 
-ghost use Rattle.std.specs.Prelude.{◌≡◌};
-ghost use Rattle.st_tree.specs.Kinds.{unary_kind, binary_kind, resolved_unary, resolved_binary, literal_kind, literal_is_bit, is_bit};
+ghost use Rattle.std.specs.Prelude.{◌≡◌, true};
+ghost use Rattle.st_tree.specs.Kinds.{unary_kind, binary_kind, resolved_unary, resolved_binary, literal_kind, literal_in_range, literal_is_bit, is_bit};
 ghost use Rattle.st_tree.specs.View.{view_expr};
 
 use crate::tree::{Binary, Expr, Literal, Unary};
 use plant_types::Kind;
 
 impl Literal {
-    /// The kind of the literal: an integer is a DINT.
+    /// The kind of the literal, whose value is always in the range of this kind: an integer is a DINT.
     pub fn kind(self) -> Kind
-        ensures { result ≡ literal_kind self }
+        ensures is { result ≡ literal_kind self }
+        ensures in_range { literal_in_range self ≡ true }
     {
         match self {
             Literal::Integer(_) => Kind::Dint,

@@ -11,7 +11,10 @@ mod copy;
 mod kinds;
 mod labels;
 mod laws;
+mod map;
 mod operators;
+mod pass;
+mod rules;
 mod tree;
 
 pub use constants::constant;
@@ -21,4 +24,6 @@ pub use kinds::{binary_kind, is_bit, resolved_binary, resolved_unary, unary_kind
 pub use labels::labels_fit;
 pub use laws::{constant_of_is_value_of, control_values_count_to_bound, kind_of_expr_is_kind_in};
 pub use operators::{eval_binary, eval_unary};
+pub use pass::{Pass, map_body, map_expr};
+pub use rules::{Rule, every};
 pub use tree::{Argument, Binary, Branch, Choice, Expr, Label, Literal, Stmt, Unary};

@@ -1,49 +1,54 @@
 -- How a walk ends, from how the run of the body ends.
-use Rattle.std.proofs.Common.{◌≡◌, ◌∙◌, ap, sym, subst, arith, ℕ, ◌<◌, zero, suc, ℤ, false, List, [], None}
-use Rattle.std.specs.Prelude.{Result, Ok, Err}
-use Rattle.std.specs.List.{list_any}
-use Rattle.std.proofs.lemmas.Bool.{or_parts}
+use Rattle.std.proofs.Common.{◌≡◌, ◌∙◌, ap, sym, subst, refl, ℕ, zero, suc, ℤ, List, [], ◌∷◌, Option, None, Some, map}
+use Rattle.std.specs.Prelude.{Result, Ok, Err, slice_get, slice_index_or}
 use Rattle.plant_types.specs.declared.values.Trap.{Trap}
 use Rattle.st_tree.specs.Meaning.{Ran, Done, Trapped, run_all}
 use Rattle.st_tree.specs.Plain.{PlainBody}
-use Rattle.st_resolve.specs.declared.logic.Variable.{Variable}
-use Rattle.st_resolve.specs.Source.{Source}
-use Rattle.st_resolve.specs.Names.{global_words, own_words, repeats, is_standard}
-use Rattle.st_resolve.specs.Faults.{name_number, meant_of, first_fault}
-use Rattle.st_resolve.specs.Resolved.{renamed}
-use Rattle.st_resolve.proofs.Judged.{names_right}
-use Rattle.st_walk.specs.Worlds.{World, Stands, run_program}
+use Rattle.st_resolve.specs.Source.{PlainProgram, Source, scoped}
+use Rattle.st_resolve.specs.Names.{global_words, own_words, slot_in}
+use Rattle.st_resolve.specs.Faults.{is_known, meant_of, first_fault}
+use Rattle.st_resolve.specs.Resolved.{bodies_of}
+use Rattle.st_resolve.proofs.Right.{program_right}
+use Rattle.st_resolve.proofs.Bodies.{BodyAt, body_of}
+use Rattle.st_walk.specs.Worlds.{Path, World, Stands, run_in, run_program}
 use Rattle.st_walk.specs.declared.walker.Stop.{Stop}
 use Rattle.st_walk.specs.Slots.{cell_space, ended_run}
 use Rattle.st_walk.specs.Runs.{Agree, place_spot}
+use Rattle.st_walk.proofs.Worlds.{base_at, paths_once, located}
 use Rattle.st_walk.proofs.Agreeing.{Alike, body_alike}
 
-module _ (source : Source) (globals_once : repeats (global_words source.globals) ≡ false) (own_once : repeats (own_words source.locals) ≡ false) where
-  done_agrees : (r : Ran World) (cells : List ℤ) → Alike source globals_once own_once r (Done cells) → Agree source r (Done cells)
+-- the path of a program's body
+body_path : (ps : List PlainProgram) (n : ℕ) (p : PlainProgram) → slice_get ps n ≡ Some p → slice_index_or (map (λ (q : PlainProgram). q.name ∷ []) ps) n [] ≡ p.name ∷ []
+body_path [] n p at = absurd (cc)
+body_path (q ∷ qs) zero p at = let same : q ≡ p = cc in ap (λ (x : PlainProgram). x.name ∷ []) same
+body_path (q ∷ qs) (suc n) p at = body_path qs n p at
+
+module _ (source : Source) (sound : first_fault source ≡ None) (n : ℕ) (p : PlainProgram) (there : slice_get source.programs n ≡ Some p) where
+  abbrev Same : Ran World → Ran (List ℤ) → Type 0
+  Same = Alike source p (slot_in (global_words source.globals) (base_at source n) (own_words p.locals)) (is_known (scoped source.globals p)) (paths_once source sound) (λ name is. located source n p name there is)
+
+  done_agrees : (r : Ran World) (cells : List ℤ) → Same r (Done cells) → Agree source r (Done cells)
   done_agrees (Done w) cells same = same
   done_agrees (Trapped w spot trap) cells same = absurd same
 
-  trapped_agrees : (r : Ran World) (cells : List ℤ) (number program : ℕ) (trap : Trap) → program < 1 → Alike source globals_once own_once r (Trapped cells (record { path = []; statement = number }) trap) → Agree source r (Trapped cells (place_spot source (record { path = program; statement = number })) trap)
-  trapped_agrees (Done w) cells number program trap first same = absurd same
-  trapped_agrees (Trapped w spot kind) cells number zero trap first same = same
-  trapped_agrees (Trapped w spot kind) cells number (suc n) trap first same = absurd (omega arith)
+  trapped_agrees : (r : Ran World) (cells : List ℤ) (number : ℕ) (trap : Trap) → Same r (Trapped cells (record { path = []; statement = number }) trap) → Agree source r (Trapped cells (place_spot source (record { path = n; statement = number })) trap)
+  trapped_agrees (Done w) cells number trap same = absurd same
+  trapped_agrees (Trapped w spot kind) cells number trap same = (same.0, same.1 ∙ ap (λ (path : Path). record { path = path; statement = number }) (sym (body_path source.programs n p there)), same.2)
 
-module _ (source : Source) (sound : first_fault source ≡ None) where
-  globals_once : repeats (global_words source.globals) ≡ false
-  globals_once = (or_parts (list_any (λ (g : Variable). is_standard g.name) source.globals) (repeats (global_words source.globals)) (names_right source sound).globals_apart).1
+runs_alike : (source : Source) (sound : first_fault source ≡ None) (n moment : ℕ) (body : PlainBody ℕ) (at : BodyAt source n body) (w : World) (cells : List ℤ) (stands : Stands source cells w) (q : Ran (List ℤ)) → q ≡ run_all cell_space body cells → Same source sound n at.program at.there (run_program source n moment w) q
+runs_alike source sound n moment body at w cells stands q ran =
+    let p = at.program in
+    let runs = body_alike source p (slot_in (global_words source.globals) (base_at source n) (own_words p.locals)) (is_known (scoped source.globals p)) (paths_once source sound) (λ name is. located source n p name at.there is) (meant_of (scoped source.globals p)) w cells stands (program_right source n p sound at.there).all_known in
+    subst (λ o. Same source sound n p at.there (run_in source o w) q) (sym at.there) (subst (Same source sound n p at.there (run_in source (Some p) w)) (sym (ran ∙ ap (λ b. run_all cell_space b cells) at.body_is)) runs)
 
-  own_once : repeats (own_words source.locals) ≡ false
-  own_once = (names_right source sound).own_apart
+module _ (source : Source) (sound : first_fault source ≡ None) (n moment : ℕ) (body : PlainBody ℕ) (there : slice_get (bodies_of source) n ≡ Some body) (cells later : List ℤ) (r : Result (Unit {0}) Stop) (ran : ended_run r later ≡ run_all cell_space body cells) where
+  pub walk_done : (u : Unit {0}) → r ≡ Ok u → (w : World) → Stands source cells w → Agree source (run_program source n moment w) (Done later)
+  walk_done u ended w stands =
+      let at = body_of source n body there in
+      done_agrees source sound n at.program at.there (run_program source n moment w) later (runs_alike source sound n moment body at w cells stands (Done later) (sym (ap (λ e. ended_run e later) ended) ∙ ran))
 
-  runs_alike : (w : World) (cells : List ℤ) (stands : Stands source cells w) (body : PlainBody ℕ) (is : body ≡ renamed (name_number source) (meant_of source)) (q : Ran (List ℤ)) → q ≡ run_all cell_space body cells → Alike source globals_once own_once (run_program source w) q
-  runs_alike w cells stands body is q ran =
-      subst (Alike source globals_once own_once (run_program source w)) (sym (ran ∙ ap (λ b. run_all cell_space b cells) is)) (body_alike source globals_once own_once (meant_of source) w cells stands (names_right source sound).all_known)
-
-module _ (source : Source) (sound : first_fault source ≡ None) (body : PlainBody ℕ) (is : body ≡ renamed (name_number source) (meant_of source)) (cells later : List ℤ) (r : Result (Unit {0}) Stop) (ran : ended_run r later ≡ run_all cell_space body cells) where
-  pub walk_done : (u : Unit {0}) → r ≡ Ok u → (w : World) → Stands source cells w → Agree source (run_program source w) (Done later)
-  walk_done u ended w stands = done_agrees source (globals_once source sound) (own_once source sound) (run_program source w) later (runs_alike source sound w cells stands body is (Done later) (sym (ap (λ e. ended_run e later) ended) ∙ ran))
-
-  pub walk_trapped : (stop : Stop) (program : ℕ) → r ≡ Err stop → program < 1 → (w : World) → Stands source cells w → Agree source (run_program source w) (Trapped later (place_spot source (record { path = program; statement = stop.statement })) stop.trap)
-  walk_trapped stop program ended first w stands =
-      trapped_agrees source (globals_once source sound) (own_once source sound) (run_program source w) later stop.statement program stop.trap first
-      (runs_alike source sound w cells stands body is (Trapped later (record { path = []; statement = stop.statement }) stop.trap) (sym (ap (λ e. ended_run e later) ended) ∙ ran))
+  pub walk_trapped : (stop : Stop) → r ≡ Err stop → (w : World) → Stands source cells w → Agree source (run_program source n moment w) (Trapped later (place_spot source (record { path = n; statement = stop.statement })) stop.trap)
+  walk_trapped stop ended w stands =
+      let at = body_of source n body there in
+      trapped_agrees source sound n at.program at.there (run_program source n moment w) later stop.statement stop.trap
+      (runs_alike source sound n moment body at w cells stands (Trapped later (record { path = []; statement = stop.statement }) stop.trap) (sym (ap (λ e. ended_run e later) ended) ∙ ran))

@@ -1,158 +1,162 @@
 -- Cells that stand for a world, after a value is read or written.
-use Rattle.std.proofs.Common.{◌≡◌, ◌∙◌, ap, sym, subst, refl, arith, ℕ, zero, suc, ◌+◌, ◌<◌, ℤ, pos, true, false, List, [], ◌∷◌, ◌++◌, Option, Some, None, map, length, get_or, inl, inr, ◌-◌, ◌⊎◌}
-use Rattle.std.proofs.Math.ListN.{set, get_or-append}
-use Rattle.std.proofs.lemmas.List.{get_or-map, length-map, length-append, get_or-append-add, set-append_left, set-append_right}
-use Rattle.std.proofs.lemmas.List.Folds.{list_any_at}
-use Rattle.std.proofs.lemmas.Bool.{cases_Bool, or_parts, both_ways}
-use Rattle.std.specs.Prelude.{is_some, unwrap_or, if◌then◌else◌, slice_set, ◌&&◌}
+use Rattle.std.proofs.Common.{◌≡◌, ◌∙◌, ap, sym, subst, refl, arith, ℕ, zero, suc, ◌+◌, ◌<◌, ℤ, pos, Bool, true, false, List, [], ◌∷◌, ◌++◌, Option, Some, None, map, length, get_or}
+use Rattle.std.proofs.Math.ListN.{get_or-append}
+use Rattle.std.proofs.lemmas.List.{get_or-map, length-map, length-append, get_or-append-add, map-append}
+use Rattle.std.proofs.lemmas.Bool.{or_parts}
+use Rattle.std.specs.Prelude.{⊤, is_some, unwrap_or, if◌then◌else◌, slice_get, slice_set, take, ◌&&◌, ◌||◌}
 use Rattle.std.specs.List.{list_any}
 use Rattle.std.specs.Str.{bytes_eq}
-use Rattle.std.specs.Cmp.Lexicographic.{bytes_decides}
 use Rattle.plant_types.specs.Words.{folded}
 use Rattle.st_resolve.specs.declared.logic.Variable.{Variable}
 use Rattle.st_resolve.specs.declared.logic.Local.{Local}
-use Rattle.st_resolve.specs.Source.{Source}
-use Rattle.st_resolve.specs.Names.{global_words, own_words, find_word, shifted, is_among, repeats}
-use Rattle.st_resolve.specs.Faults.{is_known, name_number}
+use Rattle.st_resolve.specs.declared.faults.FirstFault.{FirstFault}
+use Rattle.st_resolve.specs.Source.{PlainProgram, Source, scoped}
+use Rattle.st_resolve.specs.Names.{global_words, own_words, find_word, shifted, slot_in, is_among, repeats}
+use Rattle.st_resolve.specs.Faults.{is_known, own_count, first_fault}
 use Rattle.st_resolve.proofs.Places.{Found, found, word_is}
-use Rattle.st_walk.specs.Worlds.{World, Stands, opening_world, assign, path_of, own_path, path_in}
+use Rattle.st_resolve.proofs.Right.{program_word, NamesRight, program_right, programs_apart}
+use Rattle.st_resolve.proofs.Numbered.{words_apart}
+use Rattle.st_walk.specs.Worlds.{Path, same_path, World, value_at, Stands, assign, path_of, own_path, path_in, own_paths, all_own_paths, global_paths, cell_paths}
 use Rattle.st_walk.specs.Slots.{cell}
+use Rattle.st_walk.proofs.Paths.{Absent, Once, Disjoint, once_append, absent_append, written}
 
--- words of which none is x keep what they have
-untouched : (x : List ℕ) (n : ℤ) (f : List ℕ → ℤ) (words : List (List ℕ)) → list_any (bytes_eq x) words ≡ false → map (λ y. if bytes_eq x y then n else f y) words ≡ map f words
-untouched x n f [] none = refl
-untouched x n f (y ∷ ys) none =
-    let parts = or_parts (bytes_eq x y) (list_any (bytes_eq x) ys) none in
-    rw parts.0 (ap (λ l. f y ∷ l) (untouched x n f ys parts.1))
+-- ---- no two variables have one path
+and_false : (a b : Bool) → b ≡ false → (a && b) ≡ false
+and_false true b e = e
+and_false false b e = refl
 
--- where no word stands twice, a value for the word at a place is a write at the place
-written : (x : List ℕ) (n : ℤ) (f : List ℕ → ℤ) (words : List (List ℕ)) (i : ℕ) → repeats words ≡ false → i < length words → bytes_eq x (get_or words i x) ≡ true → map (λ y. if bytes_eq x y then n else f y) words ≡ set (map f words) i n
-written x n f [] i once within is = absurd (omega arith)
-written x n f (y ∷ ys) zero once within is =
-    let parts = or_parts (is_among ys y) (repeats ys) once in
-    let same : x ≡ y = (bytes_decides x y).0 is in
-    let none : list_any (bytes_eq x) ys ≡ false = subst (λ z. list_any (bytes_eq z) ys ≡ false) (sym same) parts.0 in
-    rw is (ap (λ l. n ∷ l) (untouched x n f ys none))
-written x n f (y ∷ ys) (suc i) once within is =
-    let parts = or_parts (is_among ys y) (repeats ys) once in
-    let below : i < length ys = omega arith in
-    let other : bytes_eq x y ≡ false =
-    elim (cases_Bool (bytes_eq x y)) [
-      | inl yes' ↦ absurd (both_ways (list_any (bytes_eq y) ys) parts.0 (list_any_at (bytes_eq y) ys i x below (subst (λ z. bytes_eq z (get_or ys i x) ≡ true) ((bytes_decides x y).0 yes') is)))
-      | inr no' ↦ no'
-    ] in
-    rw other (ap (λ l. f y ∷ l) (written x n f ys i parts.1 below is))
+absent_word : (w : List ℕ) (t : Path) (ws : List (List ℕ)) → is_among ws w ≡ false → Absent (w ∷ t) (map (λ x. x ∷ t) ws)
+absent_word w t [] none = tt
+absent_word w t (x ∷ xs) none =
+    let parts = or_parts (bytes_eq w x) (is_among xs w) none in
+    (and_false (same_path t t) (bytes_eq w x) parts.0, absent_word w t xs parts.1)
 
--- what a name in the body names: a variable of the program's own, or a global
-pub record OwnAt (source : Source) (name : List ℕ) (slot : ℕ) : Type 0 where
-  pub place : ℕ
-  pub slot_is : slot ≡ length (global_words source.globals) + place
-  pub found_at : Found (own_words source.locals) name place
-  pub path_is : path_in source name ≡ own_path source name
+once_words : (t : Path) (ws : List (List ℕ)) → repeats ws ≡ false → Once (map (λ x. x ∷ t) ws)
+once_words t [] once = tt
+once_words t (w ∷ ws) once =
+    let parts = or_parts (is_among ws w) (repeats ws) once in
+    (absent_word w t ws parts.0, once_words t ws parts.1)
 
-pub record GlobalAt (source : Source) (name : List ℕ) (slot : ℕ) : Type 0 where
-  pub found_at : Found (global_words source.globals) name slot
-  pub path_is : path_in source name ≡ path_of name
+-- a program's own paths are none of another one's
+apart_word : (w p q : List ℕ) (ws : List (List ℕ)) → bytes_eq p q ≡ false → Absent (w ∷ p ∷ []) (map (λ x. x ∷ q ∷ []) ws)
+apart_word w p q [] isnt = tt
+apart_word w p q (x ∷ xs) isnt = ((λ k. isnt k && bytes_eq w x), apart_word w p q xs isnt)
 
-located_by : (source : Source) (name : List ℕ) (o p : Option ℕ) → find_word (own_words source.locals) name ≡ o → find_word (global_words source.globals) name ≡ p → is_some (shifted (length (global_words source.globals)) o p) ≡ true
-    → OwnAt source name (name_number source name) ⊎ GlobalAt source name (name_number source name)
-located_by source name (Some j) p e f known =
-    let n = length (global_words source.globals) in
-    inl
-    (record {
-      place = j;
-      slot_is = ap (λ o. unwrap_or (shifted n o (find_word (global_words source.globals) name)) (n + length (own_words source.locals))) e;
-      found_at = found (own_words source.locals) name j e;
-      path_is = ap (λ o. if is_some o then own_path source name else path_of name) e;
-    })
-located_by source name None (Some i) e f known =
-    let n = length (global_words source.globals) in
-    let at : name_number source name ≡ i = λ k. unwrap_or (shifted n (e k) (f k)) (n + length (own_words source.locals)) in
-    inr
-    (record {
-      found_at = subst (Found (global_words source.globals) name) (sym at) (found (global_words source.globals) name i f);
-      path_is = ap (λ o. if is_some o then own_path source name else path_of name) e;
-    })
-located_by source name None None e f known = absurd (cc)
+apart_programs : (w p : List ℕ) (qs : List PlainProgram) → is_among (map program_word qs) p ≡ false → Absent (w ∷ p ∷ []) (all_own_paths qs)
+apart_programs w p [] none = tt
+apart_programs w p (q ∷ qs) none =
+    let parts = or_parts (bytes_eq p (folded q.name)) (is_among (map program_word qs) p) none in
+    absent_append (w ∷ p ∷ []) (own_paths q) (all_own_paths qs) (apart_word w p (folded q.name) (own_words q.locals) parts.0) (apart_programs w p qs parts.1)
 
-pub located : (source : Source) (name : List ℕ) → is_known source name ≡ true → OwnAt source name (name_number source name) ⊎ GlobalAt source name (name_number source name)
-located source name known = located_by source name (find_word (own_words source.locals) name) (find_word (global_words source.globals) name) refl refl known
+disjoint_programs : (p : List ℕ) (ws : List (List ℕ)) (qs : List PlainProgram) → is_among (map program_word qs) p ≡ false → Disjoint (map (λ x. x ∷ p ∷ []) ws) (all_own_paths qs)
+disjoint_programs p [] qs none = tt
+disjoint_programs p (w ∷ ws) qs none = (apart_programs w p qs none, disjoint_programs p ws qs none)
 
-module _ (source : Source) (cells : List ℤ) (w : World) (stands : Stands source cells w) where
-  abbrev words : List (List ℕ)
-  words = global_words source.globals
+once_programs : (ps : List PlainProgram) → repeats (map program_word ps) ≡ false → ((n : ℕ) (p : PlainProgram) → slice_get ps n ≡ Some p → repeats (own_words p.locals) ≡ false) → Once (all_own_paths ps)
+once_programs [] apart own = tt
+once_programs (p ∷ ps) apart own =
+    let parts = or_parts (is_among (map program_word ps) (folded p.name)) (repeats (map program_word ps)) apart in
+    once_append (own_paths p) (all_own_paths ps) (once_words (folded p.name ∷ []) (own_words p.locals) (own 0 p refl)) (once_programs ps parts.1 (λ n q at. own (suc n) q at)) (disjoint_programs (folded p.name) (own_words p.locals) ps parts.0)
 
-  abbrev own : List (List ℕ)
-  own = own_words source.locals
+-- a global's path is none of a program's own
+short_word : (w q : List ℕ) (ws : List (List ℕ)) → Absent (w ∷ []) (map (λ x. x ∷ q ∷ []) ws)
+short_word w q [] = tt
+short_word w q (x ∷ xs) = (refl, short_word w q xs)
 
-  abbrev of_global : List ℕ → ℤ
-  of_global word = w (word ∷ [])
+short_programs : (w : List ℕ) (qs : List PlainProgram) → Absent (w ∷ []) (all_own_paths qs)
+short_programs w [] = tt
+short_programs w (q ∷ qs) = absent_append (w ∷ []) (own_paths q) (all_own_paths qs) (short_word w (folded q.name) (own_words q.locals)) (short_programs w qs)
 
-  abbrev of_own : List ℕ → ℤ
-  of_own word = w (word ∷ folded source.name ∷ [])
+disjoint_globals : (ws : List (List ℕ)) (qs : List PlainProgram) → Disjoint (map (λ x. x ∷ []) ws) (all_own_paths qs)
+disjoint_globals [] qs = tt
+disjoint_globals (w ∷ ws) qs = (short_programs w qs, disjoint_globals ws qs)
 
-  pub read_own : (name : List ℕ) (slot : ℕ) → OwnAt source name slot → w (path_in source name) ≡ cell cells slot
-  read_own name slot at =
-      let f = at.found_at in
-      let x = folded name in
-      let here : get_or (map of_global words ++ map of_own own) (length (map of_global words) + at.place) (pos 0) ≡ of_own (get_or own at.place x) =
-      get_or-append-add (map of_global words) (map of_own own) at.place (pos 0) ∙ get_or-map of_own own at.place x (pos 0) f.within in
-      let place : slot ≡ length (map of_global words) + at.place = at.slot_is ∙ ap (λ n. n + at.place) (sym (length-map words of_global)) in
-      ap w at.path_is ∙ ap of_own (word_is own name at.place f) ∙ sym here ∙ sym (λ k. cell (stands k) (place k))
+pub paths_once : (source : Source) → first_fault source ≡ None → Once (cell_paths source)
+paths_once source sound =
+    once_append (global_paths source.globals) (all_own_paths source.programs) (once_words [] (global_words source.globals) (words_apart source sound))
+    (once_programs source.programs (programs_apart source sound) (λ n p at. (program_right source n p sound at).own_apart)) (disjoint_globals (global_words source.globals) source.programs)
 
-  pub read_place : (name : List ℕ) (slot : ℕ) → Found words name slot → w (path_of name) ≡ cell cells slot
-  read_place name slot f =
-      let x = folded name in
-      let within : slot < length (map of_global words) = subst (λ n. slot < n) (sym (length-map words of_global)) f.within in
-      let here : get_or (map of_global words ++ map of_own own) slot (pos 0) ≡ of_global (get_or words slot x) =
-      get_or-append (map of_global words) (map of_own own) (pos 0) slot within ∙ get_or-map of_global words slot x (pos 0) f.within in
-      ap of_global (word_is words name slot f) ∙ sym here ∙ sym (ap (λ c. cell c slot) stands)
+-- ---- the place of a path
+pub record At (paths : List Path) (slot : ℕ) (path : Path) : Type 0 where
+  pub within : slot < length paths
+  pub is : get_or paths slot path ≡ path
 
-  pub read_global : (name : List ℕ) (slot : ℕ) → GlobalAt source name slot → w (path_in source name) ≡ cell cells slot
-  read_global name slot at = ap w at.path_is ∙ read_place name slot at.found_at
+length-global_paths : (globals : List Variable) → length (global_paths globals) ≡ length globals
+length-global_paths globals = length-map (global_words globals) (λ (word : List ℕ). word ∷ []) ∙ length-map globals (λ (g : Variable). folded g.name)
 
-  -- a value written to the cell of a name stands for its assignment
-  pub write_place : (name : List ℕ) (slot : ℕ) (n : ℤ) → repeats words ≡ false → Found words name slot → Stands source (slice_set cells slot n) (assign w (path_of name) n)
-  write_place name slot n once f =
-      let within : slot < length (map of_global words) = subst (λ n. slot < n) (sym (length-map words of_global)) f.within in
-      ap (λ c. set c slot n) stands ∙ set-append_left (map of_global words) (map of_own own) slot n within
-      ∙ ap (λ l. l ++ map of_own own) (sym (written (folded name) n of_global words slot once f.within f.is))
+length-own_paths : (p : PlainProgram) → length (own_paths p) ≡ length p.locals
+length-own_paths p = length-map (own_words p.locals) (λ (word : List ℕ). word ∷ folded p.name ∷ []) ∙ length-map p.locals (λ (l : Local). folded l.name)
 
-  pub write_global : (name : List ℕ) (slot : ℕ) (n : ℤ) → repeats words ≡ false → GlobalAt source name slot → Stands source (slice_set cells slot n) (assign w (path_in source name) n)
-  write_global name slot n once at = subst (λ path. Stands source (slice_set cells slot n) (assign w path n)) (sym at.path_is) (write_place name slot n once at.found_at)
+length-all_own_paths : (ps : List PlainProgram) → length (all_own_paths ps) ≡ own_count ps
+length-all_own_paths [] = refl
+length-all_own_paths (p ∷ ps) =
+    let e = length-append (own_paths p) (all_own_paths ps) in
+    let f = length-own_paths p in
+    let g = length-all_own_paths ps in
+    omega (arith, e, f, g)
 
-  pub write_own : (name : List ℕ) (slot : ℕ) (n : ℤ) → repeats own ≡ false → OwnAt source name slot → Stands source (slice_set cells slot n) (assign w (path_in source name) n)
-  write_own name slot n once at =
-      let f = at.found_at in
-      let p = folded source.name in
-      let long = length-map words of_global in
-      let place = at.slot_is in
-      let behind_it : slot - length words ≡ at.place = omega arith in
-      let same_program : bytes_eq p p ≡ true = (bytes_decides p p).1 refl in
-      let set_own : set (map of_global words ++ map of_own own) slot n ≡ map of_global words ++ set (map of_own own) at.place n =
-      set-append_right (map of_global words) (map of_own own) (length words) slot n long (omega arith) ∙ ap (λ i. map of_global words ++ set (map of_own own) i n) behind_it in
-      let into : set (map of_own own) at.place n ≡ map (λ word. if bytes_eq p p && bytes_eq (folded name) word then n else of_own word) own =
-      sym (written (folded name) n of_own own at.place once f.within f.is) ∙ ap (λ b. map (λ word. if b && bytes_eq (folded name) word then n else of_own word) own) (sym same_program) in
-      subst (λ path. set cells slot n ≡ map (λ word. assign w path n (word ∷ [])) words ++ map (λ word. assign w path n (word ∷ folded source.name ∷ [])) own) (sym at.path_is)
-      (ap (λ c. set c slot n) stands ∙ set_own ∙ ap (λ l. map of_global words ++ l) into)
+pub length-cell_paths : (source : Source) → length (cell_paths source) ≡ length source.globals + own_count source.programs
+length-cell_paths source =
+    let e = length-append (global_paths source.globals) (all_own_paths source.programs) in
+    let f = length-global_paths source.globals in
+    let g = length-all_own_paths source.programs in
+    omega (arith, e, f, g)
+
+at_front : (xs ys : List Path) (i : ℕ) (path : Path) → At xs i path → At (xs ++ ys) i path
+at_front xs ys i path at =
+    let e = length-append xs ys in
+    record { within = omega (arith, e, at.within); is = get_or-append xs ys path i at.within ∙ at.is }
+
+at_back : (xs ys : List Path) (n i : ℕ) (path : Path) → n ≡ length xs + i → At ys i path → At (xs ++ ys) n path
+at_back xs ys n i path same at =
+    let e = length-append xs ys in
+    record { within = omega (arith, e, at.within, same); is = ap (λ k. get_or (xs ++ ys) k path) same ∙ get_or-append-add xs ys i path ∙ at.is }
+
+at_word : (t : Path) (words : List (List ℕ)) (name : List ℕ) (i : ℕ) → Found words name i → At (map (λ word. word ∷ t) words) i (folded name ∷ t)
+at_word t words name i f =
+    let long = length-map words (λ (word : List ℕ). word ∷ t) in
+    record {
+      within = omega (arith, long, f.within);
+      is = get_or-map (λ (word : List ℕ). word ∷ t) words i (folded name) (folded name ∷ t) f.within ∙ ap (λ (word : List ℕ). word ∷ t) (sym (word_is words name i f));
+    }
+
+pub global_at : (source : Source) (name : List ℕ) (i : ℕ) → Found (global_words source.globals) name i → At (cell_paths source) i (path_of name)
+global_at source name i f = at_front (global_paths source.globals) (all_own_paths source.programs) i (path_of name) (at_word [] (global_words source.globals) name i f)
+
+own_at : (ps : List PlainProgram) (n : ℕ) (p : PlainProgram) (name : List ℕ) (j : ℕ) → slice_get ps n ≡ Some p → Found (own_words p.locals) name j → At (all_own_paths ps) (own_count (take n ps) + j) (own_path p name)
+own_at [] n p name j at f = absurd (cc)
+own_at (q ∷ qs) zero p name j at f =
+    let same : p ≡ q = cc in
+    let sum : own_count (take 0 (q ∷ qs)) + j ≡ j = omega arith in
+    subst (λ i. At (own_paths q ++ all_own_paths qs) i (own_path p name)) (sym sum)
+    (at_front (own_paths q) (all_own_paths qs) j (own_path p name) (subst (λ x. At (own_paths x) j (own_path p name)) same (at_word (folded p.name ∷ []) (own_words p.locals) name j f)))
+own_at (q ∷ qs) (suc n) p name j at f =
+    let long = length-own_paths q in
+    at_back (own_paths q) (all_own_paths qs) (length q.locals + own_count (take n qs) + j) (own_count (take n qs) + j) (own_path p name) (omega (arith, long)) (own_at qs n p name j at f)
+
+abbrev pub base_at : Source → ℕ → ℕ
+base_at source n = length source.globals + own_count (take n source.programs)
+
+located_by : (source : Source) (n : ℕ) (p : PlainProgram) (name : List ℕ) (o q : Option ℕ) → slice_get source.programs n ≡ Some p → find_word (own_words p.locals) name ≡ o → find_word (global_words source.globals) name ≡ q → is_some (shifted (length source.globals) o q) ≡ true
+    → At (cell_paths source) (unwrap_or (shifted (base_at source n) o q) (base_at source n + length (own_words p.locals))) (if is_some o then own_path p name else path_of name)
+located_by source n p name (Some j) q there e f known =
+    let long = length-global_paths source.globals in
+    at_back (global_paths source.globals) (all_own_paths source.programs) (base_at source n + j) (own_count (take n source.programs) + j) (own_path p name) (omega (arith, long)) (own_at source.programs n p name j there (found (own_words p.locals) name j e))
+located_by source n p name None (Some i) there e f known = global_at source name i (found (global_words source.globals) name i f)
+located_by source n p name None None there e f known = absurd (cc)
+
+-- a name of a program's body is at the place of its number
+pub located : (source : Source) (n : ℕ) (p : PlainProgram) (name : List ℕ) → slice_get source.programs n ≡ Some p → is_known (scoped source.globals p) name ≡ true → At (cell_paths source) (slot_in (global_words source.globals) (base_at source n) (own_words p.locals) name) (path_in p name)
+located source n p name there known = located_by source n p name (find_word (own_words p.locals) name) (find_word (global_words source.globals) name) there refl refl known
+
+-- ---- a value is read and written at the place of its path
+pub read_at : (source : Source) (cells : List ℤ) (w : World) (slot : ℕ) (path : Path) → Stands source cells w → At (cell_paths source) slot path → value_at w path ≡ cell cells slot
+read_at source cells w slot path stands at =
+    sym (ap (λ c. cell c slot) stands ∙ get_or-map (value_at w) (cell_paths source) slot path (pos 0) at.within ∙ ap (value_at w) at.is)
+
+pub write_at : (source : Source) (cells : List ℤ) (w : World) (slot : ℕ) (path : Path) (n : ℤ) → Once (cell_paths source) → Stands source cells w → At (cell_paths source) slot path → Stands source (slice_set cells slot n) (assign w path n)
+write_at source cells w slot path n once stands at = ap (λ c. slice_set c slot n) stands ∙ sym (written path (value_at w) (λ _. n) (cell_paths source) slot once at.within at.is)
 
 -- as many cells as variables
-pub stands-length : (source : Source) (cells : List ℤ) (w : World) → Stands source cells w → length cells ≡ length source.globals + length source.locals
-stands-length source cells w stands =
-    let words = global_words source.globals in
-    let own = own_words source.locals in
-    let a = length-map words (λ word. w (word ∷ [])) in
-    let b = length-map own (λ word. w (word ∷ folded source.name ∷ [])) in
-    let c = length-map source.globals (λ (g : Variable). folded g.name) in
-    let d = length-map source.locals (λ (l : Local). folded l.name) in
-    let e = ap length stands ∙ length-append (map (λ word. w (word ∷ [])) words) (map (λ word. w (word ∷ folded source.name ∷ [])) own) in
-    omega arith
-
--- cells of 0 stand for the opening world
-zeros : {X : Type 0} (f : X → List ℕ) (xs : List X) → map (λ _. pos 0) xs ≡ map (λ _. pos 0) (map f xs)
-zeros f [] = refl
-zeros f (x ∷ xs) = ap (λ l. pos 0 ∷ l) (zeros f xs)
-
-pub zeros_stand : (source : Source) (globals : List Variable) (locals : List Local) (cells values : List ℤ) → globals ≡ source.globals → locals ≡ source.locals → values ≡ map (λ _. pos 0) globals ++ map (λ _. pos 0) locals → cells ≡ values → Stands source cells opening_world
-zeros_stand source globals locals cells values same sames are is =
-    is ∙ are ∙ (λ k. zeros (λ (g : Variable). folded g.name) (same k) k ++ zeros (λ (l : Local). folded l.name) (sames k) k)
+pub stands-length : (source : Source) (cells : List ℤ) (w : World) → Stands source cells w → length cells ≡ length source.globals + own_count source.programs
+stands-length source cells w stands = ap length stands ∙ length-map (cell_paths source) (value_at w) ∙ length-cell_paths source

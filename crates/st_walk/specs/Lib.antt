@@ -1,3 +1,4 @@
 pub mod Slots
 pub mod Worlds
 pub mod Runs
+pub mod Ranges

@@ -1,15 +1,15 @@
 -- Runs over cells, and runs in the worlds that they stand for.
-use Rattle.std.specs.Prelude.{◌≡◌, ◌<◌, ℤ, List, [], ◌∷◌, length, slice_index_or}
+use Rattle.std.specs.Prelude.{◌≡◌, ◌<◌, ℤ, List, [], ◌∷◌, length, map, slice_index_or}
 use Rattle.plant_types.specs.declared.values.Place.{Place}
 use Rattle.st_tree.specs.Meaning.{Spot, Ran, Done, Trapped}
-use Rattle.st_resolve.specs.Source.{Source}
+use Rattle.st_resolve.specs.Source.{PlainProgram, Source}
 use Rattle.st_walk.specs.declared.walker.Walked.{Walked}
 use Rattle.st_walk.specs.declared.walker.Walked.TheVariants as walked
 use Rattle.st_walk.specs.Worlds.{Path, World, Stands}
 
--- the paths of a source's bodies, by their numbers
+-- the paths of a source's bodies, by their numbers, each name as declared: those of its programs
 abbrev pub paths_of : Source → List Path
-paths_of source = (source.name ∷ []) ∷ []
+paths_of source = map (λ (p : PlainProgram). p.name ∷ []) source.programs
 
 -- the spot of a place: the path of its body, and the statement's number
 abbrev pub place_spot : Source → Place → Spot

@@ -1,14 +1,15 @@
 //! The values of variables.
 
-ghost use Rattle.std.specs.Prelude.{◌≡◌, ◌<◌, ◌==◌, ◌++◌, map, pos, length, slice_index_or, slice_set, IfOk};
-ghost use Rattle.st_walk.specs.Worlds.{Stands, opening_world};
+ghost use Rattle.std.specs.Prelude.{◌≡◌, ◌<◌, ◌==◌, pos, length, slice_index_or, slice_set, IfOk};
+ghost use Rattle.st_walk.specs.Worlds.{Stands, zero_world, opening};
 
-use st_resolve::{Flat, Local, Variable};
+use crate::walker::begin;
+use st_resolve::Flat;
 use std::alloc::{AllocError, Global};
 use std::marker::Model;
 
-/// The values of a program's variables, one cell each: the globals in order of declaration, then the program's own. A BOOL is 0 or 1,
-/// a TIME is in milliseconds. Contracts see the list of values.
+/// The values of variables, one cell each: the globals in order of declaration, then the own variables of each program in turn. A BOOL is
+/// 0 or 1, a TIME is in milliseconds. Contracts see the list of values.
 #[derive(Drop)]
 pub struct Cells {
     values: Vec<i64>,
@@ -22,22 +23,23 @@ impl Model for Cells {
     ghost view = { λ cells. cells.values.items };
 }
 
-/// Returns a 0 for each global, then for each of the program's own variables.
-fn zeros(alloc: Global, globals: &[Variable], locals: &[Local]) -> Result<Vec<i64>, AllocError>
-    ensures { IfOk result (λ values. values.items ≡ map (λ _. pos 0) globals.now ++ map (λ _. pos 0) locals.now) }
-{
-    let of_globals = globals.iter().map(|_| 0);
-    of_globals.chain(locals.iter().map(|_| 0)).collect(alloc)
-}
-
 impl Cells {
-    /// The cells before a program's first run: each value is FALSE or 0. Fails if memory was refused.
-    #[tactic(auto, using(crate::proofs::Worlds::zeros_stand))]
-    pub fn opening(alloc: Global, flat: &Flat) -> Result<Cells, AllocError>
-        ensures { IfOk result (λ cells. Stands flat.now cells opening_world) }
+    /// Cells of FALSE and 0, one for each variable. Fails if memory was refused.
+    #[tactic(auto, using(crate::proofs::Standing::zeros_stand))]
+    fn zeros(alloc: Global, flat: &Flat) -> Result<Cells, AllocError>
+        ensures { IfOk result (λ cells. Stands flat.now cells zero_world) }
     {
-        let values = zeros(alloc, flat.globals(), flat.locals())?;
+        let values = vec![in alloc; 0; flat.variables()]?;
         Ok(Cells::new(values))
+    }
+
+    /// The cells before the first scan: each value is FALSE or 0, or the initial value that is written. Fails if memory was refused.
+    pub fn opening(alloc: Global, flat: &Flat) -> Result<Cells, AllocError>
+        ensures { IfOk result (λ cells. Stands flat.now cells (opening flat.now)) }
+    {
+        let mut cells = Cells::zeros(alloc, flat)?;
+        begin(flat, &mut cells);
+        Ok(cells)
     }
 
     /// Cells with the given values.

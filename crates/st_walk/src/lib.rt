@@ -1,5 +1,5 @@
-//! Programs without a fault run over a plain list of cells, one for each variable: the globals in order of declaration, then the
-//! program's own.
+//! Programs without a fault run over a plain list of cells, one for each variable: the globals in order of declaration, then the own
+//! variables of each program in turn.
 //!
 //! A world gives each path a whole number: a path is a list of names in small letters, the innermost first. That of a global
 //! is only its name, that of a program's own variable its name and then the program's. What a program does is defined over worlds

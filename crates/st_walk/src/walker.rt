@@ -1,11 +1,11 @@
 //! Runs a body over cells.
 
-ghost use Rattle.std.specs.Prelude.{◌≡◌, pos, map, slice_set, ◌<ℤ◌, ◌<◌, IfOk, IfErr};
+ghost use Rattle.std.specs.Prelude.{◌≡◌, pos, map, length, slice_set, ◌<ℤ◌, ◌<◌, IfOk, IfErr};
 ghost use Rattle.st_tree.specs.View.{view_expr, view_body, view_stmt, view_branches, view_choices, view_option, view_argument};
 ghost use Rattle.st_tree.specs.Meaning.{run, run_all, turns, first_true, first_fit, outcome, step_of, take_inputs, give_outputs};
 ghost use Rattle.st_tree.specs.Controls.{up, down, control_values};
 ghost use Rattle.st_walk.specs.Slots.{cell, cell_space, ended_run, chosen};
-ghost use Rattle.st_walk.specs.Worlds.{World, Stands, run_program};
+ghost use Rattle.st_walk.specs.Worlds.{World, Stands, zero_world, opening, run_program};
 ghost use Rattle.st_walk.specs.Runs.{ran, IsWithin, Agree};
 
 use crate::cells::Cells;
@@ -263,15 +263,25 @@ fn count_down(
     Ok(())
 }
 
+/// Assigns the initial values to cells of FALSE and 0. It allocates nothing.
+pub fn begin(flat: &Flat, cells: &mut Cells)
+    requires { Stands flat.now cells.old zero_world }
+    ensures { Stands flat.now cells.new (opening flat.now) }
+{
+    for starts in flat.starts() {
+        let _ended = run_body(starts, cells);
+    }
+}
+
 /// Runs the program of a number, from 0, over the cells. If the cells stand for a world, it ends as the source does in that world, and
 /// leaves them standing for the world that the source leaves. The moment is that of the scan, in milliseconds. It allocates nothing.
-#[tactic(auto, using(crate::proofs::Ends::walk_done, crate::proofs::Ends::walk_trapped))]
-pub fn walk(flat: &Flat, program: u32, cells: &mut Cells, _moment: u64) -> Walked
-    requires there { program < 1 }
-    ensures ran { (w : World) → Stands flat.now cells.old w → Agree flat.now (run_program flat.now w) (ran flat.now result cells.new) }
+pub fn walk(flat: &Flat, program: u32, cells: &mut Cells, moment: u64) -> Walked
+    requires there { program < length flat.now.programs }
+    ensures ran { (w : World) → Stands flat.now cells.old w → Agree flat.now (run_program flat.now program moment w) (ran flat.now result cells.new) }
     ensures within { IsWithin flat.now result }
 {
-    match run_body(flat.body(), cells) {
+    let _moment = moment;
+    match run_body(flat.body(program as usize), cells) {
         Ok(()) => Walked::Done,
         Err(Stop { statement, trap }) => Walked::Trapped(
             Place {

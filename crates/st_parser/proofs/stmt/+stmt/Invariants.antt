@@ -1,8 +1,8 @@
 use Rattle.std.proofs.Common.{◌≡◌, ◌+◌, ◌-◌, ◌*◌, length, map}
 use Rattle.st_lexer.specs.declared.token.Keyword.TheVariants as k
 use Rattle.st_tree.specs.View.{view_stmt, view_branch, view_choice}
-use Rattle.st_parser.specs.Reading.{with_first, many, next_keyword, after_keyword}
-use Rattle.st_parser.specs.ReadingStatements.{next_stmt, item_at, branch_at, choice_at, next_label, sequence_at}
+use Rattle.st_parser.specs.Reading.{with_first, many, is_keyword, after_keyword}
+use Rattle.st_parser.specs.ReadingStatements.{is_statement, item_at, branch_at, choice_at, is_label, sequence_at}
 use Rattle.st_parser.proofs.stmt.+stmt.Given as goal
 
 abbrev pub decreases-body : goal.decreases-body
@@ -45,14 +45,14 @@ abbrev pub decreases-for_statement : goal.decreases-for_statement
 decreases-for_statement l = 16 * l.deeper + 26
 
 abbrev pub invariant-body-loop-turn : goal.invariant-body-loop-turn
-invariant-body-loop-turn l = with_first (map view_stmt l.body.items) (many next_stmt (item_at l.depth) (length l.initial.reader - l._turn) l.reader) ≡ many next_stmt (item_at l.depth) (length l.initial.reader) l.initial.reader
+invariant-body-loop-turn l = with_first (map view_stmt l.body.items) (many is_statement (item_at l.depth) (length l.initial.reader - l._turn) l.reader) ≡ many is_statement (item_at l.depth) (length l.initial.reader) l.initial.reader
 
 abbrev pub invariant-more_branches-loop-turn : goal.invariant-more_branches-loop-turn
 invariant-more_branches-loop-turn l =
     let one = after_keyword k.Elsif (branch_at (sequence_at l.deeper)) in
-    with_first (map view_branch l.branches.items) (many (next_keyword k.Elsif) one (length l.initial.reader - l._turn) l.reader) ≡ with_first (map view_branch l.initial.branches.items) (many (next_keyword k.Elsif) one (length l.initial.reader) l.initial.reader)
+    with_first (map view_branch l.branches.items) (many (is_keyword k.Elsif) one (length l.initial.reader - l._turn) l.reader) ≡ with_first (map view_branch l.initial.branches.items) (many (is_keyword k.Elsif) one (length l.initial.reader) l.initial.reader)
 
 abbrev pub invariant-more_choices-loop-turn : goal.invariant-more_choices-loop-turn
 invariant-more_choices-loop-turn l =
     let one = choice_at (sequence_at l.deeper) in
-    with_first (map view_choice l.choices.items) (many next_label one (length l.initial.reader - l._turn) l.reader) ≡ with_first (map view_choice l.initial.choices.items) (many next_label one (length l.initial.reader) l.initial.reader)
+    with_first (map view_choice l.choices.items) (many is_label one (length l.initial.reader - l._turn) l.reader) ≡ with_first (map view_choice l.initial.choices.items) (many is_label one (length l.initial.reader) l.initial.reader)

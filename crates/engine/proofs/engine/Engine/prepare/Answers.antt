@@ -4,7 +4,7 @@ use Rattle.engine.specs.declared.event.EngineFault.{EngineFault}
 use Rattle.engine.specs.Image.{IsDue}
 use Rattle.engine.specs.System.{system}
 use Rattle.engine.specs.Engines.{IsState}
-use Rattle.engine.proofs.Systems.{kept_alarms, kept_faulted, scan_event_is, scan_fits}
+use Rattle.engine.proofs.Systems.{kept_alarms, kept_faulted, kept_outputs, scan_event_is, scan_fits}
 use Rattle.engine.proofs.engine.Engine.prepare.Goals as goal
 
 pub prepared_scan-requires-clause-programs : goal.prepared_scan-requires-clause-programs
@@ -26,3 +26,6 @@ returns-clause-ok c =
     let due = scan_event_is c.self.inside.plant c.self.inside.history.items c.self.inside.state c.len-events.result c.args.pairs.now c.args.moment c.self.invariant.state_is len in
     let held : IsState c.self.inside.plant (system c.self.inside.plant c.reserve.new.self.items) c.self.inside.state = rw c.in_ok-reserve.ensures.items c.self.invariant.state_is in
     (scan_fits _ c.in_ok-prepared.prepared c.self.inside.state c.len-events.result c.args.pairs.now c.args.moment c.self.invariant.plant_is c.self.invariant.sound held made (omega (arith, c.in_ok-reserve.ensures.ok)), rw (← c.self.view_is) (sym due ∙ made.taken))
+
+pub prepared_scan-requires-clause-outputs : goal.prepared_scan-requires-clause-outputs
+prepared_scan-requires-clause-outputs c = kept_outputs c.self.inside.plant c.self.inside.history.items c.self.inside.state c.self.invariant.state_is

@@ -1,0 +1,2 @@
+mod BankLaws
+mod Trees

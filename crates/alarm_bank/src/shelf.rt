@@ -1,0 +1,73 @@
+//! The ends of shelves, and the least of them.
+
+ghost use Rattle.std.specs.Prelude.{◌≡◌, ℕ, ◌+◌, ◌*◌, ◌≤◌, ◌^◌, ◌<◌, length, drop, slice_set, slice_index, replicate, IfOk};
+ghost use Rattle.alarm_bank.specs.Shelves.{IsTree, IsTreeBut, IsLeastOf};
+
+use std::alloc::{AllocError, Global};
+use std::marker::Model;
+
+/// A number for each place, and the least of them at once: a tree whose node i stands above nodes 2i and 2i + 1. Contracts see the list of numbers.
+#[derive(Drop)]
+pub struct Shelf {
+    tree: Vec<u64>,
+    count: usize,
+}
+
+impl Model for Shelf {
+    ghost use Rattle.std.specs.Prelude.{ℕ, List, drop};
+    ghost use Rattle.alarm_bank.specs.Shelves.{IsTree};
+
+    ghost Value = { List ℕ };
+
+    ghost view = { λ s. drop s.count s.tree.items };
+
+    ghost invariant = { λ s. IsTree s.tree.items s.count };
+}
+
+/// Sets the nodes above a place anew, from the lowest one up.
+fn mend(tree: &mut [u64], count: usize, place: usize)
+    requires tree { IsTreeBut tree.old count place }
+    requires place { (count ≤ place) × (place < 2 * count) }
+    requires few { count < 2 ^ 32 }
+    ensures tree { IsTree tree.new count }
+    ensures leaves { drop count tree.new ≡ drop count tree.old }
+{
+    let mut at = place;
+    while 1 < at {
+        at /= 2;
+        tree[at] = tree[2 * at].min(tree[2 * at + 1]);
+    }
+}
+
+impl Shelf {
+    /// The greatest number of 64 bits at each of so many places. Fails if allocation fails.
+    pub fn new(alloc: Global, count: usize) -> Result<Shelf, AllocError>
+        requires { count < 2 ^ 32 }
+        ensures { IfOk result (λ s. s ≡ replicate count 18446744073709551615) }
+    {
+        let tree = vec![in alloc; u64::MAX; 2 * count]?;
+        Ok(Shelf { tree, count })
+    }
+
+    /// Puts another number at one place.
+    pub fn put(&mut self, at: usize, number: u64)
+        requires at { at < length self.old }
+        requires few { length self.old < 2 ^ 32 }
+        ensures { self.new ≡ slice_set self.old at number }
+    {
+        let place = self.count + at;
+        self.tree[place] = number;
+        mend(self.tree.as_mut_slice(), self.count, place);
+    }
+
+    /// The least number; the greatest of 64 bits where there is no place.
+    pub fn least(&self) -> u64
+        ensures { IsLeastOf 18446744073709551615 result self.now }
+    {
+        if self.count == 0 {
+            u64::MAX
+        } else {
+            self.tree[1]
+        }
+    }
+}

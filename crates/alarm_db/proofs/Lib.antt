@@ -1,0 +1,9 @@
+mod AllRecords
+mod DigitLaws
+mod Kept
+mod Places
+mod RowLaws
+mod Taken
+mod TextLaws
+mod TwiceLaws
+mod Whole

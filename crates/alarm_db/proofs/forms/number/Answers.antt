@@ -1,0 +1,25 @@
+use Rattle.std.proofs.Common.{◌≡◌, true, arith, get_or, sym, ◌∙◌}
+use Rattle.std.proofs.lemmas.List.Folds.{list_all_more}
+use Rattle.std.specs.Char.{is_ascii_digit}
+use Rattle.alarm_db.proofs.DigitLaws.{next_small, small_fits, next_value, digit_small}
+use Rattle.alarm_db.proofs.forms.number.Goals as goal
+
+pub overflow_mul-n : goal.overflow_mul-n
+overflow_mul-n c = let f = small_fits _ _ c.loop-byte.invariant.small (omega arith) in omega arith
+
+pub overflow_add-n : goal.overflow_add-n
+overflow_add-n c =
+    let f = small_fits _ _ c.loop-byte.invariant.small (omega arith) in
+    let b = get_or c.args.field.now c.loop-byte.byte-index 0 in
+    let d = digit_small b (sym c.is_ascii_digit.ensures.value ∙ c.if-not-is_ascii_digit.false) in
+    omega arith
+
+pub loop-byte-preserved : goal.loop-byte-preserved
+loop-byte-preserved c =
+    let b = get_or c.args.field.now c.loop-byte.byte-index 0 in
+    let digit : is_ascii_digit b ≡ true = sym c.is_ascii_digit.ensures.value ∙ c.if-not-is_ascii_digit.false in
+    record {
+      digits = rw (list_all_more is_ascii_digit c.args.field.now c.loop-byte.byte-index 0 c.loop-byte-test.true, c.loop-byte.invariant.digits) digit;
+      value = rw c.from.ensures (next_value c.args.field.now _ _ c.loop-byte-test.true digit c.loop-byte.invariant.value);
+      small = rw c.from.ensures (next_small _ _ _ c.loop-byte.invariant.small (digit_small b digit));
+    }

@@ -1,0 +1,4 @@
+pub mod Columns
+pub mod Databases
+pub mod Forms
+pub mod Rows

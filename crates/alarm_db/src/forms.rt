@@ -1,0 +1,103 @@
+//! The forms of fields.
+
+ghost use Rattle.std.specs.Prelude.{◌≡◌, ◌≤◌, if◌then◌else◌, Some, None, true};
+ghost use Rattle.std.specs.Str.{is_utf8};
+ghost use Rattle.std.specs.Str.Parse.{digits_value};
+ghost use Rattle.std.specs.List.{list_all};
+ghost use Rattle.alarm_db.specs.Forms.{has_digits, has_form, is_tag, is_tag_byte, is_text, is_text_byte, latches, latches_not};
+
+use crate::column::Column;
+use plant_types::{is_name, same_word};
+use std::str;
+
+/// The longest time for which an alarm may be shelved, in milliseconds: 30 days (this profile).
+const LONGEST_SHELVE_MS: u64 = 2_592_000_000;
+
+/// Whether a tag may have this byte: a letter, a digit, `_`, `-` or `.`.
+fn is_tag_byte(byte: u8) -> bool
+    ensures { result ≡ is_tag_byte byte }
+{
+    byte.is_ascii_alphanumeric() || byte == b'_' || byte == b'-' || byte == b'.'
+}
+
+/// Whether a tag may have each of these bytes.
+fn are_tag_bytes(field: &[u8]) -> bool
+    ensures { result ≡ list_all is_tag_byte field.now }
+{
+    field.iter().all(|byte| is_tag_byte(*byte))
+}
+
+/// Whether a field is a tag or the name of an area: 1 to 32 letters, digits, `_`, `-` and `.`.
+fn is_tag(field: &[u8]) -> bool
+    ensures { result ≡ is_tag field.now }
+{
+    !field.is_empty() && field.len() <= 32 && are_tag_bytes(field)
+}
+
+/// Parses a number of 1 to `most` decimal digits; `None` for any other field.
+pub(crate) fn number(field: &[u8], most: usize) -> Option<u64>
+    requires { most ≤ 19 }
+    ensures { result ≡ (if has_digits most field.now then Some (digits_value 10 field.now) else None) }
+{
+    if field.is_empty() || field.len() > most {
+        return None;
+    }
+    let mut n: u64 = 0;
+    for byte in field {
+        if !byte.is_ascii_digit() {
+            return None;
+        }
+        n = n * 10 + u64::from(*byte - b'0');
+    }
+    Some(n)
+}
+
+/// Whether a field says that an alarm latches: TRUE in any letter case, or 1.
+pub(crate) fn latches(field: &[u8]) -> bool
+    ensures { result ≡ latches field.now }
+{
+    same_word(field, b"true") || field == b"1".as_slice()
+}
+
+/// Whether a field says that an alarm doesn't latch: FALSE in any letter case, or 0.
+fn latches_not(field: &[u8]) -> bool
+    ensures { result ≡ latches_not field.now }
+{
+    same_word(field, b"false") || field == b"0".as_slice()
+}
+
+/// Whether a text for operators may have each of these bytes: no control character of ASCII.
+fn are_text_bytes(field: &[u8]) -> bool
+    ensures { result ≡ list_all is_text_byte field.now }
+{
+    field.iter().all(|byte| *byte >= 32 && *byte != 127)
+}
+
+/// Whether bytes are UTF-8.
+fn is_utf8(field: &[u8]) -> bool
+    ensures { result ≡ is_utf8 field.now }
+{
+    str::from_utf8(field).is_ok()
+}
+
+/// Whether a field is a text for operators: at most 200 bytes of UTF-8, without control characters of ASCII.
+fn is_text(field: &[u8]) -> bool
+    ensures { result ≡ is_text field.now }
+{
+    field.len() <= 200 && are_text_bytes(field) && is_utf8(field)
+}
+
+/// Whether a field has its column's form.
+pub(crate) fn has_form(column: Column, field: &[u8]) -> bool
+    ensures { result ≡ has_form column field.now }
+{
+    match column {
+        Column::Tag | Column::Area => is_tag(field),
+        Column::Priority => matches!(number(field, 1), Some(1..=4)),
+        Column::Condition => is_name(field),
+        Column::Suppress => field.is_empty() || is_name(field),
+        Column::Latch => latches(field) || latches_not(field),
+        Column::MaxShelveMs => matches!(number(field, 10), Some(0..=LONGEST_SHELVE_MS)),
+        Column::Text => is_text(field),
+    }
+}

@@ -1,0 +1,18 @@
+//! The alarm database of a plant: a text of comma-separated values, a row for each alarm.
+//!
+//! `read` returns exactly the rows of a text, or its first fault. The records of the text are those of the crate `csv`; the columns and their forms are this profile's.
+#![tactic(auto)]
+
+mod column;
+mod database;
+mod fault;
+mod forms;
+mod records;
+mod row;
+mod tags;
+
+pub use column::Column;
+pub use database::{AlarmDatabase, read};
+pub use fault::DbFault;
+pub use row::AlarmRow;
+pub use tags::Tags;

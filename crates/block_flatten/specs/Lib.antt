@@ -1,0 +1,10 @@
+pub mod Source
+pub mod Names
+pub mod Starts
+pub mod Scopes
+pub mod Sound
+pub mod Units
+pub mod Faults
+pub mod Resolved
+pub mod Flats
+pub mod Code

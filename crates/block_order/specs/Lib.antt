@@ -1,0 +1,9 @@
+pub mod Chains
+pub mod Blocks
+pub mod Faults
+pub mod Graphs
+pub mod Names
+pub mod Components
+pub mod Letters
+pub mod Search
+pub mod Ranks

@@ -1,0 +1,22 @@
+//! The order of block types: which of them hold themselves, which are too deep, and an order in which each stands after those that it
+//! declares.
+//!
+//! What is meant is defined on names alone, without letter case. The code gives each name a number once, the place of the first block
+//! type that has it.
+#![tactic(auto)]
+
+mod blocks;
+mod components;
+mod faults;
+mod holders;
+mod laws;
+mod levels;
+mod names;
+mod order;
+mod search;
+mod word;
+
+pub use blocks::Block;
+pub use faults::OrderFault;
+pub use laws::{deeper_where_chain, levels_show_depth};
+pub use order::order_blocks;

@@ -1,0 +1,80 @@
+-- Worked examples of command lines, each by the rule: what is chosen, or the kinds of fault.
+use Rattle.std.proofs.Common.{◌≡◌, [], ◌∷◌, Some, codes, refl}
+use Rattle.clap.specs.declared.error.kind.ErrorKind.TheVariants as kind
+use Rattle.clap.proofs.OnLiterals.{clap_on_literals}
+use Rattle.command_line.specs.declared.choice.Choice.TheVariants as choice
+use Rattle.command_line.specs.Choices.{choice_of, faults_in}
+
+-- without words the example is chosen
+nothing : choice_of [] ≡ Some choice.Example
+unfolding clap_on_literals
+nothing = refl
+
+nothing_fits : faults_in [] ≡ []
+unfolding clap_on_literals
+nothing_fits = refl
+
+-- check PLANT
+check : choice_of (codes "check" ∷ codes "a/plant.toml" ∷ []) ≡ Some (choice.Check (codes "a/plant.toml"))
+unfolding clap_on_literals
+check = refl
+
+check_fits : faults_in (codes "check" ∷ codes "a/plant.toml" ∷ []) ≡ []
+unfolding clap_on_literals
+check_fits = refl
+
+-- run PLANT has one worker
+run : choice_of (codes "run" ∷ codes "plant.toml" ∷ []) ≡ Some (choice.Run (codes "plant.toml") 1)
+unfolding clap_on_literals
+run = refl
+
+-- the number of workers stands on either side of PLANT
+run_with_workers : choice_of (codes "run" ∷ codes "--workers=01" ∷ codes "plant.toml" ∷ []) ≡ Some (choice.Run (codes "plant.toml") 1)
+unfolding clap_on_literals
+run_with_workers = refl
+
+workers_fit : faults_in (codes "run" ∷ codes "plant.toml" ∷ codes "--workers" ∷ codes "1" ∷ []) ≡ []
+unfolding clap_on_literals
+workers_fit = refl
+
+-- no number of workers is 0 or 2
+no_workers : faults_in (codes "run" ∷ codes "plant.toml" ∷ codes "--workers" ∷ codes "0" ∷ []) ≡ kind.ValueValidation ∷ []
+unfolding clap_on_literals
+no_workers = refl
+
+two_workers : faults_in (codes "run" ∷ codes "plant.toml" ∷ codes "--workers" ∷ codes "2" ∷ []) ≡ kind.ValueValidation ∷ []
+unfolding clap_on_literals
+two_workers = refl
+
+-- PLANT has to be there, and stands alone
+no_plant : faults_in (codes "check" ∷ []) ≡ kind.MissingRequiredArgument ∷ []
+unfolding clap_on_literals
+no_plant = refl
+
+two_plants : faults_in (codes "check" ∷ codes "a" ∷ codes "b" ∷ []) ≡ kind.UnknownArgument ∷ []
+unfolding clap_on_literals
+two_plants = refl
+
+-- help in its places
+help : faults_in (codes "--help" ∷ []) ≡ kind.DisplayHelp ∷ []
+unfolding clap_on_literals
+help = refl
+
+help_of_run : faults_in (codes "run" ∷ codes "-h" ∷ []) ≡ kind.DisplayHelp ∷ []
+unfolding clap_on_literals
+help_of_run = refl
+
+-- after the word help both are left open
+help_word : faults_in (codes "help" ∷ []) ≡ kind.DisplayHelp ∷ kind.InvalidSubcommand ∷ []
+unfolding clap_on_literals
+help_word = refl
+
+-- words without a command aren't those of the example
+dashes : faults_in (codes "--" ∷ []) ≡ kind.MissingSubcommand ∷ []
+unfolding clap_on_literals
+dashes = refl
+
+-- a word that is no command
+stray : faults_in (codes "plant.toml" ∷ []) ≡ kind.UnknownArgument ∷ kind.InvalidSubcommand ∷ []
+unfolding clap_on_literals
+stray = refl

@@ -1,0 +1,24 @@
+use Rattle.std.proofs.Common.{◌≡◌, rules}
+use Rattle.st_walk.specs.Slots.{cell}
+use Rattle.engine.specs.System.{outputs_from, outs_from}
+use Rattle.engine.proofs.Outs.{outputs_renewed, outs_differ}
+use Rattle.engine.proofs.scan.run_scan.Goals as goal
+
+pub returns : goal.returns
+returns c =
+    let globals = c.args.plant.now.source.globals in
+    let before = cell c.args.old.now.cells in
+    let now = cell c.run_programs.new.cells in
+    let outputs : c.in_ok-outputs.outputs.items ≡ outputs_from 0 globals now = outputs_renewed globals before now c.args.old.now.outputs c.in_ok-outputs.outputs.items c.requires.outputs (search rules) in
+    let outs : c.in_ok-outs.outs.items ≡ outs_from 0 globals before now = outs_differ globals before now c.in_ok-outputs.outputs.items c.in_ok-outs.outs.items outputs (search rules) in
+    record {
+      programs = search rules;
+      faults_within = search rules;
+      alarms_are = search rules;
+      changes_are = search rules;
+      outputs_are = outputs;
+      outs_are = outs;
+      moment_is = search rules;
+      reported_at = search rules;
+      in_range = search rules;
+    }

@@ -1,0 +1,42 @@
+use Rattle.std.proofs.Common.{◌≡◌, ◌<◌, ◌∙◌, sym, ap, subst, arith, rules, length, true, ◌++◌, ◌∷◌, [], IfSome}
+use Rattle.std.specs.Prelude.{slice_set}
+use Rattle.std.proofs.lemmas.List.{length-set}
+use Rattle.std.proofs.lemmas.List.Elements.{All-push}
+use Rattle.plant_types.specs.declared.values.Place.{Place}
+use Rattle.plant_types.specs.declared.values.Trap.{Trap}
+use Rattle.st_walk.specs.Runs.{Agree, paths_of}
+use Rattle.engine.specs.Steps.{run_by, ended_by}
+use Rattle.engine.proofs.ProgramRuns.{reached_next, reached_trap}
+use Rattle.engine.proofs.steps.run_programs.Goals.{in-Some+in_ok-push, in_default}
+use Rattle.engine.proofs.steps.run_programs.Goals as goal
+
+pub loop-program-preserved : goal.loop-program-preserved
+loop-program-preserved c =
+    let l = c.loop-program in
+    let source = c.args.plant.now.source in
+    let flag = c.index.result.now in
+    let after = c.run_program-fault.new.cells in
+    let there : l.program < length l.faulted.items = omega (arith, c.loop-program-test.true, l.invariant.same) in
+    elim c.match-fault.branch [
+      | in-Some+in_ok-push w ↦
+          let fault = w.in-Some.fault in
+          let flags : c.match-fault.faulted.items ≡ slice_set l.faulted.items l.program true = search rules in
+          let faults : c.match-fault.faults.items ≡ l.faults.items ++ fault ∷ [] = search rules in
+          record {
+            few = l.invariant.few;
+            same = ap length flags ∙ length-set l.faulted.items l.program true ∙ l.invariant.same;
+            within = rw faults (All-push (λ (f : Place × Trap). f.0.path < length (paths_of source)) l.faults.items fault l.invariant.within (subst (λ o. IfSome o (λ (f : Place × Trap). f.0.path < length (paths_of source))) w.in-Some.is c.run_program-fault.ensures.within));
+            reached = λ u stands.
+                rw (flags, faults) (reached_trap source c.args.moment _ l.program l.cells after l.faulted.items l.faults.items flag fault there (sym c.index.ensures)
+                (λ v s. subst (λ o. Agree source (run_by flag source l.program c.args.moment v) (ended_by source o after)) w.in-Some.is (c.run_program-fault.ensures.ran v s)) (l.invariant.reached u stands));
+          }
+      | in_default w ↦
+          record {
+            few = l.invariant.few;
+            same = ap (λ f. length f.items) w.faulted-is ∙ l.invariant.same;
+            within = search rules;
+            reached = λ u stands.
+                rw (w.faulted-is, w.faults-is) (reached_next source c.args.moment _ l.program l.cells after l.faulted.items l.faults.items flag there (sym c.index.ensures)
+                (λ v s. subst (λ o. Agree source (run_by flag source l.program c.args.moment v) (ended_by source o after)) w.in_default.is (c.run_program-fault.ensures.ran v s)) (l.invariant.reached u stands));
+          }
+    ]

@@ -1,0 +1,6 @@
+mod Examples
+mod Numbers
+mod Places
+mod Right
+mod Seen
+mod Utf8

@@ -1,0 +1,17 @@
+-- Lists and values that may be missing.
+use Rattle.std.specs.Prelude.{Bool, false, ◌||◌, List, [], ◌∷◌, Option, Some, None, if◌then◌else◌, option_and_then}
+use Rattle.std.specs.List.{list_any}
+
+-- what comes of a value, where there is one
+infixl 10 ◌>>=◌
+abbrev pub ◌>>=◌ : {A B : Type 0} → Option A → (A → Option B) → Option B
+o >>= f = option_and_then f o
+
+-- a value that passes a test
+abbrev pub passing : {A : Type 0} → (A → Bool) → A → Option A
+passing test x = if test x then Some x else None
+
+-- an item stands in the list twice
+abbrev pub repeats : {A : Type 0} → (A → A → Bool) → List A → Bool
+repeats eq [] = false
+repeats eq (x ∷ xs) = list_any (eq x) xs || repeats eq xs

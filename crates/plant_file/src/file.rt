@@ -1,0 +1,78 @@
+//! A plant file, and what it says.
+
+ghost use Rattle.std.specs.Prelude.{◌≡◌};
+ghost use Rattle.plant_file.specs.PlantFiles.{IsPlantFile};
+
+use crate::console::Console;
+use plant_types::{Items, Text};
+use std::marker::Model;
+
+/// What a plant file says. Its lists keep the order of the file.
+#[derive(Drop)]
+pub struct PlantFile {
+    pub(crate) name: Text,
+    pub(crate) epoch: Text,
+    pub(crate) areas: Items<Text>,
+    pub(crate) sources: Items<Text>,
+    pub(crate) alarms: Text,
+    pub(crate) consoles: Items<Console>,
+}
+
+impl Model for PlantFile {
+    ghost use Rattle.plant_file.specs.PlantFiles.{PlainPlantFile, IsPlantFile};
+
+    ghost Value = { PlainPlantFile };
+
+    ghost view = { λ f. record { name = f.name; epoch = f.epoch; areas = f.areas; sources = f.sources; alarms = f.alarms; consoles = f.consoles } };
+
+    ghost invariant = { λ f. IsPlantFile (record { name = f.name; epoch = f.epoch; areas = f.areas; sources = f.sources; alarms = f.alarms; consoles = f.consoles }) };
+}
+
+impl PlantFile {
+    /// The plant's name, of 1 to 64 bytes.
+    pub fn name(&self) -> &str
+        ensures name { result.now ≡ self.now.name }
+        ensures file { IsPlantFile self.now }
+    {
+        self.name.as_str()
+    }
+
+    /// The text of the plant's epoch, which isn't judged here.
+    pub fn epoch(&self) -> &str
+        ensures { result.now ≡ self.now.epoch }
+    {
+        self.epoch.as_str()
+    }
+
+    /// The plant's areas. They have the form of tags: 1 to 32 ASCII letters, digits, `_`, `-` and `.`. None stands there twice.
+    pub fn areas(&self) -> &[Text]
+        ensures areas { result.now ≡ self.now.areas }
+        ensures file { IsPlantFile self.now }
+    {
+        self.areas.as_slice()
+    }
+
+    /// The files of the plant's sources, each of 1 to 255 bytes. None stands there twice.
+    pub fn sources(&self) -> &[Text]
+        ensures sources { result.now ≡ self.now.sources }
+        ensures file { IsPlantFile self.now }
+    {
+        self.sources.as_slice()
+    }
+
+    /// The file of the plant's alarms, of 1 to 255 bytes.
+    pub fn alarms(&self) -> &str
+        ensures alarms { result.now ≡ self.now.alarms }
+        ensures file { IsPlantFile self.now }
+    {
+        self.alarms.as_str()
+    }
+
+    /// The plant's consoles. No two have one number.
+    pub fn consoles(&self) -> &[Console]
+        ensures consoles { result.now ≡ self.now.consoles }
+        ensures file { IsPlantFile self.now }
+    {
+        self.consoles.as_slice()
+    }
+}

@@ -1,0 +1,12 @@
+//! The sources of a plant: the units that they spell, or the first fault among them.
+#![tactic(auto)]
+
+mod fault;
+mod laws;
+mod names;
+mod reading;
+
+pub use fault::SourceFault;
+pub use laws::{one_answer, spelled_or_stopped};
+pub use names::unit_name;
+pub use reading::units;

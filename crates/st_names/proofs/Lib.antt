@@ -1,0 +1,6 @@
+pub mod Entries
+pub mod Gathered
+pub mod Lookups
+pub mod Twice
+pub mod Asked
+pub mod Examples

@@ -1,0 +1,14 @@
+pub mod Every
+pub mod First
+pub mod DeclaredNames
+pub mod Shared
+pub mod BlockTypes
+pub mod Scopes
+pub mod Taken
+pub mod Known
+pub mod Faults
+pub mod Code
+pub mod Tables
+pub mod Kept
+pub mod Bodies
+pub mod Asked

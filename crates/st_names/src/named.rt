@@ -1,0 +1,35 @@
+//! What a name that all sources share stands for.
+
+ghost use Rattle.std.specs.Prelude.{◌≡◌, IfOk, map, filter};
+ghost use Rattle.st_parser.specs.Units.{view_pou};
+ghost use Rattle.st_names.specs.DeclaredNames.{sort_kind};
+
+use crate::declared::Declared;
+use crate::table::Table;
+use plant_types::Kind;
+use st_parser::Sort;
+
+/// The inputs and outputs of a function block, each with its kind; an instance in their place has none.
+#[derive(Drop)]
+pub struct Members {
+    pub inputs: Table<Option<Kind>>,
+    pub outputs: Table<Option<Kind>>,
+}
+
+/// What a name that all sources share stands for.
+#[derive(Drop)]
+pub enum Named<'a> {
+    Global(Declared<'a>),
+    Block(Members),
+    Program,
+}
+
+/// The kind of a variable; an instance has none.
+pub fn sort_kind(sort: &Sort) -> Option<Kind>
+    ensures { result ≡ sort_kind sort.now }
+{
+    match sort {
+        Sort::Kind(kind) => Some(*kind),
+        Sort::Block(_) => None,
+    }
+}

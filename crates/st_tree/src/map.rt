@@ -1,0 +1,196 @@
+//! Trees with what a pass puts in the places of their names and operators. Each function fails only where memory is refused.
+
+ghost use Rattle.std.specs.Prelude.{◌≡◌, IfOk, map};
+ghost use Rattle.st_tree.specs.View.{view_expr, view_option, view_argument, view_stmt, view_body, view_branches, view_choices};
+ghost use Rattle.st_tree.specs.Mapping.{mapped_expr, mapped_option, mapped_argument, mapped_stmt, mapped_body, mapped_branches, mapped_choices};
+
+use crate::copy::copy_labels;
+use crate::pass::Pass;
+use crate::tree::{Argument, Branch, Choice, Expr, Stmt};
+use std::alloc::{AllocError, Global};
+
+/// The expression that a pass makes of an expression.
+pub(crate) fn mapped_expr<V, W: Drop, P: Pass<V, W>>(
+    alloc: Global,
+    pass: &P,
+    expr: &Expr<V>,
+) -> Result<Expr<W>, AllocError>
+    ensures { IfOk result (λ e. view_expr e ≡ mapped_expr (P.mapping pass.now) (view_expr expr.now)) }
+{
+    match expr {
+        Expr::Literal(literal) => Ok(Expr::Literal(*literal)),
+        Expr::Read(name) => Ok(Expr::Read(pass.variable(alloc, name)?)),
+        Expr::Output(instance, name) => {
+            let own = pass.instance(alloc, instance)?;
+            Ok(Expr::Output(own, pass.output_name(alloc, instance, name)?))
+        }
+        Expr::Unary(op, a) => {
+            let a = Box::new(alloc, mapped_expr(alloc, pass, a)?)?;
+            pass.node(alloc, Expr::Unary(*op, a))
+        }
+        Expr::Binary(op, a, b) => {
+            let left = Box::new(alloc, mapped_expr(alloc, pass, a)?)?;
+            let right = Box::new(alloc, mapped_expr(alloc, pass, b)?)?;
+            pass.node(alloc, Expr::Binary(*op, left, right))
+        }
+    }
+}
+
+/// The same of an expression, if there is one.
+fn mapped_option<V, W: Drop, P: Pass<V, W>>(
+    alloc: Global,
+    pass: &P,
+    expr: &Option<Expr<V>>,
+) -> Result<Option<Expr<W>>, AllocError>
+    ensures { IfOk result (λ e. view_option e ≡ mapped_option (P.mapping pass.now) (view_option expr.now)) }
+{
+    match expr {
+        Some(expr) => Ok(Some(mapped_expr(alloc, pass, expr)?)),
+        None => Ok(None),
+    }
+}
+
+/// The argument that a pass makes of an argument of a call of an instance.
+fn mapped_argument<V, W: Drop, P: Pass<V, W>>(
+    alloc: Global,
+    pass: &P,
+    instance: &V,
+    argument: &Argument<V>,
+) -> Result<Argument<W>, AllocError>
+    ensures { IfOk result (λ a. view_argument a ≡ mapped_argument (P.mapping pass.now) instance.now (view_argument argument.now)) }
+{
+    match argument {
+        Argument::Input(name, expr) => {
+            let name = pass.input_name(alloc, instance, name)?;
+            Ok(Argument::Input(name, mapped_expr(alloc, pass, expr)?))
+        }
+        Argument::Output(name, variable) => {
+            let name = pass.output_name(alloc, instance, name)?;
+            Ok(Argument::Output(name, pass.variable(alloc, variable)?))
+        }
+    }
+}
+
+/// The same of each argument, in the same order.
+fn mapped_arguments<V, W: Drop, P: Pass<V, W>>(
+    alloc: Global,
+    pass: &P,
+    instance: &V,
+    arguments: &[Argument<V>],
+) -> Result<Vec<Argument<W>>, AllocError>
+    ensures { IfOk result (λ r. map view_argument r.items ≡ map (mapped_argument (P.mapping pass.now) instance.now) (map view_argument arguments.now)) }
+{
+    let mut mapped = Vec::new(alloc);
+    for argument in arguments {
+        mapped.push(mapped_argument(alloc, pass, instance, argument)?)?;
+    }
+    Ok(mapped)
+}
+
+/// The statement that a pass makes of a statement.
+#[cycle(map)]
+fn mapped_stmt<V, W: Drop, P: Pass<V, W>>(
+    alloc: Global,
+    pass: &P,
+    stmt: &Stmt<V>,
+) -> Result<Stmt<W>, AllocError>
+    ensures { IfOk result (λ s. view_stmt s ≡ mapped_stmt (P.mapping pass.now) (view_stmt stmt.now)) }
+{
+    match stmt {
+        Stmt::Empty(number) => Ok(Stmt::Empty(*number)),
+        Stmt::Assign(number, variable, expr) => {
+            let variable = pass.variable(alloc, variable)?;
+            Ok(Stmt::Assign(*number, variable, mapped_expr(alloc, pass, expr)?))
+        }
+        Stmt::Call(number, instance, arguments) => {
+            let own = pass.instance(alloc, instance)?;
+            Ok(Stmt::Call(
+                *number,
+                own,
+                mapped_arguments(alloc, pass, instance, arguments)?,
+            ))
+        }
+        Stmt::If(number, branches, last) => {
+            let branches = mapped_branches(alloc, pass, branches)?;
+            Ok(Stmt::If(*number, branches, mapped_body(alloc, pass, last)?))
+        }
+        Stmt::Case(number, selector, choices, last) => {
+            let selector = mapped_expr(alloc, pass, selector)?;
+            let choices = mapped_choices(alloc, pass, choices)?;
+            Ok(Stmt::Case(*number, selector, choices, mapped_body(alloc, pass, last)?))
+        }
+        Stmt::For {
+            number,
+            variable,
+            from,
+            to,
+            by,
+            body,
+        } => {
+            let variable = pass.variable(alloc, variable)?;
+            let from = mapped_expr(alloc, pass, from)?;
+            let to = mapped_expr(alloc, pass, to)?;
+            let by = mapped_option(alloc, pass, by)?;
+            Ok(Stmt::For {
+                number: *number,
+                variable,
+                from,
+                to,
+                by,
+                body: mapped_body(alloc, pass, body)?,
+            })
+        }
+    }
+}
+
+/// The same of each branch of an IF, in the same order.
+#[cycle(map)]
+fn mapped_branches<V, W: Drop, P: Pass<V, W>>(
+    alloc: Global,
+    pass: &P,
+    branches: &[Branch<V>],
+) -> Result<Vec<Branch<W>>, AllocError>
+    ensures { IfOk result (λ r. view_branches r.items ≡ mapped_branches (P.mapping pass.now) (view_branches branches.now)) }
+{
+    let mut mapped = Vec::new(alloc);
+    for branch in branches {
+        let test = mapped_expr(alloc, pass, &branch.test)?;
+        let body = mapped_body(alloc, pass, &branch.body)?;
+        mapped.push(Branch { test, body })?;
+    }
+    Ok(mapped)
+}
+
+/// The same of each choice of a CASE, in the same order.
+#[cycle(map)]
+fn mapped_choices<V, W: Drop, P: Pass<V, W>>(
+    alloc: Global,
+    pass: &P,
+    choices: &[Choice<V>],
+) -> Result<Vec<Choice<W>>, AllocError>
+    ensures { IfOk result (λ r. view_choices r.items ≡ mapped_choices (P.mapping pass.now) (view_choices choices.now)) }
+{
+    let mut mapped = Vec::new(alloc);
+    for choice in choices {
+        let labels = copy_labels(alloc, &choice.labels)?;
+        let body = mapped_body(alloc, pass, &choice.body)?;
+        mapped.push(Choice { labels, body })?;
+    }
+    Ok(mapped)
+}
+
+/// The same of each statement of a body, in the same order.
+#[cycle(map)]
+pub(crate) fn mapped_body<V, W: Drop, P: Pass<V, W>>(
+    alloc: Global,
+    pass: &P,
+    body: &[Stmt<V>],
+) -> Result<Vec<Stmt<W>>, AllocError>
+    ensures { IfOk result (λ r. view_body r.items ≡ mapped_body (P.mapping pass.now) (view_body body.now)) }
+{
+    let mut mapped = Vec::new(alloc);
+    for stmt in body {
+        mapped.push(mapped_stmt(alloc, pass, stmt)?)?;
+    }
+    Ok(mapped)
+}

@@ -1,0 +1,4 @@
+pub mod Kinds
+pub mod Constants
+pub mod Blocks
+pub mod Faults

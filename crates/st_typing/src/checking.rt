@@ -1,0 +1,150 @@
+//! Checks sources: names, kinds, blocks, constants, then limits.
+
+ghost use Rattle.std.specs.Prelude.{◌≡◌, MatchResult, map};
+ghost use Rattle.st_parser.specs.Units.{view_unit};
+ghost use Rattle.st_typing.specs.Faults.{AreKinded, AreApart, AreConstant, IsTyped, IsNested, IsTypeFault};
+
+use crate::blocks::blocks_of;
+use crate::constants::{globals_inconstant, pou_inconstant};
+use crate::fault::TypeFault;
+use crate::kinds::{globals_misfit, pou_misfit};
+use crate::limits::{some_long, too_many};
+use crate::typed::Typed;
+use block_order::{OrderFault, order_blocks};
+use st_names::{BodyScope, Judge, SharedNames, first_misnamed, first_unit};
+use st_parser::{Pou, Section, Unit};
+use std::alloc::{AllocError, Global};
+
+/// Judges units by their kinds.
+#[derive(Drop)]
+struct Misfit<'a> {
+    shared: &'a SharedNames<'a>,
+}
+
+impl<'a> Judge for Misfit<'a> {
+    ghost use Rattle.st_typing.specs.Kinds.{globals_misfit, pou_misfit};
+
+    ghost bad_globals = { λ judge. globals_misfit judge.shared.now };
+
+    ghost bad_pou = { λ judge. pou_misfit judge.shared.now };
+
+    fn globals(&self, alloc: Global, sections: &[Section]) -> Result<bool, AllocError> {
+        let scope = BodyScope::new(alloc, self.shared, &[])?;
+        Ok(globals_misfit(&scope, sections))
+    }
+
+    fn pou(&self, alloc: Global, pou: &Pou) -> Result<bool, AllocError> {
+        let scope = BodyScope::new(alloc, self.shared, &pou.sections)?;
+        pou_misfit(alloc, &scope, pou)
+    }
+}
+
+/// Judges units by their constants and control variables.
+#[derive(Drop)]
+struct Inconstant<'a> {
+    shared: &'a SharedNames<'a>,
+}
+
+impl<'a> Judge for Inconstant<'a> {
+    ghost use Rattle.st_typing.specs.Constants.{globals_inconstant, pou_inconstant};
+
+    ghost bad_globals = { λ _. globals_inconstant };
+
+    ghost bad_pou = { λ _. pou_inconstant };
+
+    fn globals(&self, _alloc: Global, sections: &[Section]) -> Result<bool, AllocError> {
+        Ok(globals_inconstant(sections))
+    }
+
+    fn pou(&self, alloc: Global, pou: &Pou) -> Result<bool, AllocError> {
+        let scope = BodyScope::new(alloc, self.shared, &pou.sections)?;
+        pou_inconstant(alloc, &scope, pou)
+    }
+}
+
+/// Fails for the first unit with a name that isn't there or is taken, else for the first with something of another kind than it must have,
+/// or if allocation fails.
+fn check_kinds(alloc: Global, shared: &SharedNames<'_>) -> Result<(), TypeFault>
+    ensures { MatchResult result (λ _. AreKinded shared.now) (IsTypeFault shared.now) }
+{
+    if let Some(place) = first_misnamed(alloc, shared)? {
+        return Err(TypeFault::Name(place));
+    }
+    if let Some(place) = first_unit(alloc, &Misfit { shared }, shared.units())? {
+        return Err(TypeFault::Kind(place));
+    }
+    Ok(())
+}
+
+/// An order of the function blocks in which each stands after those that it declares; `None` where one is nested too deep. Fails for the
+/// first that holds itself, or if allocation fails.
+fn block_order(alloc: Global, units: &[Unit]) -> Result<Option<Vec<usize>>, TypeFault>
+    requires { AreKinded (map view_unit units.now) }
+    ensures { MatchResult result (IsNested (map view_unit units.now)) (IsTypeFault (map view_unit units.now)) }
+{
+    let list = blocks_of(alloc, units)?;
+    match order_blocks(alloc, &list.blocks) {
+        Ok(order) => Ok(Some(order)),
+        Err(OrderFault::TooDeep) => Ok(None),
+        Err(OrderFault::HoldsItself(number)) => Err(TypeFault::HoldsItself(list.places[number])),
+        Err(OrderFault::Memory) => Err(TypeFault::Memory),
+    }
+}
+
+/// Fails for the first unit with a constant or control variable that isn't allowed, or if allocation fails.
+fn check_constants(alloc: Global, shared: &SharedNames<'_>) -> Result<(), TypeFault>
+    requires { AreApart shared.now }
+    ensures { MatchResult result (λ _. AreConstant shared.now) (IsTypeFault shared.now) }
+{
+    if let Some(place) = first_unit(alloc, &Inconstant { shared }, shared.units())? {
+        return Err(TypeFault::Constant(place));
+    }
+    Ok(())
+}
+
+/// The order of the function blocks, if the sources keep the limits. Fails for too many turns, blocks nested too deep or too many programs,
+/// or if allocation fails.
+fn check_limits(
+    alloc: Global,
+    units: &[Unit],
+    order: Option<Vec<usize>>,
+) -> Result<Vec<usize>, TypeFault>
+    requires constant { AreConstant (map view_unit units.now) }
+    requires nested { IsNested (map view_unit units.now) order }
+    ensures { MatchResult result (λ order. IsTyped (map view_unit units.now) order.items) (IsTypeFault (map view_unit units.now)) }
+{
+    if some_long(alloc, units)? {
+        return Err(TypeFault::Turns);
+    }
+    let Some(order) = order else {
+        return Err(TypeFault::BlockDepth);
+    };
+    if too_many(units) {
+        return Err(TypeFault::Programs);
+    }
+    Ok(order)
+}
+
+/// Checks all sources of a plant: names (C6), kinds (C7), blocks that hold themselves (C8), constants (C9), then turns, depth of blocks
+/// and the number of programs (C10).
+///
+/// Fails for the first of these rules that is broken, at the first unit, in order of text, that breaks it, or if allocation fails.
+pub fn check<'a>(alloc: Global, units: &'a [Unit]) -> Result<Typed<'a>, TypeFault>
+    ensures { MatchResult result (λ typed. typed ≡ map view_unit units.now) (IsTypeFault (map view_unit units.now)) }
+{
+    let shared = SharedNames::new(alloc, units)?;
+    if let Err(fault) = check_kinds(alloc, &shared) {
+        return Err(fault);
+    }
+    let order = match block_order(alloc, units) {
+        Ok(order) => order,
+        Err(fault) => return Err(fault),
+    };
+    if let Err(fault) = check_constants(alloc, &shared) {
+        return Err(fault);
+    }
+    match check_limits(alloc, units, order) {
+        Ok(order) => Ok(Typed::new(shared, order)),
+        Err(fault) => Err(fault),
+    }
+}

@@ -1,0 +1,36 @@
+//! Why a plant's sources are refused.
+
+use st_names::UnitPlace;
+use std::alloc::AllocError;
+
+/// Why sources aren't well formed. A place is the first unit, in order of text, that has the fault.
+#[derive(Clone, Copy, PartialEq, Eq, Debug, Drop)]
+pub enum TypeFault {
+    /// Allocation failed.
+    Memory,
+    /// C6: a name that isn't declared, or is declared twice (the later unit), or is a standard block's.
+    Name(UnitPlace),
+    /// C7: something of another kind than it must have, or an assigned input.
+    Kind(UnitPlace),
+    /// C8: a function block that contains itself, directly or through others.
+    HoldsItself(UnitPlace),
+    /// C9: an initial value, or a bound or step of a FOR, that reads a variable or traps, a step 0, or a control variable that isn't allowed.
+    Constant(UnitPlace),
+    /// C10: a FOR of more than 10,000 turns.
+    Turns,
+    /// C10: function blocks nested deeper than 16.
+    BlockDepth,
+    /// C10: more than 512 programs.
+    Programs,
+}
+
+impl From<AllocError> for TypeFault {
+    ghost use Rattle.std.specs.Prelude.{◌≡◌};
+    ghost use Rattle.st_typing.specs.declared.fault.TypeFault.TheVariants.{Memory};
+
+    ghost from_gives = { λ _ fault. fault ≡ Memory };
+
+    fn from(_: AllocError) -> TypeFault {
+        TypeFault::Memory
+    }
+}

@@ -1,0 +1,17 @@
+//! Checks a plant's sources: names, kinds, blocks, constants and limits.
+//!
+//! Each rule is defined over the names in the text. `check` reports the first rule, in their order, that is broken, at the first unit, in
+//! order of text, that breaks it.
+#![tactic(auto)]
+
+mod blocks;
+mod checking;
+mod constants;
+mod fault;
+mod kinds;
+mod limits;
+mod typed;
+
+pub use checking::check;
+pub use fault::TypeFault;
+pub use typed::Typed;

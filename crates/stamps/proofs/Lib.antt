@@ -1,0 +1,3 @@
+mod Dates
+mod Examples
+mod Texts

@@ -1,0 +1,3 @@
+pub mod Civil
+pub mod Instants
+pub mod Stamps
