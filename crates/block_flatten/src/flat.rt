@@ -64,7 +64,8 @@ impl Flat {
     /// Fails with `NotYet` where the globals or a program declare an instance, else with `Slots` where there are more than 65,536 variables, and with
     /// `Memory` where an allocation failed.
     pub fn of(alloc: Global, typed: &Typed<'_>) -> Result<Flat, FlatFault>
-        ensures { MatchResult result (λ flat. (have_instances typed.now ≡ false) × (flat ≡ source_in typed.now)) (IsFlatFault typed.now) }
+        ensures made { MatchResult result (λ flat. (have_instances typed.now ≡ false) × (flat ≡ source_in typed.now)) (IsFlatFault typed.now) }
+        ensures sound { IfOk result IsSound }
     {
         let units = typed.units();
         if have_instances(alloc, units)? {

@@ -1,1 +1,4 @@
+pub mod AlarmRows
+pub mod Made
 pub mod Programs
+pub mod SourceNames

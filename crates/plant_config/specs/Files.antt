@@ -21,6 +21,6 @@ files_of file = record { sources = file.sources; alarms = file.alarms }
 -- two lists have the same texts, one after another
 abbrev pub same_texts : List (List ℕ) → List (List ℕ) → Bool
 same_texts [] [] = true
-same_texts [] (b ∷ bs) = false
-same_texts (a ∷ as) [] = false
-same_texts (a ∷ as) (b ∷ bs) = bytes_eq a b && same_texts as bs
+same_texts [] (other ∷ others) = false
+same_texts (text ∷ texts) [] = false
+same_texts (text ∷ texts) (other ∷ others) = bytes_eq text other && same_texts texts others

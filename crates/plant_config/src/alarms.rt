@@ -49,7 +49,7 @@ fn bool_number(globals: &Globals, name: &str) -> Option<usize>
 
 /// Whether there is a name that is no BOOL global's.
 fn is_unknown(globals: &Globals, name: Option<&Text>) -> bool
-    ensures { result ≡ is_unknown globals.now (option_map (λ text. text.now) name) }
+    ensures { result ≡ is_unknown globals.now (option_map (λ text. text.now) name.entry) }
 {
     match name {
         Some(name) => bool_number(globals, name.as_str()).is_none(),
@@ -82,9 +82,11 @@ pub fn first_unknown(
     requires { length rows.now ≤ 20000 }
     ensures { result ≡ first_unknown areas.now globals.now 1 rows.now }
 {
-    for (number, row) in rows.iter().enumerate() {
+    let mut number = 0u32;
+    for row in rows {
+        number += 1;
         if let Some(column) = unknown_column(areas, globals, row) {
-            return Some((number as u32 + 1, column));
+            return Some((number, column));
         }
     }
     None
@@ -93,7 +95,7 @@ pub fn first_unknown(
 /// The number of the BOOL global of a name, where there is one.
 fn suppress_number(globals: &Globals, name: Option<&Text>) -> Option<u32>
     requires { length globals.now ≤ 65536 }
-    ensures { result ≡ option_and_then (bool_number globals.now) (option_map (λ text. text.now) name) }
+    ensures { result ≡ option_and_then (bool_number globals.now) (option_map (λ text. text.now) name.entry) }
 {
     let number = bool_number(globals, name?.as_str())?;
     Some(number as u32)
@@ -131,9 +133,7 @@ pub fn alarms_of(
     requires globals { length globals.now ≤ 65536 }
     ensures { IfOk result (λ alarms. alarms.items ≡ alarms_of areas.now globals.now rows.items) }
 {
-    let mut alarms = Vec::new(alloc);
-    for row in rows {
-        alarms.push(alarm_of(areas, globals, row))?;
-    }
-    Ok(alarms)
+    rows.into_iter()
+        .map(|row| alarm_of(areas, globals, row))
+        .collect(alloc)
 }

@@ -57,8 +57,13 @@ fn have_names(sources: &[(&str, &[u8])], names: &[Text]) -> bool
     let mut rest = names;
     for source in sources {
         match rest.split_first() {
-            Some((name, others)) if source.0.as_bytes() == name.as_bytes() => rest = others,
-            _ => return false,
+            None => return false,
+            Some((name, others)) => {
+                if source.0.as_bytes() != name.as_bytes() {
+                    return false;
+                }
+                rest = others;
+            }
         }
     }
     rest.is_empty()

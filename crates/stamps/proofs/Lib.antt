@@ -1,3 +1,3 @@
 mod Dates
 mod Examples
-mod Texts
+pub mod Texts

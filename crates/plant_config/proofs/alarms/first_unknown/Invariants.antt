@@ -3,5 +3,8 @@ use Rattle.std.proofs.Common.{◌≡◌, ◌+◌, drop}
 use Rattle.plant_config.specs.Alarms.{first_unknown}
 use Rattle.plant_config.proofs.alarms.first_unknown.Given as goal
 
-abbrev pub invariant-loop-number : goal.invariant-loop-number
-invariant-loop-number l = first_unknown l.areas l.globals (1 + l.number-index) (drop l.number-index l.rows) ≡ first_unknown l.areas l.globals 1 l.rows
+abbrev pub invariant-loop-row : goal.invariant-loop-row
+invariant-loop-row l = record {
+  number : l.number ≡ l.row-index;
+  rows : first_unknown l.areas l.globals (l.row-index + 1) (drop l.row-index l.rows) ≡ first_unknown l.areas l.globals 1 l.rows;
+}
