@@ -13,7 +13,10 @@ use Rattle.plant_config.specs.declared.fault.Limit.TheVariants as limit
 use Rattle.plant_config.specs.Files.{Texts}
 use Rattle.plant_config.specs.Limits.{first_limit, is_too_long}
 use Rattle.plant_config.specs.Stages.{HasAlarms, plant_of}
-use Rattle.plant_config.specs.Plants.{IsPlant}
+use Rattle.block_flatten.specs.Source.{Source}
+use Rattle.plant_config.specs.declared.rows.AlarmRow.{AlarmRow}
+use Rattle.plant_config.specs.Alarms.{alarms_of}
+use Rattle.plant_config.specs.Plants.{IsPlant, plant_with}
 use Rattle.plant_config.proofs.AlarmRows.{rows_are, same_length, different_tags}
 
 -- where no limit is passed, the last two are kept
@@ -57,3 +60,6 @@ made t file epoch units has sound database is =
       tags = different_tags file.areas (globals_of units) (rows_of t.alarms) database.distinct;
       epoch = limits.has_epoch.early;
     }
+
+pub same_plant : (t : Texts) (file : PlainPlantFile) (epoch : ℕ) (units : List PlainUnit) (source : Source) (alarms : List AlarmRow) → source ≡ source_in units → alarms ≡ alarms_of file.areas (globals_of units) (rows_of t.alarms) → plant_with source file alarms epoch ≡ plant_of t file epoch units
+same_plant t file epoch units source alarms e f = rw (e, f) refl

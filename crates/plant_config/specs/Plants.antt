@@ -1,7 +1,7 @@
 -- A plant as contracts see it.
 use Rattle.std.specs.Prelude.{◌≡◌, ◌≢◌, ℕ, false, ◌<◌, ◌≤◌, ◌^◌, List, length, map, slice_get, IfSome, All, AllPairs}
 use Rattle.plant_types.specs.declared.values.Kind.TheVariants as kind
-use Rattle.plant_file.specs.PlantFiles.{IsConsole, numbers_clash}
+use Rattle.plant_file.specs.PlantFiles.{PlainPlantFile, IsConsole, numbers_clash}
 use Rattle.plant_file.specs.declared.console.Console.{Console}
 use Rattle.block_flatten.specs.declared.logic.Variable.{Variable}
 use Rattle.block_flatten.specs.Source.{Source}
@@ -15,6 +15,10 @@ pub record PlainPlant : Type 0 where
   pub consoles : List Console
   pub alarms : List AlarmRow
   pub epoch : ℕ
+
+-- the plant of a source, a plant file, alarms and an epoch
+abbrev pub plant_with : Source → PlainPlantFile → List AlarmRow → ℕ → PlainPlant
+plant_with source file alarms epoch = record { source = source; areas = file.areas; consoles = file.consoles; alarms = alarms; epoch = epoch }
 
 -- a number is that of a BOOL global
 pub record IsBoolGlobal (globals : List Variable) (number : ℕ) : Type 0 where

@@ -12,7 +12,7 @@ use Rattle.alarm_db.specs.Databases.{first_fault, rows_of}
 use Rattle.plant_config.specs.Alarms.{first_unknown, alarms_of}
 use Rattle.plant_config.specs.Files.{Texts, same_texts}
 use Rattle.plant_config.specs.Limits.{first_limit}
-use Rattle.plant_config.specs.Plants.{PlainPlant}
+use Rattle.plant_config.specs.Plants.{PlainPlant, plant_with}
 
 -- the plant file is right, and the sources handed in are those that it lists, in order
 pub record HasFile (t : Texts) (file : PlainPlantFile) : Type 0 where
@@ -61,13 +61,7 @@ pub record HasAlarms (t : Texts) (file : PlainPlantFile) (epoch : ℕ) (units : 
 
 -- the plant of texts that are right
 abbrev pub plant_of : Texts → PlainPlantFile → ℕ → List PlainUnit → PlainPlant
-plant_of t file epoch units = record {
-  source = source_in units;
-  areas = file.areas;
-  consoles = file.consoles;
-  alarms = alarms_of file.areas (globals_of units) (rows_of t.alarms);
-  epoch = epoch;
-}
+plant_of t file epoch units = plant_with (source_in units) file (alarms_of file.areas (globals_of units) (rows_of t.alarms)) epoch
 
 -- texts are accepted as a plant: all of them are right, neither the globals nor a program declare an instance, and the plant is theirs
 pub record Accepted (t : Texts) (plant : PlainPlant) : Type 0 where

@@ -5,8 +5,11 @@ ghost use Rattle.plant_types.specs.Words.{same_word};
 ghost use Rattle.plant_file.specs.Read.{plant_file_in};
 ghost use Rattle.block_flatten.specs.declared.logic.Program.{Program};
 ghost use Rattle.plant_config.specs.Files.{files_of, texts_of};
-ghost use Rattle.plant_config.specs.Plants.{IsPlant};
-ghost use Rattle.plant_config.specs.Stages.{Accepted, HasEpoch, IsWellFormed};
+ghost use Rattle.alarm_db.specs.Databases.{rows_of};
+ghost use Rattle.block_flatten.specs.Units.{globals_of as declared_globals};
+ghost use Rattle.plant_config.specs.Logics.{IsLogic};
+ghost use Rattle.plant_config.specs.Plants.{IsPlant, plant_with, tags_of};
+ghost use Rattle.plant_config.specs.Stages.{Accepted, HasAlarms, HasEpoch, IsWellFormed};
 ghost use Rattle.plant_config.specs.Refusals.{IsFileFault, IsRefused};
 ghost use Rattle.plant_config.specs.Names.{alarm_number, globals_of, program_number, programs_of, program_at, body_paths, body_path, tag_of, area_of, global_of, priority_of};
 
@@ -18,13 +21,13 @@ use crate::limits::check_limits;
 use crate::rows::AlarmRow;
 use crate::running::{check_alarms, database_of, logic_of};
 use crate::spelling::{mistyped, units_of};
-use alarm_db::Tags;
+use alarm_db::{AlarmDatabase, Tags};
 use block_flatten::{Flat, Globals, Program};
 use plant_file::{Console, PlantFile};
 use plant_types::same_word;
 use st_typing::{Typed, check};
 use stamps::Epoch;
-use std::alloc::Global;
+use std::alloc::{AllocError, Global};
 use std::marker::Model;
 
 /// An accepted plant. Its areas, alarms, globals and programs are numbered from 0: areas as the plant file lists them, alarms in the order of the
@@ -52,6 +55,49 @@ impl Model for Plant {
     ghost invariant = { λ p. IsPlant (record { source = p.flat; areas = p.file.areas; consoles = p.file.consoles; alarms = p.alarms.items; epoch = p.epoch }) × (p.tags ≡ tags_of p.alarms.items) };
 }
 
+/// A plant of its parts.
+fn assembled(
+    file: PlantFile,
+    epoch: Epoch,
+    flat: Flat,
+    alarms: Vec<AlarmRow>,
+    tags: Tags,
+) -> Plant
+    requires plant { IsPlant (plant_with flat file alarms.items epoch) }
+    requires tags { tags ≡ tags_of alarms.items }
+    ensures { result ≡ plant_with flat file alarms.items epoch }
+{
+    Plant {
+        file,
+        epoch,
+        flat,
+        alarms,
+        tags,
+    }
+}
+
+/// The plant of texts that are right. Fails if allocation fails.
+fn made(
+    alloc: Global,
+    handed: &Handed<'_>,
+    file: PlantFile,
+    epoch: Epoch,
+    typed: &Typed<'_>,
+    flat: Flat,
+    globals: &Globals,
+    database: AlarmDatabase,
+) -> Result<Plant, AllocError>
+    requires alarms { HasAlarms handed.now file epoch typed.now }
+    requires logic { IsLogic typed.now (Some flat) }
+    requires globals { globals.now ≡ declared_globals typed.now }
+    requires rows { database ≡ rows_of handed.now.alarms }
+    ensures { IfOk result (Accepted handed.now) }
+{
+    let (rows, tags) = database.into_parts();
+    let alarms = alarms_of(alloc, file.areas(), globals, rows)?;
+    Ok(assembled(file, epoch, flat, alarms, tags))
+}
+
 /// The plant of well-formed sources, or why there is none.
 fn plant_of(
     alloc: Global,
@@ -75,18 +121,10 @@ fn plant_of(
     if let Err(fault) = check_alarms(handed, &file, epoch, typed, &globals, &database) {
         return Err(fault);
     }
-    let Some(flat) = flat else {
-        return Err(ConfigFault::NotYet);
-    };
-    let (rows, tags) = database.into_parts();
-    let alarms = alarms_of(alloc, file.areas(), &globals, rows)?;
-    Ok(Plant {
-        file,
-        epoch,
-        flat,
-        alarms,
-        tags,
-    })
+    match flat {
+        Some(flat) => Ok(made(alloc, handed, file, epoch, typed, flat, &globals, database)?),
+        None => Err(ConfigFault::NotYet),
+    }
 }
 
 /// The plant of texts whose plant file and epoch are right, or why there is none.
