@@ -1,4 +1,5 @@
 pub mod AlarmRows
 pub mod Made
 pub mod Programs
+pub mod Refused
 pub mod SourceNames

@@ -125,7 +125,7 @@ IsFileFault bytes fault.PlantFile = IsWrongFile bytes
 IsFileFault bytes _ = ⊥
 
 -- why texts are refused, Memory apart
-abbrev pub IsRefused : Texts → ConfigFault → Type 0
+unfoldable pub IsRefused : Texts → ConfigFault → Type 0
 IsRefused t fault.Memory = ⊤
 IsRefused t fault.NotToml = document_in t.plant ≡ None
 IsRefused t fault.PlantFile = IsWrongFile t.plant ⊎ HasOtherSources t

@@ -10,6 +10,7 @@ use plant_file::PlantFile;
 use stamps::Epoch;
 
 /// The epoch of a plant file, or C3.
+#[tactic(auto, unfolding(crate::specs::Refusals::IsRefused))]
 pub fn epoch_of(handed: &Handed<'_>, file: &PlantFile) -> Result<Epoch, ConfigFault>
     requires { HasFile handed.now file.now }
     ensures { MatchResult result (λ epoch. HasEpoch handed.now file.now epoch) (IsRefused handed.now) }

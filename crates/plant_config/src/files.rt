@@ -70,6 +70,7 @@ fn have_names(sources: &[(&str, &[u8])], names: &[Text]) -> bool
 }
 
 /// The plant file, which lists the sources handed in, or why it is refused.
+#[tactic(auto, unfolding(crate::specs::Refusals::IsRefused))]
 pub fn listed(alloc: Global, handed: &Handed<'_>) -> Result<PlantFile, ConfigFault>
     ensures { MatchResult result (HasFile handed.now) (IsRefused handed.now) }
 {

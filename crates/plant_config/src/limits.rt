@@ -71,6 +71,7 @@ fn first_limit(handed: &Handed<'_>, file: &PlantFile) -> Option<Limit>
 }
 
 /// Fails for the first limit that isn't kept.
+#[tactic(auto, unfolding(crate::specs::Refusals::IsRefused))]
 pub fn check_limits(
     handed: &Handed<'_>,
     file: &PlantFile,

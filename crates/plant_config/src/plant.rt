@@ -9,7 +9,7 @@ ghost use Rattle.alarm_db.specs.Databases.{rows_of};
 ghost use Rattle.block_flatten.specs.Units.{globals_of as declared_globals};
 ghost use Rattle.plant_config.specs.Logics.{IsLogic};
 ghost use Rattle.plant_config.specs.Plants.{IsPlant, plant_with, tags_of};
-ghost use Rattle.plant_config.specs.Stages.{Accepted, HasAlarms, HasEpoch, IsWellFormed};
+ghost use Rattle.plant_config.specs.Stages.{Accepted, HasAlarms, HasDatabase, HasEpoch, HasVariables, IsWellFormed};
 ghost use Rattle.plant_config.specs.Refusals.{IsFileFault, IsRefused};
 ghost use Rattle.plant_config.specs.Names.{alarm_number, globals_of, program_number, programs_of, program_at, body_paths, body_path, tag_of, area_of, global_of, priority_of};
 
@@ -99,6 +99,82 @@ fn made(
 }
 
 /// The plant of well-formed sources, or why there is none.
+/// The plant of texts that are right, or `NotYet` where there is no logic that runs.
+#[tactic(auto, using(crate::proofs::Refused::memory_refused, crate::proofs::Refused::instances_refused))]
+fn finished(
+    alloc: Global,
+    handed: &Handed<'_>,
+    file: PlantFile,
+    epoch: Epoch,
+    typed: &Typed<'_>,
+    flat: Option<Flat>,
+    globals: &Globals,
+    database: AlarmDatabase,
+) -> Result<Plant, ConfigFault>
+    requires alarms { HasAlarms handed.now file epoch typed.now }
+    requires logic { IsLogic typed.now flat }
+    requires globals { globals.now ≡ declared_globals typed.now }
+    requires rows { database ≡ rows_of handed.now.alarms }
+    ensures { MatchResult result (Accepted handed.now) (IsRefused handed.now) }
+{
+    match flat {
+        Some(flat) => {
+            match made(alloc, handed, file, epoch, typed, flat, globals, database) {
+                Ok(plant) => Ok(plant),
+                Err(_) => Err(ConfigFault::Memory),
+            }
+        }
+        None => Err(ConfigFault::NotYet),
+    }
+}
+
+/// The plant of well-formed sources with an alarm database, or why there is none.
+#[tactic(auto, using(crate::proofs::Refused::memory_refused))]
+fn with_database(
+    alloc: Global,
+    handed: &Handed<'_>,
+    file: PlantFile,
+    epoch: Epoch,
+    typed: &Typed<'_>,
+    flat: Option<Flat>,
+    database: AlarmDatabase,
+) -> Result<Plant, ConfigFault>
+    requires database { HasDatabase handed.now file epoch typed.now }
+    requires logic { IsLogic typed.now flat }
+    requires rows { database ≡ rows_of handed.now.alarms }
+    ensures { MatchResult result (Accepted handed.now) (IsRefused handed.now) }
+{
+    match Globals::of(alloc, typed) {
+        Ok(globals) => {
+            match check_alarms(handed, &file, epoch, typed, &globals, &database) {
+                Ok(()) => finished(alloc, handed, file, epoch, typed, flat, &globals, database),
+                Err(fault) => Err(fault),
+            }
+        }
+        Err(_) => Err(ConfigFault::Memory),
+    }
+}
+
+/// The plant of well-formed sources with logic, or why there is none.
+fn with_logic(
+    alloc: Global,
+    handed: &Handed<'_>,
+    file: PlantFile,
+    epoch: Epoch,
+    typed: &Typed<'_>,
+    flat: Option<Flat>,
+) -> Result<Plant, ConfigFault>
+    requires variables { HasVariables handed.now file epoch typed.now }
+    requires logic { IsLogic typed.now flat }
+    ensures { MatchResult result (Accepted handed.now) (IsRefused handed.now) }
+{
+    match database_of(alloc, handed, &file, epoch, typed) {
+        Ok(database) => with_database(alloc, handed, file, epoch, typed, flat, database),
+        Err(fault) => Err(fault),
+    }
+}
+
+/// The plant of well-formed sources, or why there is none.
 fn plant_of(
     alloc: Global,
     handed: &Handed<'_>,
@@ -109,21 +185,9 @@ fn plant_of(
     requires { IsWellFormed handed.now file epoch typed.now }
     ensures { MatchResult result (Accepted handed.now) (IsRefused handed.now) }
 {
-    let flat = match logic_of(alloc, handed, &file, epoch, typed) {
-        Ok(flat) => flat,
-        Err(fault) => return Err(fault),
-    };
-    let database = match database_of(alloc, handed, &file, epoch, typed) {
-        Ok(database) => database,
-        Err(fault) => return Err(fault),
-    };
-    let globals = Globals::of(alloc, typed)?;
-    if let Err(fault) = check_alarms(handed, &file, epoch, typed, &globals, &database) {
-        return Err(fault);
-    }
-    match flat {
-        Some(flat) => Ok(made(alloc, handed, file, epoch, typed, flat, &globals, database)?),
-        None => Err(ConfigFault::NotYet),
+    match logic_of(alloc, handed, &file, epoch, typed) {
+        Ok(flat) => with_logic(alloc, handed, file, epoch, typed, flat),
+        Err(fault) => Err(fault),
     }
 }
 

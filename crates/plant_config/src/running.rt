@@ -19,6 +19,7 @@ use std::alloc::Global;
 
 /// The logic of well-formed sources, made ready to run; `None` where the globals or a program declare an instance. Fails for too many variables,
 /// or if allocation fails.
+#[tactic(auto, unfolding(crate::specs::Refusals::IsRefused))]
 pub fn logic_of(
     alloc: Global,
     handed: &Handed<'_>,
@@ -38,6 +39,7 @@ pub fn logic_of(
 }
 
 /// The alarm database of a plant with well-formed sources, or its first fault: C11, C10 ALARMS, C12 or C13.
+#[tactic(auto, unfolding(crate::specs::Refusals::IsRefused))]
 pub fn database_of(
     alloc: Global,
     handed: &Handed<'_>,
@@ -59,6 +61,7 @@ pub fn database_of(
 }
 
 /// Fails for the first alarm of the database that names what the plant hasn't: C14.
+#[tactic(auto, unfolding(crate::specs::Refusals::IsRefused))]
 pub fn check_alarms(
     handed: &Handed<'_>,
     file: &PlantFile,

@@ -31,6 +31,7 @@ fn name_at(alloc: Global, sources: &[(&str, &[u8])], number: usize) -> Result<Te
 }
 
 /// The refusal for a source that spells no unit.
+#[tactic(auto, unfolding(crate::specs::Refusals::IsRefused))]
 fn misspelled(alloc: Global, handed: &Handed<'_>, fault: SourceFault) -> ConfigFault
     requires { IsSourceFault handed.now.sources fault }
     ensures { (file : PlainPlantFile) (epoch : ℕ) → IsLimited handed.now file epoch → IsRefused handed.now result }
@@ -88,6 +89,7 @@ fn names_of(
 }
 
 /// The refusal for sources that aren't well formed.
+#[tactic(auto, unfolding(crate::specs::Refusals::IsRefused))]
 pub fn mistyped(
     alloc: Global,
     handed: &Handed<'_>,
