@@ -6,7 +6,7 @@ use Rattle.plant_types.specs.declared.values.Place.{Place}
 use Rattle.plant_types.specs.declared.values.Trap.{Trap}
 use Rattle.serving.specs.Answers.{spots_of}
 use Rattle.command_text.specs.Lines.{path_text}
-use Rattle.st_resolve.specs.Source.{PlainProgram, Source}
+use Rattle.block_flatten.specs.Source.{PlainProgram, Source}
 use Rattle.st_walk.specs.Runs.{place_spot}
 use Rattle.plant_config.specs.Plants.{PlainPlant}
 use Rattle.plant_config.specs.Names.{body_path}
