@@ -1,6 +1,6 @@
 //! Where files are found by their paths.
 
-ghost use Rattle.std.specs.Prelude.{◌≡◌, ◌≤◌, length, IfOk, IsErrOf, Option, List, ℕ, Some, None};
+ghost use Rattle.std.specs.Prelude.{◌≡◌, ◌≤◌, ◌++◌, length, IfOk, OnOk, IsErrOf, Option, List, ℕ, Some, None};
 ghost use Rattle.std.specs.Io.KnownBytes.{Consumes, IsAtEnd};
 
 use crate::session::{empty_piece, fill};
@@ -43,6 +43,18 @@ pub trait Folder {
         ensures missing { IsErrOf result FileFault.Missing → finds self.now path.now None };
 }
 
+/// Adds bytes to those of a file. Fails with `Missing` if they become too many.
+fn add(bytes: &mut Vec<u8>, more: &[u8]) -> Result<(), FileFault>
+    ensures items { OnOk result (bytes.new.items ≡ bytes.old.items ++ more.now) }
+    ensures size { OnOk result (length bytes.new.items ≤ 16777217) }
+{
+    bytes.extend_from_slice(more)?;
+    if bytes.len() > MOST_BYTES {
+        return Err(FileFault::Missing);
+    }
+    Ok(())
+}
+
 /// Reads a feed to its end. Fails with `Missing` if a read fails, and if the feed has more than 16,777,217 bytes.
 fn read_whole<F: Feed>(alloc: Global, feed: &mut F) -> Result<Vec<u8>, FileFault>
     ensures bytes { IfOk result (λ v. Consumes (F.remaining feed.old) (F.remaining feed.new) v.items) }
@@ -60,10 +72,7 @@ fn read_whole<F: Feed>(alloc: Global, feed: &mut F) -> Result<Vec<u8>, FileFault
             return Ok(bytes);
         }
         let (now, _) = piece.as_slice().split_at(n);
-        bytes.extend_from_slice(now)?;
-        if bytes.len() > MOST_BYTES {
-            return Err(FileFault::Missing);
-        }
+        add(&mut bytes, now)?;
     }
     Err(FileFault::Missing)
 }

@@ -16,8 +16,8 @@ returns-then-n-eq0-clause-size g c = c.loop.invariant.1
 pub loop-preserved : goal.loop-preserved
 loop-preserved g c =
     let front = rw c.as_slice.ensures.value at c.split_at.ensures.front in
-    let grown = rw front at c.in_ok-extend_from_slice.ensures.items in (
+    let grown = rw front at c.in_ok-add.ensures.items in (
       rw grown (Consumes-trans _ _ _ c.loop.bytes.items (take c.in-Ok.n c.fill.new.piece.items) c.loop.invariant.0 c.in-Ok.ensures.bytes.0),
-      omega (arith, c.if-len-gt-MOST_BYTES.false, c.len.ensures, c.extend_from_slice.new.self.ok.0),
+      c.in_ok-add.ensures.size,
       omega (arith, c.fill.ensures.len, c.loop.invariant.2, c.fill.new.piece.ok.0, c.loop.piece.ok.0),
     )
