@@ -1,52 +1,43 @@
-//! The alarm server: it reads commands from standard input, one on each line, and answers them on standard output.
+//! The alarm server.
 //!
-//! The plant that it serves is built in. What it writes is proved in the library `serving`.
+//! Without words it serves its example plant: commands from standard input, one on each line, and answers on standard output. `check PLANT` tells
+//! whether a plant is accepted, and `run PLANT` serves it. What is chosen, accepted, refused and answered is proved in the libraries
+//! `command_line` and `serving`.
 #![tactic(auto)]
 
-use engine::Engine;
-use plant_config::{ConfigFault, Plant};
-use serving::{Reading, ServeFault, Writing, serve};
-use std::io;
+mod example;
+mod plants;
+mod prints;
+mod words;
+
+use crate::plants::{check, serve_example, serve_files};
+use crate::prints::{help, stopped, usage};
+use crate::words::choice;
+use command_line::{Choice, Ended, UsageFault, status};
+use serving::ServeFault;
 use std::process::ExitCode;
+use std::rt::Runtime;
+use std::sync::Wait;
 
-/// The logic of the plant that is built in.
-const SOURCE: &[u8] =
-    b"VAR_GLOBAL\n  a AT %ID0 : DINT;\n  c : BOOL;\nEND_VAR\nPROGRAM p\n  c := 100 / a > 10;\nEND_PROGRAM\n";
-
-/// Prints on standard error why the server stopped, and returns status 1.
-fn stopped(rt: &HostRuntime, fault: ServeFault) -> ExitCode {
-    let _ = eprintln!(rt; "RUN {}", fault.text());
-    ExitCode::from(1u8)
+/// Does what was chosen.
+fn done<R: Runtime + Wait + AllocGlobal>(rt: &R, choice: &Choice) -> Ended {
+    match choice {
+        Choice::Example => serve_example(rt),
+        Choice::Check(path) => check(rt, path.as_str()),
+        Choice::Run(path, _) => serve_files(rt, path.as_str()),
+    }
 }
 
-/// Prints on standard output why the plant is refused, and returns status 3.
-fn refused(rt: &HostRuntime, fault: ConfigFault) -> ExitCode {
-    if let ConfigFault::Memory = fault {
-        return stopped(rt, ServeFault::Memory);
-    }
-    match fault.line(rt.alloc()) {
-        Ok(line) => {
-            let _ = println!(rt; "{line}");
-            ExitCode::from(3u8)
-        }
-        Err(_) => stopped(rt, ServeFault::Memory),
+/// Does what the words ask for.
+fn ended<R: Runtime + Wait + AllocGlobal>(rt: &R) -> Ended {
+    match choice(rt) {
+        Ok(choice) => done(rt, &choice),
+        Err(UsageFault::Memory) => stopped(rt, ServeFault::Memory),
+        Err(UsageFault::Help(text)) => help(rt, text.as_str()),
+        Err(UsageFault::Usage(text)) => usage(rt, text.as_str()),
     }
 }
 
 fn main(rt: HostRuntime) -> ExitCode {
-    let alloc = rt.alloc();
-    let plant = match Plant::first(alloc, SOURCE) {
-        Ok(plant) => plant,
-        Err(fault) => return refused(&rt, fault),
-    };
-    let mut engine = match Engine::new(alloc, plant) {
-        Ok(engine) => engine,
-        Err(_) => return stopped(&rt, ServeFault::Memory),
-    };
-    let mut feed = Reading::new(rt.reader());
-    let mut sink = Writing::new(io::writer(&rt));
-    match serve(&rt, alloc, &mut engine, &mut feed, &mut sink) {
-        Ok(()) => ExitCode::SUCCESS,
-        Err(fault) => stopped(&rt, fault),
-    }
+    ExitCode::from(status(&ended(&rt)))
 }

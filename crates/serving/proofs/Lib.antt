@@ -3,3 +3,5 @@ pub mod LfLaws
 pub mod SessionLaws
 pub mod HeldLaws
 pub mod AnswerLaws
+pub mod FetchLaws
+pub mod AdmitLaws

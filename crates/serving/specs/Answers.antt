@@ -6,7 +6,7 @@ use Rattle.plant_types.specs.declared.values.Value.{Value}
 use Rattle.plant_types.specs.declared.values.Place.{Place}
 use Rattle.plant_types.specs.declared.values.Trap.{Trap}
 use Rattle.st_tree.specs.Meaning.{Spot}
-use Rattle.st_resolve.specs.Source.{Source}
+use Rattle.block_flatten.specs.Source.{Source}
 use Rattle.st_walk.specs.Runs.{place_spot}
 use Rattle.alarm_machine.specs.Codes.{PlainChange}
 use Rattle.alarm_machine.specs.declared.states.Verb.{Verb}

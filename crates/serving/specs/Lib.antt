@@ -3,3 +3,5 @@ pub mod Answers
 pub mod Session
 pub mod Faults
 pub mod Laws
+pub mod Fetches
+pub mod Admits

@@ -1,7 +1,7 @@
 ghost use Rattle.std.specs.Prelude.{◌≡◌, ◌++◌, ◌⊎◌, ◌<◌, ◌^◌, ◌+◌, OnOk, OnErr, IfSome, All, length, false};
 ghost use Rattle.command_text.specs.Lines.{path_text};
 ghost use Rattle.engine.specs.Engines.{state_of};
-ghost use Rattle.plant_config.specs.Names.{tag_of, globals_of, global_of, body_paths};
+ghost use Rattle.plant_config.specs.Names.{alarm_number, tag_of, globals_of, global_of, body_paths};
 ghost use Rattle.st_walk.specs.Runs.{place_spot};
 ghost use Rattle.engine.specs.Orders.{is_restart};
 ghost use Rattle.engine.specs.System.{system, scan_event, order_event};
@@ -144,6 +144,14 @@ fn answer_scan(
     }
 }
 
+/// Returns the number of the alarm with a tag; `None` if there is none.
+fn alarm_named(plant: &Plant, tag: &str) -> Option<u32>
+    ensures number { result ≡ alarm_number plant.now tag.now }
+    ensures within { IfSome result (λ alarm. alarm < length plant.now.alarms) }
+{
+    plant.alarm_number(tag)
+}
+
 /// Returns the number of the program that a text names for a restart, and of the alarm that it names for every other order.
 fn named_by(plant: &Plant, verb: Verb, name: &str) -> Option<u32>
     ensures number { result ≡ named_by plant.now verb name.now }
@@ -151,7 +159,7 @@ fn named_by(plant: &Plant, verb: Verb, name: &str) -> Option<u32>
 {
     match verb {
         Verb::Restart => plant.program_number(name),
-        _ => plant.alarm_number(name),
+        _ => alarm_named(plant, name),
     }
 }
 

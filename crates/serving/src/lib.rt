@@ -1,17 +1,23 @@
 //! The server of a plant: it reads commands, one on each line, and answers each before it looks at the next.
 //!
 //! What it writes for an input is a definition on bytes (`out_text`), and `serve` is proved to write exactly that, for every feed and
-//! every sink.
+//! every sink. `admit` and `admit_from` read a plant, from its texts and from its files, and write what there is to say of it.
 #![tactic(auto)]
 
 mod answer;
 mod fault;
+mod folder;
 mod laws;
 mod session;
 mod streams;
+mod texts;
+mod verdict;
 
 pub use answer::fault_number;
 pub use fault::ServeFault;
+pub use folder::{Disk, FileFault, Folder};
 pub use laws::lines_end_in_lf;
-pub use session::serve;
+pub use session::{put_all, serve};
 pub use streams::{Failed, Feed, Reading, Sink, Writing};
+pub use texts::{FetchFault, Fetched, SourceText, fetch};
+pub use verdict::{admit, admit_from};

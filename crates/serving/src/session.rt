@@ -1,4 +1,4 @@
-ghost use Rattle.std.specs.Prelude.{◌≡◌, ◌≤◌, ◌++◌, [], ◌∷◌, ◌||◌, is_err, vec_len, IfOk, OnOk, OnErr, IsErrOf, MatchOption, IfSome, List, ℕ, length, take, false, ◌<◌};
+ghost use Rattle.std.specs.Prelude.{◌≡◌, ◌≤◌, ◌++◌, [], ◌∷◌, ◌||◌, is_err, vec_len, IfOk, IfErr, OnOk, OnErr, IsErrOf, MatchOption, IfSome, List, ℕ, length, take, false, ◌<◌};
 ghost use Rattle.std.specs.Io.KnownBytes.{Appends, Consumes, ReadConsumes, IsAtEnd};
 ghost use Rattle.command_text.specs.Commands.{command_of};
 ghost use Rattle.serving.specs.Input.{has_lf, without_cr, after_last_lf, ended_lines, last_line, lines_of};
@@ -20,10 +20,11 @@ const PIECE: usize = 65_536;
 /// How many bytes of a line are held at most: those of the longest line, one that shows that it is too long, and a CR.
 const HELD: usize = 1_048_578;
 
-/// Writes all of a text.
-fn put_all<S: Sink>(sink: &mut S, text: &[u8]) -> Result<(), ServeFault>
+/// Writes all of a text. Fails only if a write fails.
+pub fn put_all<S: Sink>(sink: &mut S, text: &[u8]) -> Result<(), ServeFault>
     ensures ok { OnOk result (Appends (S.written sink.old) (S.written sink.new) text.now) }
     ensures err { OnErr result ((part : List ℕ) × (more : List ℕ) × (text.now ≡ part ++ more) × Appends (S.written sink.old) (S.written sink.new) part) }
+    ensures fault { IfErr result (λ e. e ≡ ServeFault.Write) }
     ensures read { is_read result ≡ false }
     ensures write { S.broken sink.new ≡ (S.broken sink.old || is_write result) }
 {
@@ -184,14 +185,14 @@ impl Session {
 }
 
 /// Allocates the buffer for a piece of the input.
-fn empty_piece(alloc: Global) -> Result<Vec<u8>, AllocError>
+pub(crate) fn empty_piece(alloc: Global) -> Result<Vec<u8>, AllocError>
     ensures { IfOk result (λ v. vec_len v ≡ 65536) }
 {
     vec![in alloc; 0u8; PIECE]
 }
 
 /// Reads the next bytes into a buffer, and returns how many.
-fn fill<F: Feed>(feed: &mut F, piece: &mut Vec<u8>) -> Result<usize, Failed>
+pub(crate) fn fill<F: Feed>(feed: &mut F, piece: &mut Vec<u8>) -> Result<usize, Failed>
     ensures len { vec_len piece.new ≡ vec_len piece.old }
     ensures bound { IfOk result (λ n. n ≤ vec_len piece.new) }
     ensures bytes { ReadConsumes (F.remaining feed.old) (F.remaining feed.new) result piece.new.items }

@@ -1,0 +1,34 @@
+//! What the program prints that is no answer, and how it ends by that.
+
+ghost use Rattle.std.specs.Prelude.{◌≡◌, ◌⊎◌};
+ghost use Rattle.command_line.specs.declared.ended.Ended.TheVariants as ended;
+
+use command_line::Ended;
+use serving::{ServeFault, Writing, put_all};
+use std::io;
+
+/// Prints on standard error why the program stopped.
+pub fn stopped(rt: &impl Eprint, fault: ServeFault) -> Ended
+    ensures { result ≡ ended.Fault }
+{
+    let _ = eprintln!(rt; "RUN {}", fault.text());
+    Ended::Fault
+}
+
+/// Prints on standard error how the program is used.
+pub fn usage(rt: &impl Eprint, text: &str) -> Ended
+    ensures { result ≡ ended.Usage }
+{
+    let _ = eprint!(rt; "{text}");
+    Ended::Usage
+}
+
+/// Prints on standard output the help that was asked for.
+pub fn help(rt: &(impl Print + Eprint), text: &str) -> Ended
+    ensures { (result ≡ ended.Done) ⊎ (result ≡ ended.Fault) }
+{
+    match put_all(&mut Writing::new(io::writer(rt)), text.as_bytes()) {
+        Ok(()) => Ended::Done,
+        Err(fault) => stopped(rt, fault),
+    }
+}
