@@ -7,9 +7,9 @@ use Rattle.std.proofs.lemmas.List.Elements.{All-head, All-tail}
 use Rattle.plant_types.specs.declared.values.Value.{Value}
 use Rattle.plant_types.specs.Values.{is_true, worth}
 use Rattle.alarm_machine.specs.Alarms.{PlainAlarm, after_scan}
-use Rattle.st_resolve.specs.declared.logic.Variable.{Variable}
-use Rattle.st_resolve.specs.Source.{Source}
-use Rattle.st_resolve.specs.Faults.{first_fault}
+use Rattle.block_flatten.specs.declared.logic.Variable.{Variable}
+use Rattle.block_flatten.specs.Source.{Source}
+use Rattle.block_flatten.specs.Sound.{IsSound}
 use Rattle.st_walk.specs.Worlds.{World, value_at, Stands, assign, path_of}
 use Rattle.st_walk.specs.Slots.{cell}
 use Rattle.st_walk.proofs.Standing.{cell_holds, cell_written}
@@ -21,7 +21,7 @@ use Rattle.engine.specs.Steps.{with_cell}
 use Rattle.engine.proofs.Images.{has_number}
 
 -- an input that is set in cells and in the world
-input_stands : (source : Source) (cells : List ℤ) (w : World) (input : ℕ × Value) → first_fault source ≡ None → input.0 < length source.globals → Stands source cells w → Stands source (with_cell cells input) (with_input source.globals w input)
+input_stands : (source : Source) (cells : List ℤ) (w : World) (input : ℕ × Value) → IsSound source → input.0 < length source.globals → Stands source cells w → Stands source (with_cell cells input) (with_input source.globals w input)
 input_stands source cells w input sound within stands =
     let set_to : Option Variable → World = λ o. option_map_or (λ global. assign w (path_of global.name) (worth input.1)) o w in
     elim (slice_get_cases source.globals input.0).1 [
@@ -30,7 +30,7 @@ input_stands source cells w input sound within stands =
     ]
 
 -- an image that is set in cells and in the world
-pub inputs_stand : (source : Source) (image : List (ℕ × Value)) (cells : List ℤ) (w : World) → first_fault source ≡ None → All (has_number (length source.globals)) image → Stands source cells w → Stands source (fold with_cell cells image) (with_inputs source.globals image w)
+pub inputs_stand : (source : Source) (image : List (ℕ × Value)) (cells : List ℤ) (w : World) → IsSound source → All (has_number (length source.globals)) image → Stands source cells w → Stands source (fold with_cell cells image) (with_inputs source.globals image w)
 inputs_stand source [] cells w sound within stands = stands
 inputs_stand source (input ∷ image) cells w sound within stands =
     let P = has_number (length source.globals) in

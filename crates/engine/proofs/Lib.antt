@@ -1,6 +1,5 @@
 mod AlarmExamples
 pub mod CellWorlds
-pub mod GlobalNames
 pub mod Images
 pub mod OrderLaws
 pub mod Outs

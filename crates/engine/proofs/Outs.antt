@@ -1,5 +1,5 @@
 -- The outputs after a scan and those that it changed, from the outputs before it.
-use Rattle.std.proofs.Common.{◌≡◌, ℕ, ◌+◌, ℤ, pos, negsuc, Bool, true, false, if◌then◌else◌, List, [], ◌∷◌, map, refl, ap, ◌∙◌, Option, Some, None}
+use Rattle.std.proofs.Common.{◌≡◌, ℕ, ◌+◌, ℤ, pos, negsuc, Bool, true, false, if◌then◌else◌, List, [], ◌∷◌, map, refl, ap, ◌∙◌, Some, None}
 use Rattle.std.specs.Prelude.{not, unwrap_or}
 use Rattle.std.specs.List.{filter}
 use Rattle.std.specs.Ordering.{int_eq}
@@ -8,7 +8,7 @@ use Rattle.plant_types.specs.declared.values.Kind.TheVariants as kind
 use Rattle.plant_types.specs.declared.values.Value.{Value}
 use Rattle.plant_types.specs.declared.values.Value.TheVariants as value
 use Rattle.plant_types.specs.Values.{kind_of, is_outside}
-use Rattle.st_resolve.specs.declared.logic.Variable.{Variable}
+use Rattle.block_flatten.specs.declared.logic.Variable.{Variable}
 use Rattle.engine.specs.System.{is_output, shown, outputs_from, outs_from}
 use Rattle.engine.specs.Steps.{output_in, differs}
 

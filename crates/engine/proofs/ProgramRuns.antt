@@ -6,7 +6,7 @@ use Rattle.std.proofs.lemmas.List.{take_more, take_all, drop_all, append-nil, ap
 use Rattle.plant_types.specs.declared.values.Place.{Place}
 use Rattle.plant_types.specs.declared.values.Trap.{Trap}
 use Rattle.st_tree.specs.Meaning.{Ran, Done, Trapped, Spot}
-use Rattle.st_resolve.specs.Source.{Source}
+use Rattle.block_flatten.specs.Source.{Source}
 use Rattle.st_walk.specs.Worlds.{World, Stands, run_program}
 use Rattle.st_walk.specs.Runs.{place_spot, Agree}
 use Rattle.engine.specs.Programs.{Scanned, with_flag, with_fault, after_run, programs_from}

@@ -1,5 +1,5 @@
 -- How the system goes on by one event, and what each step keeps.
-use Rattle.std.proofs.Common.{◌≡◌, ℕ, ◌+◌, ◌<◌, ◌≤◌, ◌^◌, ℤ, Bool, true, false, List, [], ◌∷◌, ◌++◌, length, map, All, fold, ap, refl, sym, ◌∙◌, subst, zero-add, arith, Option, Some, None, Ok, Err, suc, zero, replicate}
+use Rattle.std.proofs.Common.{◌≡◌, ℕ, ◌+◌, ◌<◌, ◌≤◌, ℤ, Bool, true, false, List, [], ◌∷◌, ◌++◌, length, map, All, fold, ap, refl, sym, ◌∙◌, subst, zero-add, arith, Option, Some, None, Ok, Err, suc, zero, replicate}
 use Rattle.std.specs.declared.result.Result.{Result}
 use Rattle.std.proofs.lemmas.List.{length-map, length-set}
 use Rattle.std.proofs.lemmas.List.Elements.{All-nil, All-cons, All-weaker}
@@ -11,9 +11,9 @@ use Rattle.alarm_machine.specs.declared.states.OrderFault.{OrderFault}
 use Rattle.alarm_machine.specs.Codes.{PlainChange, code_of, change_between}
 use Rattle.alarm_machine.specs.Alarms.{PlainAlarm}
 use Rattle.st_tree.specs.Meaning.{Ran, Done, Trapped}
-use Rattle.st_resolve.specs.declared.logic.Variable.{Variable}
-use Rattle.st_resolve.specs.Source.{PlainProgram, Source}
-use Rattle.st_resolve.specs.Faults.{first_fault}
+use Rattle.block_flatten.specs.declared.logic.Variable.{Variable}
+use Rattle.block_flatten.specs.Source.{PlainProgram, Source}
+use Rattle.block_flatten.specs.Sound.{IsSound}
 use Rattle.st_walk.specs.Worlds.{World, Stands, opening, run_program}
 use Rattle.st_walk.specs.Slots.{cell}
 use Rattle.plant_config.specs.declared.rows.AlarmRow.{AlarmRow}
@@ -128,7 +128,7 @@ kept_outputs plant history k held =
     held.outputs_are ∙ sym (outputs_stand plant.source (cell k.cells) (global_in (globals_of plant) world) (values_stand plant.source k.cells world held.world_stands))
 
 -- what the programs leave in cells is what they leave in the system's world
-runs_world : (plant : PlainPlant) (sys : System) (old new : PlainState) (image : List (ℕ × Value)) (t : ℕ) (r : PlainReport) → first_fault plant.source ≡ None → All (has_number (length plant.source.globals)) image → IsState plant sys old → ScanRan plant old image t new r
+runs_world : (plant : PlainPlant) (sys : System) (old new : PlainState) (image : List (ℕ × Value)) (t : ℕ) (r : PlainReport) → IsSound plant.source → All (has_number (length plant.source.globals)) image → IsState plant sys old → ScanRan plant old image t new r
     → ProgramsRan plant.source (scanned_by plant sys image t) new.cells new.faulted r.faults
 unfolding world_after
 runs_world plant sys old new image t r sound within held made =
@@ -137,10 +137,10 @@ runs_world plant sys old new image t r sound within held made =
     (made.programs w (inputs_stand plant.source image old.cells sys.world sound within held.world_stands))
 
 -- what a scan leaves is the next system
-scan_agrees : (plant : PlainPlant) (sys : System) (old new : PlainState) (image : List (ℕ × Value)) (t : ℕ) (r : PlainReport) → IsPlant plant → first_fault plant.source ≡ None → All (has_number (length plant.source.globals)) image → IsState plant sys old → ScanRan plant old image t new r
+scan_agrees : (plant : PlainPlant) (sys : System) (old new : PlainState) (image : List (ℕ × Value)) (t : ℕ) (r : PlainReport) → IsPlant plant → All (has_number (length plant.source.globals)) image → IsState plant sys old → ScanRan plant old image t new r
     → IsState plant (after_scan_event plant sys image t) new
-scan_agrees plant sys old new image t r is sound within held made =
-    let runs = runs_world plant sys old new image t r sound within held made in
+scan_agrees plant sys old new image t r is within held made =
+    let runs = runs_world plant sys old new image t r is.sound within held made in
     let look = global_in (globals_of plant) (scanned_by plant sys image t).world in
     let now = values_stand plant.source new.cells (scanned_by plant sys image t).world runs.world_stands in
     record {
@@ -182,11 +182,11 @@ as_many_paths : (plant : PlainPlant) → length (paths_of plant.source) ≡ leng
 as_many_paths plant = length-map plant.source.programs (λ (p : PlainProgram). p.name ∷ []) ∙ sym (length-map plant.source.programs (λ (p : PlainProgram). p.name))
 
 -- what a scan reports is what its event did
-scan_reports : (plant : PlainPlant) (sys : System) (old new : PlainState) (image : List (ℕ × Value)) (t : ℕ) (r : PlainReport) → IsPlant plant → first_fault plant.source ≡ None → All (has_number (length plant.source.globals)) image → length old.alarms ≡ length plant.alarms → IsState plant sys old → ScanRan plant old image t new r
+scan_reports : (plant : PlainPlant) (sys : System) (old new : PlainState) (image : List (ℕ × Value)) (t : ℕ) (r : PlainReport) → IsPlant plant → All (has_number (length plant.source.globals)) image → length old.alarms ≡ length plant.alarms → IsState plant sys old → ScanRan plant old image t new r
     → IsReport plant sys (event.Scan image t) r
-scan_reports plant sys old new image t r is sound within each held made =
-    let runs = runs_world plant sys old new image t r sound within held made in
-    let after = scan_agrees plant sys old new image t r is sound within held made in
+scan_reports plant sys old new image t r is within each held made =
+    let runs = runs_world plant sys old new image t r is.sound within held made in
+    let after = scan_agrees plant sys old new image t r is within held made in
     let look = global_in (globals_of plant) (scanned_by plant sys image t).world in
     let before = values_stand plant.source old.cells sys.world held.world_stands in
     let now = values_stand plant.source new.cells (scanned_by plant sys image t).world runs.world_stands in
@@ -201,8 +201,8 @@ scan_reports plant sys old new image t r is sound within each held made =
     }
 
 -- a scan that was made ready from what an engine holds fits that engine, where it has room
-pub scan_fits : (e : PlainEngine) (p : PlainPrepared) (old : PlainState) (events : ℕ) (pairs : List PlainPair) (t : ℕ) → IsPlant e.plant → first_fault e.plant.source ≡ None → IsState e.plant (state_of e) old → IsPreparedScan e.plant old events pairs t p → 0 < e.room → Fits e p
-scan_fits e p old events pairs t plant_is sound held scan there =
+pub scan_fits : (e : PlainEngine) (p : PlainPrepared) (old : PlainState) (events : ℕ) (pairs : List PlainPair) (t : ℕ) → IsPlant e.plant → IsState e.plant (state_of e) old → IsPreparedScan e.plant old events pairs t p → 0 < e.room → Fits e p
+scan_fits e p old events pairs t plant_is held scan there =
     let sys = state_of e in
     let image = scan.image in
     let is = scan.event_is in
@@ -211,8 +211,8 @@ scan_fits e p old events pairs t plant_is sound held scan there =
     let next : system e.plant (e.history ++ p.event ∷ []) ≡ after_scan_event e.plant sys image t = system_next e.plant e.history p.event ∙ ap (step e.plant sys) is in
     record {
       room = there;
-      state_is = subst (λ s. IsState e.plant s p.state) (sym next) (scan_agrees e.plant sys old p.state image t p.report plant_is sound within held made);
-      report_is = subst (λ x. IsReport e.plant sys x p.report) (sym is) (scan_reports e.plant sys old p.state image t p.report plant_is sound within (kept_alarms e.plant e.history old held) held made);
+      state_is = subst (λ s. IsState e.plant s p.state) (sym next) (scan_agrees e.plant sys old p.state image t p.report plant_is within held made);
+      report_is = subst (λ x. IsReport e.plant sys x p.report) (sym is) (scan_reports e.plant sys old p.state image t p.report plant_is within (kept_alarms e.plant e.history old held) held made);
     }
 
 -- what an order that was made ready leaves is the next system
@@ -240,8 +240,8 @@ opening_flags programs n flags many are = are ∙ unset n programs many
     unset (suc n) (x ∷ xs) same = ap (λ l. false ∷ l) (unset n xs (omega (arith, same)))
 
 -- before the first event
-pub opening_agrees : (plant : PlainPlant) (k : PlainState) → IsPlant plant → first_fault plant.source ≡ None → Stands plant.source k.cells (opening plant.source) → k.faulted ≡ opening_faulted (programs_of plant) → k.alarms ≡ map opening_alarm plant.alarms → k.outputs ≡ outputs_from 0 plant.source.globals (cell k.cells) → k.moment ≡ 0 → IsEngine plant [] k
-opening_agrees plant k is sound stands faulted alarms outputs moment =
+pub opening_agrees : (plant : PlainPlant) (k : PlainState) → IsPlant plant → Stands plant.source k.cells (opening plant.source) → k.faulted ≡ opening_faulted (programs_of plant) → k.alarms ≡ map opening_alarm plant.alarms → k.outputs ≡ outputs_from 0 plant.source.globals (cell k.cells) → k.moment ≡ 0 → IsEngine plant [] k
+opening_agrees plant k is stands faulted alarms outputs moment =
     record {
       state_is = subst (λ s. IsState plant s k) (sym (system_none plant)) (record {
         world_stands = stands;
@@ -252,7 +252,6 @@ opening_agrees plant k is sound stands faulted alarms outputs moment =
         in_range = rw moment (omega arith);
       });
       plant_is = is;
-      sound = sound;
     }
 
 -- the event of a scan, by what an engine keeps and how many events there were

@@ -1,9 +1,8 @@
 -- What an engine shows, what a scan reports, and when something made ready fits an engine.
-use Rattle.std.specs.Prelude.{◌≡◌, ℕ, ◌<◌, ◌≤◌, ◌^◌, ℤ, Bool, List, [], ◌∷◌, ◌++◌, length, map, All, Result, Ok, None, refl}
+use Rattle.std.specs.Prelude.{◌≡◌, ℕ, ◌<◌, ◌≤◌, ℤ, Bool, List, [], ◌∷◌, ◌++◌, length, map, All, Result, Ok, refl}
 use Rattle.std.specs.Coded.{Coded, code_by, coded×, coded_list, coded_ℕ}
 use Rattle.plant_types.specs.Pairs.{PlainPair}
 use Rattle.plant_types.specs.declared.values.Value.{Value}
-use Rattle.st_resolve.specs.Faults.{first_fault}
 use Rattle.st_walk.specs.Worlds.{Stands}
 use Rattle.st_walk.specs.Runs.{place_spot}
 use Rattle.alarm_machine.specs.Alarms.{PlainAlarm}
@@ -95,8 +94,7 @@ pub record FitsOrder (e : PlainEngine) (p : PlainPreparedOrder) : Type 0 where
   pub done_is : p.done ≡ ordered e.plant (state_of e) p.console p.order
   pub reply_is : p.reply ≡ reply_to e.plant (state_of e) p.console p.order
 
--- what an engine keeps is what the system after its history has; what holds of each plant holds of this one, and its source has no fault
+-- what an engine keeps is what the system after its history has, and what holds of each plant holds of this one
 pub record IsEngine (plant : PlainPlant) (history : List Event) (k : PlainState) : Type 0 where
   pub state_is : IsState plant (system plant history) k
   pub plant_is : IsPlant plant
-  pub sound : first_fault plant.source ≡ None

@@ -1,4 +1,3 @@
-pub mod Indexed
 pub mod Programs
 pub mod Image
 pub mod Orders

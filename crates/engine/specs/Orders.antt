@@ -7,7 +7,7 @@ use Rattle.alarm_machine.specs.declared.states.OrderFault.{OrderFault}
 use Rattle.alarm_machine.specs.declared.states.OrderFault.TheVariants as fault
 use Rattle.alarm_machine.specs.Codes.{PlainChange, code_of, change_between}
 use Rattle.alarm_machine.specs.Alarms.{PlainAlarm, after_order}
-use Rattle.plant_config.specs.declared.rows.Console.{Console}
+use Rattle.plant_file.specs.declared.console.Console.{Console}
 use Rattle.plant_config.specs.Plants.{PlainPlant}
 use Rattle.engine.specs.declared.event.Order.{Order}
 use Rattle.engine.specs.declared.event.Reply.{Reply}

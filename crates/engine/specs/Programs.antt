@@ -5,8 +5,8 @@ use Rattle.plant_types.specs.declared.values.Value.{Value}
 use Rattle.plant_types.specs.declared.values.Trap.{Trap}
 use Rattle.plant_types.specs.Values.{worth}
 use Rattle.st_tree.specs.Meaning.{Ran, Done, Trapped, Spot}
-use Rattle.st_resolve.specs.Source.{Source}
-use Rattle.st_resolve.specs.declared.logic.Variable.{Variable}
+use Rattle.block_flatten.specs.Source.{Source}
+use Rattle.block_flatten.specs.declared.logic.Variable.{Variable}
 use Rattle.st_walk.specs.Worlds.{World, value_at, assign, path_of, run_program}
 use Rattle.plant_config.specs.Plants.{PlainPlant}
 use Rattle.plant_config.specs.Names.{globals_of}

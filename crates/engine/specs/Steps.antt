@@ -7,7 +7,7 @@ use Rattle.plant_types.specs.declared.values.Place.{Place}
 use Rattle.plant_types.specs.Pairs.{PlainPair}
 use Rattle.plant_types.specs.Values.{kind_of, worth}
 use Rattle.st_tree.specs.Meaning.{Ran, Done, Trapped}
-use Rattle.st_resolve.specs.Source.{Source}
+use Rattle.block_flatten.specs.Source.{Source}
 use Rattle.st_walk.specs.Worlds.{World, Stands, run_program}
 use Rattle.st_walk.specs.Slots.{cell}
 use Rattle.st_walk.specs.Runs.{paths_of, place_spot}

@@ -10,7 +10,7 @@ use Rattle.plant_types.specs.declared.values.Trap.{Trap}
 use Rattle.plant_types.specs.declared.values.Region.{Region}
 use Rattle.plant_types.specs.declared.values.Region.TheVariants as region
 use Rattle.st_tree.specs.Meaning.{Spot}
-use Rattle.st_resolve.specs.declared.logic.Variable.{Variable}
+use Rattle.block_flatten.specs.declared.logic.Variable.{Variable}
 use Rattle.st_walk.specs.Worlds.{World, opening}
 use Rattle.alarm_machine.specs.declared.states.OrderFault.{OrderFault}
 use Rattle.alarm_machine.specs.Codes.{PlainChange, code_of, change_between}

@@ -1,13 +1,11 @@
 //! A plant whose globals are found by their names.
 
 ghost use Rattle.std.specs.Prelude.{◌≡◌, IfOk, IfSome, ◌<◌, false, length};
-ghost use Rattle.st_resolve.specs.Names.{find_global};
-ghost use Rattle.st_resolve.specs.Faults.{globals_clash};
+ghost use Rattle.block_flatten.specs.Names.{find_global, global_words, global_names, repeats};
 ghost use Rattle.plant_config.specs.Names.{globals_of};
-ghost use Rattle.engine.specs.Indexed.{global_names};
 
+use block_flatten::Variable;
 use plant_config::Plant;
-use st_resolve::Variable;
 use std::alloc::{AllocError, Global};
 use std::marker::Model;
 use word_index::Names;
@@ -29,7 +27,7 @@ impl Model for IndexedPlant {
 
     ghost use Rattle.std.specs.Prelude.{◌≡◌};
     ghost use Rattle.plant_config.specs.Names.{globals_of};
-    ghost use Rattle.engine.specs.Indexed.{global_names};
+    ghost use Rattle.block_flatten.specs.Names.{global_names};
 
     ghost view = { λ indexed. indexed.plant };
 
@@ -38,7 +36,7 @@ impl Model for IndexedPlant {
 
 /// The names of globals in order of declaration, of which no two are the same word. Fails if allocation fails.
 fn global_names(alloc: Global, globals: &[Variable]) -> Result<Names, AllocError>
-    requires { globals_clash globals.now ≡ false }
+    requires { repeats (global_words globals.now) ≡ false }
     ensures { IfOk result (λ names. names ≡ global_names globals.now) }
 {
     let mut names = Names::new(alloc);

@@ -10,7 +10,8 @@ ghost use Rattle.engine.specs.Steps.{IsPreparedOrder};
 use crate::event::{Order, Reply};
 use crate::state::{Effect, State};
 use alarm_machine::{Alarm, Change, OrderFault, Verb};
-use plant_config::{Console, Plant};
+use plant_config::Plant;
+use plant_file::Console;
 use std::marker::Model;
 
 /// An order that was made ready to be committed.

@@ -13,9 +13,9 @@ ghost use Rattle.engine.specs.System.{shown, opening_alarm, suppression, alarms_
 ghost use Rattle.engine.specs.Steps.{with_cell, run_by, ended_by, ProgramsRan, output_in, differs};
 
 use alarm_machine::{Alarm, Change};
+use block_flatten::Variable;
 use plant_config::{AlarmRow, Plant};
 use plant_types::{Given, Kind, Place, Region, Trap, Value, fitted};
-use st_resolve::Variable;
 use st_walk::{Cells, Walked, walk};
 use std::alloc::{AllocError, Global};
 

@@ -1,5 +1,5 @@
 -- A run over cells ends as the run in the world that they stand for.
-use Rattle.std.proofs.Common.{◌≡◌, ap, subst, refl, ℕ, ℤ, pos, Bool, true, false, List, [], ◌∷◌, Option, inl, inr}
+use Rattle.std.proofs.Common.{◌≡◌, ap, subst, refl, ℕ, ℤ, pos, Bool, true, false, List, [], ◌∷◌, Option}
 use Rattle.std.specs.Prelude.{Result, Ok, Err, Some, None, map, if◌then◌else◌, ◌&&◌}
 use Rattle.std.proofs.lemmas.Bool.{and_parts}
 use Rattle.plant_types.specs.Values.{is_true}
@@ -9,9 +9,9 @@ use Rattle.st_tree.specs.Plain.{PlainStmt, empty, assign, call, choose, select, 
 use Rattle.st_tree.specs.Operators.{Outcome, eval_unary, eval_binary}
 use Rattle.st_tree.specs.Controls.{control_values, span_of}
 use Rattle.st_tree.specs.Meaning.{then_one, then_two, Ran, Done, Trapped, then_run, with_value, turns, labels_fit, Chosen, Took, Passed, or_else, on_test, statement_spot, outcome, step_of, take_inputs, give_outputs, run, run_all, first_true, first_fit}
-use Rattle.st_resolve.specs.Source.{PlainProgram, Source}
-use Rattle.st_resolve.specs.Names.{reads_pass, option_passes, bounds_pass, arguments_pass, passes, all_pass, branches_pass, choices_pass}
-use Rattle.st_resolve.specs.Resolved.{renamed_expr, renamed_option, renamed_argument, renamed_stmt, renamed, renamed_branches, renamed_choices}
+use Rattle.block_flatten.specs.Source.{PlainProgram, Source}
+use Rattle.block_flatten.specs.Names.{reads_pass, option_passes, bounds_pass, arguments_pass, passes, all_pass, branches_pass, choices_pass}
+use Rattle.block_flatten.specs.Resolved.{renamed_expr, renamed_option, renamed_argument, renamed_stmt, renamed, renamed_branches, renamed_choices}
 use Rattle.st_walk.specs.Worlds.{World, Stands, path_in, name_space, cell_paths}
 use Rattle.st_walk.specs.Slots.{cell_space}
 use Rattle.st_walk.proofs.Paths.{Once}

@@ -1,5 +1,5 @@
 -- Cells to which the initial values are assigned stand for the opening world.
-use Rattle.std.proofs.Common.{◌≡◌, ◌∙◌, ap, sym, subst, refl, arith, ℕ, zero, suc, ◌+◌, ◌<◌, ◌≤◌, ℤ, Bool, true, List, [], ◌∷◌, length, map, drop, get_or, Option, Some, None}
+use Rattle.std.proofs.Common.{◌≡◌, ◌∙◌, ap, sym, subst, refl, arith, ℕ, zero, suc, ◌+◌, ◌<◌, ◌≤◌, ℤ, Bool, true, List, [], ◌∷◌, length, drop, get_or, Option, Some, None}
 use Rattle.std.specs.Prelude.{Result, Ok, Err, Vec, slice_get, take, option_map}
 use Rattle.std.specs.declared.alloc.Global.{Global}
 use Rattle.std.proofs.lemmas.List.{drop_more, drop_all, length-map}
@@ -8,21 +8,22 @@ use Rattle.st_tree.specs.declared.tree.Stmt.{Stmt}
 use Rattle.st_tree.specs.Plain.{PlainBody}
 use Rattle.st_tree.specs.View.{view_body}
 use Rattle.st_tree.specs.Meaning.{Ran, Done, Trapped, run_all}
-use Rattle.st_resolve.specs.declared.logic.Variable.{Variable}
-use Rattle.st_resolve.specs.Source.{PlainProgram, Source, scoped, globals_program}
-use Rattle.st_resolve.specs.Names.{global_words, own_words, find_word, shifted, slot_in, all_pass}
-use Rattle.st_resolve.specs.Faults.{is_known, own_count, meant_starts, first_fault}
-use Rattle.st_resolve.specs.Resolved.{starts_at, starts_from, starts_of}
-use Rattle.st_resolve.specs.Flats.{view_bodies}
-use Rattle.st_resolve.proofs.Places.{found}
-use Rattle.st_resolve.proofs.Right.{program_right, globals_right}
-use Rattle.st_walk.specs.Worlds.{Path, World, Stands, path_of, path_in, name_space, left_by, begun, all_begun, zero_world, opening, cell_paths}
+use Rattle.block_flatten.specs.declared.logic.Variable.{Variable}
+use Rattle.block_flatten.specs.Source.{PlainProgram, Source, scoped, globals_program}
+use Rattle.block_flatten.specs.Names.{global_words, own_words, find_word, shifted, slot_in, all_pass}
+use Rattle.block_flatten.specs.Scopes.{is_known, meant_starts}
+use Rattle.block_flatten.specs.Sound.{own_count, IsSound}
+use Rattle.block_flatten.specs.Resolved.{starts_at, starts_from, starts_of}
+use Rattle.block_flatten.specs.Flats.{view_bodies}
+use Rattle.block_flatten.proofs.Places.{found}
+use Rattle.block_flatten.proofs.Right.{program_right}
+use Rattle.st_walk.specs.Worlds.{World, Stands, path_of, path_in, name_space, left_by, begun, all_begun, zero_world, opening, cell_paths}
 use Rattle.st_walk.specs.declared.walker.Stop.{Stop}
 use Rattle.st_walk.specs.Slots.{cell_space, ended_run}
 use Rattle.st_walk.proofs.Paths.{Once}
 use Rattle.st_walk.proofs.Worlds.{At, base_at, paths_once, global_at, located}
 use Rattle.st_walk.proofs.Agreeing.{Alike, body_alike}
-use Rattle.std.specs.Prelude.{is_some, unwrap_or, if◌then◌else◌}
+use Rattle.std.specs.Prelude.{is_some, unwrap_or}
 
 abbrev units : Source → List PlainProgram
 units source = globals_program source ∷ source.programs
@@ -53,7 +54,7 @@ start_from globals base (q ∷ qs) (suc n) p body there at =
     let sum : base + length q.locals + own_count (take n qs) ≡ base + (length q.locals + own_count (take n qs)) = omega arith in
     record { body_is = rest.body_is ∙ ap (λ b. starts_at globals b p) sum }
 
-start_at : (source : Source) (k : ℕ) (p : PlainProgram) (body : PlainBody ℕ) → first_fault source ≡ None → slice_get (units source) k ≡ Some p → slice_get (starts_of source) k ≡ Some body → StartAt source p body
+start_at : (source : Source) (k : ℕ) (p : PlainProgram) (body : PlainBody ℕ) → IsSound source → slice_get (units source) k ≡ Some p → slice_get (starts_of source) k ≡ Some body → StartAt source p body
 start_at source zero p body sound there at =
     let one : globals_program source ≡ p = cc in
     let same : starts_at source.globals (length source.globals) (globals_program source) ≡ body = cc in
@@ -62,7 +63,7 @@ start_at source zero p body sound there at =
       base = length source.globals;
       body_is = sym same;
       located = λ name known. global_located_by source name (find_word (global_words source.globals) name) refl known;
-      known = (globals_right source sound).starts_known;
+      known = sound.globals_right.starts_known;
     })
 start_at source (suc n) p body sound there at =
     record {
@@ -100,7 +101,7 @@ as_many source starts are =
     let c = length-starts_from source.globals (length source.globals) source.programs in
     omega (arith, a, b, c)
 
-pub begun_more : (source : Source) (starts : List (Vec (Stmt ℕ) Global)) (i : ℕ) (cells later : List ℤ) (body : Vec (Stmt ℕ) Global) (e : Result (Unit {0}) Stop) → first_fault source ≡ None → view_bodies starts ≡ starts_of source → i < length starts → body ≡ get_or starts i body
+pub begun_more : (source : Source) (starts : List (Vec (Stmt ℕ) Global)) (i : ℕ) (cells later : List ℤ) (body : Vec (Stmt ℕ) Global) (e : Result (Unit {0}) Stop) → IsSound source → view_bodies starts ≡ starts_of source → i < length starts → body ≡ get_or starts i body
     → ended_run e later ≡ run_all cell_space (view_body body.items) cells → Begun source i cells → Begun source (i + 1) later
 begun_more source starts i cells later body e sound are within is ran b =
     let many = as_many source starts are in

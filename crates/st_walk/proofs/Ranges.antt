@@ -1,35 +1,32 @@
--- A run of a program without a fault keeps each value in the range of its kind.
-use Rattle.std.proofs.Common.{◌≡◌, refl, ap, subst, sym, ◌∙◌, ℕ, zero, suc, ◌+◌, ◌<◌, ℤ, pos, Bool, true, false, List, [], ◌∷◌, ◌++◌, map, length, get_or, inl, inr, arith, ◌⊎◌}
-use Rattle.std.specs.Prelude.{slice_get, Option, Some, None, not, ◌&&◌, unwrap_or, is_some, option_map, if◌then◌else◌, ◌==◌}
+-- A run of a program of a sound source keeps each value in the range of its kind.
+use Rattle.std.proofs.Common.{◌≡◌, refl, ap, subst, sym, ◌∙◌, ℕ, zero, suc, ◌+◌, ℤ, pos, true, false, List, [], ◌∷◌, ◌++◌, map, length, inl, inr, arith, ◌⊎◌}
+use Rattle.std.specs.Prelude.{slice_get, Option, Some, None, ◌&&◌, unwrap_or, is_some, option_map, if◌then◌else◌}
 use Rattle.std.specs.List.{AllByRecursion}
 use Rattle.std.proofs.lemmas.Bool.{and_parts, cases_Bool}
 use Rattle.std.proofs.lemmas.List.{length-map, length-append, map-append, get_or-map}
 use Rattle.std.proofs.lemmas.List.Elements.{All-from_recursion, recursion_from_All}
-use Rattle.std.proofs.lemmas.Option.{slice_get_past, slice_get_within, slice_get-map, get_or_from_slice_get}
-use Rattle.std.specs.Str.{bytes_eq}
+use Rattle.std.proofs.lemmas.Option.{slice_get_within, slice_get-map, get_or_from_slice_get}
 use Rattle.plant_types.specs.declared.values.Kind.{Kind}
 use Rattle.plant_types.specs.declared.values.Kind.TheVariants as kind
 use Rattle.plant_types.specs.Values.{is_in_range}
 use Rattle.plant_types.specs.Words.{folded}
-use Rattle.st_tree.specs.Kinds.{same_kind, is_kind}
-use Rattle.st_tree.specs.Plain.{PlainStmt, empty, assign, call, choose, select, repeat, PlainBody, done, next, Branches, no_branch, branch, Choices, no_choice, choice}
-use Rattle.st_tree.specs.Constants.{constant_of}
-use Rattle.st_tree.specs.Fits.{Context, stmt_fits, all_fit, may_control, stmt_controls_fit, controls_fit, branches_controls_fit, choices_controls_fit}
+use Rattle.st_tree.specs.Plain.{PlainStmt, empty, assign, call, choose, select, repeat, PlainBody, done, next}
+use Rattle.st_tree.specs.Fits.{Context, stmt_fits, all_fit, stmt_controls_fit, controls_fit}
 use Rattle.st_tree.specs.Meaning.{Ran, Done, Trapped, run_all}
 use Rattle.st_tree.specs.Ranges.{IsInvariant, Leaves}
 use Rattle.st_tree.proofs.RangeLaws.{InRange}
 use Rattle.st_tree.proofs.RunLaws.{run_all_keeps}
-use Rattle.st_resolve.specs.declared.logic.Variable.{Variable}
-use Rattle.st_resolve.specs.declared.logic.Local.{Local}
-use Rattle.st_resolve.specs.declared.scope.Entry.{Entry}
-use Rattle.st_resolve.specs.Source.{PlainProgram, Source, Scoped, scoped, globals_program}
-use Rattle.st_resolve.specs.Names.{global_words, own_words, find_word, shifted}
-use Rattle.st_resolve.specs.Faults.{name_number, entry_of, own_entry, entries_of, entry_named, meant_of, meant_starts, is_assignable, context_of, kinds_misfit, constants_wrong, first_fault}
-use Rattle.st_resolve.specs.Starts.{start_fits, starts_fit, start_constant, starts_constant}
-use Rattle.st_resolve.specs.Loops.{is_control, is_bound, is_step, constant_step, body_assigns, stmt_allowed, all_allowed, branches_allowed, choices_allowed}
-use Rattle.st_resolve.proofs.Places.{Found, found, word_is}
-use Rattle.st_resolve.proofs.Looked.{at_front, at_back}
-use Rattle.st_resolve.proofs.Right.{program_judged, globals_judged}
+use Rattle.block_flatten.specs.declared.logic.Variable.{Variable}
+use Rattle.block_flatten.specs.declared.logic.Local.{Local}
+use Rattle.block_flatten.specs.declared.scope.Entry.{Entry}
+use Rattle.block_flatten.specs.Source.{PlainProgram, Source, Scoped, scoped, globals_program}
+use Rattle.block_flatten.specs.Names.{global_words, own_words, find_word, shifted}
+use Rattle.block_flatten.specs.Scopes.{entry_of, own_entry, entry_named, meant_of, meant_starts, context_of}
+use Rattle.block_flatten.specs.Sound.{IsSound}
+use Rattle.block_flatten.specs.Starts.{start_fits, starts_fit, start_constant, starts_constant}
+use Rattle.block_flatten.proofs.Places.{Found, found, word_is}
+use Rattle.block_flatten.proofs.Looked.{at_front, at_back}
+use Rattle.block_flatten.proofs.Right.{program_right}
 use Rattle.st_walk.specs.Worlds.{Path, same_path, World, value_at, left_by, begun, all_begun, zero_world, opening, path_of, own_path, path_in, own_paths, all_own_paths, global_paths, cell_paths, name_space, run_in, run_program}
 use Rattle.st_walk.specs.Worlds as worlds
 use Rattle.st_walk.specs.Ranges.{KindAt, global_kind_at, own_kind_at, own_kinds, all_kinds, AllInRange}
@@ -109,7 +106,7 @@ paths_own (p ∷ ps) = map-append path (map (own_kind_at p) p.locals) (own_kinds
 paths_all : (source : Source) → map path (all_kinds source) ≡ cell_paths source
 paths_all source = map-append path (map global_kind_at source.globals) (own_kinds source.programs) ∙ (λ k. paths_of_words (λ (g : Variable). folded g.name) [] global_kind_at source.globals (λ g. refl) k ++ paths_own source.programs k)
 
-kinds_once : (source : Source) → first_fault source ≡ None → Once (map path (all_kinds source))
+kinds_once : (source : Source) → IsSound source → Once (map path (all_kinds source))
 kinds_once source sound = subst Once (sym (paths_all source)) (paths_once source sound)
 
 abbrev to_list : (source : Source) (w : World) → AllInRange source w → AllByRecursion (Holds w) (all_kinds source)
@@ -202,7 +199,7 @@ module _ (source : Source) (p : PlainProgram) (named_here : (name : List ℕ) (e
   reads : (w : World) (name : List ℕ) (entry : Entry) → AllInRange source w → entry_named unit name ≡ Some entry → InRange entry.kind (value_at w (path_in p name))
   reads w name entry holds is = at_path w (record { path = path_in p name; kind = entry.kind }) (all_kinds source) (named_here name entry is) (to_list source w holds)
 
-  writes : first_fault source ≡ None → (w : World) (name : List ℕ) (entry : Entry) (m : ℤ) → AllInRange source w → entry_named unit name ≡ Some entry → InRange entry.kind m → AllInRange source (worlds.assign w (path_in p name) m)
+  writes : IsSound source → (w : World) (name : List ℕ) (entry : Entry) (m : ℤ) → AllInRange source w → entry_named unit name ≡ Some entry → InRange entry.kind m → AllInRange source (worlds.assign w (path_in p name) m)
   writes sound w name entry m holds is fits =
       from_list source (worlds.assign w (path_in p name) m) (assigned w (record { path = path_in p name; kind = entry.kind }) m (all_kinds source) (kinds_once source sound) (named_here name entry is) fits (to_list source w holds))
 
@@ -210,7 +207,7 @@ module _ (source : Source) (p : PlainProgram) (named_here : (name : List ℕ) (e
   by_entry None k is use' = absurd (cc)
   by_entry (Some entry) k is use' = use' entry refl (let e : entry.kind ≡ k = cc in e)
 
-  pub is_invariant : first_fault source ≡ None → IsInvariant (context_of (entry_named unit)) (name_space p) (AllInRange source)
+  pub is_invariant : IsSound source → IsInvariant (context_of (entry_named unit)) (name_space p) (AllInRange source)
   is_invariant sound =
       record {
         variable_in_range = λ w v k holds is. by_entry (entry_named unit v) k is (λ entry at same. subst (λ k. InRange k (value_at w (path_in p v))) same (reads w v entry holds at));
@@ -220,7 +217,7 @@ module _ (source : Source) (p : PlainProgram) (named_here : (name : List ℕ) (e
         enter_keeps = λ w instance holds is_one. holds;
       }
 
-  start_invariant : first_fault source ≡ None → IsInvariant (start_context (entry_named unit)) (name_space p) (AllInRange source)
+  start_invariant : IsSound source → IsInvariant (start_context (entry_named unit)) (name_space p) (AllInRange source)
   start_invariant sound =
       record {
         variable_in_range = λ w v k holds is. by_entry (entry_named unit v) k is (λ entry at same. subst (λ k. InRange k (value_at w (path_in p v))) same (reads w v entry holds at));
@@ -230,8 +227,8 @@ module _ (source : Source) (p : PlainProgram) (named_here : (name : List ℕ) (e
         enter_keeps = λ w instance holds is_one. holds;
       }
 
-  -- initial values that are judged keep the ranges
-  pub starts_keep : (w : World) → first_fault source ≡ None → starts_fit (context_of (entry_named unit)) (meant_starts unit) ≡ true → starts_constant (meant_starts unit) ≡ true → AllInRange source w → AllInRange source (begun source.globals p w)
+  -- initial values that are constants of the right kinds keep the ranges
+  pub starts_keep : (w : World) → IsSound source → starts_fit (context_of (entry_named unit)) (meant_starts unit) ≡ true → starts_constant (meant_starts unit) ≡ true → AllInRange source w → AllInRange source (begun source.globals p w)
   starts_keep w sound fits constant holds =
       left_holds (AllInRange source) (run_all (name_space p) (meant_starts unit) w)
       (run_all_keeps (start_context (entry_named unit)) (name_space p) (AllInRange source) (start_invariant sound) (meant_starts unit) w (all_starts_fit (entry_named unit) (meant_starts unit) fits) (no_controls (start_context (entry_named unit)) (meant_starts unit) constant) holds)
@@ -268,79 +265,17 @@ module _ (source : Source) (p : PlainProgram) (named_here : (name : List ℕ) (e
           let parts = and_parts (start_constant s) (starts_constant rest) h in
           λ i. no_control context s parts.0 i && no_controls context rest parts.1 i
 
--- an entry of the program's own is no input
-own_is_assignable : (globals : List Variable) (locals : List Local) (i : ℕ) (entry : Entry) → slice_get (entries_of globals locals) i ≡ Some entry → entry.is_own ≡ true → entry.is_input ≡ false
-own_is_assignable [] [] i entry at own = absurd (cc)
-own_is_assignable [] (l ∷ ls) zero entry at own = let e : own_entry l ≡ entry = cc in sym (ap (λ (x : Entry). x.is_input) e)
-own_is_assignable [] (l ∷ ls) (suc i) entry at own = own_is_assignable [] ls i entry at own
-own_is_assignable (g ∷ gs) locals zero entry at own = let e : entry_of g ≡ entry = cc in let f : false ≡ true = ap (λ (x : Entry). x.is_own) e ∙ own in absurd (cc)
-own_is_assignable (g ∷ gs) locals (suc i) entry at own = own_is_assignable gs locals i entry at own
-
-module _ {V : Type 0} (look : V → Option Entry) (same : V → V → Bool) (own : (v : V) (entry : Entry) → look v ≡ Some entry → entry.is_own ≡ true → entry.is_input ≡ false) where
-  control_fits : (v : V) (o : Option Entry) → look v ≡ o → is_control o ≡ true → (is_assignable o && is_kind kind.Dint (option_map (λ (entry : Entry). entry.kind) o)) ≡ true
-  control_fits v None at is = absurd (cc)
-  control_fits v (Some entry) at is =
-      let parts = and_parts entry.is_own (same_kind kind.Dint entry.kind) is in
-      (λ i. not (own v entry at parts.0 i) && parts.1 i)
-
-  mutual
-    -- control variables that are allowed fit
-    stmt_controls : (s : PlainStmt V) → stmt_allowed look same s ≡ true → stmt_controls_fit (context_of look) s ≡ true
-    stmt_controls (empty number) may = refl
-    stmt_controls (assign number v e) may = refl
-    stmt_controls (call number instance arguments) may = refl
-    stmt_controls (choose number branches last) may =
-        let m = and_parts (branches_allowed look same branches) (all_allowed look same last) may in
-        (λ i. branches_controls branches m.0 i && all_controls last m.1 i)
-    stmt_controls (select number e choices last) may =
-        let m = and_parts (choices_allowed look same choices) (all_allowed look same last) may in
-        (λ i. choices_controls choices m.0 i && all_controls last m.1 i)
-    stmt_controls (repeat number v from to by body) may =
-        let m = and_parts (is_control (look v)) (is_bound (constant_of from) && (is_bound (constant_of to) && (is_step (constant_step by) && (not (body_assigns same v body) && all_allowed look same body)))) may in
-        let m1 = and_parts (is_bound (constant_of from)) (is_bound (constant_of to) && (is_step (constant_step by) && (not (body_assigns same v body) && all_allowed look same body))) m.1 in
-        let m2 = and_parts (is_bound (constant_of to)) (is_step (constant_step by) && (not (body_assigns same v body) && all_allowed look same body)) m1.1 in
-        let m3 = and_parts (is_step (constant_step by)) (not (body_assigns same v body) && all_allowed look same body) m2.1 in
-        let m4 = and_parts (not (body_assigns same v body)) (all_allowed look same body) m3.1 in
-        (λ i. control_fits v (look v) refl m.0 i && all_controls body m4.1 i)
-
-    pub all_controls : (body : PlainBody V) → all_allowed look same body ≡ true → controls_fit (context_of look) body ≡ true
-    all_controls done may = refl
-    all_controls (next s rest) may =
-        let m = and_parts (stmt_allowed look same s) (all_allowed look same rest) may in
-        (λ i. stmt_controls s m.0 i && all_controls rest m.1 i)
-
-    branches_controls : (branches : Branches V) → branches_allowed look same branches ≡ true → branches_controls_fit (context_of look) branches ≡ true
-    branches_controls no_branch may = refl
-    branches_controls (branch test body rest) may =
-        let m = and_parts (all_allowed look same body) (branches_allowed look same rest) may in
-        (λ i. all_controls body m.0 i && branches_controls rest m.1 i)
-
-    choices_controls : (choices : Choices V) → choices_allowed look same choices ≡ true → choices_controls_fit (context_of look) choices ≡ true
-    choices_controls no_choice may = refl
-    choices_controls (choice labels body rest) may =
-        let m = and_parts (all_allowed look same body) (choices_allowed look same rest) may in
-        (λ i. all_controls body m.0 i && choices_controls rest m.1 i)
-
-not_false : (b : Bool) → not b ≡ false → b ≡ true
-not_false true is = refl
-not_false false is = absurd (cc)
-
-program_keeps : (source : Source) (n : ℕ) (o : Option PlainProgram) (w : World) → first_fault source ≡ None → slice_get source.programs n ≡ o → AllInRange source w → Leaves (AllInRange source) (run_in source o w)
+program_keeps : (source : Source) (n : ℕ) (o : Option PlainProgram) (w : World) → IsSound source → slice_get source.programs n ≡ o → AllInRange source w → Leaves (AllInRange source) (run_in source o w)
 program_keeps source n None w sound there holds = holds
 program_keeps source n (Some p) w sound there holds =
     let here = scoped source.globals p in
-    let judged = program_judged source n p sound there in
-    let same : List ℕ → List ℕ → Bool = λ a b. name_number here a == name_number here b in
-    run_all_keeps (context_of (entry_named here)) (name_space p) (AllInRange source) (is_invariant source p (named source n p there) sound) (meant_of here) w
-    (and_parts (starts_fit (context_of (entry_named here)) (meant_starts here)) (all_fit (context_of (entry_named here)) (meant_of here)) (not_false (starts_fit (context_of (entry_named here)) (meant_starts here) && all_fit (context_of (entry_named here)) (meant_of here)) judged.0)).1
-    (all_controls (entry_named here) same (λ v entry at own. own_is_assignable source.globals p.locals (name_number here v) entry at own) (meant_of here)
-    (and_parts (starts_constant (meant_starts here)) (all_allowed (entry_named here) same (meant_of here)) (not_false (starts_constant (meant_starts here) && all_allowed (entry_named here) same (meant_of here)) judged.1)).1)
-    holds
+    let right = program_right source n p sound there in
+    run_all_keeps (context_of (entry_named here)) (name_space p) (AllInRange source) (is_invariant source p (named source n p there) sound) (meant_of here) w right.all_fit right.controls_fit holds
 
-pub run_program_keeps : (source : Source) (n moment : ℕ) (w : World) → first_fault source ≡ None → AllInRange source w → Leaves (AllInRange source) (run_program source n moment w)
+pub run_program_keeps : (source : Source) (n moment : ℕ) (w : World) → IsSound source → AllInRange source w → Leaves (AllInRange source) (run_program source n moment w)
 run_program_keeps source n moment w sound holds = program_keeps source n (slice_get source.programs n) w sound refl holds
 
-pub assigned_global_keeps : (source : Source) (w : World) (i : ℕ) (g : Variable) (n : ℤ) → first_fault source ≡ None → slice_get source.globals i ≡ Some g → is_in_range g.kind n ≡ true → AllInRange source w → AllInRange source (worlds.assign w (path_of g.name) n)
+pub assigned_global_keeps : (source : Source) (w : World) (i : ℕ) (g : Variable) (n : ℤ) → IsSound source → slice_get source.globals i ≡ Some g → is_in_range g.kind n ≡ true → AllInRange source w → AllInRange source (worlds.assign w (path_of g.name) n)
 assigned_global_keeps source w i g n sound at fits holds =
     from_list source (worlds.assign w (path_of g.name) n)
     (assigned w (global_kind_at g) n (all_kinds source) (kinds_once source sound) (in_front (global_kind_at g) (map global_kind_at source.globals) (own_kinds source.programs) (in_map global_kind_at source.globals i g at)) fits (to_list source w holds))
@@ -355,25 +290,16 @@ all_zero : (xs : List KindAt) → AllByRecursion (Holds zero_world) xs
 all_zero [] = tt
 all_zero (x ∷ xs) = (zero_in_range x.kind, all_zero xs)
 
--- what is judged of the initial values of a unit
-starts_judged : (source : Source) (p : PlainProgram) → (kinds_misfit (scoped source.globals p) ≡ false) × (constants_wrong (scoped source.globals p) ≡ false)
-    → (starts_fit (context_of (entry_named (scoped source.globals p))) (meant_starts (scoped source.globals p)) ≡ true) × (starts_constant (meant_starts (scoped source.globals p)) ≡ true)
-starts_judged source p judged =
-    let u = scoped source.globals p in (
-      (and_parts (starts_fit (context_of (entry_named u)) (meant_starts u)) (all_fit (context_of (entry_named u)) (meant_of u)) (not_false (starts_fit (context_of (entry_named u)) (meant_starts u) && all_fit (context_of (entry_named u)) (meant_of u)) judged.0)).0,
-      (and_parts (starts_constant (meant_starts u)) (all_allowed (entry_named u) (λ a b. name_number u a == name_number u b) (meant_of u)) (not_false (starts_constant (meant_starts u) && all_allowed (entry_named u) (λ a b. name_number u a == name_number u b) (meant_of u)) judged.1)).0,
-    )
-
-programs_begin : (source : Source) (n : ℕ) (ps : List PlainProgram) (w : World) → first_fault source ≡ None → ((k : ℕ) (p : PlainProgram) → slice_get ps k ≡ Some p → slice_get source.programs (n + k) ≡ Some p) → AllInRange source w → AllInRange source (all_begun source.globals ps w)
+programs_begin : (source : Source) (n : ℕ) (ps : List PlainProgram) (w : World) → IsSound source → ((k : ℕ) (p : PlainProgram) → slice_get ps k ≡ Some p → slice_get source.programs (n + k) ≡ Some p) → AllInRange source w → AllInRange source (all_begun source.globals ps w)
 programs_begin source n [] w sound there holds = holds
 programs_begin source n (p ∷ ps) w sound there holds =
     let at : slice_get source.programs (n + 0) ≡ Some p = there 0 p refl in
-    let judged = starts_judged source p (program_judged source (n + 0) p sound at) in
+    let right = program_right source (n + 0) p sound at in
     programs_begin source (n + 1) ps (begun source.globals p w) sound (λ k q e. let sum : n + 1 + k ≡ n + suc k = omega arith in ap (slice_get source.programs) sum ∙ there (suc k) q e)
-    (starts_keep source p (named source (n + 0) p at) w sound judged.0 judged.1 holds)
+    (starts_keep source p (named source (n + 0) p at) w sound right.starts_fit right.starts_constant holds)
 
-pub opening_in_range : (source : Source) → first_fault source ≡ None → AllInRange source (opening source)
+pub opening_in_range : (source : Source) → IsSound source → AllInRange source (opening source)
 opening_in_range source sound =
-    let judged = starts_judged source (globals_program source) (globals_judged source sound) in
+    let right = sound.globals_right in
     programs_begin source 0 source.programs (begun source.globals (globals_program source) zero_world) sound (λ k p e. let sum : 0 + k ≡ k = omega arith in ap (slice_get source.programs) sum ∙ e)
-    (starts_keep source (globals_program source) (global_named source) zero_world sound judged.0 judged.1 (from_list source zero_world (all_zero (all_kinds source))))
+    (starts_keep source (globals_program source) (global_named source) zero_world sound right.starts_fit right.starts_constant (from_list source zero_world (all_zero (all_kinds source))))

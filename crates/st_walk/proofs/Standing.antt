@@ -1,22 +1,22 @@
--- What the cells of a source without faults hold, by the numbers and names of its globals.
-use Rattle.std.proofs.Common.{◌≡◌, ap, sym, subst, refl, arith, ℕ, zero, suc, ◌<◌, ℤ, pos, true, List, [], ◌∷◌, Some, None, length, get_or, map, replicate, ◌∙◌}
+-- What the cells of a sound source hold, by the numbers and names of its globals.
+use Rattle.std.proofs.Common.{◌≡◌, ap, sym, subst, refl, arith, ℕ, zero, suc, ◌<◌, ℤ, pos, true, List, [], ◌∷◌, Some, length, get_or, map, replicate, ◌∙◌}
 use Rattle.std.proofs.lemmas.List.{length-map}
 use Rattle.std.specs.Prelude.{slice_get, slice_set}
 use Rattle.std.specs.Str.{bytes_eq}
 use Rattle.std.specs.Cmp.Lexicographic.{bytes_decides}
 use Rattle.plant_types.specs.Words.{folded}
-use Rattle.st_resolve.specs.declared.logic.Variable.{Variable}
-use Rattle.st_resolve.specs.Source.{Source}
-use Rattle.st_resolve.specs.Names.{global_words, find_global}
-use Rattle.st_resolve.specs.Faults.{variable_count, first_fault}
-use Rattle.st_resolve.proofs.Places.{word, found, found_number}
+use Rattle.block_flatten.specs.declared.logic.Variable.{Variable}
+use Rattle.block_flatten.specs.Source.{Source}
+use Rattle.block_flatten.specs.Names.{global_words, find_global}
+use Rattle.block_flatten.specs.Sound.{variable_count, IsSound}
+use Rattle.block_flatten.proofs.Places.{word, found, found_number}
 use Rattle.st_walk.specs.Worlds.{Path, World, value_at, zero_world, Stands, assign, path_of, cell_paths}
 use Rattle.st_walk.proofs.Worlds.{paths_once, global_at, read_at, write_at, length-cell_paths}
 
 pub cell_holds : (source : Source) (cells : List ℤ) (w : World) (i : ℕ) (g : Variable) → slice_get source.globals i ≡ Some g → Stands source cells w → get_or cells i (pos 0) ≡ value_at w (path_of g.name)
 cell_holds source cells w i g at stands = sym (read_at source cells w i (path_of g.name) stands (global_at source g.name i (found_number source.globals i g at)))
 
-pub cell_written : (source : Source) (cells : List ℤ) (w : World) (i : ℕ) (g : Variable) (n : ℤ) → first_fault source ≡ None → slice_get source.globals i ≡ Some g → Stands source cells w → Stands source (slice_set cells i n) (assign w (path_of g.name) n)
+pub cell_written : (source : Source) (cells : List ℤ) (w : World) (i : ℕ) (g : Variable) (n : ℤ) → IsSound source → slice_get source.globals i ≡ Some g → Stands source cells w → Stands source (slice_set cells i n) (assign w (path_of g.name) n)
 cell_written source cells w i g n sound at stands = write_at source cells w i (path_of g.name) n (paths_once source sound) stands (global_at source g.name i (found_number source.globals i g at))
 
 there : (globals : List Variable) (name : List ℕ) (i : ℕ) → i < length globals → bytes_eq (folded name) (get_or (global_words globals) i (folded name)) ≡ true → (g : Variable) × (slice_get globals i ≡ Some g) × (path_of g.name ≡ path_of name)

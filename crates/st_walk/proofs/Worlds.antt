@@ -1,21 +1,20 @@
 -- Cells that stand for a world, after a value is read or written.
 use Rattle.std.proofs.Common.{◌≡◌, ◌∙◌, ap, sym, subst, refl, arith, ℕ, zero, suc, ◌+◌, ◌<◌, ℤ, pos, Bool, true, false, List, [], ◌∷◌, ◌++◌, Option, Some, None, map, length, get_or}
 use Rattle.std.proofs.Math.ListN.{get_or-append}
-use Rattle.std.proofs.lemmas.List.{get_or-map, length-map, length-append, get_or-append-add, map-append}
+use Rattle.std.proofs.lemmas.List.{get_or-map, length-map, length-append, get_or-append-add}
 use Rattle.std.proofs.lemmas.Bool.{or_parts}
-use Rattle.std.specs.Prelude.{⊤, is_some, unwrap_or, if◌then◌else◌, slice_get, slice_set, take, ◌&&◌, ◌||◌}
-use Rattle.std.specs.List.{list_any}
+use Rattle.std.specs.Prelude.{is_some, unwrap_or, if◌then◌else◌, slice_get, slice_set, take, ◌&&◌}
 use Rattle.std.specs.Str.{bytes_eq}
 use Rattle.plant_types.specs.Words.{folded}
-use Rattle.st_resolve.specs.declared.logic.Variable.{Variable}
-use Rattle.st_resolve.specs.declared.logic.Local.{Local}
-use Rattle.st_resolve.specs.declared.faults.FirstFault.{FirstFault}
-use Rattle.st_resolve.specs.Source.{PlainProgram, Source, scoped}
-use Rattle.st_resolve.specs.Names.{global_words, own_words, find_word, shifted, slot_in, is_among, repeats}
-use Rattle.st_resolve.specs.Faults.{is_known, own_count, first_fault}
-use Rattle.st_resolve.proofs.Places.{Found, found, word_is}
-use Rattle.st_resolve.proofs.Right.{program_word, NamesRight, program_right, programs_apart}
-use Rattle.st_resolve.proofs.Numbered.{words_apart}
+use Rattle.block_flatten.specs.declared.logic.Variable.{Variable}
+use Rattle.block_flatten.specs.declared.logic.Local.{Local}
+use Rattle.block_flatten.specs.Source.{PlainProgram, Source, scoped}
+use Rattle.block_flatten.specs.Names.{global_words, own_words, find_word, shifted, slot_in, is_among, repeats}
+use Rattle.block_flatten.specs.Scopes.{is_known}
+use Rattle.block_flatten.specs.Sound.{program_word, own_count, IsSound}
+use Rattle.block_flatten.proofs.Places.{Found, found, word_is}
+use Rattle.block_flatten.proofs.Right.{program_right}
+use Rattle.block_flatten.proofs.Numbered.{words_apart}
 use Rattle.st_walk.specs.Worlds.{Path, same_path, World, value_at, Stands, assign, path_of, own_path, path_in, own_paths, all_own_paths, global_paths, cell_paths}
 use Rattle.st_walk.specs.Slots.{cell}
 use Rattle.st_walk.proofs.Paths.{Absent, Once, Disjoint, once_append, absent_append, written}
@@ -71,10 +70,10 @@ disjoint_globals : (ws : List (List ℕ)) (qs : List PlainProgram) → Disjoint 
 disjoint_globals [] qs = tt
 disjoint_globals (w ∷ ws) qs = (short_programs w qs, disjoint_globals ws qs)
 
-pub paths_once : (source : Source) → first_fault source ≡ None → Once (cell_paths source)
+pub paths_once : (source : Source) → IsSound source → Once (cell_paths source)
 paths_once source sound =
     once_append (global_paths source.globals) (all_own_paths source.programs) (once_words [] (global_words source.globals) (words_apart source sound))
-    (once_programs source.programs (programs_apart source sound) (λ n p at. (program_right source n p sound at).own_apart)) (disjoint_globals (global_words source.globals) source.programs)
+    (once_programs source.programs sound.programs_apart (λ n p at. (program_right source n p sound at).own_apart)) (disjoint_globals (global_words source.globals) source.programs)
 
 -- ---- the place of a path
 pub record At (paths : List Path) (slot : ℕ) (path : Path) : Type 0 where

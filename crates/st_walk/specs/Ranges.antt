@@ -3,9 +3,9 @@ use Rattle.std.specs.Prelude.{◌≡◌, true, List, [], ◌∷◌, ◌++◌, ma
 use Rattle.std.specs.List.{All}
 use Rattle.plant_types.specs.declared.values.Kind.{Kind}
 use Rattle.plant_types.specs.Values.{is_in_range}
-use Rattle.st_resolve.specs.declared.logic.Variable.{Variable}
-use Rattle.st_resolve.specs.declared.logic.Local.{Local}
-use Rattle.st_resolve.specs.Source.{PlainProgram, Source}
+use Rattle.block_flatten.specs.declared.logic.Variable.{Variable}
+use Rattle.block_flatten.specs.declared.logic.Local.{Local}
+use Rattle.block_flatten.specs.Source.{PlainProgram, Source}
 use Rattle.st_walk.specs.Worlds.{Path, World, value_at, path_of, own_path}
 
 -- the path of a variable, and its kind

@@ -2,7 +2,7 @@
 use Rattle.std.specs.Prelude.{◌≡◌, ◌<◌, ℤ, List, [], ◌∷◌, length, map, slice_index_or}
 use Rattle.plant_types.specs.declared.values.Place.{Place}
 use Rattle.st_tree.specs.Meaning.{Spot, Ran, Done, Trapped}
-use Rattle.st_resolve.specs.Source.{PlainProgram, Source}
+use Rattle.block_flatten.specs.Source.{PlainProgram, Source}
 use Rattle.st_walk.specs.declared.walker.Walked.{Walked}
 use Rattle.st_walk.specs.declared.walker.Walked.TheVariants as walked
 use Rattle.st_walk.specs.Worlds.{Path, World, Stands}

@@ -3,10 +3,10 @@ use Rattle.std.specs.Prelude.{◌≡◌, ℕ, ℤ, pos, Bool, true, false, ◌&&
 use Rattle.std.specs.Str.{bytes_eq}
 use Rattle.plant_types.specs.Words.{folded}
 use Rattle.st_tree.specs.Meaning.{Space, Ran, Done, Trapped, run_all}
-use Rattle.st_resolve.specs.declared.logic.Variable.{Variable}
-use Rattle.st_resolve.specs.Source.{PlainProgram, Source, scoped, globals_program}
-use Rattle.st_resolve.specs.Names.{global_words, own_words, find_word}
-use Rattle.st_resolve.specs.Faults.{meant_of, meant_starts}
+use Rattle.block_flatten.specs.declared.logic.Variable.{Variable}
+use Rattle.block_flatten.specs.Source.{PlainProgram, Source, scoped, globals_program}
+use Rattle.block_flatten.specs.Names.{global_words, own_words, find_word}
+use Rattle.block_flatten.specs.Scopes.{meant_of, meant_starts}
 
 -- a list of names in small letters, the innermost first
 abbrev pub Path : Type 0

@@ -4,7 +4,7 @@ ghost use Rattle.std.specs.Prelude.{◌≡◌, ◌<◌, ◌==◌, pos, length, s
 ghost use Rattle.st_walk.specs.Worlds.{Stands, zero_world, opening};
 
 use crate::walker::begin;
-use st_resolve::Flat;
+use block_flatten::Flat;
 use std::alloc::{AllocError, Global};
 use std::marker::Model;
 

@@ -1,4 +1,4 @@
-//! Programs without a fault run over a plain list of cells, one for each variable: the globals in order of declaration, then the own
+//! The programs of a sound source run over a plain list of cells, one for each variable: the globals in order of declaration, then the own
 //! variables of each program in turn.
 //!
 //! A world gives each path a whole number: a path is a list of names in small letters, the innermost first. That of a global

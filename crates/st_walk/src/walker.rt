@@ -9,8 +9,8 @@ ghost use Rattle.st_walk.specs.Worlds.{World, Stands, zero_world, opening, run_p
 ghost use Rattle.st_walk.specs.Runs.{ran, IsWithin, Agree};
 
 use crate::cells::Cells;
+use block_flatten::Flat;
 use plant_types::{Place, Trap};
-use st_resolve::Flat;
 use st_tree::{
     Argument, Branch, Choice, Expr, Span, Stmt, eval_binary, eval_unary, labels_fit, span_of,
 };

@@ -1,6 +1,5 @@
-use Rattle.std.proofs.Common.{◌∙◌, ap, sym, subst, refl}
-use Rattle.st_resolve.specs.Source.{Source}
-use Rattle.st_resolve.specs.Faults.{first_fault}
+use Rattle.std.proofs.Common.{◌∙◌, ap, subst, refl}
+use Rattle.block_flatten.specs.Source.{Source}
 use Rattle.st_walk.specs.Worlds.{Stands, opening}
 use Rattle.engine.proofs.Systems.{opening_agrees, opening_flags}
 use Rattle.engine.proofs.state.opening_state.Goals as goal
@@ -10,7 +9,6 @@ returns c =
     let globals = c.globals-globals.ensures.globals ∙ ap (λ s. s.globals) c.flat.ensures.source in
     opening_agrees _ _
     c.flat.ensures.plant
-    (ap first_fault (sym c.flat.ensures.source) ∙ c.globals-globals.ensures.no_fault)
     (subst (λ (s : Source). Stands s c.in_ok-cells.cells (opening s)) c.flat-2.ensures.source c.in_ok-cells.ensures)
     (opening_flags _ _ _ c.programs.ensures.count (c.in_ok-faulted.ensures.items_if_clones_equal (λ y same. same)))
     (rw c.alarm_rows.ensures.rows at c.in_ok-alarms.ensures)

@@ -1,4 +1,4 @@
-use Rattle.std.proofs.Common.{◌≡◌, ◌<◌, ◌^◌, length, All}
+use Rattle.std.proofs.Common.{◌≡◌, ◌<◌, length, All}
 use Rattle.st_walk.specs.Worlds.{World, Stands}
 use Rattle.st_walk.specs.Runs.{paths_of}
 use Rattle.plant_config.specs.Names.{programs_of}

@@ -25,7 +25,7 @@ returns-clause-ok c =
     let len : c.len-events.result ≡ length c.self.inside.history.items = search rules in
     let due = scan_event_is c.self.inside.plant c.self.inside.history.items c.self.inside.state c.len-events.result c.args.pairs.now c.args.moment c.self.invariant.state_is len in
     let held : IsState c.self.inside.plant (system c.self.inside.plant c.reserve.new.self.items) c.self.inside.state = rw c.in_ok-reserve.ensures.items c.self.invariant.state_is in
-    (scan_fits _ c.in_ok-prepared.prepared c.self.inside.state c.len-events.result c.args.pairs.now c.args.moment c.self.invariant.plant_is c.self.invariant.sound held made (omega (arith, c.in_ok-reserve.ensures.ok)), rw (← c.self.view_is) (sym due ∙ made.taken))
+    (scan_fits _ c.in_ok-prepared.prepared c.self.inside.state c.len-events.result c.args.pairs.now c.args.moment c.self.invariant.plant_is held made (omega (arith, c.in_ok-reserve.ensures.ok)), rw (← c.self.view_is) (sym due ∙ made.taken))
 
 pub prepared_scan-requires-clause-outputs : goal.prepared_scan-requires-clause-outputs
 prepared_scan-requires-clause-outputs c = kept_outputs c.self.inside.plant c.self.inside.history.items c.self.inside.state c.self.invariant.state_is
