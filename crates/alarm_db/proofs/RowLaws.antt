@@ -13,7 +13,7 @@ use Rattle.alarm_db.specs.declared.fault.DbFault.{DbFault}
 use Rattle.alarm_db.specs.declared.fault.DbFault.TheVariants as fault
 use Rattle.alarm_db.specs.Columns.{field_of}
 use Rattle.alarm_db.specs.Forms.{has_form, has_digits, is_empty, is_priority, is_shelve_time}
-use Rattle.alarm_db.specs.Rows.{wrong_column, word_of, row_of, IsAlarmRow}
+use Rattle.alarm_db.specs.Rows.{wrong_column, word_of, row_of, IsDatabaseRow}
 use Rattle.alarm_db.specs.Databases.{first_wrong}
 use Rattle.alarm_db.proofs.TextLaws.{and_left, and_right}
 
@@ -74,7 +74,7 @@ word_named [] h = tt
 word_named (b ∷ bs) h = h
 
 -- the row of such fields
-pub row_formed : (fields : List (List ℕ)) → AreFormed fields → IsAlarmRow (row_of fields)
+pub row_formed : (fields : List (List ℕ)) → AreFormed fields → IsDatabaseRow (row_of fields)
 row_formed fields h = record {
   tag = h.tag;
   area = h.area;
@@ -91,7 +91,7 @@ go_on n None rest h = (refl, h)
 go_on n (Some c) rest h = absurd (cc h)
 
 -- the rows of records none of which has a wrong column
-pub rows_formed : (n : ℕ) (all : List (List (List ℕ))) → first_wrong n all ≡ None → All IsAlarmRow (map row_of all)
+pub rows_formed : (n : ℕ) (all : List (List (List ℕ))) → first_wrong n all ≡ None → All IsDatabaseRow (map row_of all)
 rows_formed n [] h k d lt = absurd (omega arith)
 rows_formed n (fields ∷ rest) h zero d lt = row_formed fields (formed fields (go_on n (wrong_column fields) (first_wrong (n + 1) rest) h).0)
 rows_formed n (fields ∷ rest) h (suc k) d lt = rows_formed (n + 1) rest (go_on n (wrong_column fields) (first_wrong (n + 1) rest) h).1 k d (omega arith)

@@ -7,12 +7,12 @@ use Rattle.csv.specs.Records.{Row, fields_of}
 use Rattle.alarm_db.specs.declared.column.Column.{Column}
 use Rattle.alarm_db.specs.declared.fault.DbFault.{DbFault}
 use Rattle.alarm_db.specs.declared.fault.DbFault.TheVariants as fault
-use Rattle.alarm_db.specs.declared.row.AlarmRow.{AlarmRow}
+use Rattle.alarm_db.specs.declared.row.DatabaseRow.{DatabaseRow}
 use Rattle.alarm_db.specs.Rows.{wrong_column, row_of}
 use Rattle.alarm_db.specs.Databases.{first_wrong, first_twice, is_among, tags_of}
 
 -- i records were taken, and none of them has a wrong column
-pub record Taken (records : List Row) (i : ℕ) (rows : List AlarmRow) : Type 0 where
+pub record Taken (records : List Row) (i : ℕ) (rows : List DatabaseRow) : Type 0 where
   pub wrong : first_wrong (i + 1) (map fields_of (drop i records)) ≡ first_wrong 1 (map fields_of records)
   pub rows_are : rows ≡ map row_of (map fields_of (take i records))
   pub count : length rows ≡ i
@@ -26,7 +26,7 @@ cut xs i x lt here = drop_more xs i x lt ∙ ap (λ y. y ∷ drop (i + 1) xs) (s
 front : {X : Type 0} (xs : List X) (i : ℕ) (x : X) → i < length xs → x ≡ get_or xs i x → take (i + 1) xs ≡ take i xs ++ x ∷ []
 front xs i x lt here = take_more xs i x lt ∙ ap (λ y. take i xs ++ y ∷ []) (sym here)
 
-pub one_taken : (records : List Row) (i : ℕ) (r : Row) (rows rows2 : List AlarmRow) → i < length records → r ≡ get_or records i r → Taken records i rows
+pub one_taken : (records : List Row) (i : ℕ) (r : Row) (rows rows2 : List DatabaseRow) → i < length records → r ≡ get_or records i r → Taken records i rows
     → wrong_column (fields_of r) ≡ None → rows2 ≡ rows ++ row_of (fields_of r) ∷ [] → Taken records (i + 1) rows2
 one_taken records i r rows rows2 lt here taken none more =
     let rest = first_wrong (i + 1 + 1) (map fields_of (drop (i + 1) records)) in
@@ -39,7 +39,7 @@ one_taken records i r rows rows2 lt here taken none more =
       count = let a = length-append rows (row_of (fields_of r) ∷ []) in let b = ap length more in let k = taken.count in omega arith;
     }
 
-pub wrong_here : (records : List Row) (i : ℕ) (r : Row) (c : Column) (rows : List AlarmRow) (n : ℕ) → i < length records → r ≡ get_or records i r → Taken records i rows
+pub wrong_here : (records : List Row) (i : ℕ) (r : Row) (c : Column) (rows : List DatabaseRow) (n : ℕ) → i < length records → r ≡ get_or records i r → Taken records i rows
     → wrong_column (fields_of r) ≡ Some c → n ≡ length rows → first_wrong 1 (map fields_of records) ≡ Some (fault.Field (n + 1) c)
 wrong_here records i r c rows n lt here taken wrong number =
     let rest = first_wrong (i + 1 + 1) (map fields_of (drop (i + 1) records)) in
@@ -47,36 +47,36 @@ wrong_here records i r c rows n lt here taken wrong number =
     let g = ap (λ o. option_or (option_map (λ k. fault.Field (i + 1) k) o) rest) wrong in
     sym taken.wrong ∙ f ∙ g ∙ ap (λ k. Some (fault.Field (k + 1) c)) (sym (number ∙ taken.count))
 
-pub all_taken : (records : List Row) (i : ℕ) (rows : List AlarmRow) → length records ≤ i → Taken records i rows
+pub all_taken : (records : List Row) (i : ℕ) (rows : List DatabaseRow) → length records ≤ i → Taken records i rows
     → (first_wrong 1 (map fields_of records) ≡ None) × (rows ≡ map row_of (map fields_of records))
 all_taken records i rows end taken =
     (sym (rw (drop_all i records end) at taken.wrong), rw (take_all i records end) at taken.rows_are)
 
 -- i rows were taken, and these are their tags, each once
-pub record TagsTaken (rows : List AlarmRow) (i : ℕ) (tags : List (List ℕ)) : Type 0 where
+pub record TagsTaken (rows : List DatabaseRow) (i : ℕ) (tags : List (List ℕ)) : Type 0 where
   pub twice : first_twice tags (tags_of (drop i rows)) ≡ first_twice [] (tags_of rows)
   pub tags_are : tags ≡ tags_of (take i rows)
 
-pub no_tags_taken : (rows : List AlarmRow) → TagsTaken rows 0 []
+pub no_tags_taken : (rows : List DatabaseRow) → TagsTaken rows 0 []
 no_tags_taken rows = record { twice = refl; tags_are = refl }
 
-pub one_tag_taken : (rows : List AlarmRow) (i : ℕ) (r : AlarmRow) (tags tags2 : List (List ℕ)) → i < length rows → r ≡ get_or rows i r → TagsTaken rows i tags
+pub one_tag_taken : (rows : List DatabaseRow) (i : ℕ) (r : DatabaseRow) (tags tags2 : List (List ℕ)) → i < length rows → r ≡ get_or rows i r → TagsTaken rows i tags
     → is_among tags r.tag ≡ false → tags2 ≡ tags ++ r.tag ∷ [] → TagsTaken rows (i + 1) tags2
 one_tag_taken rows i r tags tags2 lt here taken new more =
     let f = ap (λ l. first_twice tags (tags_of l)) (cut rows i r lt here) in
     let g = ap (λ b. if b then Some (fault.Twice (length tags + 1)) else first_twice (tags ++ r.tag ∷ []) (tags_of (drop (i + 1) rows))) new in
     record {
       twice = ap (λ l. first_twice l (tags_of (drop (i + 1) rows))) more ∙ sym (f ∙ g) ∙ taken.twice;
-      tags_are = more ∙ ap (λ l. l ++ r.tag ∷ []) taken.tags_are ∙ sym (ap tags_of (front rows i r lt here) ∙ map-append (λ (row : AlarmRow). row.tag) (take i rows) (r ∷ []));
+      tags_are = more ∙ ap (λ l. l ++ r.tag ∷ []) taken.tags_are ∙ sym (ap tags_of (front rows i r lt here) ∙ map-append (λ (row : DatabaseRow). row.tag) (take i rows) (r ∷ []));
     }
 
-pub twice_here : (rows : List AlarmRow) (i : ℕ) (r : AlarmRow) (tags : List (List ℕ)) (n : ℕ) → i < length rows → r ≡ get_or rows i r → TagsTaken rows i tags
+pub twice_here : (rows : List DatabaseRow) (i : ℕ) (r : DatabaseRow) (tags : List (List ℕ)) (n : ℕ) → i < length rows → r ≡ get_or rows i r → TagsTaken rows i tags
     → is_among tags r.tag ≡ true → n ≡ length tags → first_twice [] (tags_of rows) ≡ Some (fault.Twice (n + 1))
 twice_here rows i r tags n lt here taken among number =
     let f = ap (λ l. first_twice tags (tags_of l)) (cut rows i r lt here) in
     let g = ap (λ b. if b then Some (fault.Twice (length tags + 1)) else first_twice (tags ++ r.tag ∷ []) (tags_of (drop (i + 1) rows))) among in
     sym taken.twice ∙ f ∙ g ∙ ap (λ k. Some (fault.Twice (k + 1))) (sym number)
 
-pub all_tags_taken : (rows : List AlarmRow) (i : ℕ) (tags : List (List ℕ)) → length rows ≤ i → TagsTaken rows i tags → (first_twice [] (tags_of rows) ≡ None) × (tags ≡ tags_of rows)
+pub all_tags_taken : (rows : List DatabaseRow) (i : ℕ) (tags : List (List ℕ)) → length rows ≤ i → TagsTaken rows i tags → (first_twice [] (tags_of rows) ≡ None) × (tags ≡ tags_of rows)
 all_tags_taken rows i tags end taken =
     (sym (rw (drop_all i rows end) at taken.twice), rw (take_all i rows end) at taken.tags_are)

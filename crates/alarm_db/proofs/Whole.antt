@@ -8,7 +8,7 @@ use Rattle.std.proofs.lemmas.List.{length-map, take_all, take-append-drop}
 use Rattle.std.proofs.lemmas.List.Folds.{list_all-append}
 use Rattle.alarm_db.specs.declared.fault.DbFault.{DbFault}
 use Rattle.alarm_db.specs.declared.fault.DbFault.TheVariants as fault
-use Rattle.alarm_db.specs.declared.row.AlarmRow.{AlarmRow}
+use Rattle.alarm_db.specs.declared.row.DatabaseRow.{DatabaseRow}
 use Rattle.alarm_db.specs.Rows.{row_of}
 use Rattle.alarm_db.specs.Databases.{first_wrong, first_twice, is_even, is_header, records_fault, rows_fault, rows_in, tags_of, Refuses, IsDatabase}
 use Rattle.alarm_db.proofs.RowLaws.{rows_formed}
@@ -109,7 +109,7 @@ same_rows n m (header ∷ rows) e enough even none =
     ap rows_in (take_cons n m header rows e) ∙ ap (map row_of) (none_whole m rows enough sound)
 
 -- the first 20,002 records tell all
-pub read_ok : (r : Result (List AlarmRow) DbFault) (found all : List (List (List ℕ))) → found ≡ take 20002 all → list_all is_even all ≡ true
+pub read_ok : (r : Result (List DatabaseRow) DbFault) (found all : List (List (List ℕ))) → found ≡ take 20002 all → list_all is_even all ≡ true
     → MatchResult r (λ rows. (records_fault found ≡ None) × (rows ≡ rows_in found)) (Refuses (records_fault found)) → IfOk r (λ rows. (records_fault all ≡ None) × (rows ≡ rows_in all))
 read_ok (Ok rows) found all cut even h =
     let n : 20002 ≡ suc 20001 = omega arith in
@@ -117,7 +117,7 @@ read_ok (Ok rows) found all cut even h =
     (none, h.1 ∙ ap rows_in cut ∙ same_rows 20002 20001 all n (omega arith) even none)
 read_ok (Err f) found all cut even h = tt
 
-pub read_err : (r : Result (List AlarmRow) DbFault) (found all : List (List (List ℕ))) → found ≡ take 20002 all → list_all is_even all ≡ true
+pub read_err : (r : Result (List DatabaseRow) DbFault) (found all : List (List (List ℕ))) → found ≡ take 20002 all → list_all is_even all ≡ true
     → MatchResult r (λ rows. (records_fault found ≡ None) × (rows ≡ rows_in found)) (Refuses (records_fault found)) → IfErr r (Refuses (records_fault all))
 read_err (Ok rows) found all cut even h = tt
 read_err (Err f) found all cut even h =

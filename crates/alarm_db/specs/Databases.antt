@@ -6,9 +6,9 @@ use Rattle.std.specs.Str.{bytes_eq}
 use Rattle.csv.specs.Reading.{default_config, records, strip_bom}
 use Rattle.alarm_db.specs.declared.fault.DbFault.{DbFault}
 use Rattle.alarm_db.specs.declared.fault.DbFault.TheVariants as fault
-use Rattle.alarm_db.specs.declared.row.AlarmRow.{AlarmRow}
+use Rattle.alarm_db.specs.declared.row.DatabaseRow.{DatabaseRow}
 use Rattle.alarm_db.specs.Columns.{columns, column_name, field_of}
-use Rattle.alarm_db.specs.Rows.{wrong_column, row_of, IsAlarmRow}
+use Rattle.alarm_db.specs.Rows.{wrong_column, row_of, IsDatabaseRow}
 
 -- whether a record has a field for each of the eight columns, and no other
 abbrev pub is_even : List (List ℕ) → Bool
@@ -33,8 +33,8 @@ first_twice earlier [] = None
 first_twice earlier (tag ∷ tags) = if is_among earlier tag then Some (fault.Twice (length earlier + 1)) else first_twice (earlier ++ tag ∷ []) tags
 
 -- the tags of rows
-abbrev pub tags_of : List AlarmRow → List (List ℕ)
-tags_of rows = map (λ (row : AlarmRow). row.tag) rows
+abbrev pub tags_of : List DatabaseRow → List (List ℕ)
+tags_of rows = map (λ (row : DatabaseRow). row.tag) rows
 
 -- the first fault of the records after the header: there are too many, or a field has a wrong form, or a tag stands twice
 abbrev pub rows_fault : List (List (List ℕ)) → Option DbFault
@@ -48,7 +48,7 @@ records_fault (header ∷ rows) =
     if not (list_all is_even (header ∷ rows)) || not (is_header header) then Some fault.Header else rows_fault rows
 
 -- the rows of records without a fault: a row for each but the header
-abbrev pub rows_in : List (List (List ℕ)) → List AlarmRow
+abbrev pub rows_in : List (List (List ℕ)) → List DatabaseRow
 rows_in [] = []
 rows_in (header ∷ rows) = map row_of rows
 
@@ -61,7 +61,7 @@ abbrev pub first_fault : List ℕ → Option DbFault
 first_fault text = records_fault (records_of text)
 
 -- the rows of an alarm database's text without a fault
-abbrev pub rows_of : List ℕ → List AlarmRow
+abbrev pub rows_of : List ℕ → List DatabaseRow
 rows_of text = rows_in (records_of text)
 
 -- a refusal is the first fault; memory may be refused at any time
@@ -70,7 +70,7 @@ Refuses first fault.Memory = ⊤
 Refuses first f = first ≡ Some f
 
 -- what holds of each database: it has at most 20,000 rows, each as its columns ask, and no tag stands twice
-pub record IsDatabase (rows : List AlarmRow) : Type 0 where
+pub record IsDatabase (rows : List DatabaseRow) : Type 0 where
   pub few : length rows ≤ 20000
-  pub each : All IsAlarmRow rows
-  pub distinct : AllPairs (λ (a : AlarmRow) (b : AlarmRow). a.tag ≢ b.tag) rows
+  pub each : All IsDatabaseRow rows
+  pub distinct : AllPairs (λ (a : DatabaseRow) (b : DatabaseRow). a.tag ≢ b.tag) rows

@@ -5,7 +5,7 @@ use Rattle.std.specs.Str.Parse.{digits_value}
 use Rattle.plant_types.specs.Words.{is_name}
 use Rattle.alarm_db.specs.declared.column.Column.{Column}
 use Rattle.alarm_db.specs.declared.column.Column.TheVariants as column
-use Rattle.alarm_db.specs.declared.row.AlarmRow.{AlarmRow}
+use Rattle.alarm_db.specs.declared.row.DatabaseRow.{DatabaseRow}
 use Rattle.alarm_db.specs.Columns.{columns, field_of}
 use Rattle.alarm_db.specs.Forms.{has_form, is_tag, is_text, is_empty, latches}
 
@@ -18,7 +18,7 @@ abbrev pub word_of : List ℕ → Option (List ℕ)
 word_of field = if is_empty field then None else Some field
 
 -- the row of a record whose fields have their forms
-abbrev pub row_of : List (List ℕ) → AlarmRow
+abbrev pub row_of : List (List ℕ) → DatabaseRow
 row_of fields = record {
   tag = field_of fields column.Tag;
   area = field_of fields column.Area;
@@ -31,7 +31,7 @@ row_of fields = record {
 }
 
 -- what holds of each row
-pub record IsAlarmRow (row : AlarmRow) : Type 0 where
+pub record IsDatabaseRow (row : DatabaseRow) : Type 0 where
   pub tag : is_tag row.tag ≡ true
   pub area : is_tag row.area ≡ true
   pub highest : 1 ≤ row.priority

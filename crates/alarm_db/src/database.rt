@@ -9,7 +9,7 @@ ghost use Rattle.alarm_db.specs.Databases.{first_fault, first_twice, first_wrong
 
 use crate::fault::DbFault;
 use crate::records::{first_records, is_header};
-use crate::row::{AlarmRow, row_of, wrong_column};
+use crate::row::{DatabaseRow, row_of, wrong_column};
 use crate::tags::Tags;
 use csv::ByteRecord;
 use std::alloc::Global;
@@ -22,16 +22,16 @@ const MOST_ROWS: usize = 20_000;
 /// its columns ask, and no two have one tag.
 #[derive(Drop)]
 pub struct AlarmDatabase {
-    rows: Vec<AlarmRow>,
+    rows: Vec<DatabaseRow>,
     tags: Tags,
 }
 
 impl Model for AlarmDatabase {
     ghost use Rattle.std.specs.Prelude.{◌≡◌, List};
-    ghost use Rattle.alarm_db.specs.declared.row.AlarmRow.{AlarmRow};
+    ghost use Rattle.alarm_db.specs.declared.row.DatabaseRow.{DatabaseRow};
     ghost use Rattle.alarm_db.specs.Databases.{IsDatabase, tags_of};
 
-    ghost Value = { List AlarmRow };
+    ghost Value = { List DatabaseRow };
 
     ghost view = { λ d. d.rows.items };
 
@@ -40,7 +40,7 @@ impl Model for AlarmDatabase {
 
 impl AlarmDatabase {
     /// The rows, in the order of the text.
-    pub fn rows(&self) -> &[AlarmRow]
+    pub fn rows(&self) -> &[DatabaseRow]
         ensures rows { result.now ≡ self.now }
         ensures database { IsDatabase self.now }
     {
@@ -56,7 +56,7 @@ impl AlarmDatabase {
     }
 
     /// The rows and the index of their tags, as two values.
-    pub fn into_parts(self) -> (Vec<AlarmRow>, Tags)
+    pub fn into_parts(self) -> (Vec<DatabaseRow>, Tags)
         ensures rows { result.0.items ≡ self }
         ensures tags { result.1 ≡ tags_of self }
         ensures database { IsDatabase self }
@@ -66,7 +66,7 @@ impl AlarmDatabase {
 }
 
 /// The rows of records, or the fault of the first that has a field of a wrong form. Records are numbered from 1.
-fn alarm_rows(alloc: Global, records: &[ByteRecord]) -> Result<Vec<AlarmRow>, DbFault>
+fn alarm_rows(alloc: Global, records: &[ByteRecord]) -> Result<Vec<DatabaseRow>, DbFault>
     requires { length records.now ≤ 20000 }
     ensures { MatchResult result
         (λ rows. (first_wrong 1 (map fields_of records.now) ≡ None) × (rows.items ≡ map row_of (map fields_of records.now)))
@@ -86,7 +86,7 @@ fn alarm_rows(alloc: Global, records: &[ByteRecord]) -> Result<Vec<AlarmRow>, Db
 }
 
 /// The tags of rows, or the fault of the first row whose tag an earlier row has. Rows are numbered from 1.
-fn tags_of(alloc: Global, rows: &[AlarmRow]) -> Result<Tags, DbFault>
+fn tags_of(alloc: Global, rows: &[DatabaseRow]) -> Result<Tags, DbFault>
     requires { length rows.now ≤ 20000 }
     ensures { MatchResult result
         (λ tags. (first_twice [] (tags_of rows.now) ≡ None) × (tags ≡ tags_of rows.now))

@@ -14,5 +14,5 @@ mod tags;
 pub use column::Column;
 pub use database::{AlarmDatabase, read};
 pub use fault::DbFault;
-pub use row::AlarmRow;
+pub use row::DatabaseRow;
 pub use tags::Tags;

@@ -18,7 +18,7 @@ use std::str;
 
 /// A row of an alarm database: an alarm, with its area and its variables by their names.
 #[derive(Drop)]
-pub struct AlarmRow {
+pub struct DatabaseRow {
     /// The alarm's name, in which letter case counts.
     pub tag: Text,
     /// The name of the part of the plant to which it belongs. Whether the plant has such an area, the database doesn't say.
@@ -89,11 +89,11 @@ fn digits(field: &[u8]) -> u64
 }
 
 /// The alarm of a row whose fields have their forms. Fails if allocation fails.
-pub(crate) fn row_of(alloc: Global, row: &ByteRecord) -> Result<AlarmRow, AllocError>
+pub(crate) fn row_of(alloc: Global, row: &ByteRecord) -> Result<DatabaseRow, AllocError>
     requires { wrong_column (fields_of row.now) ≡ None }
     ensures { IfOk result (λ alarm. alarm ≡ row_of (fields_of row.now)) }
 {
-    Ok(AlarmRow {
+    Ok(DatabaseRow {
         tag: text(alloc, field(row, Column::Tag))?,
         area: text(alloc, field(row, Column::Area))?,
         priority: digits(field(row, Column::Priority)) as u32,

@@ -1,6 +1,1 @@
-pub mod Answered
-pub mod Decided
-pub mod Examples
-pub mod Refusals
 pub mod Programs
-pub mod Starts

@@ -3,9 +3,9 @@ use Rattle.std.proofs.Common.{◌≡◌, ◌∙◌, ap, sym, subst, refl, arith,
 use Rattle.std.specs.Prelude.{position, slice_index_or}
 use Rattle.std.proofs.lemmas.List.{length-map}
 use Rattle.plant_types.specs.Words.{same_word}
-use Rattle.st_resolve.specs.declared.logic.Program.{Program}
-use Rattle.st_resolve.specs.Source.{PlainProgram, view_program}
-use Rattle.st_resolve.proofs.Positions.{position-map}
+use Rattle.block_flatten.specs.declared.logic.Program.{Program}
+use Rattle.block_flatten.specs.Source.{PlainProgram, view_program}
+use Rattle.block_flatten.proofs.Positions.{position-map}
 
 abbrev name_of : PlainProgram → List ℕ
 name_of p = p.name

@@ -1,23 +1,47 @@
 -- The line that reports why a plant isn't accepted.
 use Rattle.std.specs.Prelude.{ℕ, List, [], ◌++◌, codes}
 use Rattle.std.specs.Fmt.{decimal}
+use Rattle.alarm_db.specs.Columns.{column_name}
 use Rattle.plant_config.specs.declared.fault.ConfigFault.{ConfigFault}
 use Rattle.plant_config.specs.declared.fault.ConfigFault.TheVariants as fault
+use Rattle.plant_config.specs.declared.fault.Limit.{Limit}
+use Rattle.plant_config.specs.declared.fault.Limit.TheVariants as limit
 
--- a line and a column, with a blank between them
-abbrev pub place_text : ℕ → ℕ → List ℕ
-place_text line column = decimal line ++ codes " " ++ decimal column
+-- the name of a limit
+abbrev pub limit_name : Limit → List ℕ
+limit_name limit.Sources = codes "SOURCES"
+limit_name limit.Text = codes "TEXT"
+limit_name limit.Areas = codes "AREAS"
+limit_name limit.Consoles = codes "CONSOLES"
+limit_name limit.Turns = codes "TURNS"
+limit_name limit.BlockDepth = codes "BLOCK_DEPTH"
+limit_name limit.Programs = codes "PROGRAMS"
+limit_name limit.Slots = codes "SLOTS"
+limit_name limit.Alarms = codes "ALARMS"
 
--- the number of the fault, the file, and where it is, or what is over its limit; what isn't built yet has no number, and Memory no line
+-- a file, a line and a column, with blanks between them
+abbrev pub place_text : List ℕ → ℕ → ℕ → List ℕ
+place_text file line column = file ++ codes " " ++ decimal line ++ codes " " ++ decimal column
+
+-- a file and a unit
+abbrev pub unit_text : List ℕ → List ℕ → List ℕ
+unit_text file unit = file ++ codes " " ++ unit
+
+-- the number of the fault and where it is, or what is over its limit; what doesn't run yet has no number, and Memory no line
 abbrev pub config_line : ConfigFault → List ℕ
 config_line fault.Memory = []
-config_line (fault.Spelling line column) = codes "CONFIG C4 p.st " ++ place_text line column
-config_line (fault.Grammar line column) = codes "CONFIG C5 p.st " ++ place_text line column
+config_line fault.NotToml = codes "CONFIG C1"
+config_line fault.PlantFile = codes "CONFIG C2"
+config_line fault.Epoch = codes "CONFIG C3"
+config_line (fault.Limit found) = codes "CONFIG C10 " ++ limit_name found
+config_line (fault.Spelling file line column) = codes "CONFIG C4 " ++ place_text file line column
+config_line (fault.Grammar file line column) = codes "CONFIG C5 " ++ place_text file line column
+config_line (fault.Name file unit) = codes "CONFIG C6 " ++ unit_text file unit
+config_line (fault.Kind file unit) = codes "CONFIG C7 " ++ unit_text file unit
+config_line (fault.HoldsItself file unit) = codes "CONFIG C8 " ++ unit_text file unit
+config_line (fault.Constant file unit) = codes "CONFIG C9 " ++ unit_text file unit
+config_line fault.Header = codes "CONFIG C11"
+config_line (fault.Field row column) = codes "CONFIG C12 " ++ decimal row ++ codes " " ++ column_name column
+config_line (fault.Twice row) = codes "CONFIG C13 " ++ decimal row
+config_line (fault.Unknown row column) = codes "CONFIG C14 " ++ decimal row ++ codes " " ++ column_name column
 config_line fault.NotYet = codes "CONFIG NOTYET"
-config_line (fault.Name unit) = codes "CONFIG C6 p.st " ++ unit
-config_line (fault.Kind unit) = codes "CONFIG C7 p.st " ++ unit
-config_line (fault.Constant unit) = codes "CONFIG C9 p.st " ++ unit
-config_line fault.Turns = codes "CONFIG C10 TURNS"
-config_line fault.Programs = codes "CONFIG C10 PROGRAMS"
-config_line fault.Slots = codes "CONFIG C10 SLOTS"
-config_line fault.Condition = codes "CONFIG C14 1 condition"

@@ -1,8 +1,10 @@
-pub mod Accepted
-pub mod Built
+pub mod Alarms
 pub mod Code
-pub mod Example
 pub mod FaultLine
-pub mod Logic
-pub mod Plants
+pub mod Files
+pub mod Limits
+pub mod Logics
 pub mod Names
+pub mod Plants
+pub mod Refusals
+pub mod Stages

@@ -3,9 +3,9 @@ use Rattle.std.specs.Prelude.{ℕ, List, [], map, Option, slice_get, slice_index
 use Rattle.std.specs.Option.{option_map_or}
 use Rattle.std.specs.Str.{bytes_eq}
 use Rattle.plant_types.specs.Words.{same_word}
-use Rattle.st_resolve.specs.declared.logic.Variable.{Variable}
-use Rattle.st_resolve.specs.Source.{PlainProgram}
-use Rattle.plant_config.specs.Plants.{PlainPlant}
+use Rattle.block_flatten.specs.declared.logic.Variable.{Variable}
+use Rattle.block_flatten.specs.Source.{PlainProgram}
+use Rattle.plant_config.specs.Plants.{PlainPlant, tags_of}
 
 -- the globals, in order of declaration
 abbrev pub globals_of : PlainPlant → List Variable
@@ -37,7 +37,7 @@ global_of plant global = option_map_or (λ variable. variable.name) (slice_get (
 
 -- the first alarm with a tag; letter case counts
 abbrev pub alarm_number : PlainPlant → List ℕ → Option ℕ
-alarm_number plant tag = position (λ row. bytes_eq row.tag tag) plant.alarms
+alarm_number plant tag = position (bytes_eq tag) (tags_of plant.alarms)
 
 -- the first program with a name; letter case is ignored
 abbrev pub program_number : PlainPlant → List ℕ → Option ℕ

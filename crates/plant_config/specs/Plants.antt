@@ -1,17 +1,19 @@
 -- A plant as contracts see it.
-use Rattle.std.specs.Prelude.{◌≡◌, ℕ, ◌<◌, ◌≤◌, ◌^◌, List, length, slice_get, IfSome, All}
+use Rattle.std.specs.Prelude.{◌≡◌, ◌≢◌, ℕ, ◌<◌, ◌≤◌, ◌^◌, List, length, map, slice_get, IfSome, All, AllPairs}
 use Rattle.plant_types.specs.declared.values.Kind.TheVariants as kind
-use Rattle.st_resolve.specs.declared.logic.Variable.{Variable}
+use Rattle.plant_file.specs.declared.console.Console.{Console}
+use Rattle.block_flatten.specs.declared.logic.Variable.{Variable}
+use Rattle.block_flatten.specs.Source.{Source}
+use Rattle.block_flatten.specs.Sound.{IsSound}
 use Rattle.plant_config.specs.declared.rows.AlarmRow.{AlarmRow}
-use Rattle.plant_config.specs.declared.rows.Console.{Console}
-use Rattle.st_resolve.specs.Source.{Source}
 
--- its logic, the names of its areas, its consoles and its alarms, in order; areas and globals are numbered from 0
+-- its logic, the names of its areas, its consoles and its alarms, in order, and its epoch in seconds after 1970-01-01T00:00:00Z; areas and globals are numbered from 0
 pub record PlainPlant : Type 0 where
   pub source : Source
   pub areas : List (List ℕ)
   pub consoles : List Console
   pub alarms : List AlarmRow
+  pub epoch : ℕ
 
 -- a number is that of a BOOL global
 pub record IsBoolGlobal (globals : List Variable) (number : ℕ) : Type 0 where
@@ -27,10 +29,22 @@ pub record IsAlarmRow (plant : PlainPlant) (row : AlarmRow) : Type 0 where
   pub suppress : IfSome row.suppress (IsBoolGlobal plant.source.globals)
   pub shelve : row.max_shelve_ms ≤ 2592000000
 
--- what holds of each plant: globals and programs can be numbered by 32 bits
+-- the tags of alarms
+abbrev pub tags_of : List AlarmRow → List (List ℕ)
+tags_of rows = map (λ (row : AlarmRow). row.tag) rows
+
+-- two alarms have different tags
+abbrev pub HaveDifferentTags : AlarmRow → AlarmRow → Type 0
+HaveDifferentTags a b = a.tag ≢ b.tag
+
+-- what holds of each plant: its logic is sound, globals and programs can be numbered by 32 bits, it keeps the limits, and no two alarms have one tag
 pub record IsPlant (plant : PlainPlant) : Type 0 where
+  pub sound : IsSound plant.source
   pub globals : length plant.source.globals < 2 ^ 32
   pub programs : length plant.source.programs < 2 ^ 32
   pub few : length plant.alarms ≤ 20000
   pub areas : length plant.areas ≤ 64
+  pub consoles : length plant.consoles ≤ 32
   pub alarms : All (IsAlarmRow plant) plant.alarms
+  pub tags : AllPairs HaveDifferentTags plant.alarms
+  pub epoch : plant.epoch < 13569465600

@@ -2,38 +2,81 @@
 
 ghost use Rattle.std.specs.Prelude.{◌≡◌, ◌≢◌, ◌++◌, IfOk, string_bytes, codes};
 ghost use Rattle.std.specs.Fmt.{decimal};
-ghost use Rattle.plant_config.specs.FaultLine.{config_line};
+ghost use Rattle.alarm_db.specs.Columns.{column_name};
+ghost use Rattle.plant_config.specs.FaultLine.{config_line, limit_name, place_text, unit_text};
 ghost use Rattle.plant_config.specs.declared.fault.ConfigFault.TheVariants as fault;
 
+use alarm_db::Column;
 use plant_types::Text;
 use std::alloc::{AllocError, Global};
 
-/// Why a plant isn't accepted. Lines of a source and bytes of a line count from 1.
+/// What a plant has too much of (C10).
+#[derive(Clone, Copy, Debug, PartialEq, Eq, Drop)]
+pub enum Limit {
+    /// More than 64 sources.
+    Sources,
+    /// More than 4,194,304 bytes of sources together, 1,048,576 of the plant file or 16,777,216 of the alarm database.
+    Text,
+    /// More than 64 areas.
+    Areas,
+    /// More than 32 consoles.
+    Consoles,
+    /// A FOR of more than 10,000 turns.
+    Turns,
+    /// Function blocks nested deeper than 16.
+    BlockDepth,
+    /// More than 512 programs.
+    Programs,
+    /// More than 65,536 variables.
+    Slots,
+    /// More than 20,000 alarms.
+    Alarms,
+}
+
+/// Why a plant isn't accepted. Lines of a source and bytes of a line count from 1, and so do the rows of the alarm database after its header.
 #[derive(Drop)]
 pub enum ConfigFault {
     /// Allocation failed.
     Memory,
-    /// C4: a byte that begins no token, a literal that isn't allowed, or an open comment.
-    Spelling { line: usize, column: usize },
-    /// C5: a token with which no unit can go on, or the text's end.
-    Grammar { line: usize, column: usize },
-    /// The source has what isn't built yet: a function block, a variable of another type than BOOL, DINT and TIME, a call, an output of
-    /// an instance or VAR_EXTERNAL.
+    /// C1: the plant file is no TOML document in UTF-8.
+    NotToml,
+    /// C2: a key of the plant file is unknown, missing or wrong, or the sources handed in aren't those that it lists.
+    PlantFile,
+    /// C3: the epoch isn't `YYYY-MM-DDTHH:MM:SSZ` of a second of the years 1970 to 2399.
+    Epoch,
+    /// C10: a limit isn't kept.
+    Limit(Limit),
+    /// C4: a byte that begins no token, a literal that isn't allowed, or an open comment, in a source.
+    Spelling {
+        file: Text,
+        line: usize,
+        column: usize,
+    },
+    /// C5: a token with which no unit can go on, or the text's end, in a source.
+    Grammar {
+        file: Text,
+        line: usize,
+        column: usize,
+    },
+    /// C6: a name that isn't declared, is declared twice (the later unit) or is a standard block's. A unit is a block or program by its name as
+    /// declared, or `VAR_GLOBAL`.
+    Name { file: Text, unit: Text },
+    /// C7: something of another kind than it must have, or an assigned input.
+    Kind { file: Text, unit: Text },
+    /// C8: a function block that holds itself, directly or through others.
+    HoldsItself { file: Text, unit: Text },
+    /// C9: an initial value, or a bound or step of a FOR, that reads a variable or traps, a step 0, or a control variable that isn't allowed.
+    Constant { file: Text, unit: Text },
+    /// C11: the alarm database has no header or another one, or a row with another number of fields.
+    Header,
+    /// C12: a field of the alarm database doesn't have its column's form.
+    Field { row: u32, column: Column },
+    /// C13: a tag that an earlier row has.
+    Twice { row: u32 },
+    /// C14: an area that the plant file doesn't list, or a name that is no BOOL global's.
+    Unknown { row: u32, column: Column },
+    /// The globals or a program declare an instance of a function block, and these don't run yet.
     NotYet,
-    /// C6: a name that isn't declared, is declared twice or is a standard block's, in a unit: `VAR_GLOBAL`, or a program by its name.
-    Name { unit: Text },
-    /// C7: an operand, initial value, right side, test, selector, bound or step of another kind, or an assigned input, in a unit.
-    Kind { unit: Text },
-    /// C9: an initial value, or a bound or step of a FOR, that reads a variable or traps, a step 0, or a control variable that isn't allowed, in a unit.
-    Constant { unit: Text },
-    /// C10: a FOR of more than 10,000 turns.
-    Turns,
-    /// C10: more than 512 programs.
-    Programs,
-    /// C10: more than 65,536 variables.
-    Slots,
-    /// C14: the alarm's condition is no BOOL global.
-    Condition,
 }
 
 impl From<AllocError> for ConfigFault {
@@ -41,6 +84,25 @@ impl From<AllocError> for ConfigFault {
 
     fn from(_refused: AllocError) -> ConfigFault {
         ConfigFault::Memory
+    }
+}
+
+impl Limit {
+    /// Its name, as a refusal prints it.
+    pub fn name(self) -> &'static str
+        ensures { result.now ≡ limit_name self }
+    {
+        match self {
+            Limit::Sources => "SOURCES",
+            Limit::Text => "TEXT",
+            Limit::Areas => "AREAS",
+            Limit::Consoles => "CONSOLES",
+            Limit::Turns => "TURNS",
+            Limit::BlockDepth => "BLOCK_DEPTH",
+            Limit::Programs => "PROGRAMS",
+            Limit::Slots => "SLOTS",
+            Limit::Alarms => "ALARMS",
+        }
     }
 }
 
@@ -52,34 +114,57 @@ impl ConfigFault {
     {
         match self {
             ConfigFault::Memory => Ok(String::new(alloc)),
-            ConfigFault::Spelling { line, column } => {
-                line_with_place(alloc, "CONFIG C4 p.st ", *line, *column)
+            ConfigFault::NotToml => String::from_str(alloc, "CONFIG C1"),
+            ConfigFault::PlantFile => String::from_str(alloc, "CONFIG C2"),
+            ConfigFault::Epoch => String::from_str(alloc, "CONFIG C3"),
+            ConfigFault::Limit(limit) => line_with_word(alloc, "CONFIG C10 ", limit.name()),
+            ConfigFault::Spelling { file, line, column } => {
+                line_with_place(alloc, "CONFIG C4 ", file, *line, *column)
             }
-            ConfigFault::Grammar { line, column } => {
-                line_with_place(alloc, "CONFIG C5 p.st ", *line, *column)
+            ConfigFault::Grammar { file, line, column } => {
+                line_with_place(alloc, "CONFIG C5 ", file, *line, *column)
+            }
+            ConfigFault::Name { file, unit } => line_with_unit(alloc, "CONFIG C6 ", file, unit),
+            ConfigFault::Kind { file, unit } => line_with_unit(alloc, "CONFIG C7 ", file, unit),
+            ConfigFault::HoldsItself { file, unit } => {
+                line_with_unit(alloc, "CONFIG C8 ", file, unit)
+            }
+            ConfigFault::Constant { file, unit } => line_with_unit(alloc, "CONFIG C9 ", file, unit),
+            ConfigFault::Header => String::from_str(alloc, "CONFIG C11"),
+            ConfigFault::Field { row, column } => {
+                line_with_column(alloc, "CONFIG C12 ", *row, *column)
+            }
+            ConfigFault::Twice { row } => line_with_row(alloc, "CONFIG C13 ", *row),
+            ConfigFault::Unknown { row, column } => {
+                line_with_column(alloc, "CONFIG C14 ", *row, *column)
             }
             ConfigFault::NotYet => String::from_str(alloc, "CONFIG NOTYET"),
-            ConfigFault::Name { unit } => line_with_unit(alloc, "CONFIG C6 p.st ", unit),
-            ConfigFault::Kind { unit } => line_with_unit(alloc, "CONFIG C7 p.st ", unit),
-            ConfigFault::Constant { unit } => line_with_unit(alloc, "CONFIG C9 p.st ", unit),
-            ConfigFault::Turns => String::from_str(alloc, "CONFIG C10 TURNS"),
-            ConfigFault::Programs => String::from_str(alloc, "CONFIG C10 PROGRAMS"),
-            ConfigFault::Slots => String::from_str(alloc, "CONFIG C10 SLOTS"),
-            ConfigFault::Condition => String::from_str(alloc, "CONFIG C14 1 condition"),
         }
     }
 }
 
-/// The words, then a line and a column. Fails if allocation fails.
+/// The words, then a word. Fails if allocation fails.
+fn line_with_word(alloc: Global, words: &str, word: &str) -> Result<String, AllocError>
+    ensures { IfOk result (λ text. string_bytes text ≡ words.now ++ word.now) }
+{
+    let mut text = String::from_str(alloc, words)?;
+    text.push_str(word)?;
+    Ok(text)
+}
+
+/// The words, then a file, a line and a column. Fails if allocation fails.
 fn line_with_place(
     alloc: Global,
     words: &str,
+    file: &Text,
     line: usize,
     column: usize,
 ) -> Result<String, AllocError>
-    ensures { IfOk result (λ text. string_bytes text ≡ words.now ++ decimal line ++ codes " " ++ decimal column) }
+    ensures { IfOk result (λ text. string_bytes text ≡ words.now ++ place_text file.now line column) }
 {
     let mut text = String::from_str(alloc, words)?;
+    text.push_str(file.as_str())?;
+    text.push_str(" ")?;
     let line = line.to_string(alloc)?;
     text.push_str(line.as_str())?;
     text.push_str(" ")?;
@@ -88,11 +173,43 @@ fn line_with_place(
     Ok(text)
 }
 
-/// The words, then the name of a unit. Fails if allocation fails.
-fn line_with_unit(alloc: Global, words: &str, unit: &Text) -> Result<String, AllocError>
-    ensures { IfOk result (λ text. string_bytes text ≡ words.now ++ unit.now) }
+/// The words, then a file and the name of a unit. Fails if allocation fails.
+fn line_with_unit(
+    alloc: Global,
+    words: &str,
+    file: &Text,
+    unit: &Text,
+) -> Result<String, AllocError>
+    ensures { IfOk result (λ text. string_bytes text ≡ words.now ++ unit_text file.now unit.now) }
 {
     let mut text = String::from_str(alloc, words)?;
+    text.push_str(file.as_str())?;
+    text.push_str(" ")?;
     text.push_str(unit.as_str())?;
+    Ok(text)
+}
+
+/// The words, then the number of a row. Fails if allocation fails.
+fn line_with_row(alloc: Global, words: &str, row: u32) -> Result<String, AllocError>
+    ensures { IfOk result (λ text. string_bytes text ≡ words.now ++ decimal row) }
+{
+    let mut text = String::from_str(alloc, words)?;
+    let row = row.to_string(alloc)?;
+    text.push_str(row.as_str())?;
+    Ok(text)
+}
+
+/// The words, then the number of a row and the name of a column. Fails if allocation fails.
+fn line_with_column(
+    alloc: Global,
+    words: &str,
+    row: u32,
+    column: Column,
+) -> Result<String, AllocError>
+    ensures { IfOk result (λ text. string_bytes text ≡ words.now ++ decimal row ++ codes " " ++ column_name column) }
+{
+    let mut text = line_with_row(alloc, words, row)?;
+    text.push_str(" ")?;
+    text.push_str(column.name())?;
     Ok(text)
 }

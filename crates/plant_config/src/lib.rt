@@ -1,16 +1,17 @@
-//! A plant as it is configured: its logic, areas, consoles and alarms.
+//! A plant as it is configured: its plant file, its sources and its alarm database, read and judged.
 #![tactic(auto)]
 
-mod built;
-mod example;
+mod alarms;
+mod epoch;
 mod fault;
-mod front;
-mod laws;
-mod logic;
+mod files;
+mod limits;
 mod plant;
 mod rows;
+mod running;
+mod spelling;
 
-pub use fault::ConfigFault;
-pub use laws::{accepted_or_refused, one_plant};
+pub use fault::{ConfigFault, Limit};
+pub use files::Files;
 pub use plant::Plant;
-pub use rows::{AlarmRow, Console};
+pub use rows::AlarmRow;

@@ -1,82 +1,166 @@
 //! The plant, its parts and their names.
 
-ghost use Rattle.std.specs.Prelude.{◌≡◌, ◌<◌, length, position, IfSome, IfOk, IfErr, None};
+ghost use Rattle.std.specs.Prelude.{◌≡◌, ◌<◌, Some, length, map, option_map, position, IfSome, IfOk, IfErr, MatchResult};
 ghost use Rattle.plant_types.specs.Words.{same_word};
-ghost use Rattle.st_resolve.specs.declared.logic.Program.{Program};
-ghost use Rattle.st_resolve.specs.Faults.{first_fault};
-ghost use Rattle.std.specs.Str.{bytes_eq};
-ghost use Rattle.plant_config.specs.Plants.{PlainPlant, IsPlant};
-ghost use Rattle.plant_config.specs.Accepted.{Accepted, IsRefused, IsUnfit};
-ghost use Rattle.plant_config.specs.Example.{IsExample};
-ghost use Rattle.plant_config.specs.declared.fault.ConfigFault.TheVariants as fault;
+ghost use Rattle.plant_file.specs.Read.{plant_file_in};
+ghost use Rattle.block_flatten.specs.declared.logic.Program.{Program};
+ghost use Rattle.plant_config.specs.Files.{files_of, texts_of};
+ghost use Rattle.plant_config.specs.Plants.{IsPlant};
+ghost use Rattle.plant_config.specs.Stages.{Accepted, HasEpoch, IsWellFormed};
+ghost use Rattle.plant_config.specs.Refusals.{IsFileFault, IsRefused};
 ghost use Rattle.plant_config.specs.Names.{alarm_number, globals_of, program_number, programs_of, program_at, body_paths, body_path, tag_of, area_of, global_of, priority_of};
 
+use crate::alarms::alarms_of;
+use crate::epoch::epoch_of;
 use crate::fault::ConfigFault;
-use crate::rows::{AlarmRow, Console};
-use crate::{example, front};
-use plant_types::{Text, same_word};
-use st_resolve::{Flat, Program};
+use crate::files::{Files, Handed, file_of, files_of, listed};
+use crate::limits::check_limits;
+use crate::rows::AlarmRow;
+use crate::running::{check_alarms, database_of, logic_of};
+use crate::spelling::{mistyped, units_of};
+use alarm_db::Tags;
+use block_flatten::{Flat, Globals, Program};
+use plant_file::{Console, PlantFile};
+use plant_types::same_word;
+use st_typing::{Typed, check};
+use stamps::Epoch;
 use std::alloc::Global;
 use std::marker::Model;
 
-/// An accepted plant. Its areas, alarms, globals and programs are numbered from 0 in order of declaration.
+/// An accepted plant. Its areas, alarms, globals and programs are numbered from 0: areas as the plant file lists them, alarms in the order of the
+/// database, globals and programs in the order of the sources and, in a source, of its text.
 #[derive(Drop)]
 pub struct Plant {
+    file: PlantFile,
+    epoch: Epoch,
     flat: Flat,
-    areas: Vec<Text>,
-    consoles: Vec<Console>,
     alarms: Vec<AlarmRow>,
+    tags: Tags,
 }
 
 impl Model for Plant {
-    ghost use Rattle.plant_config.specs.Plants.{PlainPlant};
+    ghost use Rattle.std.specs.Prelude.{◌≡◌};
+    ghost use Rattle.plant_config.specs.Plants.{PlainPlant, IsPlant, tags_of};
     ghost use Rattle.plant_config.specs.Code.{plant_code};
 
     ghost Value = { PlainPlant };
 
     ghost coded = { plant_code };
 
-    ghost use Rattle.plant_config.specs.Plants.{IsPlant};
+    ghost view = { λ p. record { source = p.flat; areas = p.file.areas; consoles = p.file.consoles; alarms = p.alarms.items; epoch = p.epoch } };
 
-    ghost view = { λ p. record { source = p.flat; areas = p.areas.items; consoles = p.consoles.items; alarms = p.alarms.items } };
+    ghost invariant = { λ p. IsPlant (record { source = p.flat; areas = p.file.areas; consoles = p.file.consoles; alarms = p.alarms.items; epoch = p.epoch }) × (p.tags ≡ tags_of p.alarms.items) };
+}
 
-    ghost invariant = { λ p. IsPlant (record { source = p.flat; areas = p.areas.items; consoles = p.consoles.items; alarms = p.alarms.items }) };
+/// The plant of well-formed sources, or why there is none.
+fn plant_of(
+    alloc: Global,
+    handed: &Handed<'_>,
+    file: PlantFile,
+    epoch: Epoch,
+    typed: &Typed<'_>,
+) -> Result<Plant, ConfigFault>
+    requires { IsWellFormed handed.now file epoch typed.now }
+    ensures { MatchResult result (Accepted handed.now) (IsRefused handed.now) }
+{
+    let flat = match logic_of(alloc, handed, &file, epoch, typed) {
+        Ok(flat) => flat,
+        Err(fault) => return Err(fault),
+    };
+    let database = match database_of(alloc, handed, &file, epoch, typed) {
+        Ok(database) => database,
+        Err(fault) => return Err(fault),
+    };
+    let globals = Globals::of(alloc, typed)?;
+    if let Err(fault) = check_alarms(handed, &file, epoch, typed, &globals, &database) {
+        return Err(fault);
+    }
+    let Some(flat) = flat else {
+        return Err(ConfigFault::NotYet);
+    };
+    let (rows, tags) = database.into_parts();
+    let alarms = alarms_of(alloc, file.areas(), &globals, rows)?;
+    Ok(Plant {
+        file,
+        epoch,
+        flat,
+        alarms,
+        tags,
+    })
+}
+
+/// The plant of texts whose plant file and epoch are right, or why there is none.
+fn plant_in(
+    alloc: Global,
+    handed: &Handed<'_>,
+    file: PlantFile,
+    epoch: Epoch,
+) -> Result<Plant, ConfigFault>
+    requires { HasEpoch handed.now file epoch }
+    ensures { MatchResult result (Accepted handed.now) (IsRefused handed.now) }
+{
+    if let Err(fault) = check_limits(handed, &file, epoch) {
+        return Err(fault);
+    }
+    let units = match units_of(alloc, handed, &file, epoch) {
+        Ok(units) => units,
+        Err(fault) => return Err(fault),
+    };
+    match check(alloc, &units) {
+        Ok(typed) => plant_of(alloc, handed, file, epoch, &typed),
+        Err(fault) => Err(mistyped(alloc, handed, &units, fault)),
+    }
+}
+
+/// The plant of texts, or why there is none.
+fn accepted(alloc: Global, handed: &Handed<'_>) -> Result<Plant, ConfigFault>
+    ensures { MatchResult result (Accepted handed.now) (IsRefused handed.now) }
+{
+    let file = match listed(alloc, handed) {
+        Ok(file) => file,
+        Err(fault) => return Err(fault),
+    };
+    match epoch_of(handed, &file) {
+        Ok(epoch) => plant_in(alloc, handed, file, epoch),
+        Err(fault) => Err(fault),
+    }
 }
 
 impl Plant {
-    /// The plant that is built in, around the logic of a source: areas north and south, console 1 for north and 2 for south, and
-    /// the alarm T1 in north on the BOOL global `c`. The source is Structured Text (IEC 61131-3, this profile).
+    /// The files that a plant file names: a caller opens them and hands their texts to `read`.
     ///
-    /// Every fault but `Memory` is the first that the source has, in the order of `ConfigFault`. `Memory` comes if allocation fails.
-    pub fn first(alloc: Global, source: &[u8]) -> Result<Plant, ConfigFault>
-        ensures plant { IfOk result (Accepted source.now) }
-        ensures refused { IfErr result (IsRefused source.now) }
-        // What is accepted is taken, unless allocation fails.
-        ensures accepted { (plant : PlainPlant) → Accepted source.now plant → IfErr result (λ e. e ≡ fault.Memory) }
+    /// Fails with `NotToml` (C1) or `PlantFile` (C2), and with `Memory` if allocation fails.
+    pub fn files(alloc: Global, plant: &[u8]) -> Result<Files, ConfigFault>
+        ensures files { IfOk result (λ files. option_map files_of (plant_file_in plant.now) ≡ Some files) }
+        ensures refused { IfErr result (IsFileFault plant.now) }
     {
-        let flat = front::flat_of(alloc, source)?;
-        Plant::around(alloc, flat)
+        match file_of(alloc, plant) {
+            Ok(file) => Ok(files_of(alloc, &file)?),
+            Err(fault) => Err(fault),
+        }
     }
 
-    /// The plant that is built in, around a source's logic.
-    fn around(alloc: Global, flat: Flat) -> Result<Plant, ConfigFault>
-        requires { first_fault flat ≡ None }
-        ensures plant { IfOk result (λ plant. (plant.source ≡ flat) × IsExample plant) }
-        ensures refused { IfErr result (IsUnfit flat) }
+    /// Reads a plant from the bytes of its plant file, its sources, each by its name and its bytes, and its alarm database. Sources are
+    /// Structured Text (IEC 61131-3, this profile). A byte order mark at the start of any of them is skipped.
+    ///
+    /// Every fault but `Memory` is the first that the texts have, by the order of the refusals: C1, C2, C3; C10 of SOURCES, TEXT, AREAS and
+    /// CONSOLES; C4 or C5 of the first source that has one; C6, C7, C8, C9; C10 of TURNS, BLOCK_DEPTH, PROGRAMS and SLOTS; C11; C10 of ALARMS; C12,
+    /// C13, C14; and last, for what doesn't run yet, `NotYet`. `Memory` comes if allocation fails.
+    pub fn read(
+        alloc: Global,
+        plant: &[u8],
+        sources: &[(&str, &[u8])],
+        alarms: &[u8],
+    ) -> Result<Plant, ConfigFault>
+        ensures plant { IfOk result (Accepted (texts_of plant.now (map (λ s. s.0.now) sources.now) (map (λ s. s.1.now) sources.now) alarms.now)) }
+        ensures refused { IfErr result (IsRefused (texts_of plant.now (map (λ s. s.0.now) sources.now) (map (λ s. s.1.now) sources.now) alarms.now)) }
     {
-        let Some(number) = example::condition_number(flat.globals()) else {
-            return Err(ConfigFault::Condition);
-        };
-        let condition = number as u32;
-        let areas = example::areas(alloc)?;
-        let consoles = example::consoles(alloc)?;
-        let alarms = example::alarms(alloc, condition)?;
-        Ok(Plant {
-            flat,
-            areas,
-            consoles,
+        let handed = Handed {
+            plant,
+            sources,
             alarms,
-        })
+        };
+        accepted(alloc, &handed)
     }
 
     /// The logic.
@@ -92,7 +176,7 @@ impl Plant {
         ensures consoles { result.now ≡ self.now.consoles }
         ensures plant { IsPlant self.now }
     {
-        self.consoles.as_slice()
+        self.file.consoles()
     }
 
     /// The alarms, in the order of the database.
@@ -115,7 +199,7 @@ impl Plant {
     pub fn areas(&self) -> u32
         ensures { result ≡ length self.now.areas }
     {
-        self.areas.len() as u32
+        self.file.areas().len() as u32
     }
 
     /// How many programs there are.
@@ -130,7 +214,7 @@ impl Plant {
     pub fn alarm_number(&self, tag: &str) -> Option<u32>
         ensures { result ≡ alarm_number self.now tag.now }
     {
-        let number = row_number(self.alarms.as_slice(), tag)?;
+        let number = self.tags.number(tag)?;
         Some(number as u32)
     }
 
@@ -165,7 +249,7 @@ impl Plant {
         requires { area < length self.now.areas }
         ensures { result.now ≡ area_of self.now area }
     {
-        self.areas[area as usize].as_str()
+        self.file.areas()[area as usize].as_str()
     }
 
     /// The name of a global variable, as declared.
@@ -199,13 +283,4 @@ fn program_row(programs: &[Program], name: &str) -> Option<usize>
     ensures within { IfSome result (λ number. number < length programs.now) }
 {
     programs.iter().position(|program| same_word(program.name.as_bytes(), name.as_bytes()))
-}
-
-/// The number of the first row with a tag; `None` if there is none.
-fn row_number(rows: &[AlarmRow], tag: &str) -> Option<usize>
-    ensures number { result ≡ position (λ row. bytes_eq row.tag tag.now) rows.now }
-    ensures within { IfSome result (λ number. number < length rows.now) }
-{
-    rows.iter()
-        .position(|row| row.tag.as_bytes() == tag.as_bytes())
 }

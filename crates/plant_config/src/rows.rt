@@ -1,15 +1,8 @@
-//! Consoles and alarms, as they are configured.
+//! Alarms, as they are configured.
 
-use plant_types::{Items, Text};
+use plant_types::Text;
 
-/// An operator's console, with the areas whose alarms it may order, each by its number.
-#[derive(Drop)]
-pub struct Console {
-    pub number: u32,
-    pub areas: Items<u32>,
-}
-
-/// A row of the alarm database. Areas and globals are named by their numbers, from 0 in the order of their declaration.
+/// An alarm of a plant. Areas and globals are named by their numbers, from 0 in the order of their declaration.
 #[derive(Drop)]
 pub struct AlarmRow {
     /// The alarm's name, in which letter case counts.

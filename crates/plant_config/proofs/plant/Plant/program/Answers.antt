@@ -1,6 +1,6 @@
 use Rattle.std.proofs.Common.{◌<◌, ◌∙◌, ap, sym, length, map}
-use Rattle.st_resolve.specs.declared.logic.Program.{Program}
-use Rattle.st_resolve.specs.Source.{PlainProgram}
+use Rattle.block_flatten.specs.declared.logic.Program.{Program}
+use Rattle.block_flatten.specs.Source.{PlainProgram}
 use Rattle.plant_config.proofs.Programs.{name_at}
 use Rattle.plant_config.proofs.plant.Plant.program.Goals as goal
 

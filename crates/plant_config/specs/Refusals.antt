@@ -1,0 +1,144 @@
+-- Why the texts of a plant are refused: the first rule, in their order, that isn't kept.
+use Rattle.std.specs.Prelude.{◌≡◌, ◌≢◌, ◌⊎◌, ⊤, ℕ, ◌<◌, true, false, List, [], Some, None, slice_index_or}
+use Rattle.toml.specs.Data.{Members}
+use Rattle.stamps.specs.Stamps.{epoch_text}
+use Rattle.st_parser.specs.Units.{PlainUnit}
+use Rattle.st_names.specs.declared.place.UnitPlace.{UnitPlace}
+use Rattle.st_typing.specs.Faults.{IsTypeFault}
+use Rattle.st_typing.specs.declared.fault.TypeFault.{TypeFault}
+use Rattle.st_typing.specs.declared.fault.TypeFault.TheVariants as type_fault
+use Rattle.plant_file.specs.PlantFiles.{PlainPlantFile, plant_file}
+use Rattle.plant_file.specs.Read.{document_in, plant_file_in}
+use Rattle.plant_sources.specs.Sources.{IsSourceFault}
+use Rattle.plant_sources.specs.UnitNames.{unit_name}
+use Rattle.plant_sources.specs.declared.fault.SourceFault.{SourceFault}
+use Rattle.plant_sources.specs.declared.fault.SourceFault.TheVariants as source_fault
+use Rattle.block_flatten.specs.Units.{globals_of, have_instances}
+use Rattle.alarm_db.specs.Databases.{first_fault, rows_of}
+use Rattle.alarm_db.specs.declared.column.Column.{Column}
+use Rattle.alarm_db.specs.declared.fault.DbFault.{DbFault}
+use Rattle.alarm_db.specs.declared.fault.DbFault.TheVariants as db_fault
+use Rattle.plant_config.specs.declared.fault.ConfigFault.{ConfigFault}
+use Rattle.plant_config.specs.declared.fault.ConfigFault.TheVariants as fault
+use Rattle.plant_config.specs.declared.fault.Limit.{Limit}
+use Rattle.plant_config.specs.declared.fault.Limit.TheVariants as limit
+use Rattle.plant_config.specs.Alarms.{first_unknown}
+use Rattle.plant_config.specs.Files.{Texts, same_texts}
+use Rattle.plant_config.specs.Limits.{first_limit}
+use Rattle.plant_config.specs.Stages.{HasFile, HasEpoch, IsLimited, HasUnits, IsWellFormed, HasVariables, HasDatabase, HasAlarms, has_too_many_variables}
+
+-- bytes are a TOML document, and not that of a plant file
+abbrev pub IsWrongFile : List ℕ → Type 0
+IsWrongFile bytes = (document : Members) × (document_in bytes ≡ Some document) × (plant_file document ≡ None)
+
+-- the sources handed in aren't those that the plant file lists
+abbrev pub HasOtherSources : Texts → Type 0
+HasOtherSources t = (file : PlainPlantFile) × (plant_file_in t.plant ≡ Some file) × (same_texts t.names file.sources ≡ false)
+
+-- the plant file is right, and its epoch is that of no second of the years 1970 to 2399
+pub record HasNoEpoch (t : Texts) : Type 0 where
+  pub file : PlainPlantFile
+  pub has_file : HasFile t file
+  pub none : (seconds : ℕ) → seconds < 13569465600 → file.epoch ≢ epoch_text seconds
+
+-- a limit of sources, texts, areas or consoles isn't kept, and this is the first
+pub record IsOverLimit (t : Texts) (found : Limit) : Type 0 where
+  pub file : PlainPlantFile
+  pub epoch : ℕ
+  pub has_epoch : HasEpoch t file epoch
+  pub first : first_limit t file ≡ Some found
+
+-- a source spells no unit, and is the first that doesn't; the fault, and the source's name
+pub record IsMisspelled (t : Texts) (found : ℕ → SourceFault) (name : List ℕ) : Type 0 where
+  pub file : PlainPlantFile
+  pub epoch : ℕ
+  pub limited : IsLimited t file epoch
+  pub number : ℕ
+  pub is_fault : IsSourceFault t.sources (found number)
+  pub name_is : name ≡ slice_index_or t.names number []
+
+-- the sources aren't well formed
+pub record IsMistyped (t : Texts) (found : TypeFault) : Type 0 where
+  pub file : PlainPlantFile
+  pub epoch : ℕ
+  pub units : List PlainUnit
+  pub has_units : HasUnits t file epoch units
+  pub is_fault : IsTypeFault units found
+
+-- a unit isn't well formed; the fault, the name of its source and its own
+pub record IsMistypedIn (t : Texts) (found : UnitPlace → TypeFault) (name unit : List ℕ) : Type 0 where
+  pub file : PlainPlantFile
+  pub epoch : ℕ
+  pub units : List PlainUnit
+  pub has_units : HasUnits t file epoch units
+  pub place : UnitPlace
+  pub is_fault : IsTypeFault units (found place)
+  pub name_is : name ≡ slice_index_or t.names place.source []
+  pub unit_is : unit ≡ unit_name units place
+
+-- there are too many variables
+pub record IsTooLarge (t : Texts) : Type 0 where
+  pub file : PlainPlantFile
+  pub epoch : ℕ
+  pub units : List PlainUnit
+  pub well_formed : IsWellFormed t file epoch units
+  pub many : has_too_many_variables units ≡ true
+
+-- the alarm database has a fault, and this is its first
+pub record HasDatabaseFault (t : Texts) (found : DbFault) : Type 0 where
+  pub file : PlainPlantFile
+  pub epoch : ℕ
+  pub units : List PlainUnit
+  pub variables : HasVariables t file epoch units
+  pub first : first_fault t.alarms ≡ Some found
+
+-- a row of the alarm database names what the plant hasn't, and is the first; the row, and in it the first column
+pub record NamesUnknown (t : Texts) (row : ℕ) (column : Column) : Type 0 where
+  pub file : PlainPlantFile
+  pub epoch : ℕ
+  pub units : List PlainUnit
+  pub has_database : HasDatabase t file epoch units
+  pub first : first_unknown file.areas (globals_of units) 1 (rows_of t.alarms) ≡ Some (row, column)
+
+-- all is right, but the globals or a program declare an instance, and these don't run yet
+pub record HasInstances (t : Texts) : Type 0 where
+  pub file : PlainPlantFile
+  pub epoch : ℕ
+  pub units : List PlainUnit
+  pub has_alarms : HasAlarms t file epoch units
+  pub instances : have_instances units ≡ true
+
+-- why a limit refuses texts
+abbrev pub IsLimitOf : Texts → Limit → Type 0
+IsLimitOf t limit.Turns = IsMistyped t type_fault.Turns
+IsLimitOf t limit.BlockDepth = IsMistyped t type_fault.BlockDepth
+IsLimitOf t limit.Programs = IsMistyped t type_fault.Programs
+IsLimitOf t limit.Slots = IsTooLarge t
+IsLimitOf t limit.Alarms = HasDatabaseFault t db_fault.TooMany
+IsLimitOf t found = IsOverLimit t found
+
+-- why bytes name no files, Memory apart
+abbrev pub IsFileFault : List ℕ → ConfigFault → Type 0
+IsFileFault bytes fault.Memory = ⊤
+IsFileFault bytes fault.NotToml = document_in bytes ≡ None
+IsFileFault bytes fault.PlantFile = IsWrongFile bytes
+IsFileFault bytes _ = ⊥
+
+-- why texts are refused, Memory apart
+abbrev pub IsRefused : Texts → ConfigFault → Type 0
+IsRefused t fault.Memory = ⊤
+IsRefused t fault.NotToml = document_in t.plant ≡ None
+IsRefused t fault.PlantFile = IsWrongFile t.plant ⊎ HasOtherSources t
+IsRefused t fault.Epoch = HasNoEpoch t
+IsRefused t (fault.Limit found) = IsLimitOf t found
+IsRefused t (fault.Spelling name line column) = IsMisspelled t (λ number. source_fault.Spelling number line column) name
+IsRefused t (fault.Grammar name line column) = IsMisspelled t (λ number. source_fault.Grammar number line column) name
+IsRefused t (fault.Name name unit) = IsMistypedIn t type_fault.Name name unit
+IsRefused t (fault.Kind name unit) = IsMistypedIn t type_fault.Kind name unit
+IsRefused t (fault.HoldsItself name unit) = IsMistypedIn t type_fault.HoldsItself name unit
+IsRefused t (fault.Constant name unit) = IsMistypedIn t type_fault.Constant name unit
+IsRefused t fault.Header = HasDatabaseFault t db_fault.Header
+IsRefused t (fault.Field row column) = HasDatabaseFault t (db_fault.Field row column)
+IsRefused t (fault.Twice row) = HasDatabaseFault t (db_fault.Twice row)
+IsRefused t (fault.Unknown row column) = NamesUnknown t row column
+IsRefused t fault.NotYet = HasInstances t

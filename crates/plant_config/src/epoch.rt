@@ -1,0 +1,21 @@
+//! The epoch of a plant.
+
+ghost use Rattle.std.specs.Prelude.{MatchResult};
+ghost use Rattle.plant_config.specs.Stages.{HasFile, HasEpoch};
+ghost use Rattle.plant_config.specs.Refusals.{IsRefused};
+
+use crate::fault::ConfigFault;
+use crate::files::Handed;
+use plant_file::PlantFile;
+use stamps::Epoch;
+
+/// The epoch of a plant file, or C3.
+pub fn epoch_of(handed: &Handed<'_>, file: &PlantFile) -> Result<Epoch, ConfigFault>
+    requires { HasFile handed.now file.now }
+    ensures { MatchResult result (λ epoch. HasEpoch handed.now file.now epoch) (IsRefused handed.now) }
+{
+    match Epoch::parse(file.epoch()) {
+        Some(epoch) => Ok(epoch),
+        None => Err(ConfigFault::Epoch),
+    }
+}

@@ -1,8 +1,0 @@
-pub mod Source
-pub mod Names
-pub mod Loops
-pub mod Starts
-pub mod Faults
-pub mod Resolved
-pub mod Flats
-pub mod Code
