@@ -14,8 +14,10 @@ struct Table {
     files: Vec<File>,
     /// Whether they go on.
     is_open: bool,
-    /// What stands after `check`; `None` for a plant that runs.
-    checked: Option<String>,
+    /// Whether the plant is only checked.
+    is_checked: bool,
+    /// The sources that are handed in for it, where the table names them.
+    handed: String,
     /// The engine of the last plant, if it was accepted.
     engine: Option<Engine>,
     /// Commands that the engine hasn't been given yet.
@@ -29,7 +31,8 @@ impl Table {
         Table {
             files: Vec::new(alloc),
             is_open: false,
-            checked: None,
+            is_checked: false,
+            handed: String::new(alloc),
             engine: None,
             commands: Vec::new(alloc),
             text: Vec::new(alloc),
@@ -57,7 +60,8 @@ impl Table {
     fn plant(&mut self, alloc: Global, line: &str) -> Result<(), AllocError> {
         self.files = first_files(alloc)?;
         self.is_open = true;
-        self.checked = None;
+        self.is_checked = false;
+        self.handed = String::new(alloc);
         self.engine = None;
         self.print(line)
     }
@@ -65,14 +69,11 @@ impl Table {
     /// Reads the plant of the files, with a text in their gap.
     fn read(&mut self, alloc: Global, given: &str) -> Result<(), AllocError> {
         self.engine = None;
-        let words = match &self.checked {
-            Some(words) => words.as_str(),
-            None => "",
-        };
-        let Some(plant) = plant_of(alloc, &mut self.text, &self.files, words, given)? else {
+        let handed = self.handed.as_str();
+        let Some(plant) = plant_of(alloc, &mut self.text, &self.files, handed, given)? else {
             return Ok(());
         };
-        if self.checked.is_some() {
+        if self.is_checked {
             return push_accepted(alloc, &mut self.text, &plant);
         }
         self.engine = Some(Engine::new(alloc, plant)?);
@@ -94,7 +95,8 @@ impl Table {
             return push_file(alloc, &mut self.files, name);
         }
         if let Some(words) = line.strip_prefix("check") {
-            self.checked = Some(String::from_str(alloc, words.trim_start())?);
+            self.is_checked = true;
+            self.handed = String::from_str(alloc, words.trim_start())?;
             return self.end(alloc);
         }
         if line == "run" {
