@@ -4,9 +4,9 @@ ghost use Rattle.std.specs.Prelude.{IfSome};
 ghost use Rattle.engine.specs.Engines.{Fits, FitsOrder};
 
 use crate::again::again;
+use crate::example::example;
 use alarm_machine::Verb;
 use engine::{Engine, Order, Prepared, PreparedOrder};
-use plant_config::Plant;
 use std::alloc::{AllocError, Global};
 use std::test::Fail;
 
@@ -16,10 +16,8 @@ const SOURCE: &[u8] =
 
 /// The engine of a program that stops in its first scan after it has set the alarm's condition.
 fn engine(alloc: Global) -> Result<Engine, AllocError> {
-    match Plant::first(alloc, SOURCE) {
-        Ok(plant) => Engine::new(alloc, plant),
-        Err(_) => Err(AllocError),
-    }
+    let plant = example(alloc, SOURCE)?;
+    Engine::new(alloc, plant)
 }
 
 /// The text of the code of an engine's first alarm.

@@ -4,11 +4,11 @@ use alarm_machine::{
     code_changes_are_reported, codes_print_differently, new_condition_in_service_needs_ack,
     no_unsuppressed_scan_acknowledges, repeated_scan_changes_nothing,
 };
-use plant_config::{accepted_or_refused, one_plant};
+use block_flatten::each_found;
+use plant_sources::spelled_or_stopped;
 use serving::lines_end_in_lf;
 use st_lexer::{one_answer, one_cut, some_answer, word_spelling};
 use st_parser::one_unit;
-use st_resolve::each_found;
 use st_tree::{constant_of_is_value_of, control_values_count_to_bound, kind_of_expr_is_kind_in};
 use st_walk::{as_many_cells, cell_of_global, found_global, written_cell};
 
@@ -40,7 +40,7 @@ fn laws_of_plants_can_be_called() {
     cell_of_global();
     found_global();
     written_cell();
-    one_plant();
-    accepted_or_refused();
+    spelled_or_stopped();
+    plant_sources::one_answer();
     lines_end_in_lf();
 }

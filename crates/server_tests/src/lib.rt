@@ -14,6 +14,8 @@ mod commands;
 #[cfg(test)]
 mod engines;
 #[cfg(test)]
+mod example;
+#[cfg(test)]
 mod laws;
 #[cfg(test)]
 mod plants;

@@ -1,12 +1,14 @@
-//! What a plant shows by each of its calls (`plant_config`, `st_resolve`, `st_walk`), and programs with calls, which no plant takes yet.
+//! What a plant shows by each of its calls (`plant_config`, `block_flatten`, `st_walk`), its refusals' names of limits, and the globals of
+//! its sources before it is made (`plant_sources`, `st_typing`, `block_flatten`).
 
 use crate::again::again;
-use plant_config::{Console, Plant};
-use plant_types::{Kind, Region, Text};
-use st_lexer::lex;
-use st_parser::parse;
-use st_resolve::{FirstFault, Flat, Logic, Program, Variable};
-use st_tree::{Stmt, copy_body};
+use crate::example::example;
+use block_flatten::{Flat, Globals};
+use plant_config::{ConfigFault, Limit, Plant};
+use plant_file::Console;
+use plant_sources::units;
+use plant_types::{Kind, Region};
+use st_typing::check;
 use st_walk::Cells;
 use std::alloc::{AllocError, Global};
 use std::test::Fail;
@@ -55,6 +57,9 @@ fn push_names(text: &mut String, plant: &Plant) -> Result<(), AllocError> {
     for alarm in 0..plant.alarms() {
         text.push_str(" ")?;
         text.push_str(plant.tag(alarm))?;
+        if plant.priority(alarm) == 2 {
+            text.push_str(" second")?;
+        }
     }
     for area in 0..plant.areas() {
         text.push_str(" ")?;
@@ -75,9 +80,7 @@ fn push_names(text: &mut String, plant: &Plant) -> Result<(), AllocError> {
 
 /// All names of the plant of `SOURCE`.
 fn described(alloc: Global) -> Result<String, AllocError> {
-    let Ok(plant) = Plant::first(alloc, SOURCE) else {
-        return Err(AllocError);
-    };
+    let plant = example(alloc, SOURCE)?;
     let mut text = String::new(alloc);
     push_variables(&mut text, plant.flat())?;
     push_names(&mut text, &plant)?;
@@ -87,7 +90,7 @@ fn described(alloc: Global) -> Result<String, AllocError> {
 #[test]
 fn plants_show_their_names(rt: HostRuntime) -> Result<(), Fail> {
     let want =
-        b"Feed %I DINT, b BOOL, C BOOL, x %Q TIME, m %M DINT, y TIME, z DINT, Pump y BOOL, Fill  T1 north south Feed ratio high Pump Pump Fill Fill";
+        b"Feed %I DINT, b BOOL, C BOOL, x %Q TIME, m %M DINT, y TIME, z DINT, Pump y BOOL, Fill  T1 second north south Feed ratio high Pump Pump Fill Fill";
     assert!(rt; again(|| described(rt.alloc()))?.as_bytes() == want.as_slice());
     Ok(())
 }
@@ -110,17 +113,9 @@ fn console(console: &Console) -> (u32, Option<u32>) {
     (console.number, console.areas.as_slice().first().copied())
 }
 
-/// The plant of `SOURCE`.
-fn plant(alloc: Global) -> Result<Plant, AllocError> {
-    match Plant::first(alloc, SOURCE) {
-        Ok(plant) => Ok(plant),
-        Err(_) => Err(AllocError),
-    }
-}
-
 #[test]
 fn plants_show_their_numbers(rt: HostRuntime) -> Result<(), Fail> {
-    let plant = again(|| plant(rt.alloc()))?;
+    let plant = again(|| example(rt.alloc(), SOURCE))?;
     let want = [Some(0), None, Some(0), Some(1), None, Some(2), Some(1)];
     assert!(rt; numbers(&plant) == want);
     for (shown, want) in plant.consoles().iter().zip([(1, Some(0)), (2, Some(1))]) {
@@ -135,7 +130,7 @@ fn plants_show_their_numbers(rt: HostRuntime) -> Result<(), Fail> {
 
 /// What the cells of `SOURCE` hold after the last of them was set in a copy, and after the copy was taken over.
 fn copied(alloc: Global) -> Result<(i64, i64), AllocError> {
-    let plant = plant(alloc)?;
+    let plant = example(alloc, SOURCE)?;
     let mut cells = Cells::opening(alloc, plant.flat())?;
     let mut copy = cells.copy(alloc)?;
     if copy.len() != 8 || cells.len() != copy.len() || cells.is_empty() {
@@ -153,71 +148,42 @@ fn cells_are_copied(rt: HostRuntime) -> Result<(), Fail> {
     Ok(())
 }
 
-/// The statements of a source of one program.
-fn body_of(alloc: Global, source: &[u8]) -> Result<Vec<Stmt<Text>>, AllocError> {
-    let Ok(tokens) = lex(alloc, source) else {
+/// How many globals `SOURCE` has, and the numbers of one and of none.
+fn globals(alloc: Global) -> Result<(usize, Option<usize>, Option<usize>), AllocError> {
+    let Ok(units) = units(alloc, &[("p.st", SOURCE)]) else {
         return Err(AllocError);
     };
-    let Ok(unit) = parse(alloc, source, &tokens) else {
+    let Ok(typed) = check(alloc, &units) else {
         return Err(AllocError);
     };
-    match unit.pous.as_slice() {
-        [pou, ..] => copy_body(alloc, &pou.body),
-        [] => Ok(Vec::new(alloc)),
-    }
+    let globals = Globals::of(alloc, &typed)?;
+    Ok((
+        globals.as_slice().len(),
+        globals.find("C"),
+        globals.find("y"),
+    ))
 }
 
-/// The number of the first fault of a source's statements, in a program whose one variable is the global y, a DINT; 0 without a fault.
-fn fault_number(alloc: Global, source: &[u8]) -> Result<u32, AllocError> {
-    let body = body_of(alloc, source)?;
-    let mut globals = Vec::new(alloc);
-    globals.push(Variable {
-        name: Text::from_str(alloc, "y")?,
-        region: None,
-        kind: Kind::Dint,
-    })?;
-    let program = Program {
-        name: Text::from_str(alloc, "p")?,
-        locals: Vec::new(alloc),
-        starts: Vec::new(alloc),
-        body,
-    };
-    let mut programs = Vec::new(alloc);
-    programs.push(program)?;
-    let starts = Vec::new(alloc);
-    let logic = Logic {
-        globals,
-        starts,
-        programs,
-    };
-    match Flat::of(alloc, logic) {
-        Ok(_) => Ok(0),
-        Err(FirstFault::Memory) => Err(AllocError),
-        Err(FirstFault::Name { .. }) => Ok(6),
-        Err(FirstFault::Kind { .. }) => Ok(7),
-        Err(FirstFault::Constant { .. }) => Ok(9),
-        Err(_) => Ok(10),
-    }
-}
-
-// A call of what is no instance, an output of what has none, and names that are nothing at all.
 #[test]
-fn calls_of_what_is_no_instance_are_faults(rt: HostRuntime) -> Result<(), Fail> {
-    for (source, want) in [
-        (b"PROGRAM p t(); END_PROGRAM".as_slice(), 6),
-        (b"PROGRAM p ton(); END_PROGRAM".as_slice(), 6),
-        (b"PROGRAM p y(a := zz); END_PROGRAM".as_slice(), 6),
-        (b"PROGRAM p y(a => zz); END_PROGRAM".as_slice(), 6),
-        (b"PROGRAM p y := y.q; END_PROGRAM".as_slice(), 6),
-        (b"PROGRAM p y := zz.q; END_PROGRAM".as_slice(), 6),
-        (b"PROGRAM p y(); END_PROGRAM".as_slice(), 7),
-        (b"PROGRAM p y(zz := 1, zz => y); END_PROGRAM".as_slice(), 7),
-        (b"PROGRAM p y := 1; END_PROGRAM".as_slice(), 0),
-    ] {
-        assert!(rt;
-            again(|| fault_number(rt.alloc(), source))? == want,
-            "{source:?}"
-        );
+fn globals_are_found(rt: HostRuntime) -> Result<(), Fail> {
+    assert!(rt; again(|| globals(rt.alloc()))? == (5, Some(2), None));
+    Ok(())
+}
+
+/// The lines of the limits that no small plant passes.
+fn limits(alloc: Global) -> Result<String, AllocError> {
+    let mut text = String::new(alloc);
+    for limit in [Limit::Text, Limit::Slots, Limit::Alarms] {
+        let line = ConfigFault::Limit(limit).line(alloc)?;
+        text.push_str(line.as_str())?;
+        text.push_str(" ")?;
     }
+    Ok(text)
+}
+
+#[test]
+fn limits_have_lines(rt: HostRuntime) -> Result<(), Fail> {
+    let want = b"CONFIG C10 TEXT CONFIG C10 SLOTS CONFIG C10 ALARMS ";
+    assert!(rt; again(|| limits(rt.alloc()))?.as_bytes() == want.as_slice());
     Ok(())
 }

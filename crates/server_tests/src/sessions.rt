@@ -3,8 +3,8 @@
 ghost use Rattle.std.specs.Prelude.{◌≡◌, false};
 
 use crate::again::again;
+use crate::example::example;
 use engine::{Engine, EngineFault};
-use plant_config::Plant;
 use serving::{Failed, Feed, Reading, ServeFault, Sink, Writing, fault_number, serve};
 use std::alloc::{AllocError, Global};
 use std::sync::Wait;
@@ -93,10 +93,8 @@ const OUTPUT: &[u8] =
 
 /// The engine of the example plant.
 fn engine(alloc: Global) -> Result<Engine, AllocError> {
-    match Plant::first(alloc, SOURCE) {
-        Ok(plant) => Engine::new(alloc, plant),
-        Err(_) => Err(AllocError),
-    }
+    let plant = example(alloc, SOURCE)?;
+    Engine::new(alloc, plant)
 }
 
 /// Serves a feed to a sink, from an engine's beginning on; tells how many events there are then.

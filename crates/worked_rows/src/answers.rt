@@ -1,41 +1,16 @@
 //! What the server answers.
 
 use engine::Engine;
-use plant_config::{ConfigFault, Plant};
+use plant_config::Plant;
 use serving::{Reading, ServeFault, Writing, serve};
 use std::alloc::{AllocError, Global};
 use std::sync::Wait;
 
-/// The engine of a source.
-fn engine_of(alloc: Global, source: &[u8]) -> Result<Engine, ConfigFault> {
-    let plant = Plant::first(alloc, source)?;
-    Engine::new(alloc, plant).map_err(|_| ConfigFault::Memory)
-}
-
-/// Adds the line of a refused plant.
-fn push_fault(alloc: Global, text: &mut Vec<u8>, fault: ConfigFault) -> Result<(), AllocError> {
-    if let ConfigFault::Memory = fault {
-        return Err(AllocError);
-    }
-    let line = fault.line(alloc)?;
-    text.extend_from_slice(line.as_bytes())?;
-    text.push(b'\n')?;
-    Ok(())
-}
-
-/// The engine of a source; a source that is refused has none, and its line is added.
-pub fn begun(
-    alloc: Global,
-    text: &mut Vec<u8>,
-    source: &[u8],
-) -> Result<Option<Engine>, AllocError> {
-    match engine_of(alloc, source) {
-        Ok(engine) => Ok(Some(engine)),
-        Err(fault) => {
-            push_fault(alloc, text, fault)?;
-            Ok(None)
-        }
-    }
+/// Adds the line of a plant that is only checked.
+pub fn push_accepted(alloc: Global, text: &mut Vec<u8>, plant: &Plant) -> Result<(), AllocError> {
+    let (programs, alarms) = (plant.programs(), plant.alarms());
+    let line = format!(in alloc; "ACCEPTED PROGRAMS {programs} ALARMS {alarms}\n")?;
+    text.extend_from_slice(line.as_bytes())
 }
 
 /// What an input is answered.

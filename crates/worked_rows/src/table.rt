@@ -1,17 +1,23 @@
 //! The lines of the table.
 
-use crate::answers::{answers, begun, push_seen};
+use crate::answers::{answers, push_accepted, push_seen};
+use crate::plants::{File, first_files, plant_of, push_file};
 use engine::Engine;
-use row_text::{Source, push_line};
+use row_text::push_line;
 use std::alloc::{AllocError, Global};
 use std::sync::Wait;
 
 /// What the table has said so far.
 #[derive(Drop)]
 struct Table {
-    source: Source,
-    /// Whether the source goes on.
+    /// The files of the last plant.
+    files: Vec<File>,
+    /// Whether they go on.
     is_open: bool,
+    /// Whether the plant is only checked.
+    is_checked: bool,
+    /// The sources that are handed in for it, where the table names them.
+    handed: String,
     /// The engine of the last plant, if it was accepted.
     engine: Option<Engine>,
     /// Commands that the engine hasn't been given yet.
@@ -23,8 +29,10 @@ struct Table {
 impl Table {
     fn new(alloc: Global) -> Table {
         Table {
-            source: Source::new(alloc),
+            files: Vec::new(alloc),
             is_open: false,
+            is_checked: false,
+            handed: String::new(alloc),
             engine: None,
             commands: Vec::new(alloc),
             text: Vec::new(alloc),
@@ -50,30 +58,54 @@ impl Table {
 
     /// Begins a plant.
     fn plant(&mut self, alloc: Global, line: &str) -> Result<(), AllocError> {
-        self.source = Source::new(alloc);
+        self.files = first_files(alloc)?;
         self.is_open = true;
+        self.is_checked = false;
+        self.handed = String::new(alloc);
         self.engine = None;
         self.print(line)
     }
 
-    /// Takes a line of a source.
-    fn source_line(&mut self, alloc: Global, line: &str) -> Result<(), AllocError> {
-        if line != "run" {
-            return self.source.add(line);
+    /// Reads the plant of the files, with a text in their gap.
+    fn read(&mut self, alloc: Global, given: &str) -> Result<(), AllocError> {
+        self.engine = None;
+        let handed = self.handed.as_str();
+        let Some(plant) = plant_of(alloc, &mut self.text, &self.files, handed, given)? else {
+            return Ok(());
+        };
+        if self.is_checked {
+            return push_accepted(alloc, &mut self.text, &plant);
         }
-        self.is_open = false;
-        if !self.source.has_gap() {
-            self.engine = begun(alloc, &mut self.text, self.source.as_slice())?;
-        }
+        self.engine = Some(Engine::new(alloc, plant)?);
         Ok(())
     }
 
-    /// Begins the plant of a source with a text in its gap.
-    fn with(&mut self, alloc: Global, line: &str, given: &str) -> Result<(), AllocError> {
-        self.print(line)?;
-        let source = self.source.with(alloc, given)?;
-        self.engine = begun(alloc, &mut self.text, source.as_slice())?;
-        Ok(())
+    /// Takes the end of the files.
+    fn end(&mut self, alloc: Global) -> Result<(), AllocError> {
+        self.is_open = false;
+        if self.files.iter().any(|file| file.source.has_gap()) {
+            return Ok(());
+        }
+        self.read(alloc, "")
+    }
+
+    /// Takes a line of a plant's files, or their end.
+    fn file_line(&mut self, alloc: Global, line: &str) -> Result<(), AllocError> {
+        if let Some(name) = line.strip_prefix("file ") {
+            return push_file(alloc, &mut self.files, name);
+        }
+        if let Some(words) = line.strip_prefix("check") {
+            self.is_checked = true;
+            self.handed = String::from_str(alloc, words.trim_start())?;
+            return self.end(alloc);
+        }
+        if line == "run" {
+            return self.end(alloc);
+        }
+        match self.files.last_mut() {
+            Some(file) => file.source.add(line),
+            None => Ok(()),
+        }
     }
 
     /// Prints what can be seen of the engine.
@@ -117,7 +149,8 @@ impl Table {
         }
         if let Some(given) = line.strip_prefix("with ") {
             self.flush(rt, alloc)?;
-            return self.with(alloc, line, given);
+            self.print(line)?;
+            return self.read(alloc, given);
         }
         if line.is_empty() {
             return Ok(());
@@ -128,7 +161,7 @@ impl Table {
     /// Takes a line.
     fn take<H: Wait>(&mut self, rt: &H, alloc: Global, line: &str) -> Result<(), AllocError> {
         if self.is_open {
-            return self.source_line(alloc, line);
+            return self.file_line(alloc, line);
         }
         if line.starts_with("plant ") {
             self.flush(rt, alloc)?;
