@@ -85,13 +85,13 @@ known areas globals row e =
 -- the alarm of a known row is an alarm of the plant
 row_is : (plant : PlainPlant) (row : DatabaseRow) → IsDatabaseRow row → Known plant.areas plant.source.globals row → IsAlarmRow plant (alarm_of plant.areas plant.source.globals row)
 row_is plant row is k = record {
-    area = known_area (length plant.areas) (area_number plant.areas row.area) (λ n e. place_within (bytes_eq row.area) plant.areas n e) k.area;
-    lowest = is.highest;
-    highest = is.lowest;
-    condition = known_bool plant.source.globals (bool_number plant.source.globals row.condition) (λ n e. bool_of plant.source.globals (find_global plant.source.globals row.condition) n e) k.condition;
-    suppress = known_suppress plant.source.globals row.suppress k.suppress;
-    shelve = is.shelve;
-  }
+  area = known_area (length plant.areas) (area_number plant.areas row.area) (λ n e. place_within (bytes_eq row.area) plant.areas n e) k.area;
+  lowest = is.highest;
+  highest = is.lowest;
+  condition = known_bool plant.source.globals (bool_number plant.source.globals row.condition) (λ n e. bool_of plant.source.globals (find_global plant.source.globals row.condition) n e) k.condition;
+  suppress = known_suppress plant.source.globals row.suppress k.suppress;
+  shelve = is.shelve;
+}
 
 first_none : (n : ℕ) (o : Option Column) (rest : Option (ℕ × Column)) → option_or (option_map (λ c. (n, c)) o) rest ≡ None → (o ≡ None) × (rest ≡ None)
 first_none n None rest e = (refl, e)
@@ -102,8 +102,8 @@ rows_are plant n [] all e = All-nil (IsAlarmRow plant)
 rows_are plant n (row ∷ rows) all e =
     let parts = first_none n (unknown_column plant.areas plant.source.globals row) (first_unknown plant.areas plant.source.globals (n + 1) rows) e in
     All-cons (IsAlarmRow plant) (alarm_of plant.areas plant.source.globals row) (alarms_of plant.areas plant.source.globals rows)
-      (row_is plant row (All-head IsDatabaseRow row rows all) (known plant.areas plant.source.globals row parts.0))
-      (rows_are plant (n + 1) rows (All-tail IsDatabaseRow row rows all) parts.1)
+    (row_is plant row (All-head IsDatabaseRow row rows all) (known plant.areas plant.source.globals row parts.0))
+    (rows_are plant (n + 1) rows (All-tail IsDatabaseRow row rows all) parts.1)
 
 -- their tags are those of the rows
 pub same_tags : (areas : List (List ℕ)) (globals : List Variable) (rows : List DatabaseRow) → tags_of (alarms_of areas globals rows) ≡ database_tags rows

@@ -60,21 +60,41 @@ pub enum ConfigFault {
     },
     /// C6: a name that isn't declared, is declared twice (the later unit) or is a standard block's. A unit is a block or program by its name as
     /// declared, or `VAR_GLOBAL`.
-    Name { file: Text, unit: Text },
+    Name {
+        file: Text,
+        unit: Text,
+    },
     /// C7: something of another kind than it must have, or an assigned input.
-    Kind { file: Text, unit: Text },
+    Kind {
+        file: Text,
+        unit: Text,
+    },
     /// C8: a function block that holds itself, directly or through others.
-    HoldsItself { file: Text, unit: Text },
+    HoldsItself {
+        file: Text,
+        unit: Text,
+    },
     /// C9: an initial value, or a bound or step of a FOR, that reads a variable or traps, a step 0, or a control variable that isn't allowed.
-    Constant { file: Text, unit: Text },
+    Constant {
+        file: Text,
+        unit: Text,
+    },
     /// C11: the alarm database has no header or another one, or a row with another number of fields.
     Header,
     /// C12: a field of the alarm database doesn't have its column's form.
-    Field { row: u32, column: Column },
+    Field {
+        row: u32,
+        column: Column,
+    },
     /// C13: a tag that an earlier row has.
-    Twice { row: u32 },
+    Twice {
+        row: u32,
+    },
     /// C14: an area that the plant file doesn't list, or a name that is no BOOL global's.
-    Unknown { row: u32, column: Column },
+    Unknown {
+        row: u32,
+        column: Column,
+    },
     /// The globals or a program declare an instance of a function block, and these don't run yet.
     NotYet,
 }

@@ -72,11 +72,7 @@ fn first_limit(handed: &Handed<'_>, file: &PlantFile) -> Option<Limit>
 
 /// Fails for the first limit that isn't kept.
 #[tactic(auto, unfolding(crate::specs::Refusals::IsRefused))]
-pub fn check_limits(
-    handed: &Handed<'_>,
-    file: &PlantFile,
-    epoch: Epoch,
-) -> Result<(), ConfigFault>
+pub fn check_limits(handed: &Handed<'_>, file: &PlantFile, epoch: Epoch) -> Result<(), ConfigFault>
     requires { HasEpoch handed.now file.now epoch }
     ensures { MatchResult result (λ _. IsLimited handed.now file.now epoch) (IsRefused handed.now) }
 {

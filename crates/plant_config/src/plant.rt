@@ -56,13 +56,7 @@ impl Model for Plant {
 }
 
 /// A plant of its parts.
-fn assembled(
-    file: PlantFile,
-    epoch: Epoch,
-    flat: Flat,
-    alarms: Vec<AlarmRow>,
-    tags: Tags,
-) -> Plant
+fn assembled(file: PlantFile, epoch: Epoch, flat: Flat, alarms: Vec<AlarmRow>, tags: Tags) -> Plant
     requires plant { IsPlant (plant_with flat file alarms.items epoch) }
     requires tags { tags ≡ tags_of alarms.items }
     ensures { result ≡ plant_with flat file alarms.items epoch }
@@ -208,9 +202,10 @@ fn plant_in(
         Ok(units) => units,
         Err(fault) => return Err(fault),
     };
-    match check(alloc, &units) {
+    let units = units.as_slice();
+    match check(alloc, units) {
         Ok(typed) => plant_of(alloc, handed, file, epoch, &typed),
-        Err(fault) => Err(mistyped(alloc, handed, &units, fault)),
+        Err(fault) => Err(mistyped(alloc, handed, units, fault)),
     }
 }
 

@@ -90,12 +90,7 @@ fn names_of(
 
 /// The refusal for sources that aren't well formed.
 #[tactic(auto, unfolding(crate::specs::Refusals::IsRefused))]
-pub fn mistyped(
-    alloc: Global,
-    handed: &Handed<'_>,
-    units: &[Unit],
-    fault: TypeFault,
-) -> ConfigFault
+pub fn mistyped(alloc: Global, handed: &Handed<'_>, units: &[Unit], fault: TypeFault) -> ConfigFault
     requires { IsTypeFault (map view_unit units.now) fault }
     ensures { (file : PlainPlantFile) (epoch : ℕ) → HasUnits handed.now file epoch (map view_unit units.now) → IsRefused handed.now result }
 {

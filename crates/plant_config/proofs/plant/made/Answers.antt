@@ -22,7 +22,7 @@ assembled-requires-clause-plant c =
     let rows = c.into_parts-rows.ensures.rows ∙ c.requires.rows in
     let alarms : c.in_ok-alarms.alarms.items ≡ alarms_of c.args.file.areas (globals_of c.args.typed.now) (rows_of c.args.handed.now.alarms) = c.in_ok-alarms.ensures ∙ (rw (c.areas.ensures.areas, c.requires.globals, rows) refl) in
     subst IsPlant (sym (same_plant c.args.handed.now c.args.file c.args.epoch c.args.typed.now c.args.flat c.in_ok-alarms.alarms.items c.requires.logic.1 alarms))
-      (made c.args.handed.now c.args.file c.args.epoch c.args.typed.now c.requires.alarms (subst IsSound c.requires.logic.1 c.requires.logic.2) (subst IsDatabase c.requires.rows c.into_parts-rows.ensures.database) c.areas.ensures.file)
+    (made c.args.handed.now c.args.file c.args.epoch c.args.typed.now c.requires.alarms (subst IsSound c.requires.logic.1 c.requires.logic.2) (subst IsDatabase c.requires.rows c.into_parts-rows.ensures.database) c.areas.ensures.file)
 
 pub assembled-requires-clause-tags : goal.assembled-requires-clause-tags
 assembled-requires-clause-tags c =
