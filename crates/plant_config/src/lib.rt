@@ -5,6 +5,7 @@ mod alarms;
 mod epoch;
 mod fault;
 mod files;
+mod laws;
 mod limits;
 mod plant;
 mod rows;
@@ -13,5 +14,6 @@ mod spelling;
 
 pub use fault::{ConfigFault, Limit};
 pub use files::Files;
+pub use laws::one_plant;
 pub use plant::Plant;
 pub use rows::AlarmRow;
