@@ -1,6 +1,6 @@
 -- The alarms of rows whose names are known are alarms of the plant.
-use Rattle.std.proofs.Common.{◌≡◌, ◌≢◌, ◌∙◌, ap, sym, subst, refl, ℕ, zero, suc, ◌<◌, ◌≤◌, ◌+◌, Bool, true, false, List, [], ◌∷◌, length, map, Option, Some, None, All, AllPairs, arith, inl, inr}
-use Rattle.std.specs.Prelude.{if◌then◌else◌, is_none, unwrap_or, slice_get, slice_index_or, position, option_map, option_and_then, IfSome, nat_lt}
+use Rattle.std.proofs.Common.{◌≡◌, ◌≢◌, ◌∙◌, sym, subst, refl, ℕ, zero, suc, ◌<◌, ◌+◌, Bool, true, false, List, [], ◌∷◌, length, Option, Some, None, All, AllPairs, arith, inl, inr}
+use Rattle.std.specs.Prelude.{if◌then◌else◌, is_none, unwrap_or, slice_index_or, position, option_map, option_and_then, IfSome, nat_lt}
 use Rattle.std.specs.List.{position_or_len}
 use Rattle.std.specs.Option.{option_or}
 use Rattle.std.specs.Str.{bytes_eq}
@@ -15,7 +15,7 @@ use Rattle.alarm_db.specs.declared.column.Column.{Column}
 use Rattle.alarm_db.specs.declared.column.Column.TheVariants as column
 use Rattle.alarm_db.specs.declared.row.DatabaseRow.{DatabaseRow}
 use Rattle.alarm_db.specs.Rows.{IsDatabaseRow}
-use Rattle.alarm_db.specs.Databases.{IsDatabase, tags_of as database_tags}
+use Rattle.alarm_db.specs.Databases.{tags_of as database_tags}
 use Rattle.block_flatten.specs.declared.logic.Variable.{Variable}
 use Rattle.block_flatten.specs.Names.{find_global}
 use Rattle.plant_config.specs.declared.rows.AlarmRow.{AlarmRow}

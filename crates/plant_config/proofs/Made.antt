@@ -1,14 +1,12 @@
 -- A plant that was made is one.
-use Rattle.std.proofs.Common.{◌≡◌, ◌≢◌, ap, sym, subst, refl, ℕ, ◌<◌, ◌≤◌, ◌+◌, ◌^◌, Bool, true, false, List, length, Option, Some, None, arith}
+use Rattle.std.proofs.Common.{◌≡◌, refl, ℕ, ◌≤◌, Bool, true, false, List, length, Some, None, arith}
 use Rattle.std.specs.Prelude.{if◌then◌else◌, nat_lt}
-use Rattle.std.proofs.lemmas.Bool.{cases_Bool}
 use Rattle.std.proofs.lemmas.Bool.Decides.{nat_tests}
 use Rattle.st_parser.specs.Units.{PlainUnit}
 use Rattle.block_flatten.specs.Sound.{IsSound}
 use Rattle.block_flatten.specs.Units.{source_in, globals_of}
 use Rattle.alarm_db.specs.Databases.{IsDatabase, rows_of}
 use Rattle.plant_file.specs.PlantFiles.{PlainPlantFile, IsPlantFile}
-use Rattle.plant_config.specs.declared.fault.Limit.{Limit}
 use Rattle.plant_config.specs.declared.fault.Limit.TheVariants as limit
 use Rattle.plant_config.specs.Files.{Texts}
 use Rattle.plant_config.specs.Limits.{first_limit, is_too_long}

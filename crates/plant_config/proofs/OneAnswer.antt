@@ -1,16 +1,15 @@
 -- Texts are accepted as one plant, and then refused for nothing.
-use Rattle.std.proofs.Common.{◌≡◌, ◌≢◌, ◌⊎◌, ◌∙◌, ap, sym, subst, refl, ℕ, ◌<◌, ◌*◌, pos, true, false, List, Option, Some, None, inl, inr, arith}
+use Rattle.std.proofs.Common.{◌≡◌, ◌≢◌, ◌∙◌, ap, sym, subst, refl, ℕ, ◌<◌, ◌*◌, pos, true, false, List, Option, Some, None, inl, inr, arith}
 use Rattle.std.proofs.lemmas.Option.{same_Some}
 use Rattle.stamps.specs.Stamps.{epoch_text}
 use Rattle.stamps.proofs.Texts.{epoch_instant, same_instant}
 use Rattle.st_parser.specs.Units.{PlainUnit}
-use Rattle.st_names.specs.declared.place.UnitPlace.{UnitPlace}
 use Rattle.st_typing.specs.Faults.{AreTyped, IsTypeFault}
 use Rattle.st_typing.specs.declared.fault.TypeFault.{TypeFault}
 use Rattle.st_typing.specs.declared.fault.TypeFault.TheVariants as type_fault
-use Rattle.plant_file.specs.PlantFiles.{PlainPlantFile, plant_file}
-use Rattle.plant_file.specs.Read.{plant_file_in, document_in}
-use Rattle.plant_sources.specs.Sources.{HaveUnits, IsSourceFault}
+use Rattle.plant_file.specs.PlantFiles.{PlainPlantFile}
+use Rattle.plant_file.specs.Read.{plant_file_in}
+use Rattle.plant_sources.specs.Sources.{IsSourceFault}
 use Rattle.plant_sources.specs.declared.fault.SourceFault.{SourceFault}
 use Rattle.plant_sources.specs.declared.fault.SourceFault.TheVariants as source_fault
 use Rattle.plant_sources.proofs.Answers.{one_list_of_units, apart as source_apart}
@@ -25,8 +24,8 @@ use Rattle.plant_config.specs.Alarms.{first_unknown}
 use Rattle.plant_config.specs.Files.{Texts, same_texts}
 use Rattle.plant_config.specs.Limits.{first_limit}
 use Rattle.plant_config.specs.Plants.{PlainPlant}
-use Rattle.plant_config.specs.Stages.{HasFile, HasEpoch, IsLimited, HasUnits, IsWellFormed, HasVariables, HasDatabase, HasAlarms, Accepted, plant_of, has_too_many_variables}
-use Rattle.plant_config.specs.Refusals.{IsWrongFile, HasOtherSources, HasNoEpoch, IsOverLimit, IsMisspelled, IsMistyped, IsMistypedIn, IsTooLarge, HasDatabaseFault, NamesUnknown, HasInstances, IsLimitOf, IsRefused}
+use Rattle.plant_config.specs.Stages.{HasFile, HasEpoch, HasUnits, HasAlarms, Accepted, has_too_many_variables}
+use Rattle.plant_config.specs.Refusals.{IsOverLimit, IsTooLarge, HasDatabaseFault, IsRefused}
 
 -- nothing is and isn't there
 not_both : {A : Type 0} (o : Option A) (x : A) → o ≡ Some x → o ≡ None → ⊥

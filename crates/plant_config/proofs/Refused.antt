@@ -1,5 +1,5 @@
 -- Refusals, told apart from what they say.
-use Rattle.std.proofs.Common.{◌≡◌, ℕ, true, List, Some}
+use Rattle.std.proofs.Common.{◌≡◌, ℕ, true, List}
 use Rattle.st_parser.specs.Units.{PlainUnit}
 use Rattle.block_flatten.specs.Units.{have_instances}
 use Rattle.plant_file.specs.PlantFiles.{PlainPlantFile}

@@ -1,7 +1,7 @@
 use Rattle.std.proofs.Common.{◌≡◌, ◌≤◌, ◌∙◌, ap, sym, subst, refl, List, length}
 use Rattle.block_flatten.specs.declared.logic.Variable.{Variable}
 use Rattle.block_flatten.specs.Sound.{IsSound}
-use Rattle.block_flatten.specs.Units.{globals_of, source_in}
+use Rattle.block_flatten.specs.Units.{globals_of}
 use Rattle.alarm_db.specs.Databases.{IsDatabase, rows_of, tags_of as database_tags}
 use Rattle.plant_config.specs.Alarms.{alarms_of}
 use Rattle.plant_config.specs.Plants.{IsPlant, tags_of}
