@@ -92,7 +92,6 @@ fn made(
     Ok(assembled(file, epoch, flat, alarms, tags))
 }
 
-/// The plant of well-formed sources, or why there is none.
 /// The plant of texts that are right, or `NotYet` where there is no logic that runs.
 #[tactic(auto, using(crate::proofs::Refused::memory_refused, crate::proofs::Refused::instances_refused))]
 fn finished(
