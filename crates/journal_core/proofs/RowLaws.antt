@@ -1,8 +1,10 @@
--- What holds of the rows of a log holds with one row more.
-use Rattle.std.proofs.Common.{◌≡◌, ℕ, zero, suc, ◌+◌, ◌<◌, ◌≤◌, List, [], ◌∷◌, ◌++◌, length, slice_get, Option, Some, None, arith, ap}
+-- What holds of the rows of a log holds with one row more; the rows of entries that are added one by one.
+use Rattle.std.proofs.Common.{◌≡◌, ℕ, zero, suc, ◌+◌, ◌-◌, ◌<◌, ◌≤◌, List, [], ◌∷◌, ◌++◌, length, slice_get, slice_index_or, drop, map, Option, Some, None, arith, refl, ap, sym, ◌∙◌}
+use Rattle.std.proofs.lemmas.List.{drop_more}
 use Rattle.std.proofs.lemmas.Option.{slice_get_within}
 use Rattle.journal_core.specs.declared.row.Row.{Row}
-use Rattle.journal_core.specs.Rows.{AreNumbered, AreInOrder, last_moment}
+use Rattle.journal_core.specs.declared.row.Entry.{Entry}
+use Rattle.journal_core.specs.Rows.{PlainLog, after_entry, after_entries, AreNumbered, AreInOrder, last_moment}
 
 -- the number of a row, if there is one
 abbrev number_in : Option Row → ℕ
@@ -27,3 +29,23 @@ pub in_order_more : (rows : List Row) (row : Row) → AreInOrder rows → last_m
 in_order_more [] row order late = tt
 in_order_more (first ∷ []) row order late = (late, tt)
 in_order_more (first ∷ next ∷ rows) row order late = (order.0, in_order_more (next ∷ rows) row order.1 late)
+
+-- the last of rows with one more is that one
+last_of_more : (rows : List Row) (row : Row) → last_moment (rows ++ row ∷ []) ≡ row.moment
+last_of_more [] row = refl
+last_of_more (first ∷ []) row = refl
+last_of_more (first ∷ next ∷ rows) row = last_of_more (next ∷ rows) row
+
+-- what is left is added one step on, and there is room for it
+pub added_more : {A : Type 0} (moment : ℕ) (new log : PlainLog) (f : A → Entry) (xs : List A) (i : ℕ) (x : A) → new ≡ after_entry moment log (f (slice_index_or xs i x)) → i < length xs →
+    after_entries moment new (map f (drop (i + 1) xs)) ≡ after_entries moment log (map f (drop i xs))
+added_more moment new log f xs i x is within =
+    ap (λ l. after_entries moment l (map f (drop (i + 1) xs))) is ∙ sym (ap (λ ys. after_entries moment log (map f ys)) (drop_more xs i x within))
+
+pub room_more : (moment : ℕ) (new log : PlainLog) (entry : Entry) (n i : ℕ) → new ≡ after_entry moment log entry → n ≤ log.room + i → n ≤ new.room + (i + 1)
+room_more moment new log entry n i is room = let left : new.room ≡ log.room - 1 = ap (λ l. l.room) is in omega (arith, left, room)
+
+pub last_more : (moment : ℕ) (new log : PlainLog) (entry : Entry) → new ≡ after_entry moment log entry → last_moment new.rows ≤ moment
+last_more moment new log entry is =
+    let last : last_moment new.rows ≡ moment = ap (λ l. last_moment l.rows) is ∙ last_of_more log.rows (record { number = length log.rows + 1; moment = moment; entry = entry }) in
+    omega (arith, last)

@@ -1,6 +1,10 @@
 -- The rows of a journal, and the row that is added for an entry.
 use Rattle.std.specs.Prelude.{◌≡◌, ℕ, ◌+◌, ◌-◌, ◌≤◌, List, [], ◌∷◌, ◌++◌, length, slice_get, Some}
+use Rattle.plant_types.specs.declared.values.Place.{Place}
+use Rattle.plant_types.specs.declared.values.Trap.{Trap}
+use Rattle.alarm_machine.specs.Codes.{PlainChange}
 use Rattle.journal_core.specs.declared.row.Entry.{Entry}
+use Rattle.journal_core.specs.declared.row.Entry.TheVariants as entry
 use Rattle.journal_core.specs.declared.row.Row.{Row}
 
 -- a log: its rows, and for how many more there is room without memory
@@ -19,6 +23,13 @@ after_entry moment log entry = record {
 abbrev pub after_entries : ℕ → PlainLog → List Entry → PlainLog
 after_entries moment log [] = log
 after_entries moment log (entry ∷ entries) = after_entries moment (after_entry moment log entry) entries
+
+-- the entries for a fault and for a change of an alarm's code
+abbrev pub fault_entry : (Place × Trap) → Entry
+fault_entry fault = entry.Fault fault.0 fault.1
+
+abbrev pub change_entry : (ℕ × PlainChange) → Entry
+change_entry change = entry.Alarm change.0 change.1
 
 -- rows are numbered from 1
 abbrev pub AreNumbered : List Row → Type 0

@@ -1,7 +1,9 @@
-ghost use Rattle.std.specs.Prelude.{◌≡◌, ◌<◌, ◌≤◌, [], OnOk};
-ghost use Rattle.journal_core.specs.Rows.{after_entry, last_moment, AreNumbered, AreInOrder};
+ghost use Rattle.std.specs.Prelude.{◌≡◌, ◌<◌, ◌≤◌, [], length, map, OnOk};
+ghost use Rattle.journal_core.specs.Rows.{after_entry, after_entries, fault_entry, change_entry, last_moment, AreNumbered, AreInOrder};
 
 use crate::row::{Entry, Row};
+use alarm_machine::Change;
+use plant_types::{Place, Trap};
 use std::alloc::{AllocError, Global};
 use std::marker::Model;
 
@@ -65,5 +67,29 @@ impl Log {
             moment,
             entry,
         });
+    }
+
+    /// Adds a row for each fault of a scan, in their order. There is room for them, and the moment is not before that of the last row.
+    pub fn push_faults(&mut self, moment: u64, faults: &[(Place, Trap)])
+        requires room { length faults.now ≤ self.old.room }
+        requires in_order { last_moment self.old.rows ≤ moment }
+        ensures { self.new ≡ after_entries moment self.old (map fault_entry faults.now) }
+    {
+        for fault in faults {
+            let (place, trap) = *fault;
+            self.push(moment, Entry::Fault(place, trap));
+        }
+    }
+
+    /// Adds a row for each change of a scan, in their order. There is room for them, and the moment is not before that of the last row.
+    pub fn push_changes(&mut self, moment: u64, changes: &[(u32, Change)])
+        requires room { length changes.now ≤ self.old.room }
+        requires in_order { last_moment self.old.rows ≤ moment }
+        ensures { self.new ≡ after_entries moment self.old (map change_entry changes.now) }
+    {
+        for change in changes {
+            let (alarm, codes) = *change;
+            self.push(moment, Entry::Alarm(alarm, codes));
+        }
     }
 }
