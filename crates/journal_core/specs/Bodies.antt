@@ -1,0 +1,52 @@
+-- The text of a row: its number, its stamp and its body, with one definition for each kind of body.
+use Rattle.std.specs.Prelude.{ℕ, List, [], ◌++◌, Option, Some, None, codes}
+use Rattle.std.specs.Fmt.{decimal}
+use Rattle.plant_types.specs.declared.values.Trap.{Trap}
+use Rattle.plant_types.specs.declared.values.Trap.TheVariants as trap
+use Rattle.alarm_machine.specs.Codes.{PlainChange, code_text}
+use Rattle.alarm_machine.specs.Orders.{verb_text, order_fault_text}
+use Rattle.alarm_machine.specs.declared.states.Verb.{Verb}
+use Rattle.alarm_machine.specs.declared.states.Verb.TheVariants as verb
+use Rattle.alarm_machine.specs.declared.states.OrderFault.{OrderFault}
+use Rattle.stamps.specs.Stamps.{stamp}
+use Rattle.journal_core.specs.declared.row.Entry.{Entry}
+use Rattle.journal_core.specs.declared.row.Entry.TheVariants as entry
+use Rattle.journal_core.specs.declared.row.Row.{Row}
+
+-- the word for why a program was faulted
+abbrev pub trap_text : Trap → List ℕ
+trap_text trap.Overflow = codes "OVERFLOW"
+trap_text trap.DivZero = codes "DIVZERO"
+
+-- the body for a fault, at a statement of the body with this path: `FAULT PATH STATEMENT KIND`
+abbrev pub fault_body : List ℕ → ℕ → Trap → List ℕ
+fault_body path statement kind = codes "FAULT " ++ path ++ codes " " ++ decimal statement ++ codes " " ++ trap_text kind
+
+-- the body for an alarm whose code changed: `ALARM TAG FROM TO`
+abbrev pub alarm_body : List ℕ → PlainChange → List ℕ
+alarm_body tag change = codes "ALARM " ++ tag ++ codes " " ++ code_text change.from ++ codes " " ++ code_text change.to
+
+-- the time of a shelving in milliseconds, with a space after it; other orders have none
+abbrev pub shelf_text : Verb → List ℕ
+shelf_text (verb.Shelve time) = decimal time ++ codes " "
+shelf_text _ = []
+
+-- the reply to an order: OK, or the number of its refusal
+abbrev pub reply_text : Option OrderFault → List ℕ
+reply_text None = codes "OK"
+reply_text (Some fault) = order_fault_text fault
+
+-- the body for an order: `ORDER CONSOLE COMMAND TARGET REPLY`, for a shelving with its time before REPLY
+abbrev pub order_body : ℕ → Verb → List ℕ → Option OrderFault → List ℕ
+order_body console order target refused =
+    codes "ORDER " ++ decimal console ++ codes " " ++ verb_text order ++ codes " " ++ target ++ codes " " ++ shelf_text order ++ reply_text refused
+
+-- the body of a row: the name is that of its path, its alarm or its order's target
+abbrev pub body_text : Entry → List ℕ → List ℕ
+body_text (entry.Fault place kind) name = fault_body name place.statement kind
+body_text (entry.Alarm number change) name = alarm_body name change
+body_text (entry.Order console order target refused) name = order_body console order name refused
+
+-- the text of a row of the journal of a plant with this epoch: `NUMBER STAMP BODY`
+abbrev pub row_text : ℕ → Row → List ℕ → List ℕ
+row_text epoch row name = decimal row.number ++ codes " " ++ stamp epoch row.moment ++ codes " " ++ body_text row.entry name
