@@ -16,6 +16,8 @@ mod engines;
 #[cfg(test)]
 mod example;
 #[cfg(test)]
+mod folders;
+#[cfg(test)]
 mod laws;
 #[cfg(test)]
 mod plants;

@@ -51,8 +51,8 @@ impl Feed for Pieces<'_> {
 
 /// A sink that takes at most so many bytes a write, and fails after so many writes.
 #[derive(Drop)]
-struct Taken {
-    bytes: Vec<u8>,
+pub struct Taken {
+    pub bytes: Vec<u8>,
     most: usize,
     writes: usize,
     broken: bool,
@@ -78,6 +78,18 @@ impl Sink for Taken {
 
     fn failed(&self) -> bool {
         self.broken
+    }
+}
+
+/// A sink that takes what there is, and doesn't fail.
+pub fn whole_sink(alloc: Global) -> Taken
+    ensures { result.broken ≡ false }
+{
+    Taken {
+        bytes: Vec::new(alloc),
+        most: NO_LIMIT,
+        writes: NO_LIMIT,
+        broken: false,
     }
 }
 
