@@ -13,8 +13,10 @@ mod states;
 pub use alarm::Alarm;
 pub use change::Change;
 pub use laws::{
-    code_changes_are_reported, codes_print_differently, new_condition_in_service_needs_ack,
-    no_unsuppressed_scan_acknowledges, repeated_scan_changes_nothing,
+    code_changes_are_reported, codes_print_differently, latch_outlasts_scans,
+    new_condition_in_service_needs_ack, no_order_hides_standing_condition,
+    no_unsuppressed_scan_acknowledges, only_ack_acknowledges, only_reset_ends_latch,
+    repeated_scan_changes_nothing, standing_condition_is_shown,
 };
 pub use limits::{LAST_MOMENT, LONGEST_SHELVE_MS};
 pub use states::{AlarmState, Code, OrderFault, Verb};
