@@ -1,5 +1,5 @@
 -- The command of a line. Each command is a case of `command_in`, and has a definition of the words after its name.
-use Rattle.std.specs.Prelude.{ℕ, ◌==◌, ◌∷◌, [], List, Bool, false, if◌then◌else◌, length, nat_lt, Some, None, codes}
+use Rattle.std.specs.Prelude.{ℕ, ◌==◌, ◌∷◌, [], List, Bool, false, if◌then◌else◌, length, nat_lt, Option, Some, None, codes}
 use Rattle.std.specs.Str.{bytes_eq}
 use Rattle.plant_types.specs.Pairs.{PlainPair}
 use Rattle.alarm_machine.specs.declared.states.Verb.{Verb}
@@ -39,14 +39,35 @@ order_of v (c ∷ []) = Unknown
 order_of v (c ∷ target ∷ []) = elim (number_of 9 c) [ None ↦ Unknown | Some console ↦ Order v console target ]
 order_of v (c ∷ target ∷ w ∷ ws) = Unknown
 
--- the command of a line's words: the first is its name, in lower case
+-- the command of the words after shelve: CONSOLE TAG MS, for so many milliseconds
+unfoldable pub shelve_of : List (List ℕ) → PlainCommand
+shelve_of [] = Unknown
+shelve_of (c ∷ []) = Unknown
+shelve_of (c ∷ tag ∷ []) = Unknown
+shelve_of (c ∷ tag ∷ ms ∷ []) = elim (number_of 9 c) [
+  | None ↦ Unknown
+  | Some console ↦ elim (number_of 19 ms) [ None ↦ Unknown | Some time ↦ Order (verb.Shelve time) console tag ]
+]
+shelve_of (c ∷ tag ∷ ms ∷ w ∷ ws) = Unknown
+
+-- the order that a word names, in small letters, where nothing but a console and a target comes after it; so none for shelve
+unfoldable pub verb_named : List ℕ → Option Verb
+verb_named w =
+    if bytes_eq w (codes "ack") then Some verb.Ack
+    else if bytes_eq w (codes "reset") then Some verb.Reset
+    else if bytes_eq w (codes "unshelve") then Some verb.Unshelve
+    else if bytes_eq w (codes "remove") then Some verb.Remove
+    else if bytes_eq w (codes "return") then Some verb.PutBack
+    else if bytes_eq w (codes "restart") then Some verb.Restart
+    else None
+
+-- the command of a line's words: the first is its name, in small letters
 unfoldable pub command_in : List (List ℕ) → PlainCommand
 command_in [] = Nothing
 command_in (w ∷ ws) =
     if bytes_eq w (codes "scan") then scan_of ws
-    else if bytes_eq w (codes "ack") then order_of verb.Ack ws
-    else if bytes_eq w (codes "restart") then order_of verb.Restart ws
-    else Unknown
+    else if bytes_eq w (codes "shelve") then shelve_of ws
+    else elim (verb_named w) [ None ↦ Unknown | Some v ↦ order_of v ws ]
 
 -- whether the first word begins with #
 abbrev pub is_remark : List (List ℕ) → Bool

@@ -1,6 +1,6 @@
 ghost use Rattle.std.specs.Prelude.{◌≡◌, IfOk};
 ghost use Rattle.command_text.specs.Words.{words_of};
-ghost use Rattle.command_text.specs.Commands.{scan_of, order_of, command_in, command_of, is_remark, plain_command};
+ghost use Rattle.command_text.specs.Commands.{scan_of, order_of, shelve_of, verb_named, command_in, command_of, is_remark, plain_command};
 
 use crate::command::Command;
 use crate::given::list_pairs;
@@ -55,6 +55,51 @@ fn parse_order<'a>(verb: Verb, words: &'a [u8]) -> Command<'a>
     }
 }
 
+/// Parses the words after `shelve`: a console, a tag and a time in milliseconds.
+#[tactic(auto, unfolding(crate::specs::Commands::shelve_of))]
+fn parse_shelve<'a>(words: &'a [u8]) -> Command<'a>
+    ensures { plain_command result ≡ shelve_of (words_of words.now) }
+{
+    let Some((console, rest)) = next_word(words) else {
+        return Command::Unknown;
+    };
+    let Some((tag, rest)) = next_word(rest) else {
+        return Command::Unknown;
+    };
+    let Some((time, rest)) = next_word(rest) else {
+        return Command::Unknown;
+    };
+    if next_word(rest).is_some() {
+        return Command::Unknown;
+    }
+    match (short_number(console), number(time)) {
+        (Some(console), Some(time)) => Command::Order(Verb::Shelve(time), console, tag),
+        _ => Command::Unknown,
+    }
+}
+
+/// The order that a word names where only a console and a target come after it; `None` for any other word, also for `shelve`.
+#[tactic(auto, unfolding(crate::specs::Commands::verb_named))]
+fn verb_named(word: &[u8]) -> Option<Verb>
+    ensures { result ≡ verb_named word.now }
+{
+    if word == b"ack".as_slice() {
+        Some(Verb::Ack)
+    } else if word == b"reset".as_slice() {
+        Some(Verb::Reset)
+    } else if word == b"unshelve".as_slice() {
+        Some(Verb::Unshelve)
+    } else if word == b"remove".as_slice() {
+        Some(Verb::Remove)
+    } else if word == b"return".as_slice() {
+        Some(Verb::PutBack)
+    } else if word == b"restart".as_slice() {
+        Some(Verb::Restart)
+    } else {
+        None
+    }
+}
+
 /// Parses the words of a line: the first is the command's name. Fails only where memory was refused.
 #[tactic(auto, unfolding(crate::specs::Commands::command_in))]
 fn parse_words<'a>(
@@ -68,13 +113,14 @@ fn parse_words<'a>(
         return Ok(Command::Nothing);
     };
     if first == b"scan".as_slice() {
-        parse_scan(alloc, pool, others)
-    } else if first == b"ack".as_slice() {
-        Ok(parse_order(Verb::Ack, others))
-    } else if first == b"restart".as_slice() {
-        Ok(parse_order(Verb::Restart, others))
-    } else {
-        Ok(Command::Unknown)
+        return parse_scan(alloc, pool, others);
+    }
+    if first == b"shelve".as_slice() {
+        return Ok(parse_shelve(others));
+    }
+    match verb_named(first) {
+        Some(verb) => Ok(parse_order(verb, others)),
+        None => Ok(Command::Unknown),
     }
 }
 
