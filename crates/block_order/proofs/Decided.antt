@@ -133,10 +133,13 @@ module _ (blocks : List PlainBlock) where
             ]
       ]
 
+  pub one_holder : (i j : ℕ) → IsOrderFault blocks (fault.HoldsItself i) → IsOrderFault blocks (fault.HoldsItself j) → i ≡ j
+  one_holder = one_first blocks (BlockHoldsItself blocks)
+
   pub one_fault : (f g : OrderFault) → IsOrderFault blocks f → IsOrderFault blocks g → f ≢ fault.Memory → g ≢ fault.Memory → f ≡ g
   one_fault fault.Memory g a b some other = absurd (some refl)
   one_fault (fault.HoldsItself i) fault.Memory a b some other = absurd (other refl)
-  one_fault (fault.HoldsItself i) (fault.HoldsItself j) a b some other = ap (λ n. fault.HoldsItself n) (one_first blocks (BlockHoldsItself blocks) i j a b)
+  one_fault (fault.HoldsItself i) (fault.HoldsItself j) a b some other = ap (λ n. fault.HoldsItself n) (one_holder i j a b)
   one_fault (fault.HoldsItself i) fault.TooDeep a b some other = absurd (b.0 i a.0.0 a.0.1 a.0.2)
   one_fault fault.TooDeep fault.Memory a b some other = absurd (other refl)
   one_fault fault.TooDeep (fault.HoldsItself j) a b some other = absurd (a.0 j b.0.0 b.0.1 b.0.2)
