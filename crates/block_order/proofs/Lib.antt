@@ -8,3 +8,4 @@ mod Numbered
 mod Judged
 mod Depths
 mod Falling
+pub mod Decided

@@ -13,7 +13,7 @@ use Rattle.plant_types.specs.Words.{folded, same_word}
 use Rattle.block_order.specs.Chains.{Among}
 use Rattle.block_order.specs.Graphs.{Graph, next_of, InRange}
 use Rattle.block_order.specs.Blocks.{PlainBlock, first_of, declared_in}
-use Rattle.block_order.specs.Names.{found_or, number, is_numbered, is_first, numbers_at, IsGraph}
+use Rattle.block_order.specs.Names.{found_or, number, is_numbered, is_first, numbers_at, row_at, IsGraph}
 use Rattle.block_order.proofs.Lists.{moved_among}
 use Rattle.block_order.proofs.Moved.{from_mapped}
 use Rattle.block_order.proofs.Rows.{map_twice, row_then, row_else, row_behind}
@@ -179,39 +179,52 @@ all_rows (row ∷ rows) n each = All-cons (λ x. All (λ w. w < n) x.items) row 
 pub graph_as : (blocks : List PlainBlock) (g h : Graph) → g ≡ h → IsGraph blocks h → IsGraph blocks g
 graph_as blocks g h is p = rw is p
 
-module _ (blocks : List PlainBlock) (graph : Graph) (is : IsGraph blocks graph) where
-  pub next_first : (a : ℕ) (block : PlainBlock) → is_first blocks a ≡ true → slice_get blocks a ≡ Some block → next_of graph a ≡ map (λ word. number blocks (folded word)) block.instances
-  next_first a block first at = is.row a ∙ row_then blocks a first ∙ ap (numbers_at blocks) at
-
-  leaf : next_of graph (length blocks) ≡ []
-  leaf = is.row (length blocks) ∙ row_behind blocks (length blocks) (omega arith)
+-- the rows of block types
+module _ (blocks : List PlainBlock) where
+  first_row : (a : ℕ) (block : PlainBlock) → is_first blocks a ≡ true → slice_get blocks a ≡ Some block → row_at blocks a ≡ map (λ word. number blocks (folded word)) block.instances
+  first_row a block first at = row_then blocks a first ∙ ap (numbers_at blocks) at
 
   -- a number leads to the numbers of what its name declares
-  pub kept : (w : List ℕ) → next_of graph (number blocks w) ≡ map (number blocks) (declared_in blocks w)
-  kept w =
+  pub row_kept : (w : List ℕ) → row_at blocks (number blocks w) ≡ map (number blocks) (declared_in blocks w)
+  row_kept w =
       elim (option_cases (first_of blocks w)) [
-        | inl none ↦ ap (next_of graph) (number_none blocks w none) ∙ leaf ∙ ap (map (number blocks)) (sym (missing blocks w none))
+        | inl none ↦ ap (row_at blocks) (number_none blocks w none) ∙ row_behind blocks (length blocks) (omega arith) ∙ ap (map (number blocks)) (sym (missing blocks w none))
         | inr some ↦
             let f = found blocks w some.0 some.1 in
-            ap (next_of graph) (number_some blocks w some.0 some.1) ∙ next_first some.0 f.0 (first_at blocks w some.0 some.1) f.1 ∙ map_twice (number blocks) folded f.0.instances ∙ ap (map (number blocks)) (sym f.3)
+            ap (row_at blocks) (number_some blocks w some.0 some.1) ∙ first_row some.0 f.0 (first_at blocks w some.0 some.1) f.1 ∙ map_twice (number blocks) folded f.0.instances ∙ ap (map (number blocks)) (sym f.3)
       ]
 
   -- what leads anywhere is the first block type of its name
-  pub row_first : (a w : ℕ) → Among (next_of graph a) w → (block : PlainBlock) × (slice_get blocks a ≡ Some block) × (first_of blocks (folded block.name) ≡ Some a)
-  row_first a w here =
+  row_of_first : (a w : ℕ) → Among (row_at blocks a) w → (block : PlainBlock) × (slice_get blocks a ≡ Some block) × (first_of blocks (folded block.name) ≡ Some a)
+  row_of_first a w here =
       elim (cases_Bool (is_first blocks a)) [
         | inl so ↦ first_is blocks a so
-        | inr not_so ↦ absurd (from_none (next_of graph a) w (is.row a ∙ row_else blocks a not_so) here)
+        | inr not_so ↦ absurd (from_none (row_at blocks a) w (row_else blocks a not_so) here)
       ]
+
+  pub row_least : (a w : ℕ) → Among (row_at blocks a) w → w ≤ length blocks
+  row_least a w here =
+      let b = row_of_first a w here in
+      let row = first_row a b.0 (first_at blocks (folded b.0.name) a b.2) b.1 in
+      let m = from_mapped (λ word. number blocks (folded word)) b.0.instances w (moved_among (row_at blocks a) _ w row here) in
+      let n = number_within blocks (folded m.0) in
+      omega (arith, n, m.2)
+
+module _ (blocks : List PlainBlock) (graph : Graph) (is : IsGraph blocks graph) where
+  pub next_first : (a : ℕ) (block : PlainBlock) → is_first blocks a ≡ true → slice_get blocks a ≡ Some block → next_of graph a ≡ map (λ word. number blocks (folded word)) block.instances
+  next_first a block first at = is.row a ∙ first_row blocks a block first at
+
+  pub kept : (w : List ℕ) → next_of graph (number blocks w) ≡ map (number blocks) (declared_in blocks w)
+  kept w = is.row (number blocks w) ∙ row_kept blocks w
+
+  pub row_first : (a w : ℕ) → Among (next_of graph a) w → (block : PlainBlock) × (slice_get blocks a ≡ Some block) × (first_of blocks (folded block.name) ≡ Some a)
+  row_first a w here = row_of_first blocks a w (moved_among (next_of graph a) (row_at blocks a) w (is.row a) here)
 
   pub row_within : (a w : ℕ) → Among (next_of graph a) w → w < length graph
   row_within a w here =
-      let b = row_first a w here in
-      let row = next_first a b.0 (first_at blocks (folded b.0.name) a b.2) b.1 in
-      let m = from_mapped (λ word. number blocks (folded word)) b.0.instances w (moved_among (next_of graph a) _ w row here) in
-      let n = number_within blocks (folded m.0) in
+      let n = row_least blocks a w (moved_among (next_of graph a) (row_at blocks a) w (is.row a) here) in
       let long = is.long in
-      omega (arith, n, m.2, long)
+      omega (arith, n, long)
 
   pub in_range : InRange graph (length graph)
   in_range = all_rows graph (length graph) row_within

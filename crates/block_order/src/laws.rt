@@ -1,6 +1,10 @@
-//! Laws of depth. These functions do nothing: each has a law as its contract, for the crates above.
+//! Laws of block types and their depth. These functions do nothing: each has a law as its contract, for the crates above.
 
-ghost use Rattle.std.specs.Prelude.{◌≡◌, ℕ, suc, List, false, nat_lt};
+ghost use Rattle.std.specs.Prelude.{◌≡◌, ◌≢◌, ◌⊎◌, ℕ, suc, List, false, nat_lt};
+ghost use Rattle.block_order.specs.Blocks.{PlainBlock, NoneHoldsItself, NoneTooDeep, AreOrdered};
+ghost use Rattle.block_order.specs.Faults.{IsOrderFault};
+ghost use Rattle.block_order.specs.declared.faults.OrderFault.{OrderFault};
+ghost use Rattle.block_order.specs.declared.faults.OrderFault.TheVariants as fault;
 ghost use Rattle.block_order.specs.Chains.{has_chain, depth};
 
 /// It is deeper than so many levels exactly where there is a chain of as many steps from it.
@@ -11,4 +15,15 @@ pub fn deeper_where_chain()
 /// As many levels as no chain of instances has show the whole depth.
 pub fn levels_show_depth()
     ensures { (next : List ℕ → List (List ℕ)) (k : ℕ) (a : List ℕ) → has_chain next k a ≡ false → depth next (suc k) a ≡ depth next k a }
+{}
+
+/// Of each list of block types none holds itself and none is too deep, or the list has a fault that isn't `Memory`.
+pub fn sound_or_not()
+    ensures { (blocks : List PlainBlock) → (NoneHoldsItself blocks × NoneTooDeep blocks) ⊎ ((f : OrderFault) × IsOrderFault blocks f × (f ≢ fault.Memory)) }
+{}
+
+/// A list of block types has, `Memory` apart, at most one fault, and none where it has an order.
+pub fn one_order_fault()
+    ensures one { (blocks : List PlainBlock) (f g : OrderFault) → IsOrderFault blocks f → IsOrderFault blocks g → f ≢ fault.Memory → g ≢ fault.Memory → f ≡ g }
+    ensures apart { (blocks : List PlainBlock) (order : List ℕ) (f : OrderFault) → AreOrdered blocks order → IsOrderFault blocks f → f ≡ fault.Memory }
 {}

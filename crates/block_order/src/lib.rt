@@ -18,5 +18,5 @@ mod word;
 
 pub use blocks::Block;
 pub use faults::OrderFault;
-pub use laws::{deeper_where_chain, levels_show_depth};
+pub use laws::{deeper_where_chain, levels_show_depth, one_order_fault, sound_or_not};
 pub use order::order_blocks;

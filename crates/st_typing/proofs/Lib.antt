@@ -1,2 +1,5 @@
+pub mod Decided
+pub mod OneFault
 pub mod Parts
 pub mod Places
+pub mod Settled

@@ -9,9 +9,11 @@ mod checking;
 mod constants;
 mod fault;
 mod kinds;
+mod laws;
 mod limits;
 mod typed;
 
 pub use checking::check;
 pub use fault::TypeFault;
+pub use laws::{one_type_fault, typed_or_not};
 pub use typed::Typed;
