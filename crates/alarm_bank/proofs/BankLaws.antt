@@ -1,26 +1,68 @@
 -- What one alarm's step makes of the bank.
-use Rattle.std.proofs.Common.{◌≡◌, ℕ, zero, suc, ◌+◌, ◌<◌, ◌≤◌, Bool, false, Option, Some, None, Ok, Err, List, [], ◌∷◌, ◌++◌, length, map, slice_get, slice_index, slice_index_or, ◌≢◌, All, inl, inr, slice_set, take, arith, refl, ap, sym, ◌∙◌, length-set}
+use Rattle.std.proofs.Common.{◌≡◌, ℕ, zero, suc, ◌+◌, ◌<◌, ◌≤◌, Bool, false, Option, Some, None, Ok, Err, List, [], ◌∷◌, ◌++◌, length, map, slice_get, slice_index, slice_index_or, ◌≢◌, All, inl, inr, slice_set, take, drop, ◌*◌, arith, refl, ap, sym, ◌∙◌, length-set}
 use Rattle.std.specs.declared.result.Result.{Result}
 use Rattle.std.specs.Option.{option_map}
 use Rattle.std.proofs.lemmas.Bool.{cases_lt}
-use Rattle.std.proofs.lemmas.List.{map-set, length-map, get_or-map, get_or_default, take_all, take_more, take_more_set}
-use Rattle.std.proofs.lemmas.List.Elements.{All-set, All-get_or}
+use Rattle.std.proofs.lemmas.List.{map-set, length-map, get_or-map, get_or_default, take_all, take_more, take_more_set, drop_more, drop_all, append-nil, append_assoc}
+use Rattle.std.specs.List.{AllByRecursion}
+use Rattle.std.proofs.lemmas.List.Elements.{All-set, All-get_or, All-from_recursion, recursion_from_All}
 use Rattle.std.proofs.lemmas.Option.{slice_get-map, slice_get_within, get_or_from_slice_get, slice_get-get_or}
 use Rattle.alarm_machine.specs.declared.states.AlarmState.{AlarmState}
 use Rattle.alarm_machine.specs.declared.states.AlarmState.TheVariants as state
 use Rattle.alarm_machine.specs.declared.states.Verb.{Verb}
 use Rattle.alarm_bank.specs.Shelves.{IsLeastOf}
 use Rattle.alarm_machine.specs.declared.states.OrderFault.{OrderFault}
-use Rattle.alarm_machine.specs.Codes.{PlainChange}
+use Rattle.alarm_machine.specs.Codes.{PlainChange, code_of}
 use Rattle.alarm_machine.specs.Alarms.{PlainAlarm, new_alarm, after_scan, after_order, AnswersOrder, end_of, EndsInRange}
 use Rattle.alarm_bank.specs.declared.event.BankEvent.TheVariants as event
-use Rattle.alarm_bank.specs.Banks.{PlainBank, scan_each, order_one, after_event, told, reply_of, end_or_never, IsBank, IsNextEnd, NoneShelved}
+use Rattle.alarm_bank.specs.declared.rows.Site.{Site}
+use Rattle.alarm_bank.specs.declared.rows.Counted.{Counted}
+use Rattle.alarm_bank.specs.Counts.{with_code, HasCell}
+use Rattle.alarm_bank.specs.Banks.{PlainBank, IsSite, counted, scan_each, order_one, after_event, told, reply_of, end_or_never, IsBank, IsNextEnd, NoneShelved}
 
-pub bank_put : (xs : List PlainAlarm) (moment : ℕ) (ends : List ℕ) → IsBank xs moment ends → (at : ℕ) (a : PlainAlarm) → at < length xs → EndsInRange a.state →
-    IsBank (slice_set xs at a) moment (slice_set ends at (end_or_never (end_of a.state)))
-bank_put xs moment ends b at a h r = record {
+pub counted_length : (ps : List Site) (xs : List PlainAlarm) → length ps ≡ length xs → length (counted ps xs) ≡ length xs
+counted_length [] xs e = e
+counted_length (p ∷ ps) [] e = absurd (omega arith)
+counted_length (p ∷ ps) (a ∷ xs) e = let r : length (counted ps xs) ≡ length xs = counted_length ps xs (omega arith) in omega arith
+
+pub counted_set : (ps : List Site) (xs : List PlainAlarm) (at : ℕ) (a : PlainAlarm) → length ps ≡ length xs → at < length xs → counted ps (slice_set xs at a) ≡ with_code at (code_of a.state) (counted ps xs)
+counted_set [] xs at a e h = absurd (omega arith)
+counted_set (p ∷ ps) [] at a e h = absurd (omega arith)
+counted_set (p ∷ ps) (x ∷ xs) zero a e h = refl
+counted_set (p ∷ ps) (x ∷ xs) (suc at) a e h = ap (λ r. record { area = p.area; priority = p.priority; code = code_of x.state } ∷ r) (counted_set ps xs at a (omega arith) (omega arith))
+
+-- each alarm of a site that is there has a count
+cells_of : (areas : ℕ) (ps : List Site) (xs : List PlainAlarm) → AllByRecursion (IsSite areas) ps → AllByRecursion (HasCell (36 * areas)) (counted ps xs)
+cells_of areas [] xs h = tt
+cells_of areas (p ∷ ps) [] h = tt
+cells_of areas (p ∷ ps) (a ∷ xs) h = (record { low = h.0.lowest; high = h.0.highest; area = omega (arith, h.0.area) }, cells_of areas ps xs h.1)
+
+pub counted_cells : (areas : ℕ) (ps : List Site) (xs : List PlainAlarm) → All (IsSite areas) ps → All (HasCell (36 * areas)) (counted ps xs)
+counted_cells areas ps xs h = All-from_recursion (HasCell (36 * areas)) (counted ps xs) (cells_of areas ps xs (recursion_from_All (IsSite areas) ps h))
+
+-- one alarm more is counted
+pub counted_next : (ps : List Site) (xs : List PlainAlarm) (rows : List Counted) (i : ℕ) (p : Site) (a : PlainAlarm) → length ps ≡ length xs → i < length xs
+    → p ≡ slice_index_or ps i p → a ≡ slice_index_or xs i a
+    → rows ++ counted (drop i ps) (drop i xs) ≡ counted ps xs
+    → (rows ++ record { area = p.area; priority = p.priority; code = code_of a.state } ∷ []) ++ counted (drop (i + 1) ps) (drop (i + 1) xs) ≡ counted ps xs
+counted_next ps xs rows i p a each h p_is a_is so_far =
+    let first : drop i ps ≡ p ∷ drop (i + 1) ps = rw p_is (drop_more ps i p (omega arith)) in
+    let first_too : drop i xs ≡ a ∷ drop (i + 1) xs = rw a_is (drop_more xs i a h) in
+    append_assoc rows (record { area = p.area; priority = p.priority; code = code_of a.state } ∷ []) (counted (drop (i + 1) ps) (drop (i + 1) xs))
+    ∙ ap (λ l. rows ++ l) (ap (λ l. counted l (a ∷ drop (i + 1) xs)) (sym first) ∙ ap (λ l. counted (drop i ps) l) (sym first_too)) ∙ so_far
+
+pub counted_all : (ps : List Site) (xs : List PlainAlarm) (rows : List Counted) (i : ℕ) → length xs ≤ i → length ps ≡ length xs → rows ++ counted (drop i ps) (drop i xs) ≡ counted ps xs → rows ≡ counted ps xs
+counted_all ps xs rows i le each so_far =
+    let none : drop i ps ≡ [] = drop_all i ps (omega arith) in
+    sym (append-nil rows) ∙ ap (λ l. rows ++ counted l (drop i xs)) (sym none) ∙ so_far
+
+pub bank_put : (ps : List Site) (xs : List PlainAlarm) (moment : ℕ) (rows : List Counted) (ends : List ℕ) → IsBank ps xs moment rows ends → (at : ℕ) (a : PlainAlarm) → at < length xs → EndsInRange a.state →
+    IsBank ps (slice_set xs at a) moment (with_code at (code_of a.state) rows) (slice_set ends at (end_or_never (end_of a.state)))
+bank_put ps xs moment rows ends b at a h r = record {
+  each = b.each ∙ sym (length-set xs at a);
   few = rw (length-set xs at a) b.few;
   in_range = b.in_range;
+  rows_are = ap (with_code at (code_of a.state)) b.rows_are ∙ sym (counted_set ps xs at a b.each h);
   ends_are = ap (λ es. slice_set es at (end_or_never (end_of a.state))) b.ends_are ∙ sym (map-set (λ (x : PlainAlarm). end_or_never (end_of x.state)) xs at a);
   in_time = All-set (λ (x : PlainAlarm). EndsInRange x.state) xs at a r b.in_time;
 }

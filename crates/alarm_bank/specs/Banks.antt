@@ -9,11 +9,20 @@ use Rattle.alarm_machine.specs.Codes.{PlainChange, code_of, change_between}
 use Rattle.alarm_machine.specs.Alarms.{PlainAlarm, after_scan, after_order, end_of, EndsInRange}
 use Rattle.alarm_bank.specs.declared.event.BankEvent.{BankEvent}
 use Rattle.alarm_bank.specs.declared.event.BankEvent.TheVariants as event
+use Rattle.alarm_bank.specs.declared.rows.Site.{Site}
+use Rattle.alarm_bank.specs.declared.rows.Counted.{Counted}
 
--- the alarms, and the moment of the last scan, 0 before the first
+-- the areas and priorities of the alarms, the alarms, and the moment of the last scan, 0 before the first
 pub record PlainBank : Type 0 where
+  pub sites : List Site
   pub alarms : List PlainAlarm
   pub moment : ℕ
+
+-- an area is one of so many, and a priority is 1 to 4
+pub record IsSite (areas : ℕ) (site : Site) : Type 0 where
+  pub area : site.area < areas
+  pub lowest : 1 ≤ site.priority
+  pub highest : site.priority ≤ 4
 
 -- a scan of each alarm by itself, with its own condition and suppression
 abbrev pub scan_each : List Bool → List Bool → ℕ → List PlainAlarm → List PlainAlarm
@@ -32,7 +41,7 @@ order_one n v b = elim (slice_get b.alarms n) [ None ↦ None | Some a ↦ Some 
 
 -- the bank after an event; one that doesn't fit, or is refused, changes nothing
 abbrev pub after_event : BankEvent → PlainBank → PlainBank
-after_event (event.Scan t cs ss) b = if scan_fits t cs ss b then record { alarms = scan_each cs ss t b.alarms; moment = t } else b
+after_event (event.Scan t cs ss) b = if scan_fits t cs ss b then record b { alarms = scan_each cs ss t b.alarms; moment = t } else b
 after_event (event.Order n v) b = elim (order_one n v b) [
   | None ↦ b
   | Some r ↦ elim r [ Ok a ↦ record b { alarms = slice_set b.alarms n a } | Err e ↦ b ]
@@ -47,15 +56,23 @@ told old (Err e) = Err e
 abbrev pub reply_of : ℕ → Verb → PlainBank → Result (Option PlainChange) OrderFault
 reply_of n v b = elim (slice_get b.alarms n) [ None ↦ Err fault.UnknownTarget | Some a ↦ told a (after_order v b.moment a) ]
 
+-- the alarms as they are counted: the area and priority of each, and the code that it has now
+abbrev pub counted : List Site → List PlainAlarm → List Counted
+counted (site ∷ sites) (a ∷ alarms) = record { area = site.area; priority = site.priority; code = code_of a.state } ∷ counted sites alarms
+counted (site ∷ sites) [] = []
+counted [] alarms = []
+
 -- the end of a shelf, the greatest number of 64 bits where there is none
 abbrev pub end_or_never : Option ℕ → ℕ
 end_or_never (Some e) = e
 end_or_never None = 18446744073709551615
 
 -- what is kept beside the alarms
-pub record IsBank (alarms : List PlainAlarm) (moment : ℕ) (ends : List ℕ) : Type 0 where
+pub record IsBank (sites : List Site) (alarms : List PlainAlarm) (moment : ℕ) (rows : List Counted) (ends : List ℕ) : Type 0 where
+  pub each : length sites ≡ length alarms
   pub few : length alarms < 2 ^ 32
   pub in_range : moment ≤ LAST_MOMENT
+  pub rows_are : rows ≡ counted sites alarms
   pub ends_are : ends ≡ map (λ a. end_or_never (end_of a.state)) alarms
   pub in_time : All (λ a. EndsInRange a.state) alarms
 

@@ -1,2 +1,4 @@
 pub mod Banks
+pub mod Counts
+pub mod Moves
 pub mod Shelves

@@ -1,21 +1,28 @@
 //! The alarms of a plant.
 
-ghost use Rattle.std.specs.Prelude.{◌≡◌, ◌≤◌, ◌<◌, ◌^◌, length, slice_get, IfSome, IfNone, IfOk, OnOk, All, Some, slice_set, map};
+ghost use Rattle.std.specs.Prelude.{◌≡◌, ◌≤◌, ◌<◌, ◌^◌, List, length, slice_get, IfSome, IfNone, IfOk, OnOk, All, Some, slice_set, map};
 ghost use Rattle.alarm_machine.specs.declared.limits.TheConstants.{LAST_MOMENT};
-ghost use Rattle.alarm_machine.specs.Alarms.{end_of, EndsInRange};
-ghost use Rattle.alarm_bank.specs.Banks.{scan_each, after_event, reply_of, end_or_never, IsNextEnd, NoneShelved};
+ghost use Rattle.alarm_machine.specs.Alarms.{PlainAlarm, end_of, EndsInRange};
+ghost use Rattle.alarm_bank.specs.Banks.{IsSite, scan_each, after_event, reply_of, counted, end_or_never, IsNextEnd, NoneShelved};
+ghost use Rattle.alarm_bank.specs.Moves.{AreMoved, put_all, changes_from, change_from};
 
 use crate::event::BankEvent;
+use crate::rows::{Counted, Site};
 use crate::shelf::Shelf;
+use crate::signals::Signals;
+use crate::summary::Summary;
 use alarm_machine::{Alarm, AlarmState, Change, LAST_MOMENT, OrderFault, Verb};
 use std::alloc::{AllocError, Global};
 use std::marker::Model;
 
-/// The alarms of a plant, numbered from 0, and the moment of the last scan. Contracts see these; beside them stands an index of the ends of shelves.
+/// The alarms of a plant, numbered from 0, with the area and the priority of each, and the moment of the last scan. Contracts see these;
+/// beside them stand a summary of their codes and an index of the ends of shelves.
 #[derive(Drop)]
 pub struct Bank {
+    sites: Vec<Site>,
     alarms: Vec<Alarm>,
     moment: u64,
+    summary: Summary,
     shelf: Shelf,
 }
 
@@ -24,9 +31,9 @@ impl Model for Bank {
 
     ghost Value = { PlainBank };
 
-    ghost view = { λ b. record { alarms = b.alarms.items; moment = b.moment } };
+    ghost view = { λ b. record { sites = b.sites.items; alarms = b.alarms.items; moment = b.moment } };
 
-    ghost invariant = { λ b. IsBank b.alarms.items b.moment b.shelf };
+    ghost invariant = { λ b. IsBank b.sites.items b.alarms.items b.moment b.summary b.shelf };
 }
 
 /// The end of an alarm's shelf, or the greatest number of 64 bits.
@@ -54,16 +61,62 @@ fn shelf_of(alloc: Global, alarms: &[Alarm]) -> Result<Shelf, AllocError>
     Ok(shelf)
 }
 
+/// The alarms as a summary counts them. Fails if allocation fails.
+fn counted(alloc: Global, sites: &[Site], alarms: &[Alarm]) -> Result<Vec<Counted>, AllocError>
+    requires { length sites.now ≡ length alarms.now }
+    ensures { IfOk result (λ rows. rows.items ≡ counted sites.now alarms.now) }
+{
+    let mut rows = Vec::new(alloc);
+    for at in 0..alarms.len() {
+        let Site { area, priority } = sites[at];
+        let code = alarms[at].state().code();
+        rows.push(Counted {
+            area,
+            priority,
+            code,
+        })?;
+    }
+    Ok(rows)
+}
+
+/// The summary of alarms of so many areas. Fails if allocation fails.
+fn summary_of(
+    alloc: Global,
+    areas: u32,
+    sites: &[Site],
+    alarms: &[Alarm],
+) -> Result<Summary, AllocError>
+    requires each { length sites.now ≡ length alarms.now }
+    requires few { length alarms.now < 2 ^ 32 }
+    requires sites { All (IsSite areas) sites.now }
+    ensures { IfOk result (λ summary. summary ≡ counted sites.now alarms.now) }
+{
+    let rows = counted(alloc, sites, alarms)?;
+    Summary::new(alloc, areas, rows)
+}
+
 impl Bank {
-    /// Makes a bank of alarms, before its first scan. Fails if allocation fails.
-    pub fn new(alloc: Global, alarms: Vec<Alarm>) -> Result<Bank, AllocError>
-        requires { length alarms.items < 2 ^ 32 }
-        ensures { IfOk result (λ bank. bank ≡ record { alarms = alarms.items; moment = 0 }) }
+    /// Makes a bank of alarms before its first scan, with the area and the priority of each. There are at most 64 areas.
+    /// Fails if allocation fails.
+    pub fn new(
+        alloc: Global,
+        areas: u32,
+        sites: Vec<Site>,
+        alarms: Vec<Alarm>,
+    ) -> Result<Bank, AllocError>
+        requires each { length sites.items ≡ length alarms.items }
+        requires few { length alarms.items < 2 ^ 32 }
+        requires areas { areas ≤ 64 }
+        requires sites { All (IsSite areas) sites.items }
+        ensures { IfOk result (λ bank. bank ≡ record { sites = sites.items; alarms = alarms.items; moment = 0 }) }
     {
+        let summary = summary_of(alloc, areas, sites.as_slice(), alarms.as_slice())?;
         let shelf = shelf_of(alloc, alarms.as_slice())?;
         Ok(Bank {
+            sites,
             alarms,
             moment: 0,
+            summary,
             shelf,
         })
     }
@@ -83,12 +136,29 @@ impl Bank {
         self.alarms.as_slice()
     }
 
+    /// How many alarms of each area and priority have each code now.
+    pub fn summary(&self) -> &Summary
+        ensures { result.now ≡ counted self.now.sites self.now.alarms }
+    {
+        &self.summary
+    }
+
+    /// The least end of the alarms that are shelved now, in milliseconds; `None` where none is.
+    pub fn next_end(&self) -> Option<u64>
+        ensures some { IfSome result (λ e. IsNextEnd e self.now.alarms) }
+        ensures none { IfNone result (NoneShelved self.now.alarms) }
+    {
+        let least = self.shelf.least();
+        if least == u64::MAX { None } else { Some(least) }
+    }
+
     /// Puts an alarm in the place of another one.
     fn put(&mut self, at: usize, alarm: Alarm)
         requires { at < length self.old.alarms }
         ensures { self.new ≡ record self.old { alarms = slice_set self.old.alarms at alarm } }
     {
         self.alarms[at] = alarm;
+        self.summary.put(at, alarm.state().code());
         self.shelf.put(at, end_or_never(&alarm));
     }
 
@@ -97,7 +167,7 @@ impl Bank {
         requires conds { length conds.now ≡ length self.old.alarms }
         requires sups { length sups.now ≡ length self.old.alarms }
         requires moment { moment ≤ LAST_MOMENT }
-        ensures { self.new ≡ record { alarms = scan_each conds.now sups.now moment self.old.alarms; moment = moment } }
+        ensures { self.new ≡ record self.old { alarms = scan_each conds.now sups.now moment self.old.alarms; moment = moment } }
     {
         for at in 0..conds.len() {
             let mut alarm = self.alarms[at];
@@ -160,12 +230,82 @@ impl Bank {
         }
     }
 
-    /// The least end of the alarms that are shelved now, in milliseconds; `None` where none is.
-    pub fn next_end(&self) -> Option<u64>
-        ensures some { IfSome result (λ e. IsNextEnd e self.now.alarms) }
-        ensures none { IfNone result (NoneShelved self.now.alarms) }
+    /// Lists the alarms that a scan moves, in order, each by its number and as the scan leaves it; those that rest are passed over. The
+    /// bank stays as it is. The list is made in the room of another one, and takes memory only where it grows beyond that. Fails if
+    /// allocation fails.
+    pub fn moved<S: Signals>(
+        &self,
+        room: Vec<(u32, Alarm)>,
+        signals: &S,
+        moment: u64,
+    ) -> Result<Vec<(u32, Alarm)>, AllocError>
+        requires conditions { length (S.conditions signals.now) ≡ length self.now.alarms }
+        requires suppressions { length (S.suppressions signals.now) ≡ length self.now.alarms }
+        ensures { IfOk result (λ moved. AreMoved 0 self.now.alarms (scan_each (S.conditions signals.now) (S.suppressions signals.now) moment self.now.alarms) moved.items) }
     {
-        let least = self.shelf.least();
-        if least == u64::MAX { None } else { Some(least) }
+        let mut moved = room;
+        moved.clear();
+        for at in 0..self.alarms.len() {
+            let number = at as u32;
+            let condition = signals.condition(number);
+            let suppression = signals.suppression(number);
+            let mut alarm = self.alarms[at];
+            if !alarm.rests(condition, suppression, moment) {
+                let _ = alarm.scan(condition, suppression, moment);
+                moved.push((number, alarm))?;
+            }
+        }
+        Ok(moved)
+    }
+
+    /// The change of the code from the alarm of a number, if it is there, to another alarm.
+    fn change_to(&self, number: u32, new: &Alarm) -> Option<Change>
+        ensures { result ≡ change_from (slice_get self.now.alarms number) new.now }
+    {
+        match self.alarms.get(number as usize) {
+            Some(old) => Change::between(old.state().code(), new.state().code()),
+            None => None,
+        }
+    }
+
+    /// The changes of codes that a scan makes which moves these alarms of the bank, in the order of the database. Fails if allocation fails.
+    pub fn changes(
+        &self,
+        alloc: Global,
+        moved: &[(u32, Alarm)],
+    ) -> Result<Vec<(u32, Change)>, AllocError>
+        ensures { IfOk result (λ changes. (new : List PlainAlarm) → AreMoved 0 self.now.alarms new moved.now → changes.items ≡ changes_from 0 self.now.alarms new) }
+    {
+        let mut changes = Vec::new(alloc);
+        for (number, alarm) in moved {
+            if let Some(change) = self.change_to(*number, alarm) {
+                changes.push((*number, change))?;
+            }
+        }
+        Ok(changes)
+    }
+
+    /// Puts an alarm in the place of the one of a number, as an order has made it; it takes no memory. A number that isn't there changes
+    /// nothing.
+    pub fn replace(&mut self, number: u32, alarm: Alarm)
+        ensures { self.new ≡ record self.old { alarms = slice_set self.old.alarms number alarm } }
+    {
+        let at = number as usize;
+        if at < self.alarms.len() {
+            self.put(at, alarm);
+        }
+    }
+
+    /// Takes a scan by the alarms that it moves; it takes no memory and looks at no other alarm. After what `moved` lists of this bank,
+    /// each alarm is what the scan makes of it.
+    pub fn apply(&mut self, moved: &[(u32, Alarm)], moment: u64)
+        requires { moment ≤ LAST_MOMENT }
+        ensures put { self.new ≡ record self.old { alarms = put_all self.old.alarms moved.now; moment = moment } }
+        ensures scanned { (new : List PlainAlarm) → AreMoved 0 self.old.alarms new moved.now → self.new ≡ record self.old { alarms = new; moment = moment } }
+    {
+        for (number, alarm) in moved {
+            self.replace(*number, *alarm);
+        }
+        self.moment = moment;
     }
 }

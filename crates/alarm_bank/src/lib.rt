@@ -1,11 +1,18 @@
-//! The alarms of a plant: each takes its step by itself, and the least end of their shelves is known at once.
+//! The alarms of a plant: each takes its step by itself, their codes are counted, and the least end of their shelves is known at once.
 //!
-//! An event changes the alarms by the table of `alarm_machine` and takes no memory.
+//! An event changes the alarms by the table of `alarm_machine` and takes no memory. A scan may also be made ready as the list of the
+//! alarms that it moves, while the bank stays.
 #![tactic(auto)]
 
 mod bank;
 mod event;
+mod rows;
 mod shelf;
+mod signals;
+mod summary;
 
 pub use bank::Bank;
 pub use event::BankEvent;
+pub use rows::{Counted, Site};
+pub use signals::Signals;
+pub use summary::Summary;

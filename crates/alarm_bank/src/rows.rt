@@ -1,0 +1,18 @@
+use alarm_machine::Code;
+
+/// To which area an alarm belongs, and its priority.
+#[derive(Clone, Copy, Debug, PartialEq, Eq, Drop)]
+pub struct Site {
+    /// The number of its area, from 0.
+    pub area: u32,
+    /// 1 to 4, 1 the highest.
+    pub priority: u32,
+}
+
+/// An alarm as a summary counts it: its area, its priority and the code of its state.
+#[derive(Clone, Copy, Debug, PartialEq, Eq, Drop)]
+pub struct Counted {
+    pub area: u32,
+    pub priority: u32,
+    pub code: Code,
+}
