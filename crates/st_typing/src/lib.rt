@@ -13,5 +13,6 @@ mod limits;
 mod typed;
 
 pub use checking::check;
+pub use constants::for_turns;
 pub use fault::TypeFault;
 pub use typed::Typed;
