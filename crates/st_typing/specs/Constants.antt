@@ -74,6 +74,10 @@ meant_constant e = constant_of (resolved_expr no_kind no_output_kind e)
 abbrev pub constant_step : Option (PlainExpr (List ℕ)) → Option Outcome
 constant_step e = option_map_or meant_constant e (Some (Ok (pos 1)))
 
+-- the number of turns of a FOR, by its bounds and step as they are written
+abbrev pub for_turns : (from to : PlainExpr (List ℕ)) → Option (PlainExpr (List ℕ)) → ℕ
+for_turns from to by = turns_of (meant_constant from) (meant_constant to) (constant_step by)
+
 -- bounds are constant and don't trap, and neither does a step, which isn't 0
 abbrev pub bounds_allowed : (from to : PlainExpr (List ℕ)) → Option (PlainExpr (List ℕ)) → Bool
 bounds_allowed from to by = has_value (meant_constant from) && (has_value (meant_constant to) && is_step (constant_step by))
@@ -86,7 +90,7 @@ stmt_allowed own _ = true
 
 -- a FOR has at most 10,000 turns
 abbrev pub stmt_short : PlainStmt (List ℕ) → Bool
-stmt_short (repeat number v from to by body) = not (nat_lt 10000 (turns_of (meant_constant from) (meant_constant to) (constant_step by)))
+stmt_short (repeat number v from to by body) = not (nat_lt 10000 (for_turns from to by))
 stmt_short _ = true
 
 -- an initial value, where one is written, is constant and doesn't trap

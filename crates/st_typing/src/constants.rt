@@ -11,7 +11,7 @@ ghost use Rattle.st_tree.specs.Meaning.{then_one, then_two};
 ghost use Rattle.st_tree.specs.Operators.{eval_unary, eval_binary};
 ghost use Rattle.st_parser.specs.Units.{view_declaration, view_section, view_pou};
 ghost use Rattle.st_names.specs.DeclaredNames.{declared_together, declared_by, declared_in};
-ghost use Rattle.st_typing.specs.Constants.{has_value, is_step, outputs_assign, stmt_assigns, spares, turns_of, meant_constant, bounds_allowed, is_initial, constant_step, initial_constant, globals_inconstant, pou_inconstant, pou_long};
+ghost use Rattle.st_typing.specs.Constants.{has_value, is_step, outputs_assign, stmt_assigns, spares, turns_of, for_turns, meant_constant, bounds_allowed, is_initial, constant_step, initial_constant, globals_inconstant, pou_inconstant, pou_long};
 
 use plant_types::{Kind, Text, Trap, same_word};
 use st_names::{Rule, Scope, every};
@@ -175,6 +175,13 @@ fn turns_of(
     }
 }
 
+/// The number of turns of a FOR, by its bounds and step as they are written; 0 where one of them isn't constant or traps.
+pub fn for_turns(from: &Expr<Text>, to: &Expr<Text>, by: &Option<Expr<Text>>) -> u128
+    ensures { result ≡ for_turns (view_expr from.now) (view_expr to.now) (view_option by.now) }
+{
+    turns_of(meant_constant(from), meant_constant(to), constant_step(by))
+}
+
 /// The rule that a statement doesn't assign a variable itself.
 #[derive(Drop)]
 struct Unassigned<'a> {
@@ -243,9 +250,7 @@ impl Rule for Short {
 
     fn keeps(&self, _alloc: Global, stmt: &Stmt<Text>) -> Result<bool, AllocError> {
         Ok(match stmt {
-            Stmt::For { from, to, by, .. } => {
-                turns_of(meant_constant(from), meant_constant(to), constant_step(by)) <= TURNS
-            }
+            Stmt::For { from, to, by, .. } => for_turns(from, to, by) <= TURNS,
             _ => true,
         })
     }

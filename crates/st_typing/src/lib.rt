@@ -14,6 +14,7 @@ mod limits;
 mod typed;
 
 pub use checking::check;
+pub use constants::for_turns;
 pub use fault::TypeFault;
 pub use laws::{one_type_fault, typed_or_not};
 pub use typed::Typed;
