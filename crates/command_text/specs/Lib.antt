@@ -2,4 +2,5 @@ pub mod Words
 pub mod Numbers
 pub mod Given
 pub mod Commands
+pub mod Laws
 pub mod Lines

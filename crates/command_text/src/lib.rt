@@ -5,6 +5,7 @@
 
 mod command;
 mod given;
+mod laws;
 mod lines;
 mod numbers;
 mod parse;
@@ -12,6 +13,7 @@ mod pool;
 mod words;
 
 pub use command::Command;
+pub use laws::printed_words_are_commands;
 pub use lines::{push_alarm, push_done, push_fault, push_out, push_refused, push_reply};
 pub use parse::read_command;
 pub use pool::Pool;
