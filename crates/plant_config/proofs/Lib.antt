@@ -1,6 +1,9 @@
 pub mod AlarmRows
+pub mod Decided
 pub mod Made
 pub mod OneAnswer
+pub mod OneRefusal
 pub mod Programs
 pub mod Refused
 pub mod SourceNames
+pub mod Stops

@@ -51,6 +51,7 @@ made t file epoch units has sound database is =
       programs = omega (arith, programs);
       few = omega (arith, count, few);
       areas = areas_kept t file limits.limits;
+      areas_once = is.areas_once;
       few_consoles = consoles_kept t file limits.limits;
       consoles = is.consoles;
       consoles_once = is.consoles_once;

@@ -1,6 +1,9 @@
 -- A plant as contracts see it.
 use Rattle.std.specs.Prelude.{◌≡◌, ◌≢◌, ℕ, false, ◌<◌, ◌≤◌, ◌^◌, List, length, map, slice_get, IfSome, All, AllPairs}
 use Rattle.plant_types.specs.declared.values.Kind.TheVariants as kind
+use Rattle.std.specs.Str.{bytes_eq}
+use Rattle.stamps.specs.Stamps.{epoch_bound}
+use Rattle.plant_file.specs.Lists.{repeats}
 use Rattle.plant_file.specs.PlantFiles.{PlainPlantFile, IsConsole, numbers_clash}
 use Rattle.plant_file.specs.declared.console.Console.{Console}
 use Rattle.block_flatten.specs.declared.logic.Variable.{Variable}
@@ -42,16 +45,17 @@ tags_of rows = map (λ (row : AlarmRow). row.tag) rows
 abbrev pub HaveDifferentTags : AlarmRow → AlarmRow → Type 0
 HaveDifferentTags a b = a.tag ≢ b.tag
 
--- what holds of each plant: its logic is sound, globals and programs can be numbered by 32 bits, it keeps the limits, no two consoles have one number, and no two alarms one tag
+-- what holds of each plant: its logic is sound, globals and programs can be numbered by 32 bits, it keeps the limits, no two areas have one name, no two consoles one number, and no two alarms one tag
 pub record IsPlant (plant : PlainPlant) : Type 0 where
   pub sound : IsSound plant.source
   pub globals : length plant.source.globals < 2 ^ 32
   pub programs : length plant.source.programs < 2 ^ 32
   pub few : length plant.alarms ≤ 20000
   pub areas : length plant.areas ≤ 64
+  pub areas_once : repeats bytes_eq plant.areas ≡ false
   pub few_consoles : length plant.consoles ≤ 32
   pub consoles : All (IsConsole plant.areas) plant.consoles
   pub consoles_once : numbers_clash plant.consoles ≡ false
   pub alarms : All (IsAlarmRow plant) plant.alarms
   pub tags : AllPairs HaveDifferentTags plant.alarms
-  pub epoch : plant.epoch < 13569465600
+  pub epoch : plant.epoch < epoch_bound

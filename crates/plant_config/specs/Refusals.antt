@@ -1,7 +1,7 @@
 -- Why the texts of a plant are refused: the first rule, in their order, that isn't kept.
 use Rattle.std.specs.Prelude.{◌≡◌, ◌≢◌, ◌⊎◌, ⊤, ℕ, ◌<◌, true, false, List, [], Some, None, slice_index_or}
 use Rattle.toml.specs.Data.{Members}
-use Rattle.stamps.specs.Stamps.{epoch_text}
+use Rattle.stamps.specs.Stamps.{epoch_bound, epoch_text}
 use Rattle.st_parser.specs.Units.{PlainUnit}
 use Rattle.st_names.specs.declared.place.UnitPlace.{UnitPlace}
 use Rattle.st_typing.specs.Faults.{IsTypeFault}
@@ -39,7 +39,7 @@ HasOtherSources t = (file : PlainPlantFile) × (plant_file_in t.plant ≡ Some f
 pub record HasNoEpoch (t : Texts) : Type 0 where
   pub file : PlainPlantFile
   pub has_file : HasFile t file
-  pub none : (seconds : ℕ) → seconds < 13569465600 → file.epoch ≢ epoch_text seconds
+  pub none : (seconds : ℕ) → seconds < epoch_bound → file.epoch ≢ epoch_text seconds
 
 -- a limit of sources, texts, areas or consoles isn't kept, and this is the first
 pub record IsOverLimit (t : Texts) (found : Limit) : Type 0 where
@@ -142,3 +142,8 @@ IsRefused t (fault.Field row column) = HasDatabaseFault t (db_fault.Field row co
 IsRefused t (fault.Twice row) = HasDatabaseFault t (db_fault.Twice row)
 IsRefused t (fault.Unknown row column) = NamesUnknown t row column
 IsRefused t fault.NotYet = HasInstances t
+
+-- a refusal without the place of a C5 in its source, for which the rule leaves a choice
+abbrev pub unplaced : ConfigFault → ConfigFault
+unplaced (fault.Grammar name line column) = fault.Grammar name 0 0
+unplaced f = f

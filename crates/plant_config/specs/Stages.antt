@@ -1,6 +1,6 @@
 -- How far the texts of a plant are right: each record says what the one before it says, and one rule more.
 use Rattle.std.specs.Prelude.{◌≡◌, ℕ, ◌<◌, Bool, true, false, not, ◌&&◌, nat_lt, List, Some, None}
-use Rattle.stamps.specs.Stamps.{epoch_text}
+use Rattle.stamps.specs.Stamps.{epoch_bound, epoch_text}
 use Rattle.st_parser.specs.Units.{PlainUnit}
 use Rattle.st_typing.specs.Faults.{AreTyped}
 use Rattle.plant_file.specs.PlantFiles.{PlainPlantFile}
@@ -23,7 +23,7 @@ pub record HasFile (t : Texts) (file : PlainPlantFile) : Type 0 where
 pub record HasEpoch (t : Texts) (file : PlainPlantFile) (epoch : ℕ) : Type 0 where
   pub has_file : HasFile t file
   pub epoch_is : file.epoch ≡ epoch_text epoch
-  pub early : epoch < 13569465600
+  pub early : epoch < epoch_bound
 
 -- and the limits are kept of sources, texts, areas and consoles
 pub record IsLimited (t : Texts) (file : PlainPlantFile) (epoch : ℕ) : Type 0 where

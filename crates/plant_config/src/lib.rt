@@ -14,6 +14,6 @@ mod spelling;
 
 pub use fault::{ConfigFault, Limit};
 pub use files::Files;
-pub use laws::one_plant;
+pub use laws::{accepted_or_refused, one_plant, one_refusal};
 pub use plant::Plant;
 pub use rows::AlarmRow;

@@ -8,9 +8,10 @@ ghost use Rattle.plant_config.specs.Files.{files_of, texts_of};
 ghost use Rattle.alarm_db.specs.Databases.{rows_of};
 ghost use Rattle.block_flatten.specs.Units.{globals_of as declared_globals};
 ghost use Rattle.plant_config.specs.Logics.{IsLogic};
-ghost use Rattle.plant_config.specs.Plants.{IsPlant, plant_with, tags_of};
+ghost use Rattle.plant_config.specs.Plants.{PlainPlant, IsPlant, plant_with, tags_of};
 ghost use Rattle.plant_config.specs.Stages.{Accepted, HasAlarms, HasDatabase, HasEpoch, HasVariables, IsWellFormed};
 ghost use Rattle.plant_config.specs.Refusals.{IsFileFault, IsRefused};
+ghost use Rattle.plant_config.specs.declared.fault.ConfigFault.TheVariants as fault;
 ghost use Rattle.plant_config.specs.Names.{alarm_number, globals_of, program_number, programs_of, program_at, body_paths, body_path, tag_of, area_of, global_of, priority_of};
 
 use crate::alarms::alarms_of;
@@ -241,7 +242,7 @@ impl Plant {
     ///
     /// Every fault but `Memory` is the first that the texts have, by the order of the refusals: C1, C2, C3; C10 of SOURCES, TEXT, AREAS and
     /// CONSOLES; C4 or C5 of the first source that has one; C6, C7, C8, C9; C10 of TURNS, BLOCK_DEPTH, PROGRAMS and SLOTS; C11; C10 of ALARMS; C12,
-    /// C13, C14; and last, for what doesn't run yet, `NotYet`. `Memory` comes if allocation fails.
+    /// C13, C14; and last, for what doesn't run yet, `NotYet`. `Memory` comes if allocation fails; where the texts are right, nothing else does.
     pub fn read(
         alloc: Global,
         plant: &[u8],
@@ -250,6 +251,7 @@ impl Plant {
     ) -> Result<Plant, ConfigFault>
         ensures plant { IfOk result (Accepted (texts_of plant.now (map (λ s. s.0.now) sources.now) (map (λ s. s.1.now) sources.now) alarms.now)) }
         ensures refused { IfErr result (IsRefused (texts_of plant.now (map (λ s. s.0.now) sources.now) (map (λ s. s.1.now) sources.now) alarms.now)) }
+        ensures accepted { (expected : PlainPlant) → Accepted (texts_of plant.now (map (λ s. s.0.now) sources.now) (map (λ s. s.1.now) sources.now) alarms.now) expected → MatchResult result (λ plant. plant ≡ expected) (λ refused. refused ≡ fault.Memory) }
     {
         let handed = Handed {
             plant,
@@ -265,6 +267,13 @@ impl Plant {
         ensures plant { IsPlant self.now }
     {
         &self.flat
+    }
+
+    /// The moment 0 of the plant: a second of the years 1970 to 2399.
+    pub fn epoch(&self) -> Epoch
+        ensures { result ≡ self.now.epoch }
+    {
+        self.epoch
     }
 
     /// The consoles, in the order in which the plant lists them.

@@ -7,7 +7,7 @@ use Rattle.jiff_core.proofs.SignedLemmas.{signed_arith}
 use Rattle.jiff_fmt.specs.Text.{places}
 use Rattle.stamps.specs.Civil.{date_of, three_digits}
 use Rattle.stamps.specs.Instants.{IsInstantText}
-use Rattle.stamps.specs.Stamps.{civil_text, epoch_text, stamp}
+use Rattle.stamps.specs.Stamps.{epoch_bound, civil_text, epoch_text, stamp}
 use Rattle.stamps.proofs.Dates.{day_of, year_within}
 
 -- the date so many days after 1970-01-01
@@ -62,7 +62,7 @@ whole_text : (seconds : ℕ) (few : seconds < 100_000_000_000) (small : 0 < 1_00
 whole_text seconds few small = refl
 
 -- the text of an instant in whole seconds is that of the epoch
-pub epoch_shown : (text : List ℕ) (seconds : ℕ) (t : Timestamp) → seconds < 13_569_465_600 → t.nanosecond ≡ pos (seconds * 1_000_000_000) → IsInstantText text t → text ≡ epoch_text seconds
+pub epoch_shown : (text : List ℕ) (seconds : ℕ) (t : Timestamp) → seconds < epoch_bound → t.nanosecond ≡ pos (seconds * 1_000_000_000) → IsInstantText text t → text ≡ epoch_text seconds
 epoch_shown text seconds t within is h =
     let few : seconds < 100_000_000_000 = omega (arith, within) in
     let small : 0 < 1_000_000_000 = omega arith in
@@ -71,7 +71,7 @@ epoch_shown text seconds t within is h =
     h.2 ∙ ap (λ dt. datetime_text false 84 None dt ++ codes "Z") same ∙ ap (λ ts. ts ++ codes "Z") (whole_text seconds few small)
 
 -- and an epoch's text is that of an instant
-pub epoch_instant : (text : List ℕ) (seconds : ℕ) → seconds < 13_569_465_600 → text ≡ epoch_text seconds → (t : Timestamp) × (t.nanosecond ≡ pos (seconds * 1_000_000_000)) × IsInstantText text t
+pub epoch_instant : (text : List ℕ) (seconds : ℕ) → seconds < epoch_bound → text ≡ epoch_text seconds → (t : Timestamp) × (t.nanosecond ≡ pos (seconds * 1_000_000_000)) × IsInstantText text t
 epoch_instant text seconds within h =
     let few : seconds < 100_000_000_000 = omega (arith, within) in
     let small : 0 < 1_000_000_000 = omega arith in
@@ -94,7 +94,7 @@ part_text seconds part few small below =
     rw (← hundreds, ← tens, ← ones) refl
 
 -- the text of a moment's instant is its stamp
-pub stamp_shown : (text : List ℕ) (epoch moment : ℕ) (dt : DateTime) → epoch < 13_569_465_600 → moment ≤ 4_000_000_000_000 → civil_nanos dt ≡ pos ((epoch * 1000 + moment) * 1_000_000) → text ≡ datetime_text false 84 (Some 3) dt ++ codes "Z" → text ≡ stamp epoch moment
+pub stamp_shown : (text : List ℕ) (epoch moment : ℕ) (dt : DateTime) → epoch < epoch_bound → moment ≤ 4_000_000_000_000 → civil_nanos dt ≡ pos ((epoch * 1000 + moment) * 1_000_000) → text ≡ datetime_text false 84 (Some 3) dt ++ codes "Z" → text ≡ stamp epoch moment
 stamp_shown text epoch moment dt within limit is h =
     let seconds = epoch + moment / 1000 in
     let part = moment % 1000 in

@@ -6,6 +6,10 @@ use Rattle.stamps.specs.Civil.{date_of, date_text, time_text, three_digits}
 abbrev pub civil_text : ℕ → List ℕ
 civil_text seconds = date_text (date_of (seconds / 86400)) ++ codes "T" ++ time_text seconds
 
+-- the seconds from 1970-01-01T00:00:00 to the end of the year 2399, in which each epoch lies
+abbrev pub epoch_bound : ℕ
+epoch_bound = 13569465600
+
 -- an epoch: `2024-02-29T23:59:59Z`
 abbrev pub epoch_text : ℕ → List ℕ
 epoch_text seconds = civil_text seconds ++ codes "Z"

@@ -1,7 +1,7 @@
 //! The moment from which a plant's time counts, and the civil times of moments after it.
 
 ghost use Rattle.std.specs.Prelude.{◌≡◌, ◌≢◌, ◌<◌, ◌≤◌, ℕ, IfOk, IfSome, IsNone, string_bytes};
-ghost use Rattle.stamps.specs.Stamps.{epoch_text, stamp};
+ghost use Rattle.stamps.specs.Stamps.{epoch_bound, epoch_text, stamp};
 
 use crate::instant::{instant_of, seconds_of};
 use jiff::Timestamp;
@@ -17,12 +17,13 @@ pub struct Epoch {
 
 impl Model for Epoch {
     ghost use Rattle.std.specs.Prelude.{ℕ, ◌<◌};
+    ghost use Rattle.stamps.specs.Stamps.{epoch_bound};
 
     ghost Value = { ℕ };
 
     ghost view = { λ e. e.seconds };
 
-    ghost invariant = { λ e. e.seconds < 13_569_465_600 };
+    ghost invariant = { λ e. e.seconds < epoch_bound };
 
     ghost inverse = { λ s. record { seconds = s } };
 }
@@ -32,7 +33,7 @@ impl Epoch {
     /// 23, minutes and seconds to 59. `None` for any other text.
     pub fn parse(text: &str) -> Option<Epoch>
         ensures some { IfSome result (λ epoch. text.now ≡ epoch_text epoch) }
-        ensures none { IsNone result → (seconds : ℕ) → seconds < 13_569_465_600 → text.now ≢ epoch_text seconds }
+        ensures none { IsNone result → (seconds : ℕ) → seconds < epoch_bound → text.now ≢ epoch_text seconds }
     {
         let instant = instant_of(text)?;
         let seconds = seconds_of(instant)?;
@@ -42,7 +43,7 @@ impl Epoch {
     /// The seconds since 1970-01-01T00:00:00Z, without leap seconds.
     pub fn seconds(&self) -> u64
         ensures seconds { result ≡ self.now }
-        ensures small { result < 13_569_465_600 }
+        ensures small { result < epoch_bound }
     {
         self.seconds
     }

@@ -3,6 +3,7 @@
 ghost use Rattle.std.specs.Prelude.{◌≡◌, ◌≢◌, ◌<◌, ◌*◌, IfSome, IsNone, ℕ, pos};
 ghost use Rattle.jiff.specs.Types.{Timestamp as PlainTimestamp};
 ghost use Rattle.stamps.specs.Instants.{IsInstantText};
+ghost use Rattle.stamps.specs.Stamps.{epoch_bound};
 
 use arrayvec::ArrayString;
 use jiff::Timestamp;
@@ -32,8 +33,8 @@ pub fn instant_of(text: &str) -> Option<Timestamp>
 
 /// The whole seconds since 1970 of an instant of the years 1970 to 2399; `None` for any other, and for one between two seconds.
 pub fn seconds_of(instant: Timestamp) -> Option<u64>
-    ensures some { IfSome result (λ s. (instant.nanosecond ≡ pos (s * 1_000_000_000)) × (s < 13_569_465_600)) }
-    ensures none { IsNone result → (s : ℕ) → s < 13_569_465_600 → instant.nanosecond ≢ pos (s * 1_000_000_000) }
+    ensures some { IfSome result (λ s. (instant.nanosecond ≡ pos (s * 1_000_000_000)) × (s < epoch_bound)) }
+    ensures none { IsNone result → (s : ℕ) → s < epoch_bound → instant.nanosecond ≢ pos (s * 1_000_000_000) }
 {
     let nanoseconds = instant.as_nanosecond();
     if nanoseconds < 0 || nanoseconds >= 13_569_465_600_000_000_000 {
