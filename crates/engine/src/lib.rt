@@ -13,6 +13,7 @@ mod orders;
 mod scan;
 mod state;
 mod steps;
+mod watched;
 
 pub use engine::Engine;
 pub use event::{EngineFault, Event, Order, Reply, Report};

@@ -14,6 +14,7 @@ returns c =
     record {
       programs = search rules;
       faults_within = search rules;
+      sites_are = search rules;
       alarms_are = search rules;
       changes_are = search rules;
       outputs_are = outputs;

@@ -1,4 +1,5 @@
-use Rattle.std.proofs.Common.{◌∙◌, ap, subst, refl}
+use Rattle.std.proofs.Common.{◌∙◌, ap, subst}
+use Rattle.alarm_bank.specs.Banks.{PlainBank}
 use Rattle.block_flatten.specs.Source.{Source}
 use Rattle.st_walk.specs.Worlds.{Stands, opening}
 use Rattle.engine.proofs.Systems.{opening_agrees, opening_flags}
@@ -11,6 +12,7 @@ returns c =
     c.flat.ensures.plant
     (subst (λ (s : Source). Stands s c.in_ok-cells.cells (opening s)) c.flat-2.ensures.source c.in_ok-cells.ensures)
     (opening_flags _ _ _ c.programs.ensures.count (c.in_ok-faulted.ensures.items_if_clones_equal (λ y same. same)))
-    (rw c.alarm_rows.ensures.rows at c.in_ok-alarms.ensures)
+    (ap (λ (b : PlainBank). b.sites) c.in_ok-bank.ensures)
+    (ap (λ (b : PlainBank). b.alarms) c.in_ok-bank.ensures)
     (rw globals at c.in_ok-outputs.ensures)
-    refl
+    (ap (λ (b : PlainBank). b.moment) c.in_ok-bank.ensures)
