@@ -5,7 +5,7 @@ use Rattle.std.specs.Option.{option_map_or}
 use Rattle.std.proofs.lemmas.Option.{slice_get_cases}
 use Rattle.std.proofs.lemmas.List.Elements.{All-head, All-tail}
 use Rattle.plant_types.specs.declared.values.Value.{Value}
-use Rattle.plant_types.specs.Values.{is_true, worth}
+use Rattle.plant_types.specs.Values.{is_true, worth, value_of_kind}
 use Rattle.alarm_machine.specs.Alarms.{PlainAlarm}
 use Rattle.block_flatten.specs.declared.logic.Variable.{Variable}
 use Rattle.block_flatten.specs.Source.{Source}
@@ -17,7 +17,7 @@ use Rattle.plant_config.specs.declared.rows.AlarmRow.{AlarmRow}
 use Rattle.plant_config.specs.Plants.{PlainPlant, IsAlarmRow, IsBoolGlobal}
 use Rattle.engine.specs.Programs.{global_in, with_input, with_inputs}
 use Rattle.alarm_bank.specs.Banks.{scan_each}
-use Rattle.engine.specs.System.{suppression, conditions, suppressions, alarms_after, is_output, shown, outputs_from, outs_from}
+use Rattle.engine.specs.System.{suppression, conditions, suppressions, alarms_after, is_output, outputs_from, outs_from}
 use Rattle.engine.specs.Steps.{with_cell}
 use Rattle.engine.proofs.Images.{has_number}
 
@@ -78,7 +78,7 @@ alarms_same plant f g t rows alarms same all =
 outputs_same : (f g : ℕ → ℤ) (n : ℕ) (globals : List Variable) → ((k : ℕ) → k < n + length globals → f k ≡ g k) → outputs_from n globals f ≡ outputs_from n globals g
 outputs_same f g n [] same = refl
 outputs_same f g n (global ∷ globals) same =
-    let put : ℤ → List (ℕ × Value) → List (ℕ × Value) = λ v rest. if is_output global.region then (n, shown global.kind v) ∷ rest else rest in
+    let put : ℤ → List (ℕ × Value) → List (ℕ × Value) = λ v rest. if is_output global.region then (n, value_of_kind global.kind v) ∷ rest else rest in
     ap (λ v. put v (outputs_from (n + 1) globals f)) (same n (omega arith))
     ∙ ap (put (g n)) (outputs_same f g (n + 1) globals (λ k below. same k (omega (arith, below))))
 
@@ -89,7 +89,7 @@ outs_same : (a b f g : ℕ → ℤ) (n : ℕ) (globals : List Variable) → ((k 
 outs_same a b f g n [] before now = refl
 outs_same a b f g n (global ∷ globals) before now =
     let put : ℤ → ℤ → List (ℕ × Value) → List (ℕ × Value) =
-    λ x y rest. elim (if is_output global.region then (if int_eq x y then None else Some (shown global.kind y)) else None) [ None ↦ rest | Some v ↦ (n, v) ∷ rest ] in
+    λ x y rest. elim (if is_output global.region then (if int_eq x y then None else Some (value_of_kind global.kind y)) else None) [ None ↦ rest | Some v ↦ (n, v) ∷ rest ] in
     ap (λ x. put x (f n) (outs_from (n + 1) globals a f)) (before n (omega arith))
     ∙ ap (λ y. put (b n) y (outs_from (n + 1) globals a f)) (now n (omega arith))
     ∙ ap (put (b n) (g n)) (outs_same a b f g (n + 1) globals (λ k below. before k (omega (arith, below))) (λ k below. now k (omega (arith, below))))

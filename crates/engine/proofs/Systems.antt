@@ -35,6 +35,7 @@ use Rattle.plant_config.specs.Names.{globals_of, programs_of, body_paths}
 use Rattle.engine.specs.Programs.{Scanned, opening_faulted, after_run, programs_from, with_inputs, global_in, world_after}
 use Rattle.engine.specs.Orders.{order_outcome, alarms_by, faulted_by, reply_by}
 use Rattle.engine.specs.System.{System, system, step, taken_scan, scan_event, order_event, opening_system, opening_alarm, scanned_by, after_scan_event, ordered, conditions, suppressions, alarms_after, sites_of, outputs_from, out_at, outs_from}
+use Rattle.engine.specs.Lawful.{IsTaken, IsLawfulHistory}
 use Rattle.engine.specs.Reports.{PlainReport}
 use Rattle.engine.specs.Engines.{PlainEngine, PlainState, PlainScanEffect, PlainPrepared, PlainPreparedOrder, after_effect, Fits, FitsOrder, IsState, IsEngine, IsReport, state_of}
 use Rattle.engine.specs.Steps.{ProgramsRan, ScanRan, IsPreparedScan, IsPreparedOrder}
@@ -204,6 +205,12 @@ scan_reports plant sys old new image t r is within each held made =
       outs_are = made.outs_are ∙ outs_stand plant.source (cell old.cells) (global_in (globals_of plant) sys.world) (cell new.cells) look before now;
     }
 
+-- the event of a scan, by what an engine keeps and how many events there were
+pub scan_event_is : (plant : PlainPlant) (history : List Event) (k : PlainState) (n : ℕ) (pairs : List PlainPair) (t : ℕ) → IsState plant (system plant history) k → n ≡ length history → taken_scan plant.source.globals k.moment n pairs t ≡ scan_event plant (system plant history) pairs t
+scan_event_is plant history k n pairs t held is =
+    ap (λ m. taken_scan plant.source.globals m n pairs t) held.moment_is
+    ∙ ap (λ m. taken_scan plant.source.globals (system plant history).moment m pairs t) (is ∙ sym (system_events plant history))
+
 -- what an effect makes of one state that is kept for a system, it makes of each
 effect_anywhere : (plant : PlainPlant) (sys next : System) (old k : PlainState) (effect : PlainScanEffect) → IsState plant sys old → IsState plant sys k → IsState plant next (after_effect effect old) → IsState plant next (after_effect effect k)
 effect_anywhere plant sys next old k effect held keeps after = record {
@@ -217,8 +224,8 @@ effect_anywhere plant sys next old k effect held keeps after = record {
 }
 
 -- a scan that was made ready from what an engine holds fits that engine, where it has room
-pub scan_fits : (e : PlainEngine) (p : PlainPrepared) (old : PlainState) (events : ℕ) (pairs : List PlainPair) (t : ℕ) → IsPlant e.plant → IsState e.plant (state_of e) old → IsPreparedScan e.plant old events pairs t p → 0 < e.room → Fits e p
-scan_fits e p old events pairs t plant_is held scan there =
+pub scan_fits : (e : PlainEngine) (p : PlainPrepared) (old : PlainState) (events : ℕ) (pairs : List PlainPair) (t : ℕ) → IsPlant e.plant → IsState e.plant (state_of e) old → IsPreparedScan e.plant old events pairs t p → events ≡ length e.history → 0 < e.room → Fits e p
+scan_fits e p old events pairs t plant_is held scan counted there =
     let sys = state_of e in
     let image = scan.image in
     let is = scan.event_is in
@@ -232,6 +239,7 @@ scan_fits e p old events pairs t plant_is held scan there =
       effect_is = λ k keeps. subst (λ s. IsState e.plant s (after_effect p.effect k)) (sym next) (effect_anywhere e.plant sys (after_scan_event e.plant sys image t) old k p.effect held keeps after);
       in_range = after.in_range;
       report_is = subst (λ x. IsReport e.plant sys x p.report) (sym is) (scan_reports e.plant sys old new image t p.report plant_is within (kept_alarms e.plant e.history old held) held made);
+      taken = subst (IsTaken e.plant sys) (sym is) (pairs, sym (scan_event_is e.plant e.history old events pairs t held counted) ∙ scan.taken ∙ ap Ok is);
     }
 
 -- what an order that was made ready leaves is the next system
@@ -267,8 +275,8 @@ sites_there plant is =
     (All-weaker (IsAlarmRow plant) (λ row. IsSite (length plant.areas) (site row)) (λ row there. record { area = there.area; lowest = there.lowest; highest = there.highest }) plant.alarms is.alarms)
 
 -- before the first event
-pub opening_agrees : (plant : PlainPlant) (k : PlainState) → IsPlant plant → Stands plant.source k.cells (opening plant.source) → k.faulted ≡ opening_faulted (programs_of plant) → k.sites ≡ sites_of plant.alarms → k.alarms ≡ map opening_alarm plant.alarms → k.outputs ≡ outputs_from 0 plant.source.globals (cell k.cells) → k.moment ≡ 0 → IsEngine plant [] k
-opening_agrees plant k is stands faulted sites alarms outputs moment =
+pub opening_agrees : (plant : PlainPlant) (k : PlainState) → IsPlant plant → Stands plant.source k.cells (opening plant.source) → k.faulted ≡ opening_faulted (programs_of plant) → k.sites ≡ sites_of plant.alarms → k.alarms ≡ map opening_alarm plant.alarms → k.outputs ≡ outputs_from 0 plant.source.globals (cell k.cells) → k.moment ≡ 0 → IsLawfulHistory plant [] → IsEngine plant [] k
+opening_agrees plant k is stands faulted sites alarms outputs moment lawful =
     record {
       state_is = subst (λ s. IsState plant s k) (sym (system_none plant)) (record {
         world_stands = stands;
@@ -280,17 +288,19 @@ opening_agrees plant k is stands faulted sites alarms outputs moment =
         in_range = rw moment (omega arith);
       });
       plant_is = is;
+      lawful = lawful;
     }
 
--- the event of a scan, by what an engine keeps and how many events there were
-pub scan_event_is : (plant : PlainPlant) (history : List Event) (k : PlainState) (n : ℕ) (pairs : List PlainPair) (t : ℕ) → IsState plant (system plant history) k → n ≡ length history → taken_scan plant.source.globals k.moment n pairs t ≡ scan_event plant (system plant history) pairs t
-scan_event_is plant history k n pairs t held is =
-    ap (λ m. taken_scan plant.source.globals m n pairs t) held.moment_is
-    ∙ ap (λ m. taken_scan plant.source.globals (system plant history).moment m pairs t) (is ∙ sym (system_events plant history))
+-- an order where the history has room
+order_event_room : (plant : PlainPlant) (history : List Event) (console : ℕ) (order : Order) → length history < MOST_EVENTS → order_event (system plant history) console order ≡ Ok (event.Order console order)
+unfolding order_event
+order_event_room plant history console order few =
+    let events = system_events plant history in
+    grind (arith, nat_tests)
 
 -- an order that was made ready from what an engine holds fits that engine, where it has room
-pub order_fits : (e : PlainEngine) (k : PlainState) (console : ℕ) (order : Order) (p : PlainPreparedOrder) → IsState e.plant (state_of e) k → IsPreparedOrder e.plant k console order p → 0 < e.room → FitsOrder e p
-order_fits e k console order p held made there =
+pub order_fits : (e : PlainEngine) (k : PlainState) (console : ℕ) (order : Order) (p : PlainPreparedOrder) → IsState e.plant (state_of e) k → IsPreparedOrder e.plant k console order p → length e.history < MOST_EVENTS → 0 < e.room → FitsOrder e p
+order_fits e k console order p held made few there =
     let sys = state_of e in
     let is : p.done ≡ ordered e.plant sys p.console p.order =
     made.done_is
@@ -303,14 +313,8 @@ order_fits e k console order p held made there =
       room = there;
       done_is = is;
       reply_is = made.reply_is ∙ ap (λ a. reply_by p.done a) held.alarms_are ∙ ap (λ d. reply_by d sys.alarms) is;
+      taken = order_event_room e.plant e.history p.console p.order few;
     }
-
--- an order where the history has room
-order_event_room : (plant : PlainPlant) (history : List Event) (console : ℕ) (order : Order) → length history < MOST_EVENTS → order_event (system plant history) console order ≡ Ok (event.Order console order)
-unfolding order_event
-order_event_room plant history console order few =
-    let events = system_events plant history in
-    grind (arith, nat_tests)
 
 -- the event of an order that was made ready
 pub order_event_ready : (plant : PlainPlant) (history : List Event) (console : ℕ) (order : Order) (p : PlainPreparedOrder) → length history < MOST_EVENTS → p.console ≡ console → p.order ≡ order → order_event (system plant history) console order ≡ Ok (event.Order p.console p.order)

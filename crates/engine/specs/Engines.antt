@@ -14,12 +14,14 @@ use Rattle.plant_config.specs.Code.{plant_code}
 use Rattle.plant_config.specs.Names.{globals_of, body_paths}
 use Rattle.alarm_machine.specs.declared.limits.TheConstants.{LAST_MOMENT}
 use Rattle.engine.specs.declared.event.Event.{Event}
+use Rattle.engine.specs.declared.event.Event.TheVariants as event
 use Rattle.engine.specs.contracts.event.Event as event_row
 use Rattle.engine.specs.declared.event.Order.{Order}
 use Rattle.engine.specs.declared.event.Reply.{Reply}
 use Rattle.engine.specs.declared.state.Effect.{Effect}
 use Rattle.engine.specs.Reports.{PlainReport}
 use Rattle.engine.specs.System.{System, system, step, scan_event, faults_of, changes_of, outs_of, outputs_of, sites_of, ordered, reply_to}
+use Rattle.engine.specs.Lawful.{IsTaken, IsLawfulHistory}
 
 -- the plant, the events so far, and for how many more there is room
 pub record PlainEngine : Type 0 where
@@ -92,12 +94,13 @@ pub record PlainPrepared : Type 0 where
   pub effect : PlainScanEffect
   pub report : PlainReport
 
--- an engine may commit it: there is room, and it is what that event makes of this engine's plant and history
+-- an engine may commit it: there is room, it is what that event makes of this engine's plant and history, and the event was taken there
 pub record Fits (e : PlainEngine) (p : PlainPrepared) : Type 0 where
   pub room : 0 < e.room
   pub effect_is : (k : PlainState) → IsState e.plant (state_of e) k → IsState e.plant (system e.plant (e.history ++ p.event ∷ [])) (after_effect p.effect k)
   pub in_range : p.effect.moment ≤ LAST_MOMENT
   pub report_is : IsReport e.plant (state_of e) p.event p.report
+  pub taken : IsTaken e.plant (state_of e) p.event
 
 -- an order that was made ready: what it does, and its reply
 pub record PlainPreparedOrder : Type 0 where
@@ -106,13 +109,15 @@ pub record PlainPreparedOrder : Type 0 where
   pub done : Result Effect OrderFault
   pub reply : Reply
 
--- an engine may commit it: there is room, and that is what the order does in this engine's state
+-- an engine may commit it: there is room, that is what the order does in this engine's state, and the order was taken there
 pub record FitsOrder (e : PlainEngine) (p : PlainPreparedOrder) : Type 0 where
   pub room : 0 < e.room
   pub done_is : p.done ≡ ordered e.plant (state_of e) p.console p.order
   pub reply_is : p.reply ≡ reply_to e.plant (state_of e) p.console p.order
+  pub taken : IsTaken e.plant (state_of e) (event.Order p.console p.order)
 
--- what an engine keeps is what the system after its history has, and what holds of each plant holds of this one
+-- what an engine keeps is what the system after its history has, what holds of each plant holds of this one, and the history is lawful
 pub record IsEngine (plant : PlainPlant) (history : List Event) (k : PlainState) : Type 0 where
   pub state_is : IsState plant (system plant history) k
   pub plant_is : IsPlant plant
+  pub lawful : IsLawfulHistory plant history

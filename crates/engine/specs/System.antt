@@ -1,10 +1,8 @@
 -- The system: a fold of the events over the plant.
-use Rattle.std.specs.Prelude.{ℕ, ◌+◌, ℤ, pos, nat_lt, nat_le, Bool, true, false, if◌then◌else◌, List, [], ◌∷◌, map, fold, Option, Some, None, unwrap_or, Result, Ok, Err}
+use Rattle.std.specs.Prelude.{ℕ, ◌+◌, ℤ, nat_lt, nat_le, Bool, true, false, if◌then◌else◌, List, [], ◌∷◌, map, fold, Option, Some, None, Result, Ok, Err}
 use Rattle.std.specs.Ordering.{int_eq}
 use Rattle.plant_types.specs.Pairs.{PlainPair}
-use Rattle.plant_types.specs.Values.{is_true, value_of_kind, fitted}
-use Rattle.plant_types.specs.declared.values.Kind.{Kind}
-use Rattle.plant_types.specs.declared.values.Given.TheVariants as given
+use Rattle.plant_types.specs.Values.{is_true, value_of_kind}
 use Rattle.plant_types.specs.declared.values.Value.{Value}
 use Rattle.plant_types.specs.declared.values.Trap.{Trap}
 use Rattle.plant_types.specs.declared.values.Region.{Region}
@@ -147,15 +145,11 @@ abbrev pub is_output : Option Region → Bool
 is_output (Some region.Output) = true
 is_output _ = false
 
--- the value of a kind that a number stands for; a number that fits no value of the kind is shown as FALSE or 0
-abbrev pub shown : Kind → ℤ → Value
-shown kind n = unwrap_or (fitted kind (given.Whole n)) (value_of_kind kind (pos 0))
-
 -- the outputs and their values, from a number on, in order of declaration
 abbrev pub outputs_from : ℕ → List Variable → (ℕ → ℤ) → List (ℕ × Value)
 outputs_from n [] now = []
 outputs_from n (global ∷ globals) now =
-    if is_output global.region then (n, shown global.kind (now n)) ∷ outputs_from (n + 1) globals now else outputs_from (n + 1) globals now
+    if is_output global.region then (n, value_of_kind global.kind (now n)) ∷ outputs_from (n + 1) globals now else outputs_from (n + 1) globals now
 
 -- the outputs in a state
 abbrev pub outputs_of : PlainPlant → System → List (ℕ × Value)
@@ -163,7 +157,7 @@ outputs_of plant sys = outputs_from 0 (globals_of plant) (global_in (globals_of 
 
 -- the value of an output, if it isn't what it was before
 abbrev pub out_at : ℕ → Variable → (ℕ → ℤ) → (ℕ → ℤ) → Option Value
-out_at n global before now = if is_output global.region then (if int_eq (before n) (now n) then None else Some (shown global.kind (now n))) else None
+out_at n global before now = if is_output global.region then (if int_eq (before n) (now n) then None else Some (value_of_kind global.kind (now n))) else None
 
 -- the outputs whose value isn't what it was before, from a number on, in order of declaration
 abbrev pub outs_from : ℕ → List Variable → (ℕ → ℤ) → (ℕ → ℤ) → List (ℕ × Value)

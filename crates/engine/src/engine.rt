@@ -5,6 +5,7 @@ ghost use Rattle.std.specs.Option.{option_map};
 ghost use Rattle.engine.specs.Image.{IsDue};
 ghost use Rattle.engine.specs.Orders.{restart_of};
 ghost use Rattle.engine.specs.System.{scan_event, order_event, reply_to, outputs_of, summary_of};
+ghost use Rattle.engine.specs.Lawful.{IsLawfulHistory};
 ghost use Rattle.engine.specs.Engines.{state_of, Fits, FitsOrder, IsReport, TakesScan};
 
 use crate::event::{EngineFault, Event, MOST_EVENTS, Order, Reply, Report};
@@ -102,9 +103,10 @@ impl Engine {
         self.state.bank.moment()
     }
 
-    /// The outputs (`%Q`) and their values, in order of declaration.
+    /// The outputs (`%Q`) and their values, in order of declaration. The history is lawful: each event was taken in the state before it.
     pub fn outputs(&self) -> &[(u32, Value)]
-        ensures { result.now ≡ outputs_of self.now.plant (state_of self.now) }
+        ensures outputs { result.now ≡ outputs_of self.now.plant (state_of self.now) }
+        ensures lawful { IsLawfulHistory self.now.plant self.now.history }
     {
         self.state.outputs.as_slice()
     }

@@ -1,13 +1,14 @@
 //! How a scan is made ready.
 
-ghost use Rattle.std.specs.Prelude.{◌≡◌, ◌<◌, ◌≤◌, ◌^◌, length, IfOk, IfErr};
+ghost use Rattle.std.specs.Prelude.{◌≡◌, ◌<◌, ◌≤◌, ◌^◌, length, All, IfOk, IfErr};
 ghost use Rattle.alarm_machine.specs.declared.limits.TheConstants.{LAST_MOMENT};
 ghost use Rattle.plant_config.specs.Names.{globals_of, programs_of};
-ghost use Rattle.engine.specs.Image.{IsDue};
+ghost use Rattle.block_flatten.specs.Sound.{IsSound};
+ghost use Rattle.engine.specs.Image.{IsDue, FitsGlobal};
 ghost use Rattle.engine.specs.System.{taken_scan, outputs_from};
 ghost use Rattle.st_walk.specs.Slots.{cell};
 ghost use Rattle.engine.specs.Engines.{after_effect};
-ghost use Rattle.engine.specs.Steps.{ScanRan, IsPreparedScan};
+ghost use Rattle.engine.specs.Steps.{ScanRan, IsPreparedScan, StandInRange};
 
 use crate::event::{EngineFault, Event, Report};
 use crate::image::{Input, taken_image};
@@ -49,6 +50,9 @@ fn run_scan(
     requires alarms { length old.now.alarms ≡ length plant.now.alarms }
     requires outputs { old.now.outputs ≡ outputs_from 0 (globals_of plant.now) (cell old.now.cells) }
     requires range { moment ≤ LAST_MOMENT }
+    requires sound { IsSound plant.now.source }
+    requires image { All (FitsGlobal (globals_of plant.now)) image.now }
+    requires values { StandInRange plant.now.source old.now.cells }
     ensures { IfOk result (λ r. ScanRan plant.now old.now image.now moment (after_effect r.0 old.now) r.1) }
 {
     let ScanEffect {
@@ -98,6 +102,8 @@ pub fn prepared_scan(
     requires alarms { length old.now.alarms ≡ length plant.now.alarms }
     requires globals { length (globals_of plant.now) < 2 ^ 32 }
     requires outputs { old.now.outputs ≡ outputs_from 0 (globals_of plant.now) (cell old.now.cells) }
+    requires sound { IsSound plant.now.source }
+    requires values { StandInRange plant.now.source old.now.cells }
     ensures ok { IfOk result (IsPreparedScan plant.now old.now events pairs.now moment) }
     ensures err { IfErr result (λ e. IsDue e (taken_scan (globals_of plant.now) old.now.moment events pairs.now moment)) }
 {

@@ -8,16 +8,16 @@ ghost use Rattle.st_walk.specs.Slots.{cell};
 ghost use Rattle.st_walk.specs.Runs.{paths_of, Agree};
 ghost use Rattle.plant_config.specs.Names.{programs_of};
 ghost use Rattle.engine.specs.Programs.{programs_from};
-ghost use Rattle.engine.specs.System.{shown, opening_alarm, sites_of, alarms_after, is_output, outputs_from};
+ghost use Rattle.engine.specs.System.{opening_alarm, sites_of, alarms_after, is_output, outputs_from};
 ghost use Rattle.alarm_bank.specs.Moves.{put_all, changes_from};
-ghost use Rattle.engine.specs.Steps.{with_cell, run_by, ended_by, ProgramsRan, output_in, differs};
+ghost use Rattle.engine.specs.Steps.{with_cell, run_by, ended_by, ProgramsRan, output_in, differs, IsShowable, AreShowable};
 
 use crate::watched::{Watched, cell};
 use alarm_bank::{Bank, Site};
 use alarm_machine::{Alarm, Change};
 use block_flatten::Variable;
 use plant_config::{AlarmRow, Plant};
-use plant_types::{Given, Kind, Place, Region, Trap, Value, fitted};
+use plant_types::{Place, Region, Trap, Value};
 use st_walk::{Cells, Walked, walk};
 use std::alloc::{AllocError, Global};
 
@@ -133,47 +133,41 @@ fn is_output(region: Option<Region>) -> bool
     matches!(region, Some(Region::Output))
 }
 
-/// A number as a value of a kind: FALSE or 0, if it fits no value of that kind.
-fn shown(kind: Kind, n: i64) -> Value
-    ensures { result ≡ shown kind n }
-{
-    match fitted(kind, Given::Whole(n as i128)) {
-        Some(value) => value,
-        None => Value::of_kind(kind, 0),
-    }
-}
-
-/// The outputs and their values, in order of declaration. Fails if allocation fails.
+/// The outputs and their values, in order of declaration: each is in the range of its kind. Fails if allocation fails.
 pub fn outputs(
     alloc: Global,
     globals: &[Variable],
     cells: &Cells,
 ) -> Result<Vec<(u32, Value)>, AllocError>
-    requires { length globals.now < 2 ^ 32 }
+    requires few { length globals.now < 2 ^ 32 }
+    requires ranges { AreShowable globals.now (cell cells.now) }
     ensures { IfOk result (λ outputs. outputs.items ≡ outputs_from 0 globals.now (cell cells.now)) }
 {
     let mut outputs = Vec::new(alloc);
     for (i, global) in globals.iter().enumerate() {
         if is_output(global.region) {
             let number = i as u32;
-            outputs.push((number, shown(global.kind, cell(cells, number))))?;
+            let value = Value::of_kind(global.kind, cell(cells, number));
+            outputs.push((number, value))?;
         }
     }
     Ok(outputs)
 }
 
-/// The outputs with the values that they have in cells, in the room of other outputs. Fails if allocation fails.
+/// The outputs with the values that they have in cells, in the room of other outputs; each is in the range of its kind. Fails if allocation fails.
 pub fn renewed(
     outputs: &[(u32, Value)],
     cells: &Cells,
     room: Vec<(u32, Value)>,
 ) -> Result<Vec<(u32, Value)>, AllocError>
+    requires { All (IsShowable (cell cells.now)) outputs.now }
     ensures { IfOk result (λ renewed. renewed.items ≡ map (output_in (cell cells.now)) outputs.now) }
 {
     let mut renewed = room;
     renewed.clear();
     for (global, value) in outputs {
-        renewed.push((*global, shown(value.kind(), cell(cells, *global))))?;
+        let value = Value::of_kind(value.kind(), cell(cells, *global));
+        renewed.push((*global, value))?;
     }
     Ok(renewed)
 }
