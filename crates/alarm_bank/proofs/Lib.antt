@@ -1,4 +1,4 @@
-mod BankLaws
+pub mod BankLaws
 pub mod MoveLaws
 mod Tallies
 mod Trees

@@ -136,6 +136,14 @@ impl Bank {
         self.alarms.as_slice()
     }
 
+    /// The moment of the last scan in milliseconds, 0 before the first.
+    pub fn moment(&self) -> u64
+        ensures moment { result ≡ self.now.moment }
+        ensures in_range { result ≤ LAST_MOMENT }
+    {
+        self.moment
+    }
+
     /// How many alarms of each area and priority have each code now.
     pub fn summary(&self) -> &Summary
         ensures { result.now ≡ counted self.now.sites self.now.alarms }

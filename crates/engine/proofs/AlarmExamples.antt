@@ -5,7 +5,8 @@ use Rattle.alarm_machine.specs.Codes.{PlainChange}
 use Rattle.alarm_machine.specs.declared.states.Code.{Code}
 use Rattle.alarm_machine.specs.declared.states.Code.TheVariants.{Norm, Unack, Suppr}
 use Rattle.plant_config.specs.declared.rows.AlarmRow.{AlarmRow}
-use Rattle.engine.specs.System.{opening_alarm, alarms_after, changes_from}
+use Rattle.alarm_bank.specs.Moves.{changes_from}
+use Rattle.engine.specs.System.{opening_alarm, alarms_after}
 
 -- an alarm on a global, suppressed by another or by none
 abbrev row : ℕ → Option ℕ → AlarmRow

@@ -1,12 +1,12 @@
 -- Cells that stand for a world: inputs that are set, and values by number.
-use Rattle.std.proofs.Common.{◌≡◌, ℕ, ◌+◌, ◌<◌, ℤ, pos, Bool, if◌then◌else◌, List, [], ◌∷◌, All, length, refl, sym, ap, ◌∙◌, subst, arith, Option, Some, None, IfSome, inl, inr, fold}
+use Rattle.std.proofs.Common.{◌≡◌, ℕ, ◌+◌, ◌<◌, ℤ, pos, if◌then◌else◌, List, [], ◌∷◌, All, length, refl, sym, ap, ◌∙◌, subst, arith, Option, Some, None, IfSome, inl, inr, fold}
 use Rattle.std.specs.Ordering.{int_eq}
 use Rattle.std.specs.Option.{option_map_or}
 use Rattle.std.proofs.lemmas.Option.{slice_get_cases}
 use Rattle.std.proofs.lemmas.List.Elements.{All-head, All-tail}
 use Rattle.plant_types.specs.declared.values.Value.{Value}
-use Rattle.plant_types.specs.Values.{is_true, worth}
-use Rattle.alarm_machine.specs.Alarms.{PlainAlarm, after_scan}
+use Rattle.plant_types.specs.Values.{is_true, worth, value_of_kind}
+use Rattle.alarm_machine.specs.Alarms.{PlainAlarm}
 use Rattle.block_flatten.specs.declared.logic.Variable.{Variable}
 use Rattle.block_flatten.specs.Source.{Source}
 use Rattle.block_flatten.specs.Sound.{IsSound}
@@ -16,7 +16,8 @@ use Rattle.st_walk.proofs.Standing.{cell_holds, cell_written}
 use Rattle.plant_config.specs.declared.rows.AlarmRow.{AlarmRow}
 use Rattle.plant_config.specs.Plants.{PlainPlant, IsAlarmRow, IsBoolGlobal}
 use Rattle.engine.specs.Programs.{global_in, with_input, with_inputs}
-use Rattle.engine.specs.System.{suppression, alarms_after, is_output, shown, outputs_from, outs_from}
+use Rattle.alarm_bank.specs.Banks.{scan_each}
+use Rattle.engine.specs.System.{suppression, conditions, suppressions, alarms_after, is_output, outputs_from, outs_from}
 use Rattle.engine.specs.Steps.{with_cell}
 use Rattle.engine.proofs.Images.{has_number}
 
@@ -53,22 +54,31 @@ suppression_same : (source : Source) (f g : ℕ → ℤ) (suppress : Option ℕ)
 suppression_same source f g None same is = refl
 suppression_same source f g (Some n) same is = ap is_true (same n is.within)
 
+conditions_same : (plant : PlainPlant) (f g : ℕ → ℤ) (rows : List AlarmRow) → SameGlobals plant.source f g → All (IsAlarmRow plant) rows → conditions f rows ≡ conditions g rows
+conditions_same plant f g [] same all = refl
+conditions_same plant f g (row ∷ rows) same all =
+    let is = All-head (IsAlarmRow plant) row rows all in
+    ap (λ n. is_true n ∷ conditions f rows) (same row.condition is.condition.within)
+    ∙ ap (λ l. is_true (g row.condition) ∷ l) (conditions_same plant f g rows same (All-tail (IsAlarmRow plant) row rows all))
+
+suppressions_same : (plant : PlainPlant) (f g : ℕ → ℤ) (rows : List AlarmRow) → SameGlobals plant.source f g → All (IsAlarmRow plant) rows → suppressions f rows ≡ suppressions g rows
+suppressions_same plant f g [] same all = refl
+suppressions_same plant f g (row ∷ rows) same all =
+    let is = All-head (IsAlarmRow plant) row rows all in
+    ap (λ s. s ∷ suppressions f rows) (suppression_same plant.source f g row.suppress same is.suppress)
+    ∙ ap (λ l. suppression g row.suppress ∷ l) (suppressions_same plant f g rows same (All-tail (IsAlarmRow plant) row rows all))
+
 -- alarms look only at globals
 pub alarms_same : (plant : PlainPlant) (f g : ℕ → ℤ) (t : ℕ) (rows : List AlarmRow) (alarms : List PlainAlarm) → SameGlobals plant.source f g → All (IsAlarmRow plant) rows → alarms_after f t rows alarms ≡ alarms_after g t rows alarms
-alarms_same plant f g t [] alarms same all = refl
-alarms_same plant f g t (row ∷ rows) [] same all = refl
-alarms_same plant f g t (row ∷ rows) (a ∷ alarms) same all =
-    let is = All-head (IsAlarmRow plant) row rows all in
-    let step : ℤ → Bool → List PlainAlarm → List PlainAlarm = λ n s rest. after_scan (is_true n) s t a ∷ rest in
-    ap (λ n. step n (suppression f row.suppress) (alarms_after f t rows alarms)) (same row.condition is.condition.within)
-    ∙ ap (λ s. step (g row.condition) s (alarms_after f t rows alarms)) (suppression_same plant.source f g row.suppress same is.suppress)
-    ∙ ap (step (g row.condition) (suppression g row.suppress)) (alarms_same plant f g t rows alarms same (All-tail (IsAlarmRow plant) row rows all))
+alarms_same plant f g t rows alarms same all =
+    ap (λ cs. scan_each cs (suppressions f rows) t alarms) (conditions_same plant f g rows same all)
+    ∙ ap (λ ss. scan_each (conditions g rows) ss t alarms) (suppressions_same plant f g rows same all)
 
 -- so do outputs
 outputs_same : (f g : ℕ → ℤ) (n : ℕ) (globals : List Variable) → ((k : ℕ) → k < n + length globals → f k ≡ g k) → outputs_from n globals f ≡ outputs_from n globals g
 outputs_same f g n [] same = refl
 outputs_same f g n (global ∷ globals) same =
-    let put : ℤ → List (ℕ × Value) → List (ℕ × Value) = λ v rest. if is_output global.region then (n, shown global.kind v) ∷ rest else rest in
+    let put : ℤ → List (ℕ × Value) → List (ℕ × Value) = λ v rest. if is_output global.region then (n, value_of_kind global.kind v) ∷ rest else rest in
     ap (λ v. put v (outputs_from (n + 1) globals f)) (same n (omega arith))
     ∙ ap (put (g n)) (outputs_same f g (n + 1) globals (λ k below. same k (omega (arith, below))))
 
@@ -79,7 +89,7 @@ outs_same : (a b f g : ℕ → ℤ) (n : ℕ) (globals : List Variable) → ((k 
 outs_same a b f g n [] before now = refl
 outs_same a b f g n (global ∷ globals) before now =
     let put : ℤ → ℤ → List (ℕ × Value) → List (ℕ × Value) =
-    λ x y rest. elim (if is_output global.region then (if int_eq x y then None else Some (shown global.kind y)) else None) [ None ↦ rest | Some v ↦ (n, v) ∷ rest ] in
+    λ x y rest. elim (if is_output global.region then (if int_eq x y then None else Some (value_of_kind global.kind y)) else None) [ None ↦ rest | Some v ↦ (n, v) ∷ rest ] in
     ap (λ x. put x (f n) (outs_from (n + 1) globals a f)) (before n (omega arith))
     ∙ ap (λ y. put (b n) y (outs_from (n + 1) globals a f)) (now n (omega arith))
     ∙ ap (put (b n) (g n)) (outs_same a b f g (n + 1) globals (λ k below. before k (omega (arith, below))) (λ k below. now k (omega (arith, below))))

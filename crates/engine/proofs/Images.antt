@@ -1,8 +1,9 @@
 -- The image of a scan that is taken names only globals.
-use Rattle.std.proofs.Common.{◌≡◌, ℕ, ◌<◌, Bool, true, false, if◌then◌else◌, List, [], ◌∷◌, All, length, refl, subst, Option, Some, None, Ok, Err}
+use Rattle.std.proofs.Common.{◌≡◌, ℕ, ◌<◌, ◌≤◌, Bool, true, false, if◌then◌else◌, List, [], ◌∷◌, All, length, refl, subst, Option, Some, None, Ok, Err, arith}
 use Rattle.std.specs.Prelude.{slice_get, nat_lt, nat_le}
 use Rattle.std.specs.declared.result.Result.{Result}
 use Rattle.std.specs.Option.{option_map, option_and_then}
+use Rattle.std.proofs.lemmas.Bool.Decides.{nat_tests}
 use Rattle.std.proofs.lemmas.Option.{option_and_then_some, slice_get_within}
 use Rattle.std.proofs.lemmas.List.Elements.{All-nil, All-cons, All-head, All-tail}
 use Rattle.plant_types.specs.Pairs.{PlainPair}
@@ -28,14 +29,14 @@ is_below n p = p.number < n
 abbrev pub has_number : ℕ → ℕ × Value → Type 0
 has_number n input = input.0 < n
 
-same_some : {A : Type 0} (a b : A) → Some a ≡ Some b → a ≡ b
+pub same_some : {A : Type 0} (a b : A) → Some a ≡ Some b → a ≡ b
 same_some a b h = cc
 
-mapped_some : {A B P : Type 0} (f : A → B) (o : Option A) (y : B) → option_map f o ≡ Some y → ((x : A) → o ≡ Some x → f x ≡ y → P) → P
+pub mapped_some : {A B P : Type 0} (f : A → B) (o : Option A) (y : B) → option_map f o ≡ Some y → ((x : A) → o ≡ Some x → f x ≡ y → P) → P
 mapped_some f None y h found = absurd (cc)
 mapped_some f (Some x) y h found = found x refl (same_some (f x) y h)
 
-chosen_input : (b : Bool) (x p : Input) → (if b then Some x else None) ≡ Some p → x ≡ p
+pub chosen_input : (b : Bool) (x p : Input) → (if b then Some x else None) ≡ Some p → x ≡ p
 chosen_input true x p h = same_some x p h
 chosen_input false x p h = absurd (cc)
 
@@ -98,7 +99,49 @@ in_time true early full r t u image h = absurd (cc)
 in_time false true full r t u image h = absurd (cc)
 in_time false false full r t u image h = made_image full r t u image h
 
+-- a scan that is taken has an image of globals
 pub taken_within : (globals : List Variable) (last events : ℕ) (pairs : List PlainPair) (t u : ℕ) (image : List (ℕ × Value)) → taken_scan globals last events pairs t ≡ Ok (event.Scan image u) → All (has_number (length globals)) image
 unfolding taken_scan
 taken_within globals last events pairs t u image h =
     image_within globals pairs image (in_time (nat_lt LAST_MOMENT t) (nat_lt t last) (nat_le MOST_EVENTS events) (image_of globals pairs) t u image h)
+
+room_left : (n t u : ℕ) (full : Bool) (r : Result (List (ℕ × Value)) EngineFault) (image : List (ℕ × Value)) → nat_le MOST_EVENTS n ≡ full → by_image full t r ≡ Ok (event.Scan image u) → n < MOST_EVENTS
+room_left n t u full (Err e) image is h = absurd (cc)
+room_left n t u true (Ok i) image is h = absurd (cc)
+room_left n t u false (Ok i) image is h = grind (arith, nat_tests)
+
+-- what a scan that is taken found: room in the history, a moment that isn't above the last of all, nor before the last scan's
+pub record FoundTime (last n t : ℕ) : Type 0 where
+  pub room : n < MOST_EVENTS
+  pub in_range : t ≤ LAST_MOMENT
+  pub forward : last ≤ t
+
+when_taken : (last n t u : ℕ) (late early full : Bool) (r : Result (List (ℕ × Value)) EngineFault) (image : List (ℕ × Value)) → nat_lt LAST_MOMENT t ≡ late → nat_lt t last ≡ early → nat_le MOST_EVENTS n ≡ full
+    → (if late then Err refusal.MomentRange else if early then Err refusal.MomentBack else by_image full t r) ≡ Ok (event.Scan image u) → FoundTime last n t
+when_taken last n t u true early full r image far back is h = absurd (cc)
+when_taken last n t u false true full r image far back is h = absurd (cc)
+when_taken last n t u false false full r image far back is h = record { room = room_left n t u full r image is h; in_range = grind (arith, nat_tests); forward = grind (arith, nat_tests) }
+
+pub taken_when : (globals : List Variable) (last events : ℕ) (pairs : List PlainPair) (t u : ℕ) (image : List (ℕ × Value)) → taken_scan globals last events pairs t ≡ Ok (event.Scan image u) → FoundTime last events t
+unfolding taken_scan
+taken_when globals last events pairs t u image h =
+    when_taken last events t u (nat_lt LAST_MOMENT t) (nat_lt t last) (nat_le MOST_EVENTS events) (image_of globals pairs) image refl refl refl h
+
+-- the inputs of an image that is given, and its values
+pub record GivenImage (globals : List Variable) (pairs : List PlainPair) (image : List (ℕ × Value)) : Type 0 where
+  pub inputs : List Input
+  pub inputs_are : inputs_of globals pairs ≡ Some inputs
+  pub values_are : values_of inputs ≡ Some image
+
+given_by : (globals : List Variable) (pairs : List PlainPair) (o : Option (List Input)) (image : List (ℕ × Value)) → inputs_of globals pairs ≡ o → by_inputs o ≡ Ok image → GivenImage globals pairs image
+given_by globals pairs None image is h = absurd (cc)
+given_by globals pairs (Some inputs) image is h = record { inputs = inputs; inputs_are = is; values_are = none_twice (has_twin inputs) (values_of inputs) image h }
+
+image_given : (globals : List Variable) (pairs : List PlainPair) (image : List (ℕ × Value)) → image_of globals pairs ≡ Ok image → GivenImage globals pairs image
+unfolding image_of
+image_given globals pairs image h = given_by globals pairs (inputs_of globals pairs) image refl h
+
+pub taken_image : (globals : List Variable) (last events : ℕ) (pairs : List PlainPair) (t u : ℕ) (image : List (ℕ × Value)) → taken_scan globals last events pairs t ≡ Ok (event.Scan image u) → GivenImage globals pairs image
+unfolding taken_scan
+taken_image globals last events pairs t u image h =
+    image_given globals pairs image (in_time (nat_lt LAST_MOMENT t) (nat_lt t last) (nat_le MOST_EVENTS events) (image_of globals pairs) t u image h)

@@ -6,3 +6,6 @@ pub mod Outs
 pub mod ProgramRuns
 pub mod Systems
 pub mod Twins
+mod Lawful
+mod InRange
+mod Shown

@@ -2,7 +2,7 @@
 use Rattle.std.proofs.Common.{◌≡◌, ℕ, ◌+◌, ◌<◌, ◌≤◌, ℤ, Bool, true, false, List, [], ◌∷◌, ◌++◌, length, map, All, fold, ap, refl, sym, ◌∙◌, subst, zero-add, arith, Option, Some, None, Ok, Err, suc, zero, replicate}
 use Rattle.std.specs.declared.result.Result.{Result}
 use Rattle.std.proofs.lemmas.List.{length-map, length-set}
-use Rattle.std.proofs.lemmas.List.Elements.{All-nil, All-cons, All-weaker}
+use Rattle.std.proofs.lemmas.List.Elements.{All-nil, All-cons, All-map, All-weaker}
 use Rattle.std.proofs.lemmas.List.Sums.{fold-append}
 use Rattle.std.proofs.lemmas.Bool.Decides.{nat_tests}
 use Rattle.plant_types.specs.Pairs.{PlainPair}
@@ -10,6 +10,10 @@ use Rattle.plant_types.specs.declared.values.Value.{Value}
 use Rattle.alarm_machine.specs.declared.states.OrderFault.{OrderFault}
 use Rattle.alarm_machine.specs.Codes.{PlainChange, code_of, change_between}
 use Rattle.alarm_machine.specs.Alarms.{PlainAlarm}
+use Rattle.alarm_bank.specs.declared.rows.Site.{Site}
+use Rattle.alarm_bank.specs.Banks.{IsSite}
+use Rattle.alarm_bank.specs.Moves.{put_all, changes_from}
+use Rattle.alarm_bank.proofs.BankLaws.{scan_each_length}
 use Rattle.st_tree.specs.Meaning.{Ran, Done, Trapped}
 use Rattle.block_flatten.specs.declared.logic.Variable.{Variable}
 use Rattle.block_flatten.specs.Source.{PlainProgram, Source}
@@ -17,7 +21,7 @@ use Rattle.block_flatten.specs.Sound.{IsSound}
 use Rattle.st_walk.specs.Worlds.{World, Stands, opening, run_program}
 use Rattle.st_walk.specs.Slots.{cell}
 use Rattle.plant_config.specs.declared.rows.AlarmRow.{AlarmRow}
-use Rattle.plant_config.specs.Plants.{PlainPlant, IsPlant}
+use Rattle.plant_config.specs.Plants.{PlainPlant, IsPlant, IsAlarmRow}
 use Rattle.engine.specs.declared.event.TheConstants.{MOST_EVENTS}
 use Rattle.engine.specs.declared.event.Event.{Event}
 use Rattle.engine.specs.declared.event.Event.TheVariants as event
@@ -30,9 +34,10 @@ use Rattle.st_walk.specs.Runs.{paths_of}
 use Rattle.plant_config.specs.Names.{globals_of, programs_of, body_paths}
 use Rattle.engine.specs.Programs.{Scanned, opening_faulted, after_run, programs_from, with_inputs, global_in, world_after}
 use Rattle.engine.specs.Orders.{order_outcome, alarms_by, faulted_by, reply_by}
-use Rattle.engine.specs.System.{System, system, step, taken_scan, scan_event, order_event, opening_system, opening_alarm, scanned_by, after_scan_event, ordered, alarms_after, changes_from, outputs_from, out_at, outs_from}
+use Rattle.engine.specs.System.{System, system, step, taken_scan, scan_event, order_event, opening_system, opening_alarm, scanned_by, after_scan_event, ordered, conditions, suppressions, alarms_after, sites_of, outputs_from, out_at, outs_from}
+use Rattle.engine.specs.Lawful.{IsTaken, IsLawfulHistory}
 use Rattle.engine.specs.Reports.{PlainReport}
-use Rattle.engine.specs.Engines.{PlainEngine, PlainState, PlainPrepared, PlainPreparedOrder, Fits, FitsOrder, IsState, IsEngine, IsReport, state_of}
+use Rattle.engine.specs.Engines.{PlainEngine, PlainState, PlainScanEffect, PlainPrepared, PlainPreparedOrder, after_effect, Fits, FitsOrder, IsState, IsEngine, IsReport, state_of}
 use Rattle.engine.specs.Steps.{ProgramsRan, ScanRan, IsPreparedScan, IsPreparedOrder}
 use Rattle.engine.proofs.CellWorlds.{inputs_stand, values_stand, alarms_same, outputs_stand, outs_stand}
 use Rattle.engine.proofs.Images.{has_number, taken_within}
@@ -56,9 +61,8 @@ module _ (plant : PlainPlant) (P : System → Type 0) (keeps : (s : System) (e :
   system_keeps history p = kept_from (opening_system plant) history p
 
 length-alarms_after : (now : ℕ → ℤ) (t : ℕ) (rows : List AlarmRow) (alarms : List PlainAlarm) → length alarms ≡ length rows → length (alarms_after now t rows alarms) ≡ length rows
-length-alarms_after now t [] alarms h = refl
-length-alarms_after now t (row ∷ rows) [] h = h
-length-alarms_after now t (row ∷ rows) (a ∷ alarms) h = ap suc (length-alarms_after now t rows alarms (omega arith))
+length-alarms_after now t rows alarms h =
+    scan_each_length (conditions now rows) (suppressions now rows) t alarms (length-map rows _ ∙ sym h) (length-map rows _ ∙ sym h) ∙ h
 
 length-alarms_by : (done : Result Effect OrderFault) (alarms : List PlainAlarm) → length (alarms_by done alarms) ≡ length alarms
 length-alarms_by (Ok (effect.Changed n alarm)) alarms = length-set alarms n alarm
@@ -146,6 +150,7 @@ scan_agrees plant sys old new image t r is within held made =
     record {
       world_stands = runs.world_stands;
       faulted_is = runs.faulted_is;
+      sites_are = made.sites_are ∙ held.sites_are;
       alarms_are = made.alarms_are ∙ alarms_same plant (cell new.cells) look t plant.alarms old.alarms now is.alarms ∙ ap (alarms_after look t plant.alarms) held.alarms_are;
       outputs_are = made.outputs_are ∙ outputs_stand plant.source (cell new.cells) look now;
       moment_is = made.moment_is;
@@ -200,19 +205,41 @@ scan_reports plant sys old new image t r is within each held made =
       outs_are = made.outs_are ∙ outs_stand plant.source (cell old.cells) (global_in (globals_of plant) sys.world) (cell new.cells) look before now;
     }
 
+-- the event of a scan, by what an engine keeps and how many events there were
+pub scan_event_is : (plant : PlainPlant) (history : List Event) (k : PlainState) (n : ℕ) (pairs : List PlainPair) (t : ℕ) → IsState plant (system plant history) k → n ≡ length history → taken_scan plant.source.globals k.moment n pairs t ≡ scan_event plant (system plant history) pairs t
+scan_event_is plant history k n pairs t held is =
+    ap (λ m. taken_scan plant.source.globals m n pairs t) held.moment_is
+    ∙ ap (λ m. taken_scan plant.source.globals (system plant history).moment m pairs t) (is ∙ sym (system_events plant history))
+
+-- what an effect makes of one state that is kept for a system, it makes of each
+effect_anywhere : (plant : PlainPlant) (sys next : System) (old k : PlainState) (effect : PlainScanEffect) → IsState plant sys old → IsState plant sys k → IsState plant next (after_effect effect old) → IsState plant next (after_effect effect k)
+effect_anywhere plant sys next old k effect held keeps after = record {
+  world_stands = after.world_stands;
+  faulted_is = after.faulted_is;
+  sites_are = keeps.sites_are;
+  alarms_are = ap (λ l. put_all l effect.moved) (keeps.alarms_are ∙ sym held.alarms_are) ∙ after.alarms_are;
+  outputs_are = after.outputs_are;
+  moment_is = after.moment_is;
+  in_range = after.in_range;
+}
+
 -- a scan that was made ready from what an engine holds fits that engine, where it has room
-pub scan_fits : (e : PlainEngine) (p : PlainPrepared) (old : PlainState) (events : ℕ) (pairs : List PlainPair) (t : ℕ) → IsPlant e.plant → IsState e.plant (state_of e) old → IsPreparedScan e.plant old events pairs t p → 0 < e.room → Fits e p
-scan_fits e p old events pairs t plant_is held scan there =
+pub scan_fits : (e : PlainEngine) (p : PlainPrepared) (old : PlainState) (events : ℕ) (pairs : List PlainPair) (t : ℕ) → IsPlant e.plant → IsState e.plant (state_of e) old → IsPreparedScan e.plant old events pairs t p → events ≡ length e.history → 0 < e.room → Fits e p
+scan_fits e p old events pairs t plant_is held scan counted there =
     let sys = state_of e in
     let image = scan.image in
     let is = scan.event_is in
     let made = scan.ran in
     let within = taken_within e.plant.source.globals old.moment events pairs t t image (scan.taken ∙ ap Ok is) in
     let next : system e.plant (e.history ++ p.event ∷ []) ≡ after_scan_event e.plant sys image t = system_next e.plant e.history p.event ∙ ap (step e.plant sys) is in
+    let new = after_effect p.effect old in
+    let after = scan_agrees e.plant sys old new image t p.report plant_is within held made in
     record {
       room = there;
-      state_is = subst (λ s. IsState e.plant s p.state) (sym next) (scan_agrees e.plant sys old p.state image t p.report plant_is within held made);
-      report_is = subst (λ x. IsReport e.plant sys x p.report) (sym is) (scan_reports e.plant sys old p.state image t p.report plant_is within (kept_alarms e.plant e.history old held) held made);
+      effect_is = λ k keeps. subst (λ s. IsState e.plant s (after_effect p.effect k)) (sym next) (effect_anywhere e.plant sys (after_scan_event e.plant sys image t) old k p.effect held keeps after);
+      in_range = after.in_range;
+      report_is = subst (λ x. IsReport e.plant sys x p.report) (sym is) (scan_reports e.plant sys old new image t p.report plant_is within (kept_alarms e.plant e.history old held) held made);
+      taken = subst (IsTaken e.plant sys) (sym is) (pairs, sym (scan_event_is e.plant e.history old events pairs t held counted) ∙ scan.taken ∙ ap Ok is);
     }
 
 -- what an order that was made ready leaves is the next system
@@ -224,6 +251,7 @@ order_agrees e p old held fits =
     subst (λ s. IsState e.plant s (record old { faulted = faulted_by p.done old.faulted; alarms = alarms_by p.done old.alarms })) (sym next) (record {
       world_stands = held.world_stands;
       faulted_is = ap (λ d. faulted_by d old.faulted) fits.done_is ∙ ap (faulted_by (ordered e.plant sys p.console p.order)) held.faulted_is;
+      sites_are = held.sites_are;
       alarms_are = ap (λ d. alarms_by d old.alarms) fits.done_is ∙ ap (alarms_by (ordered e.plant sys p.console p.order)) held.alarms_are;
       outputs_are = held.outputs_are;
       moment_is = held.moment_is;
@@ -239,30 +267,40 @@ opening_flags programs n flags many are = are ∙ unset n programs many
     unset zero (x ∷ xs) same = absurd (omega (arith, same))
     unset (suc n) (x ∷ xs) same = ap (λ l. false ∷ l) (unset n xs (omega (arith, same)))
 
+-- the area of each alarm is there, and its priority is one of four
+pub sites_there : (plant : PlainPlant) → IsPlant plant → All (IsSite (length plant.areas)) (sites_of plant.alarms)
+sites_there plant is =
+    let site : AlarmRow → Site = λ row. record { area = row.area; priority = row.priority } in
+    All-map (IsSite (length plant.areas)) site plant.alarms
+    (All-weaker (IsAlarmRow plant) (λ row. IsSite (length plant.areas) (site row)) (λ row there. record { area = there.area; lowest = there.lowest; highest = there.highest }) plant.alarms is.alarms)
+
 -- before the first event
-pub opening_agrees : (plant : PlainPlant) (k : PlainState) → IsPlant plant → Stands plant.source k.cells (opening plant.source) → k.faulted ≡ opening_faulted (programs_of plant) → k.alarms ≡ map opening_alarm plant.alarms → k.outputs ≡ outputs_from 0 plant.source.globals (cell k.cells) → k.moment ≡ 0 → IsEngine plant [] k
-opening_agrees plant k is stands faulted alarms outputs moment =
+pub opening_agrees : (plant : PlainPlant) (k : PlainState) → IsPlant plant → Stands plant.source k.cells (opening plant.source) → k.faulted ≡ opening_faulted (programs_of plant) → k.sites ≡ sites_of plant.alarms → k.alarms ≡ map opening_alarm plant.alarms → k.outputs ≡ outputs_from 0 plant.source.globals (cell k.cells) → k.moment ≡ 0 → IsLawfulHistory plant [] → IsEngine plant [] k
+opening_agrees plant k is stands faulted sites alarms outputs moment lawful =
     record {
       state_is = subst (λ s. IsState plant s k) (sym (system_none plant)) (record {
         world_stands = stands;
         faulted_is = faulted;
+        sites_are = sites;
         alarms_are = alarms;
         outputs_are = outputs ∙ outputs_stand plant.source (cell k.cells) (global_in (globals_of plant) (opening plant.source)) (values_stand plant.source k.cells (opening plant.source) stands);
         moment_is = moment;
         in_range = rw moment (omega arith);
       });
       plant_is = is;
+      lawful = lawful;
     }
 
--- the event of a scan, by what an engine keeps and how many events there were
-pub scan_event_is : (plant : PlainPlant) (history : List Event) (k : PlainState) (n : ℕ) (pairs : List PlainPair) (t : ℕ) → IsState plant (system plant history) k → n ≡ length history → taken_scan plant.source.globals k.moment n pairs t ≡ scan_event plant (system plant history) pairs t
-scan_event_is plant history k n pairs t held is =
-    ap (λ m. taken_scan plant.source.globals m n pairs t) held.moment_is
-    ∙ ap (λ m. taken_scan plant.source.globals (system plant history).moment m pairs t) (is ∙ sym (system_events plant history))
+-- an order where the history has room
+order_event_room : (plant : PlainPlant) (history : List Event) (console : ℕ) (order : Order) → length history < MOST_EVENTS → order_event (system plant history) console order ≡ Ok (event.Order console order)
+unfolding order_event
+order_event_room plant history console order few =
+    let events = system_events plant history in
+    grind (arith, nat_tests)
 
 -- an order that was made ready from what an engine holds fits that engine, where it has room
-pub order_fits : (e : PlainEngine) (k : PlainState) (console : ℕ) (order : Order) (p : PlainPreparedOrder) → IsState e.plant (state_of e) k → IsPreparedOrder e.plant k console order p → 0 < e.room → FitsOrder e p
-order_fits e k console order p held made there =
+pub order_fits : (e : PlainEngine) (k : PlainState) (console : ℕ) (order : Order) (p : PlainPreparedOrder) → IsState e.plant (state_of e) k → IsPreparedOrder e.plant k console order p → length e.history < MOST_EVENTS → 0 < e.room → FitsOrder e p
+order_fits e k console order p held made few there =
     let sys = state_of e in
     let is : p.done ≡ ordered e.plant sys p.console p.order =
     made.done_is
@@ -275,14 +313,8 @@ order_fits e k console order p held made there =
       room = there;
       done_is = is;
       reply_is = made.reply_is ∙ ap (λ a. reply_by p.done a) held.alarms_are ∙ ap (λ d. reply_by d sys.alarms) is;
+      taken = order_event_room e.plant e.history p.console p.order few;
     }
-
--- an order where the history has room
-order_event_room : (plant : PlainPlant) (history : List Event) (console : ℕ) (order : Order) → length history < MOST_EVENTS → order_event (system plant history) console order ≡ Ok (event.Order console order)
-unfolding order_event
-order_event_room plant history console order few =
-    let events = system_events plant history in
-    grind (arith, nat_tests)
 
 -- the event of an order that was made ready
 pub order_event_ready : (plant : PlainPlant) (history : List Event) (console : ℕ) (order : Order) (p : PlainPreparedOrder) → length history < MOST_EVENTS → p.console ≡ console → p.order ≡ order → order_event (system plant history) console order ≡ Ok (event.Order p.console p.order)

@@ -6,18 +6,22 @@ use Rattle.plant_types.specs.declared.values.Value.{Value}
 use Rattle.st_walk.specs.Worlds.{Stands}
 use Rattle.st_walk.specs.Runs.{place_spot}
 use Rattle.alarm_machine.specs.Alarms.{PlainAlarm}
+use Rattle.alarm_bank.specs.declared.rows.Site.{Site}
+use Rattle.alarm_bank.specs.Moves.{put_all}
 use Rattle.alarm_machine.specs.declared.states.OrderFault.{OrderFault}
 use Rattle.plant_config.specs.Plants.{PlainPlant, IsPlant}
 use Rattle.plant_config.specs.Code.{plant_code}
 use Rattle.plant_config.specs.Names.{globals_of, body_paths}
 use Rattle.alarm_machine.specs.declared.limits.TheConstants.{LAST_MOMENT}
 use Rattle.engine.specs.declared.event.Event.{Event}
+use Rattle.engine.specs.declared.event.Event.TheVariants as event
 use Rattle.engine.specs.contracts.event.Event as event_row
 use Rattle.engine.specs.declared.event.Order.{Order}
 use Rattle.engine.specs.declared.event.Reply.{Reply}
 use Rattle.engine.specs.declared.state.Effect.{Effect}
 use Rattle.engine.specs.Reports.{PlainReport}
-use Rattle.engine.specs.System.{System, system, step, scan_event, faults_of, changes_of, outs_of, outputs_of, ordered, reply_to}
+use Rattle.engine.specs.System.{System, system, step, scan_event, faults_of, changes_of, outs_of, outputs_of, sites_of, ordered, reply_to}
+use Rattle.engine.specs.Lawful.{IsTaken, IsLawfulHistory}
 
 -- the plant, the events so far, and for how many more there is room
 pub record PlainEngine : Type 0 where
@@ -35,10 +39,11 @@ engine_code =
     code_by (PlainPlant × (List Event × ℕ)) (coded× plant_code (coded× (coded_list event_row.the_row.coded) coded_ℕ))
     (λ e. (e.plant, (e.history, e.room))) (λ p. record { plant = p.0; history = p.1.0; room = p.1.1 }) (λ _. refl)
 
--- what an engine keeps beside its plant and its history: the cells of the variables, the faulted programs, the alarms, the outputs and the last moment
+-- what an engine keeps beside its plant and its history: the cells of the variables, the faulted programs, the area and priority of each alarm, the alarms, the outputs and the last moment
 pub record PlainState : Type 0 where
   pub cells : List ℤ
   pub faulted : List Bool
+  pub sites : List Site
   pub alarms : List PlainAlarm
   pub outputs : List (ℕ × Value)
   pub moment : ℕ
@@ -47,6 +52,7 @@ pub record PlainState : Type 0 where
 pub record IsState (plant : PlainPlant) (sys : System) (k : PlainState) : Type 0 where
   pub world_stands : Stands plant.source k.cells sys.world
   pub faulted_is : k.faulted ≡ sys.faulted
+  pub sites_are : k.sites ≡ sites_of plant.alarms
   pub alarms_are : k.alarms ≡ sys.alarms
   pub outputs_are : k.outputs ≡ outputs_of plant sys
   pub moment_is : k.moment ≡ sys.moment
@@ -69,17 +75,32 @@ pub record TakesScan (old new : PlainEngine) (pairs : List PlainPair) (t : ℕ) 
   pub history_is : new.history ≡ old.history ++ event ∷ []
   pub report_is : IsReport old.plant (state_of old) event r
 
--- a scan that was made ready: its event, what it leaves and what it reports
+-- what a scan does to a state: the cells, the faulted programs and the outputs that it leaves, the alarms that it moves, and its moment
+pub record PlainScanEffect : Type 0 where
+  pub cells : List ℤ
+  pub faulted : List Bool
+  pub outputs : List (ℕ × Value)
+  pub moved : List (ℕ × PlainAlarm)
+  pub moment : ℕ
+
+-- a state after that: the alarms that moved are put in their places, the others rest
+abbrev pub after_effect : PlainScanEffect → PlainState → PlainState
+after_effect effect k =
+    record k { cells = effect.cells; faulted = effect.faulted; alarms = put_all k.alarms effect.moved; outputs = effect.outputs; moment = effect.moment }
+
+-- a scan that was made ready: its event, what it does and what it reports
 pub record PlainPrepared : Type 0 where
   pub event : Event
-  pub state : PlainState
+  pub effect : PlainScanEffect
   pub report : PlainReport
 
--- an engine may commit it: there is room, and it is what that event makes of this engine's plant and history
+-- an engine may commit it: there is room, it is what that event makes of this engine's plant and history, and the event was taken there
 pub record Fits (e : PlainEngine) (p : PlainPrepared) : Type 0 where
   pub room : 0 < e.room
-  pub state_is : IsState e.plant (system e.plant (e.history ++ p.event ∷ [])) p.state
+  pub effect_is : (k : PlainState) → IsState e.plant (state_of e) k → IsState e.plant (system e.plant (e.history ++ p.event ∷ [])) (after_effect p.effect k)
+  pub in_range : p.effect.moment ≤ LAST_MOMENT
   pub report_is : IsReport e.plant (state_of e) p.event p.report
+  pub taken : IsTaken e.plant (state_of e) p.event
 
 -- an order that was made ready: what it does, and its reply
 pub record PlainPreparedOrder : Type 0 where
@@ -88,13 +109,15 @@ pub record PlainPreparedOrder : Type 0 where
   pub done : Result Effect OrderFault
   pub reply : Reply
 
--- an engine may commit it: there is room, and that is what the order does in this engine's state
+-- an engine may commit it: there is room, that is what the order does in this engine's state, and the order was taken there
 pub record FitsOrder (e : PlainEngine) (p : PlainPreparedOrder) : Type 0 where
   pub room : 0 < e.room
   pub done_is : p.done ≡ ordered e.plant (state_of e) p.console p.order
   pub reply_is : p.reply ≡ reply_to e.plant (state_of e) p.console p.order
+  pub taken : IsTaken e.plant (state_of e) (event.Order p.console p.order)
 
--- what an engine keeps is what the system after its history has, and what holds of each plant holds of this one
+-- what an engine keeps is what the system after its history has, what holds of each plant holds of this one, and the history is lawful
 pub record IsEngine (plant : PlainPlant) (history : List Event) (k : PlainState) : Type 0 where
   pub state_is : IsState plant (system plant history) k
   pub plant_is : IsPlant plant
+  pub lawful : IsLawfulHistory plant history

@@ -1,9 +1,9 @@
 -- The image of a scan: inputs by number, with values of their kinds. All names are looked up before any value is judged.
-use Rattle.std.specs.Prelude.{◌≡◌, ℕ, ◌==◌, Bool, false, ◌||◌, List, [], ◌∷◌, if◌then◌else◌, Option, Some, None, Result, Ok, Err, slice_get}
+use Rattle.std.specs.Prelude.{◌≡◌, ℕ, ◌==◌, Bool, true, false, ◌||◌, List, [], ◌∷◌, if◌then◌else◌, Option, Some, None, Result, Ok, Err, slice_get}
 use Rattle.std.specs.List.{list_any}
 use Rattle.std.specs.Option.{option_map, option_and_then}
 use Rattle.plant_types.specs.Pairs.{PlainPair}
-use Rattle.plant_types.specs.Values.{fitted}
+use Rattle.plant_types.specs.Values.{fitted, is_in_range, worth}
 use Rattle.plant_types.specs.declared.values.Value.{Value}
 use Rattle.block_flatten.specs.declared.logic.Variable.{Variable}
 use Rattle.block_flatten.specs.Names.{find_global}
@@ -41,6 +41,10 @@ image_of globals pairs = elim (inputs_of globals pairs) [
   | None ↦ Err refusal.ImageName
   | Some inputs ↦ if has_twin inputs then Err refusal.ImageName else elim (values_of inputs) [ None ↦ Err refusal.ImageKind | Some values ↦ Ok values ]
 ]
+
+-- an image gives a value to a global, in the range of that global's kind
+abbrev pub FitsGlobal : List Variable → ℕ × Value → Type 0
+FitsGlobal globals input = (global : Variable) × (slice_get globals input.0 ≡ Some global) × (is_in_range global.kind (worth input.1) ≡ true)
 
 -- a refusal is the one that is due; allocation may fail at any time
 abbrev pub IsDue : {A : Type 0} → EngineFault → Result A EngineFault → Type 0

@@ -5,8 +5,8 @@ use Rattle.alarm_machine.specs.declared.states.Verb.{Verb}
 use Rattle.alarm_machine.specs.declared.states.Verb.TheVariants as verb
 use Rattle.alarm_machine.specs.declared.states.OrderFault.{OrderFault}
 use Rattle.alarm_machine.specs.declared.states.OrderFault.TheVariants as fault
-use Rattle.alarm_machine.specs.Codes.{PlainChange, code_of, change_between}
 use Rattle.alarm_machine.specs.Alarms.{PlainAlarm, after_order}
+use Rattle.alarm_bank.specs.Moves.{change_from}
 use Rattle.plant_file.specs.declared.console.Console.{Console}
 use Rattle.plant_config.specs.Plants.{PlainPlant}
 use Rattle.engine.specs.declared.event.Order.{Order}
@@ -72,11 +72,6 @@ alarms_by _ alarms = alarms
 abbrev pub faulted_by : Result Effect OrderFault → List Bool → List Bool
 faulted_by (Ok (effect.Restarted n)) faulted = slice_set faulted n false
 faulted_by _ faulted = faulted
-
--- the change of the code from one alarm to another
-abbrev pub change_from : Option PlainAlarm → PlainAlarm → Option PlainChange
-change_from None new = None
-change_from (Some old) new = change_between (code_of old.state) (code_of new.state)
 
 -- the reply: the refusal, or the change of the alarm's code if there is one
 abbrev pub reply_by : Result Effect OrderFault → List PlainAlarm → Reply

@@ -1,30 +1,47 @@
 -- The parts of a scan over cells.
-use Rattle.std.specs.Prelude.{◌≡◌, ℕ, ◌<◌, ◌≤◌, ℤ, Bool, true, false, not, List, length, map, fold, slice_set, All, Option, Some, None, Ok}
+use Rattle.std.specs.Prelude.{◌≡◌, ℕ, ◌<◌, ◌≤◌, ℤ, Bool, true, false, not, List, length, map, fold, slice_get, slice_set, All, Option, Some, None, Ok}
 use Rattle.std.specs.Ordering.{int_eq}
 use Rattle.plant_types.specs.declared.values.Value.{Value}
 use Rattle.plant_types.specs.declared.values.Trap.{Trap}
 use Rattle.plant_types.specs.declared.values.Place.{Place}
 use Rattle.plant_types.specs.Pairs.{PlainPair}
-use Rattle.plant_types.specs.Values.{kind_of, worth}
+use Rattle.plant_types.specs.Values.{kind_of, worth, value_of_kind, is_in_range}
 use Rattle.st_tree.specs.Meaning.{Ran, Done, Trapped}
+use Rattle.block_flatten.specs.declared.logic.Variable.{Variable}
 use Rattle.block_flatten.specs.Source.{Source}
 use Rattle.st_walk.specs.Worlds.{World, Stands, run_program}
 use Rattle.st_walk.specs.Slots.{cell}
+use Rattle.st_walk.specs.Ranges.{AllInRange}
 use Rattle.st_walk.specs.Runs.{paths_of, place_spot}
 use Rattle.plant_config.specs.Plants.{PlainPlant}
 use Rattle.plant_config.specs.Names.{globals_of}
+use Rattle.alarm_bank.specs.Moves.{changes_from}
 use Rattle.alarm_machine.specs.declared.limits.TheConstants.{LAST_MOMENT}
 use Rattle.engine.specs.declared.event.Event.TheVariants as event
 use Rattle.engine.specs.Reports.{PlainReport}
 use Rattle.engine.specs.Programs.{Scanned, programs_from}
-use Rattle.engine.specs.System.{taken_scan, shown, alarms_after, changes_from, outputs_from, outs_from}
-use Rattle.engine.specs.Engines.{PlainState, PlainPrepared, PlainPreparedOrder}
+use Rattle.engine.specs.System.{taken_scan, alarms_after, outputs_from, outs_from}
+use Rattle.engine.specs.Engines.{PlainState, PlainPrepared, PlainPreparedOrder, after_effect}
 use Rattle.engine.specs.declared.event.Order.{Order}
 use Rattle.engine.specs.Orders.{order_outcome, reply_by}
 
 -- an output, with the value that it has now
 abbrev pub output_in : (ℕ → ℤ) → ℕ × Value → ℕ × Value
-output_in now output = (output.0, shown (kind_of output.1) (now output.0))
+output_in now output = (output.0, value_of_kind (kind_of output.1) (now output.0))
+
+-- the number that an output has now is in the range of its kind
+abbrev pub IsShowable : (ℕ → ℤ) → ℕ × Value → Type 0
+IsShowable now output = is_in_range (kind_of output.1) (now output.0) ≡ true
+
+-- the number that each global has now is in the range of its kind
+abbrev pub AreShowable : List Variable → (ℕ → ℤ) → Type 0
+AreShowable globals now = (n : ℕ) (global : Variable) → slice_get globals n ≡ Some global → is_in_range global.kind (now n) ≡ true
+
+-- cells stand for a world in which each value is in the range of its kind
+pub record StandInRange (source : Source) (cells : List ℤ) : Type 0 where
+  pub world : World
+  pub stands : Stands source cells world
+  pub in_range : AllInRange source world
 
 -- whether the number of an output isn't what it was before
 abbrev pub differs : (ℕ → ℤ) → (ℕ → ℤ) → ℕ × Value → Bool
@@ -54,6 +71,7 @@ pub record ProgramsRan (source : Source) (r : Scanned) (cells : List ℤ) (fault
 pub record ScanRan (plant : PlainPlant) (old : PlainState) (image : List (ℕ × Value)) (t : ℕ) (new : PlainState) (r : PlainReport) : Type 0 where
   pub programs : (w : World) → Stands plant.source (fold with_cell old.cells image) w → ProgramsRan plant.source (programs_from plant.source t 0 old.faulted w) new.cells new.faulted r.faults
   pub faults_within : All (λ f. f.0.path < length (paths_of plant.source)) r.faults
+  pub sites_are : new.sites ≡ old.sites
   pub alarms_are : new.alarms ≡ alarms_after (cell new.cells) t plant.alarms old.alarms
   pub changes_are : r.changes ≡ changes_from 0 old.alarms new.alarms
   pub outputs_are : new.outputs ≡ outputs_from 0 (globals_of plant) (cell new.cells)
@@ -62,12 +80,12 @@ pub record ScanRan (plant : PlainPlant) (old : PlainState) (image : List (ℕ ×
   pub reported_at : r.moment ≡ t
   pub in_range : t ≤ LAST_MOMENT
 
--- a scan made ready from a state after so many events: its event, and what it leaves and reports
+-- a scan made ready from a state after so many events: its event, and what it leaves of that state and reports
 pub record IsPreparedScan (plant : PlainPlant) (old : PlainState) (events : ℕ) (pairs : List PlainPair) (t : ℕ) (p : PlainPrepared) : Type 0 where
   pub image : List (ℕ × Value)
   pub event_is : p.event ≡ event.Scan image t
   pub taken : taken_scan (globals_of plant) old.moment events pairs t ≡ Ok p.event
-  pub ran : ScanRan plant old image t p.state p.report
+  pub ran : ScanRan plant old image t (after_effect p.effect old) p.report
 
 -- an order made ready from a state: what it does, and its reply
 pub record IsPreparedOrder (plant : PlainPlant) (k : PlainState) (console : ℕ) (order : Order) (p : PlainPreparedOrder) : Type 0 where

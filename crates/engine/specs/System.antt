@@ -1,10 +1,8 @@
 -- The system: a fold of the events over the plant.
-use Rattle.std.specs.Prelude.{ℕ, ◌+◌, ℤ, pos, nat_lt, nat_le, Bool, true, false, if◌then◌else◌, List, [], ◌∷◌, map, fold, Option, Some, None, unwrap_or, Result, Ok, Err}
+use Rattle.std.specs.Prelude.{ℕ, ◌+◌, ℤ, nat_lt, nat_le, Bool, true, false, if◌then◌else◌, List, [], ◌∷◌, map, fold, Option, Some, None, Result, Ok, Err}
 use Rattle.std.specs.Ordering.{int_eq}
 use Rattle.plant_types.specs.Pairs.{PlainPair}
-use Rattle.plant_types.specs.Values.{is_true, value_of_kind, fitted}
-use Rattle.plant_types.specs.declared.values.Kind.{Kind}
-use Rattle.plant_types.specs.declared.values.Given.TheVariants as given
+use Rattle.plant_types.specs.Values.{is_true, value_of_kind}
 use Rattle.plant_types.specs.declared.values.Value.{Value}
 use Rattle.plant_types.specs.declared.values.Trap.{Trap}
 use Rattle.plant_types.specs.declared.values.Region.{Region}
@@ -13,8 +11,12 @@ use Rattle.st_tree.specs.Meaning.{Spot}
 use Rattle.block_flatten.specs.declared.logic.Variable.{Variable}
 use Rattle.st_walk.specs.Worlds.{World, opening}
 use Rattle.alarm_machine.specs.declared.states.OrderFault.{OrderFault}
-use Rattle.alarm_machine.specs.Codes.{PlainChange, code_of, change_between}
-use Rattle.alarm_machine.specs.Alarms.{PlainAlarm, new_alarm, after_scan}
+use Rattle.alarm_machine.specs.Codes.{PlainChange}
+use Rattle.alarm_machine.specs.Alarms.{PlainAlarm, new_alarm}
+use Rattle.alarm_bank.specs.declared.rows.Site.{Site}
+use Rattle.alarm_bank.specs.declared.rows.Counted.{Counted}
+use Rattle.alarm_bank.specs.Banks.{scan_each, counted}
+use Rattle.alarm_bank.specs.Moves.{changes_from}
 use Rattle.plant_config.specs.declared.rows.AlarmRow.{AlarmRow}
 use Rattle.plant_config.specs.Plants.{PlainPlant}
 use Rattle.plant_config.specs.Names.{globals_of, programs_of}
@@ -58,11 +60,17 @@ abbrev pub suppression : (ℕ → ℤ) → Option ℕ → Bool
 suppression now None = false
 suppression now (Some n) = is_true (now n)
 
+-- the conditions of alarms, by the globals' values
+abbrev pub conditions : (ℕ → ℤ) → List AlarmRow → List Bool
+conditions now rows = map (λ row. is_true (now row.condition)) rows
+
+-- their suppressions
+abbrev pub suppressions : (ℕ → ℤ) → List AlarmRow → List Bool
+suppressions now rows = map (λ row. suppression now row.suppress) rows
+
 -- each alarm takes its step by itself, by the values of its own two globals
 abbrev pub alarms_after : (ℕ → ℤ) → ℕ → List AlarmRow → List PlainAlarm → List PlainAlarm
-alarms_after now t [] alarms = []
-alarms_after now t (row ∷ rows) [] = []
-alarms_after now t (row ∷ rows) (a ∷ alarms) = after_scan (is_true (now row.condition)) (suppression now row.suppress) t a ∷ alarms_after now t rows alarms
+alarms_after now t rows alarms = scan_each (conditions now rows) (suppressions now rows) t alarms
 
 -- what the programs make of a state's world
 abbrev pub scanned_by : PlainPlant → System → List (ℕ × Value) → ℕ → Scanned
@@ -120,33 +128,28 @@ abbrev pub faults_of : PlainPlant → System → Event → List (Spot × Trap)
 faults_of plant sys (event.Scan image t) = (scanned_by plant sys image t).faults
 faults_of plant sys (event.Order console order) = []
 
--- the alarms whose code changed, from a number on, in the order of the database
-abbrev pub changes_from : ℕ → List PlainAlarm → List PlainAlarm → List (ℕ × PlainChange)
-changes_from n [] new = []
-changes_from n (a ∷ old) [] = []
-changes_from n (a ∷ old) (b ∷ new) = elim (change_between (code_of a.state) (code_of b.state)) [
-  | None ↦ changes_from (n + 1) old new
-  | Some change ↦ (n, change) ∷ changes_from (n + 1) old new
-]
-
 -- the changes of an event
 abbrev pub changes_of : PlainPlant → System → Event → List (ℕ × PlainChange)
 changes_of plant sys e = changes_from 0 sys.alarms (step plant sys e).alarms
+
+-- the area and the priority of each alarm
+abbrev pub sites_of : List AlarmRow → List Site
+sites_of rows = map (λ row. record { area = row.area; priority = row.priority }) rows
+
+-- the alarms as they are counted in a state: the area and priority of each, and the code that it has now
+abbrev pub summary_of : PlainPlant → System → List Counted
+summary_of plant sys = counted (sites_of plant.alarms) sys.alarms
 
 -- whether a region is that of outputs
 abbrev pub is_output : Option Region → Bool
 is_output (Some region.Output) = true
 is_output _ = false
 
--- the value of a kind that a number stands for; a number that fits no value of the kind is shown as FALSE or 0
-abbrev pub shown : Kind → ℤ → Value
-shown kind n = unwrap_or (fitted kind (given.Whole n)) (value_of_kind kind (pos 0))
-
 -- the outputs and their values, from a number on, in order of declaration
 abbrev pub outputs_from : ℕ → List Variable → (ℕ → ℤ) → List (ℕ × Value)
 outputs_from n [] now = []
 outputs_from n (global ∷ globals) now =
-    if is_output global.region then (n, shown global.kind (now n)) ∷ outputs_from (n + 1) globals now else outputs_from (n + 1) globals now
+    if is_output global.region then (n, value_of_kind global.kind (now n)) ∷ outputs_from (n + 1) globals now else outputs_from (n + 1) globals now
 
 -- the outputs in a state
 abbrev pub outputs_of : PlainPlant → System → List (ℕ × Value)
@@ -154,7 +157,7 @@ outputs_of plant sys = outputs_from 0 (globals_of plant) (global_in (globals_of 
 
 -- the value of an output, if it isn't what it was before
 abbrev pub out_at : ℕ → Variable → (ℕ → ℤ) → (ℕ → ℤ) → Option Value
-out_at n global before now = if is_output global.region then (if int_eq (before n) (now n) then None else Some (shown global.kind (now n))) else None
+out_at n global before now = if is_output global.region then (if int_eq (before n) (now n) then None else Some (value_of_kind global.kind (now n))) else None
 
 -- the outputs whose value isn't what it was before, from a number on, in order of declaration
 abbrev pub outs_from : ℕ → List Variable → (ℕ → ℤ) → (ℕ → ℤ) → List (ℕ × Value)

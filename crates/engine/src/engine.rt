@@ -4,7 +4,8 @@ ghost use Rattle.std.specs.Prelude.{◌≡◌, ◌+◌, ◌<◌, ◌≤◌, ◌+
 ghost use Rattle.std.specs.Option.{option_map};
 ghost use Rattle.engine.specs.Image.{IsDue};
 ghost use Rattle.engine.specs.Orders.{restart_of};
-ghost use Rattle.engine.specs.System.{scan_event, order_event, reply_to, outputs_of};
+ghost use Rattle.engine.specs.System.{scan_event, order_event, reply_to, outputs_of, summary_of};
+ghost use Rattle.engine.specs.Lawful.{IsLawfulHistory};
 ghost use Rattle.engine.specs.Engines.{state_of, Fits, FitsOrder, IsReport, TakesScan};
 
 use crate::event::{EngineFault, Event, MOST_EVENTS, Order, Reply, Report};
@@ -12,13 +13,13 @@ use crate::image::Input;
 use crate::indexed::IndexedPlant;
 use crate::orders::{PreparedOrder, prepared_order};
 use crate::scan::{Prepared, prepared_scan};
-use crate::state::{State, alarm_state, apply, opening_state};
+use crate::state::{ScanEffect, State, alarm_state, apply, apply_scan, opening_state};
+use alarm_bank::Summary;
 use alarm_machine::{AlarmState, Verb};
 use plant_config::Plant;
 use plant_types::{Pair, Value};
 use std::alloc::{AllocError, Global};
 use std::marker::Model;
-use std::mem::replace;
 
 /// A plant, and what the events so far made of it.
 #[derive(Drop)]
@@ -26,8 +27,8 @@ pub struct Engine {
     plant: IndexedPlant,
     history: Vec<Event>,
     state: State,
-    /// A state of which only the room is used: that of an earlier event.
-    spare: Option<State>,
+    /// What an earlier scan replaced: only its room is used.
+    spare: Option<ScanEffect>,
     /// Room for the inputs of a scan.
     inputs: Vec<Input>,
 }
@@ -88,16 +89,24 @@ impl Engine {
         alarm_state(&self.state, alarm)
     }
 
+    /// How many alarms of each area and priority have each code now. Areas are numbered from 0, in the order of the plant file.
+    pub fn summary(&self) -> &Summary
+        ensures { result.now ≡ summary_of self.now.plant (state_of self.now) }
+    {
+        self.state.bank.summary()
+    }
+
     /// The moment of the last scan in milliseconds, 0 before the first.
     pub fn moment(&self) -> u64
         ensures { result ≡ (state_of self.now).moment }
     {
-        self.state.moment
+        self.state.bank.moment()
     }
 
-    /// The outputs (`%Q`) and their values, in order of declaration.
+    /// The outputs (`%Q`) and their values, in order of declaration. The history is lawful: each event was taken in the state before it.
     pub fn outputs(&self) -> &[(u32, Value)]
-        ensures { result.now ≡ outputs_of self.now.plant (state_of self.now) }
+        ensures outputs { result.now ≡ outputs_of self.now.plant (state_of self.now) }
+        ensures lawful { IsLawfulHistory self.now.plant self.now.history }
     {
         self.state.outputs.as_slice()
     }
@@ -107,8 +116,8 @@ impl Engine {
     /// The pairs name inputs, letter case ignored; the moment is in milliseconds. The refusals, in the order in which they are tested:
     /// `MomentRange` (E2) above 4,000,000,000,000, `MomentBack` (E1) before the last scan, `ImageName` (E3) for a name that is no input
     /// or comes twice, `ImageKind` (E4) for a value that doesn't fit its input, `HistoryFull` (E6) at 1,000,000 events. `Memory` comes
-    /// only if allocation fails: of the image, of room for its inputs and for a state, of a flag for each global if the image has more than
-    /// 16 inputs, and of the report's lists.
+    /// only if allocation fails: of the image, of room for its inputs and for what it leaves of the variables and outputs, of the alarms that it
+    /// moves, of a flag for each global if the image has more than 16 inputs, and of the report's lists.
     pub fn prepare(
         &mut self,
         alloc: Global,
@@ -146,11 +155,11 @@ impl Engine {
     {
         let Prepared {
             event,
-            state,
+            effect,
             report,
         } = prepared;
         self.history.push_reserved(event);
-        self.spare = Some(replace(&mut self.state, state));
+        self.spare = Some(apply_scan(effect, &mut self.state));
         report
     }
 

@@ -9,12 +9,17 @@ mod engine;
 mod event;
 mod image;
 mod indexed;
+mod laws;
 mod orders;
 mod scan;
 mod state;
 mod steps;
+mod watched;
 
 pub use engine::Engine;
 pub use event::{EngineFault, Event, Order, Reply, Report};
+pub use laws::{
+    lawful_history_is_short, lawful_history_stays_in_range, outputs_are_worth_their_numbers,
+};
 pub use orders::PreparedOrder;
 pub use scan::Prepared;

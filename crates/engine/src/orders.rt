@@ -4,7 +4,8 @@ ghost use Rattle.std.specs.Prelude.{◌≡◌, ◌==◌, ◌≤◌, length, Some
 ghost use Rattle.std.specs.List.{list_any};
 ghost use Rattle.alarm_machine.specs.Alarms.{after_order};
 ghost use Rattle.alarm_machine.specs.declared.limits.TheConstants.{LAST_MOMENT};
-ghost use Rattle.engine.specs.Orders.{is_console, has_area, alarm_order, program_order, order_outcome, reply_by, change_from};
+ghost use Rattle.engine.specs.Orders.{is_console, has_area, alarm_order, program_order, order_outcome, reply_by};
+ghost use Rattle.alarm_bank.specs.Moves.{change_from};
 ghost use Rattle.engine.specs.Steps.{IsPreparedOrder};
 
 use crate::event::{Order, Reply};
@@ -167,9 +168,9 @@ pub fn prepared_order(plant: &Plant, state: &State, console: u32, order: Order) 
     requires range { state.now.moment ≤ LAST_MOMENT }
     ensures { IsPreparedOrder plant.now state.now console order result }
 {
-    let alarms = state.alarms.as_slice();
+    let alarms = state.bank.alarms();
     let faulted = state.faulted.as_slice();
-    let done = order_outcome(plant, alarms, faulted, state.moment, console, order);
+    let done = order_outcome(plant, alarms, faulted, state.bank.moment(), console, order);
     let reply = reply_by(&done, alarms);
     PreparedOrder {
         console,

@@ -1,17 +1,19 @@
 //! How a scan is made ready.
 
-ghost use Rattle.std.specs.Prelude.{◌≡◌, ◌<◌, ◌≤◌, ◌^◌, length, IfOk, IfErr};
+ghost use Rattle.std.specs.Prelude.{◌≡◌, ◌<◌, ◌≤◌, ◌^◌, length, All, IfOk, IfErr};
 ghost use Rattle.alarm_machine.specs.declared.limits.TheConstants.{LAST_MOMENT};
 ghost use Rattle.plant_config.specs.Names.{globals_of, programs_of};
-ghost use Rattle.engine.specs.Image.{IsDue};
+ghost use Rattle.block_flatten.specs.Sound.{IsSound};
+ghost use Rattle.engine.specs.Image.{IsDue, FitsGlobal};
 ghost use Rattle.engine.specs.System.{taken_scan, outputs_from};
 ghost use Rattle.st_walk.specs.Slots.{cell};
-ghost use Rattle.engine.specs.Steps.{ScanRan, IsPreparedScan};
+ghost use Rattle.engine.specs.Engines.{after_effect};
+ghost use Rattle.engine.specs.Steps.{ScanRan, IsPreparedScan, StandInRange};
 
 use crate::event::{EngineFault, Event, Report};
 use crate::image::{Input, taken_image};
 use crate::indexed::IndexedPlant;
-use crate::state::{State, copied_cells, copied_flags, empty_state};
+use crate::state::{ScanEffect, State, copied_cells, copied_flags, empty_effect};
 use crate::steps::{changed, renewed, run_programs, set_inputs, step_alarms};
 use plant_config::Plant;
 use plant_types::{Pair, Value};
@@ -22,7 +24,7 @@ use std::marker::Model;
 #[derive(Drop)]
 pub struct Prepared {
     pub(crate) event: Event,
-    pub(crate) state: State,
+    pub(crate) effect: ScanEffect,
     pub(crate) report: Report,
 }
 
@@ -31,30 +33,33 @@ impl Model for Prepared {
 
     ghost Value = { PlainPrepared };
 
-    ghost view = { λ p. record { event = p.event; state = p.state; report = p.report } };
+    ghost view = { λ p. record { event = p.event; effect = p.effect; report = p.report } };
 }
 
-/// Runs a scan on a copy of a state, and returns the state that it leaves, in the room of another, and what it reports. Fails if
+/// Runs a scan on copies of what a state has, and returns what it does to the state, in the room of another's, and what it reports. Fails if
 /// allocation fails.
 fn run_scan(
     alloc: Global,
     plant: &Plant,
     old: &State,
-    room: State,
+    room: ScanEffect,
     image: &[(u32, Value)],
     moment: u64,
-) -> Result<(State, Report), AllocError>
+) -> Result<(ScanEffect, Report), AllocError>
     requires programs { length old.now.faulted ≡ length (programs_of plant.now) }
     requires alarms { length old.now.alarms ≡ length plant.now.alarms }
     requires outputs { old.now.outputs ≡ outputs_from 0 (globals_of plant.now) (cell old.now.cells) }
     requires range { moment ≤ LAST_MOMENT }
-    ensures { IfOk result (λ r. ScanRan plant.now old.now image.now moment r.0 r.1) }
+    requires sound { IsSound plant.now.source }
+    requires image { All (FitsGlobal (globals_of plant.now)) image.now }
+    requires values { StandInRange plant.now.source old.now.cells }
+    ensures { IfOk result (λ r. ScanRan plant.now old.now image.now moment (after_effect r.0 old.now) r.1) }
 {
-    let State {
+    let ScanEffect {
         cells: room_of_cells,
         faulted: room_of_flags,
-        alarms: room_of_alarms,
         outputs: room_of_outputs,
+        moved: room_of_moved,
         moment: _,
     } = room;
     let mut cells = copied_cells(alloc, &old.cells, room_of_cells)?;
@@ -62,15 +67,14 @@ fn run_scan(
     let mut faulted = copied_flags(old.faulted.as_slice(), room_of_flags)?;
     let faults = run_programs(alloc, plant, moment, &mut cells, &mut faulted)?;
     let rows = plant.alarm_rows();
-    let before = old.alarms.as_slice();
-    let (alarms, changes) = step_alarms(alloc, rows, &cells, moment, before, room_of_alarms)?;
+    let (moved, changes) = step_alarms(alloc, rows, &cells, moment, &old.bank, room_of_moved)?;
     let outputs = renewed(old.outputs.as_slice(), &cells, room_of_outputs)?;
     let outs = changed(alloc, outputs.as_slice(), &old.cells, &cells)?;
-    let state = State {
+    let effect = ScanEffect {
         cells,
         faulted,
-        alarms,
         outputs,
+        moved,
         moment,
     };
     let report = Report {
@@ -79,16 +83,16 @@ fn run_scan(
         changes,
         outs,
     };
-    Ok((state, report))
+    Ok((effect, report))
 }
 
-/// Makes a scan ready after so many events, in the room of a spare state if there is one and of a list of inputs, or
+/// Makes a scan ready after so many events, in the room of a spare one if there is one and of a list of inputs, or
 /// returns why it is refused.
 pub fn prepared_scan(
     alloc: Global,
     plant: &IndexedPlant,
     old: &State,
-    spare: &mut Option<State>,
+    spare: &mut Option<ScanEffect>,
     inputs: &mut Vec<Input>,
     events: usize,
     pairs: &[Pair],
@@ -98,18 +102,28 @@ pub fn prepared_scan(
     requires alarms { length old.now.alarms ≡ length plant.now.alarms }
     requires globals { length (globals_of plant.now) < 2 ^ 32 }
     requires outputs { old.now.outputs ≡ outputs_from 0 (globals_of plant.now) (cell old.now.cells) }
+    requires sound { IsSound plant.now.source }
+    requires values { StandInRange plant.now.source old.now.cells }
     ensures ok { IfOk result (IsPreparedScan plant.now old.now events pairs.now moment) }
     ensures err { IfErr result (λ e. IsDue e (taken_scan (globals_of plant.now) old.now.moment events pairs.now moment)) }
 {
-    let image = taken_image(alloc, plant, inputs, old.moment, events, pairs, moment)?;
+    let image = taken_image(
+        alloc,
+        plant,
+        inputs,
+        old.bank.moment(),
+        events,
+        pairs,
+        moment,
+    )?;
     let room = match spare.take() {
-        Some(state) => state,
-        None => empty_state(alloc),
+        Some(effect) => effect,
+        None => empty_effect(alloc),
     };
-    let (state, report) = run_scan(alloc, plant.plant(), old, room, image.as_slice(), moment)?;
+    let (effect, report) = run_scan(alloc, plant.plant(), old, room, image.as_slice(), moment)?;
     Ok(Prepared {
         event: Event::Scan(image, moment),
-        state,
+        effect,
         report,
     })
 }

@@ -1,17 +1,21 @@
 //! What an engine keeps beside its plant and its history, and what an order does to it.
 
-ghost use Rattle.std.specs.Prelude.{◌≡◌, ◌<◌, [], length, slice_get, Some, IfOk};
+ghost use Rattle.std.specs.Prelude.{◌≡◌, ◌<◌, ◌≤◌, [], length, map, slice_get, Some, IfOk};
 ghost use Rattle.std.specs.Option.{option_map};
-ghost use Rattle.engine.specs.Engines.{IsEngine};
+ghost use Rattle.alarm_machine.specs.declared.limits.TheConstants.{LAST_MOMENT};
+ghost use Rattle.engine.specs.Engines.{IsEngine, after_effect};
 ghost use Rattle.engine.specs.Orders.{alarms_by, faulted_by};
+ghost use Rattle.engine.specs.System.{opening_alarm, sites_of};
 
-use crate::steps::{opening_alarms, outputs};
+use crate::steps::{opening_alarms, opening_sites, outputs};
+use alarm_bank::Bank;
 use alarm_machine::{Alarm, AlarmState, OrderFault};
 use plant_config::Plant;
 use plant_types::Value;
 use st_walk::Cells;
 use std::alloc::{AllocError, Global};
 use std::marker::Model;
+use std::mem::replace;
 
 /// What an engine keeps beside its plant and its history.
 #[derive(Drop)]
@@ -20,12 +24,10 @@ pub struct State {
     pub cells: Cells,
     /// For each program whether it is faulted.
     pub faulted: Vec<bool>,
-    /// The alarms, in the order of the database.
-    pub alarms: Vec<Alarm>,
+    /// The alarms, in the order of the database, and the moment of the last scan.
+    pub bank: Bank,
     /// The outputs and their values, in order of declaration.
     pub outputs: Vec<(u32, Value)>,
-    /// The moment of the last scan in milliseconds, 0 before the first.
-    pub moment: u64,
 }
 
 impl Model for State {
@@ -33,7 +35,30 @@ impl Model for State {
 
     ghost Value = { PlainState };
 
-    ghost view = { λ s. record { cells = s.cells; faulted = s.faulted.items; alarms = s.alarms.items; outputs = s.outputs.items; moment = s.moment } };
+    ghost view = { λ s. record { cells = s.cells; faulted = s.faulted.items; sites = s.bank.sites; alarms = s.bank.alarms; outputs = s.outputs.items; moment = s.bank.moment } };
+}
+
+/// What a scan does to a state.
+#[derive(Drop)]
+pub struct ScanEffect {
+    /// The values that it leaves of the variables, by number.
+    pub cells: Cells,
+    /// For each program whether it is faulted then.
+    pub faulted: Vec<bool>,
+    /// The outputs and the values that it leaves of them.
+    pub outputs: Vec<(u32, Value)>,
+    /// The alarms that it moves, by number, as it leaves them.
+    pub moved: Vec<(u32, Alarm)>,
+    /// Its moment in milliseconds.
+    pub moment: u64,
+}
+
+impl Model for ScanEffect {
+    ghost use Rattle.engine.specs.Engines.{PlainScanEffect};
+
+    ghost Value = { PlainScanEffect };
+
+    ghost view = { λ s. record { cells = s.cells; faulted = s.faulted.items; outputs = s.outputs.items; moved = s.moved.items; moment = s.moment } };
 }
 
 /// What an order that isn't refused does to a state.
@@ -45,6 +70,16 @@ pub enum Effect {
     Restarted(u32),
 }
 
+/// The alarms of a plant before the first event. Fails if allocation fails.
+fn opening_bank(alloc: Global, plant: &Plant) -> Result<Bank, AllocError>
+    ensures { IfOk result (λ bank. bank ≡ record { sites = sites_of plant.now.alarms; alarms = map opening_alarm plant.now.alarms; moment = 0 }) }
+{
+    let rows = plant.alarm_rows();
+    let sites = opening_sites(alloc, rows)?;
+    let alarms = opening_alarms(alloc, rows)?;
+    Bank::new(alloc, plant.areas(), sites, alarms)
+}
+
 /// The state before the first event: each variable has its initial value, no program is faulted, and each alarm is normal. Fails if
 /// allocation fails.
 pub fn opening_state(alloc: Global, plant: &Plant) -> Result<State, AllocError>
@@ -53,24 +88,23 @@ pub fn opening_state(alloc: Global, plant: &Plant) -> Result<State, AllocError>
     let globals = plant.flat().globals();
     let cells = Cells::opening(alloc, plant.flat())?;
     let outputs = outputs(alloc, globals, &cells)?;
-    let alarms = opening_alarms(alloc, plant.alarm_rows())?;
+    let bank = opening_bank(alloc, plant)?;
     let faulted = vec![in alloc; false; plant.programs() as usize]?;
     Ok(State {
         cells,
         faulted,
-        alarms,
+        bank,
         outputs,
-        moment: 0,
     })
 }
 
-/// A state that holds nothing, to be written over.
-pub fn empty_state(alloc: Global) -> State {
-    State {
+/// What holds nothing, to be written over.
+pub fn empty_effect(alloc: Global) -> ScanEffect {
+    ScanEffect {
         cells: Cells::new(Vec::new(alloc)),
         faulted: Vec::new(alloc),
-        alarms: Vec::new(alloc),
         outputs: Vec::new(alloc),
+        moved: Vec::new(alloc),
         moment: 0,
     }
 }
@@ -102,7 +136,29 @@ pub fn alarm_state(state: &State, alarm: u32) -> AlarmState
     requires { alarm < length state.now.alarms }
     ensures { option_map (λ a. a.state) (slice_get state.now.alarms alarm) ≡ Some result }
 {
-    state.alarms[alarm as usize].state()
+    state.bank.state(alarm)
+}
+
+/// Does what a scan does, and returns what the state had in its place, for its room. It takes no memory.
+pub fn apply_scan(effect: ScanEffect, state: &mut State) -> ScanEffect
+    requires { effect.moment ≤ LAST_MOMENT }
+    ensures { state.new ≡ after_effect effect state.old }
+{
+    let ScanEffect {
+        cells,
+        faulted,
+        outputs,
+        moved,
+        moment,
+    } = effect;
+    state.bank.apply(moved.as_slice(), moment);
+    ScanEffect {
+        cells: replace(&mut state.cells, cells),
+        faulted: replace(&mut state.faulted, faulted),
+        outputs: replace(&mut state.outputs, outputs),
+        moved,
+        moment,
+    }
 }
 
 /// Does what an order does: nothing, if it is refused.
@@ -111,10 +167,7 @@ pub fn apply(done: &Result<Effect, OrderFault>, state: &mut State)
 {
     match done {
         Ok(Effect::Changed(number, alarm)) => {
-            let at = *number as usize;
-            if at < state.alarms.len() {
-                state.alarms[at] = *alarm;
-            }
+            state.bank.replace(*number, *alarm);
         }
         Ok(Effect::Restarted(number)) => {
             let at = *number as usize;

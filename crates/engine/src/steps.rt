@@ -2,34 +2,24 @@
 
 ghost use Rattle.std.specs.Prelude.{◌≡◌, ◌<◌, ◌^◌, length, fold, map, IfOk, IfSome, All, ◌≤◌};
 ghost use Rattle.std.specs.List.{filter};
-ghost use Rattle.plant_types.specs.Values.{is_true};
 ghost use Rattle.alarm_machine.specs.declared.limits.TheConstants.{LONGEST_SHELVE_MS};
 ghost use Rattle.st_walk.specs.Worlds.{World, Stands};
 ghost use Rattle.st_walk.specs.Slots.{cell};
 ghost use Rattle.st_walk.specs.Runs.{paths_of, Agree};
 ghost use Rattle.plant_config.specs.Names.{programs_of};
 ghost use Rattle.engine.specs.Programs.{programs_from};
-ghost use Rattle.engine.specs.System.{shown, opening_alarm, suppression, alarms_after, changes_from, is_output, outputs_from};
-ghost use Rattle.engine.specs.Steps.{with_cell, run_by, ended_by, ProgramsRan, output_in, differs};
+ghost use Rattle.engine.specs.System.{opening_alarm, sites_of, alarms_after, is_output, outputs_from};
+ghost use Rattle.alarm_bank.specs.Moves.{put_all, changes_from};
+ghost use Rattle.engine.specs.Steps.{with_cell, run_by, ended_by, ProgramsRan, output_in, differs, IsShowable, AreShowable};
 
+use crate::watched::{Watched, cell};
+use alarm_bank::{Bank, Site};
 use alarm_machine::{Alarm, Change};
 use block_flatten::Variable;
 use plant_config::{AlarmRow, Plant};
-use plant_types::{Given, Kind, Place, Region, Trap, Value, fitted};
+use plant_types::{Place, Region, Trap, Value};
 use st_walk::{Cells, Walked, walk};
 use std::alloc::{AllocError, Global};
-
-/// The number that a global holds; 0 if there is no such global.
-fn cell(cells: &Cells, global: u32) -> i64
-    ensures { result ≡ cell cells.now global }
-{
-    let slot = global as usize;
-    if slot < cells.len() {
-        cells.get(slot)
-    } else {
-        0
-    }
-}
 
 /// Gives the inputs of an image their values.
 pub fn set_inputs(image: &[(u32, Value)], cells: &mut Cells)
@@ -102,54 +92,38 @@ pub fn opening_alarms(alloc: Global, rows: &[AlarmRow]) -> Result<Vec<Alarm>, Al
     Ok(alarms)
 }
 
-/// Whether a global is TRUE.
-fn is_set(cells: &Cells, global: u32) -> bool
-    ensures { result ≡ is_true (cell cells.now global) }
+/// The area and the priority of each alarm, one for each row. Fails if allocation fails.
+pub fn opening_sites(alloc: Global, rows: &[AlarmRow]) -> Result<Vec<Site>, AllocError>
+    ensures { IfOk result (λ sites. sites.items ≡ sites_of rows.now) }
 {
-    cell(cells, global) != 0
-}
-
-/// Whether an alarm is suppressed.
-fn is_suppressed(cells: &Cells, row: &AlarmRow) -> bool
-    ensures { result ≡ suppression (cell cells.now) row.now.suppress }
-{
-    match row.suppress {
-        None => false,
-        Some(global) => is_set(cells, global),
+    let mut sites = Vec::new(alloc);
+    for row in rows {
+        sites.push(Site {
+            area: row.area,
+            priority: row.priority,
+        })?;
     }
+    Ok(sites)
 }
 
-/// The alarms after a scan, each stepped by itself, in the room of other alarms, and the changes of their codes in the order of the
-/// database. Fails if allocation fails.
+/// The alarms that a scan moves, each as the scan leaves it, listed in the room of another list, and the changes of their codes in the
+/// order of the database. The bank stays. Fails if allocation fails.
 pub fn step_alarms(
     alloc: Global,
     rows: &[AlarmRow],
     cells: &Cells,
     moment: u64,
-    alarms: &[Alarm],
-    room: Vec<Alarm>,
-) -> Result<(Vec<Alarm>, Vec<(u32, Change)>), AllocError>
-    requires few { length rows.now < 2 ^ 32 }
-    requires each { length alarms.now ≡ length rows.now }
-    ensures alarms { IfOk result (λ r. r.0.items ≡ alarms_after (cell cells.now) moment rows.now alarms.now) }
-    ensures changes { IfOk result (λ r. r.1.items ≡ changes_from 0 alarms.now (alarms_after (cell cells.now) moment rows.now alarms.now)) }
+    bank: &Bank,
+    room: Vec<(u32, Alarm)>,
+) -> Result<(Vec<(u32, Alarm)>, Vec<(u32, Change)>), AllocError>
+    requires { length bank.now.alarms ≡ length rows.now }
+    ensures alarms { IfOk result (λ r. put_all bank.now.alarms r.0.items ≡ alarms_after (cell cells.now) moment rows.now bank.now.alarms) }
+    ensures changes { IfOk result (λ r. r.1.items ≡ changes_from 0 bank.now.alarms (alarms_after (cell cells.now) moment rows.now bank.now.alarms)) }
 {
-    let mut next = room;
-    next.clear();
-    let mut changes = Vec::new(alloc);
-    for (i, row) in rows.iter().enumerate() {
-        let mut alarm = alarms[i];
-        let change = alarm.scan(
-            is_set(cells, row.condition),
-            is_suppressed(cells, row),
-            moment,
-        );
-        if let Some(change) = change {
-            changes.push((i as u32, change))?;
-        }
-        next.push(alarm)?;
-    }
-    Ok((next, changes))
+    let signals = Watched { rows, cells };
+    let moved = bank.moved(room, &signals, moment)?;
+    let changes = bank.changes(alloc, moved.as_slice())?;
+    Ok((moved, changes))
 }
 
 /// Whether a region is that of outputs.
@@ -159,47 +133,41 @@ fn is_output(region: Option<Region>) -> bool
     matches!(region, Some(Region::Output))
 }
 
-/// A number as a value of a kind: FALSE or 0, if it fits no value of that kind.
-fn shown(kind: Kind, n: i64) -> Value
-    ensures { result ≡ shown kind n }
-{
-    match fitted(kind, Given::Whole(n as i128)) {
-        Some(value) => value,
-        None => Value::of_kind(kind, 0),
-    }
-}
-
-/// The outputs and their values, in order of declaration. Fails if allocation fails.
+/// The outputs and their values, in order of declaration: each is in the range of its kind. Fails if allocation fails.
 pub fn outputs(
     alloc: Global,
     globals: &[Variable],
     cells: &Cells,
 ) -> Result<Vec<(u32, Value)>, AllocError>
-    requires { length globals.now < 2 ^ 32 }
+    requires few { length globals.now < 2 ^ 32 }
+    requires ranges { AreShowable globals.now (cell cells.now) }
     ensures { IfOk result (λ outputs. outputs.items ≡ outputs_from 0 globals.now (cell cells.now)) }
 {
     let mut outputs = Vec::new(alloc);
     for (i, global) in globals.iter().enumerate() {
         if is_output(global.region) {
             let number = i as u32;
-            outputs.push((number, shown(global.kind, cell(cells, number))))?;
+            let value = Value::of_kind(global.kind, cell(cells, number));
+            outputs.push((number, value))?;
         }
     }
     Ok(outputs)
 }
 
-/// The outputs with the values that they have in cells, in the room of other outputs. Fails if allocation fails.
+/// The outputs with the values that they have in cells, in the room of other outputs; each is in the range of its kind. Fails if allocation fails.
 pub fn renewed(
     outputs: &[(u32, Value)],
     cells: &Cells,
     room: Vec<(u32, Value)>,
 ) -> Result<Vec<(u32, Value)>, AllocError>
+    requires { All (IsShowable (cell cells.now)) outputs.now }
     ensures { IfOk result (λ renewed. renewed.items ≡ map (output_in (cell cells.now)) outputs.now) }
 {
     let mut renewed = room;
     renewed.clear();
     for (global, value) in outputs {
-        renewed.push((*global, shown(value.kind(), cell(cells, *global))))?;
+        let value = Value::of_kind(value.kind(), cell(cells, *global));
+        renewed.push((*global, value))?;
     }
     Ok(renewed)
 }

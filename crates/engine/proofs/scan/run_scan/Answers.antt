@@ -1,6 +1,8 @@
 use Rattle.std.proofs.Common.{◌≡◌, rules}
 use Rattle.st_walk.specs.Slots.{cell}
 use Rattle.engine.specs.System.{outputs_from, outs_from}
+use Rattle.engine.proofs.InRange.{scan_stands}
+use Rattle.engine.proofs.Shown.{cells_showable, outputs_showable}
 use Rattle.engine.proofs.Outs.{outputs_renewed, outs_differ}
 use Rattle.engine.proofs.scan.run_scan.Goals as goal
 
@@ -14,6 +16,7 @@ returns c =
     record {
       programs = search rules;
       faults_within = search rules;
+      sites_are = search rules;
       alarms_are = search rules;
       changes_are = search rules;
       outputs_are = outputs;
@@ -22,3 +25,11 @@ returns c =
       reported_at = search rules;
       in_range = search rules;
     }
+
+pub renewed-requires : goal.renewed-requires
+renewed-requires c =
+    let source = c.args.plant.now.source in
+    let now = cell c.run_programs.new.cells in
+    let held = scan_stands source c.args.old.now.cells c.run_programs.new.cells c.args.image.now c.args.moment c.args.old.now.faulted c.run_programs.new.faulted.items c.in_ok-faults.faults.items c.requires.sound c.requires.image c.requires.values (search rules) in
+    let showable = outputs_showable source.globals (cell c.args.old.now.cells) now c.args.old.now.outputs (cells_showable source c.run_programs.new.cells held) c.requires.outputs in
+    rw c.as_slice-2.ensures.value (rw (← c.old.view_is) at showable)

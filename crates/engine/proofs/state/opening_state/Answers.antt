@@ -1,6 +1,10 @@
-use Rattle.std.proofs.Common.{◌∙◌, ap, subst, refl}
+use Rattle.std.proofs.Common.{◌∙◌, ap, subst}
+use Rattle.alarm_bank.specs.Banks.{PlainBank}
 use Rattle.block_flatten.specs.Source.{Source}
 use Rattle.st_walk.specs.Worlds.{Stands, opening}
+use Rattle.engine.proofs.InRange.{opening_stands}
+use Rattle.engine.proofs.Lawful.{lawful_none}
+use Rattle.engine.proofs.Shown.{cells_showable}
 use Rattle.engine.proofs.Systems.{opening_agrees, opening_flags}
 use Rattle.engine.proofs.state.opening_state.Goals as goal
 
@@ -11,6 +15,14 @@ returns c =
     c.flat.ensures.plant
     (subst (λ (s : Source). Stands s c.in_ok-cells.cells (opening s)) c.flat-2.ensures.source c.in_ok-cells.ensures)
     (opening_flags _ _ _ c.programs.ensures.count (c.in_ok-faulted.ensures.items_if_clones_equal (λ y same. same)))
-    (rw c.alarm_rows.ensures.rows at c.in_ok-alarms.ensures)
+    (ap (λ (b : PlainBank). b.sites) c.in_ok-bank.ensures)
+    (ap (λ (b : PlainBank). b.alarms) c.in_ok-bank.ensures)
     (rw globals at c.in_ok-outputs.ensures)
-    refl
+    (ap (λ (b : PlainBank). b.moment) c.in_ok-bank.ensures)
+    (lawful_none _)
+
+pub outputs-requires-clause-ranges : goal.outputs-requires-clause-ranges
+outputs-requires-clause-ranges c =
+    let globals = c.globals-globals.ensures.globals ∙ ap (λ s. s.globals) c.flat.ensures.source in
+    let stands = subst (λ (s : Source). Stands s c.in_ok-cells.cells (opening s)) c.flat-2.ensures.source c.in_ok-cells.ensures in
+    rw globals (cells_showable c.args.plant.now.source c.in_ok-cells.cells (opening_stands c.args.plant.now.source c.in_ok-cells.cells c.flat.ensures.plant.sound stands))

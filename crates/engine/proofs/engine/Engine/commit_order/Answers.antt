@@ -1,7 +1,8 @@
+use Rattle.engine.proofs.Lawful.{lawful_next}
 use Rattle.engine.proofs.Systems.{order_agrees}
 use Rattle.engine.proofs.engine.Engine.commit_order.Goals as goal
 
 pub invariant_of-self : goal.invariant_of-self
 invariant_of-self c =
     let fits = rw (← c.self.view_is, ← c.prepared.view_is) at c.requires in
-    rw (c.push_reserved.ensures.items, c.apply.ensures) (record { state_is = order_agrees _ _ _ c.self.invariant.state_is fits; plant_is = c.self.invariant.plant_is })
+    rw (c.push_reserved.ensures.items, c.apply.ensures) (record { state_is = order_agrees _ _ _ c.self.invariant.state_is fits; plant_is = c.self.invariant.plant_is; lawful = lawful_next _ _ _ c.self.invariant.lawful fits.taken })

@@ -4,6 +4,7 @@ use Rattle.engine.specs.declared.event.EngineFault.{EngineFault}
 use Rattle.engine.specs.Image.{IsDue}
 use Rattle.engine.specs.System.{system}
 use Rattle.engine.specs.Engines.{IsState}
+use Rattle.engine.proofs.InRange.{engine_stands}
 use Rattle.engine.proofs.Systems.{kept_alarms, kept_faulted, kept_outputs, scan_event_is, scan_fits}
 use Rattle.engine.proofs.engine.Engine.prepare.Goals as goal
 
@@ -25,7 +26,13 @@ returns-clause-ok c =
     let len : c.len-events.result ≡ length c.self.inside.history.items = search rules in
     let due = scan_event_is c.self.inside.plant c.self.inside.history.items c.self.inside.state c.len-events.result c.args.pairs.now c.args.moment c.self.invariant.state_is len in
     let held : IsState c.self.inside.plant (system c.self.inside.plant c.reserve.new.self.items) c.self.inside.state = rw c.in_ok-reserve.ensures.items c.self.invariant.state_is in
-    (scan_fits _ c.in_ok-prepared.prepared c.self.inside.state c.len-events.result c.args.pairs.now c.args.moment c.self.invariant.plant_is held made (omega (arith, c.in_ok-reserve.ensures.ok)), rw (← c.self.view_is) (sym due ∙ made.taken))
+    (scan_fits _ c.in_ok-prepared.prepared c.self.inside.state c.len-events.result c.args.pairs.now c.args.moment c.self.invariant.plant_is held made (rw c.in_ok-reserve.ensures.items len) (omega (arith, c.in_ok-reserve.ensures.ok)), rw (← c.self.view_is) (sym due ∙ made.taken))
 
 pub prepared_scan-requires-clause-outputs : goal.prepared_scan-requires-clause-outputs
 prepared_scan-requires-clause-outputs c = kept_outputs c.self.inside.plant c.self.inside.history.items c.self.inside.state c.self.invariant.state_is
+
+pub prepared_scan-requires-clause-sound : goal.prepared_scan-requires-clause-sound
+prepared_scan-requires-clause-sound c = c.self.invariant.plant_is.sound
+
+pub prepared_scan-requires-clause-values : goal.prepared_scan-requires-clause-values
+prepared_scan-requires-clause-values c = engine_stands c.self.inside.plant c.self.inside.history.items c.self.inside.state c.self.invariant

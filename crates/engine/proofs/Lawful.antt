@@ -1,0 +1,63 @@
+-- Histories whose events were each taken.
+use Rattle.std.proofs.Common.{◌≡◌, ℕ, ◌<◌, ◌≤◌, Bool, true, false, List, [], ◌∷◌, ◌++◌, length, fold, refl, arith, Ok, Err, if◌then◌else◌}
+use Rattle.std.specs.Prelude.{nat_le}
+use Rattle.std.proofs.lemmas.Bool.Decides.{nat_tests}
+use Rattle.alarm_machine.specs.declared.limits.TheConstants.{LAST_MOMENT}
+use Rattle.plant_config.specs.Plants.{PlainPlant}
+use Rattle.plant_config.specs.Names.{globals_of}
+use Rattle.engine.specs.declared.event.TheConstants.{MOST_EVENTS}
+use Rattle.engine.specs.declared.event.Event.{Event}
+use Rattle.engine.specs.declared.event.Event.TheVariants as event
+use Rattle.engine.specs.declared.event.Order.{Order}
+use Rattle.engine.specs.declared.event.EngineFault.{EngineFault}
+use Rattle.engine.specs.declared.event.EngineFault.TheVariants as refusal
+use Rattle.engine.specs.System.{System, system, opening_system, step, order_event}
+use Rattle.engine.specs.Lawful.{IsTaken, AreTaken, IsLawfulHistory}
+use Rattle.engine.proofs.Images.{taken_when}
+use Rattle.engine.proofs.Systems.{system_events}
+
+taken_next : (plant : PlainPlant) (s : System) (history : List Event) (e : Event) → AreTaken plant s history → IsTaken plant (fold (step plant) s history) e → AreTaken plant s (history ++ e ∷ [])
+taken_next plant s [] e lawful taken = (taken, tt)
+taken_next plant s (d ∷ history) e lawful taken = (lawful.0, taken_next plant (step plant s d) history e lawful.1 taken)
+
+-- one more event that was taken
+pub lawful_next : (plant : PlainPlant) (history : List Event) (e : Event) → IsLawfulHistory plant history → IsTaken plant (system plant history) e → IsLawfulHistory plant (history ++ e ∷ [])
+unfolding IsLawfulHistory system
+lawful_next plant history e lawful taken = taken_next plant (opening_system plant) history e lawful taken
+
+pub lawful_none : (plant : PlainPlant) → IsLawfulHistory plant []
+unfolding IsLawfulHistory
+lawful_none plant = tt
+
+-- what the opening system has and each event that is taken keeps, the system of every lawful history has
+module _ (plant : PlainPlant) (P : System → Type 0) (keeps : (s : System) (e : Event) → IsTaken plant s e → P s → P (step plant s e)) where
+  kept_from : (s : System) (history : List Event) → P s → AreTaken plant s history → P (fold (step plant) s history)
+  kept_from s [] p lawful = p
+  kept_from s (e ∷ history) p lawful = kept_from (step plant s e) history (keeps s e lawful.0 p) lawful.1
+
+  pub lawful_keeps : (history : List Event) → P (opening_system plant) → IsLawfulHistory plant history → P (system plant history)
+  unfolding IsLawfulHistory system
+  lawful_keeps history p lawful = kept_from (opening_system plant) history p lawful
+
+-- an order that isn't refused finds room in the history
+not_full : {A : Type 0} (n : ℕ) (b : Bool) (e : EngineFault) (a : A) → nat_le MOST_EVENTS n ≡ b → (if b then Err e else Ok a) ≡ Ok a → n < MOST_EVENTS
+not_full n true e a is h = absurd (cc)
+not_full n false e a is h = grind (arith, nat_tests)
+
+order_room : (s : System) (console : ℕ) (order : Order) → order_event s console order ≡ Ok (event.Order console order) → s.events < MOST_EVENTS
+unfolding order_event
+order_room s console order h = not_full s.events (nat_le MOST_EVENTS s.events) refusal.HistoryFull (event.Order console order) refl h
+
+-- so a lawful history is short, and its moments are
+abbrev Short : System → Type 0
+Short s = (s.events ≤ MOST_EVENTS) × (s.moment ≤ LAST_MOMENT)
+
+short_next : (plant : PlainPlant) (s : System) (e : Event) → IsTaken plant s e → Short s → Short (step plant s e)
+short_next plant s (event.Scan image t) taken short = let when = taken_when (globals_of plant) s.moment s.events taken.0 t t image taken.1 in (omega (arith, when.room), when.in_range)
+short_next plant s (event.Order console order) taken short = let room = order_room s console order taken in (omega (arith, room), short.1)
+
+pub lawful_short : (plant : PlainPlant) (history : List Event) → IsLawfulHistory plant history → (length history ≤ 1000000) × ((system plant history).moment ≤ 4000000000000)
+lawful_short plant history lawful =
+    let short = lawful_keeps plant Short (short_next plant) history (omega arith, omega arith) lawful in
+    let events = system_events plant history in
+    (omega (arith, events, short.0), short.1)

@@ -1,0 +1,34 @@
+-- Lawful histories, and the outputs that are shown after them.
+use Rattle.std.specs.Prelude.{◌≡◌, ℕ, true, List, [], ◌∷◌, Ok, Some, slice_get}
+use Rattle.plant_types.specs.Pairs.{PlainPair}
+use Rattle.plant_types.specs.Values.{kind_of, worth}
+use Rattle.plant_types.specs.declared.values.Value.{Value}
+use Rattle.block_flatten.specs.declared.logic.Variable.{Variable}
+use Rattle.st_walk.specs.Worlds.{World, value_at, path_of}
+use Rattle.plant_config.specs.Plants.{PlainPlant}
+use Rattle.plant_config.specs.Names.{globals_of}
+use Rattle.engine.specs.declared.event.Event.{Event}
+use Rattle.engine.specs.declared.event.Event.TheVariants as event
+use Rattle.engine.specs.System.{System, opening_system, step, scan_event, order_event, is_output}
+
+-- an event was taken in a state: a scan is the one that some pairs give at its moment, an order is one that isn't refused there
+abbrev pub IsTaken : PlainPlant → System → Event → Type 0
+IsTaken plant sys (event.Scan image t) = (pairs : List PlainPair) × (scan_event plant sys pairs t ≡ Ok (event.Scan image t))
+IsTaken plant sys (event.Order console order) = order_event sys console order ≡ Ok (event.Order console order)
+
+-- from a state on, each event was taken in the state that those before it left
+abbrev pub AreTaken : PlainPlant → System → List Event → Type 0
+AreTaken plant sys [] = Unit {0}
+AreTaken plant sys (e ∷ events) = IsTaken plant sys e × AreTaken plant (step plant sys e) events
+
+-- a lawful history: each event was taken, the first one before any event
+unfoldable pub IsLawfulHistory : PlainPlant → List Event → Type 0
+IsLawfulHistory plant history = AreTaken plant (opening_system plant) history
+
+-- an output is the value of an output global: of that global's kind, and worth the number that the world has for it
+pub record IsOutputValue (plant : PlainPlant) (w : World) (output : ℕ × Value) : Type 0 where
+  pub global : Variable
+  pub global_is : slice_get (globals_of plant) output.0 ≡ Some global
+  pub is_output : is_output global.region ≡ true
+  pub kind_is : kind_of output.1 ≡ global.kind
+  pub worth_is : worth output.1 ≡ value_at w (path_of global.name)

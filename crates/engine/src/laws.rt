@@ -1,0 +1,23 @@
+//! Laws of lawful histories. These functions do nothing: each has a law as its contract, for the crates above.
+
+ghost use Rattle.std.specs.Prelude.{◌≤◌, List, length, All};
+ghost use Rattle.st_walk.specs.Ranges.{AllInRange};
+ghost use Rattle.plant_config.specs.Plants.{PlainPlant, IsPlant};
+ghost use Rattle.engine.specs.declared.event.Event.{Event};
+ghost use Rattle.engine.specs.System.{system, outputs_of};
+ghost use Rattle.engine.specs.Lawful.{IsLawfulHistory, IsOutputValue};
+
+/// After each lawful history the value of each variable is in the range of its kind.
+pub fn lawful_history_stays_in_range()
+    ensures { (plant : PlainPlant) (history : List Event) → IsPlant plant → IsLawfulHistory plant history → AllInRange plant.source (system plant history).world }
+{}
+
+/// A lawful history has at most 1,000,000 events, and the moment of its last scan is at most 4,000,000,000,000.
+pub fn lawful_history_is_short()
+    ensures { (plant : PlainPlant) (history : List Event) → IsLawfulHistory plant history → (length history ≤ 1000000) × ((system plant history).moment ≤ 4000000000000) }
+{}
+
+/// After each lawful history each output is a value of its global's kind, and worth the number that the world has for that global.
+pub fn outputs_are_worth_their_numbers()
+    ensures { (plant : PlainPlant) (history : List Event) → IsPlant plant → IsLawfulHistory plant history → All (IsOutputValue plant (system plant history).world) (outputs_of plant (system plant history)) }
+{}
