@@ -1,0 +1,6 @@
+mod Starts
+mod Growing
+mod Picked
+mod Apart
+mod Made
+pub mod Levels

@@ -1,0 +1,4 @@
+pub mod Source
+pub mod Pous
+pub mod Units
+pub mod Blocks
