@@ -20,11 +20,11 @@ use Rattle.st_typing.specs.Faults.{AreTyped}
 use Rattle.plant_logic.specs.Pous.{pous_of, block_pous, pou_word}
 use Rattle.plant_logic.proofs.Picked.{picked_apart}
 
-none_if : {A : Type 0} (b : Bool) (a : A) (o : Option A) → (if b then Some a else o) ≡ None → (b ≡ false) × (o ≡ None)
+pub none_if : {A : Type 0} (b : Bool) (a : A) (o : Option A) → (if b then Some a else o) ≡ None → (b ≡ false) × (o ≡ None)
 none_if true a o e = absurd (cc)
 none_if false a o e = (refl, e)
 
-none_or : (a b : Option UnitPlace) → or_place a b ≡ None → (a ≡ None) × (b ≡ None)
+pub none_or : (a b : Option UnitPlace) → or_place a b ≡ None → (a ≡ None) × (b ≡ None)
 none_or (Some a) b e = absurd (cc)
 none_or None b e = (refl, e)
 

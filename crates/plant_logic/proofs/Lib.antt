@@ -3,4 +3,9 @@ mod Growing
 mod Picked
 mod Apart
 mod Made
+pub mod Belows
+pub mod Paths
+pub mod Layouts
 pub mod Levels
+mod Agreeing
+mod Distinct

@@ -10,6 +10,9 @@ mod logic;
 mod pous;
 mod units;
 
-pub use laws::answered_by_rule;
+pub use laws::{
+    answered_by_rule, block_type_begins, block_type_has_clocks, block_type_has_values, block_type_runs,
+    clocks_stand_once, order_is_of_source, typed_names_are_distinct, values_stand_once,
+};
 pub use logic::{BlockRef, Instance, Local, Logic, Routine, Variable};
 pub use units::logic_of;
