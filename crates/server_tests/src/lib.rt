@@ -10,6 +10,8 @@ mod again;
 #[cfg(test)]
 mod alarms;
 #[cfg(test)]
+mod blocks;
+#[cfg(test)]
 mod commands;
 #[cfg(test)]
 mod engines;
@@ -17,6 +19,8 @@ mod engines;
 mod example;
 #[cfg(test)]
 mod folders;
+#[cfg(test)]
+mod journals;
 #[cfg(test)]
 mod laws;
 #[cfg(test)]

@@ -118,6 +118,7 @@ fn plants_show_their_numbers(rt: HostRuntime) -> Result<(), Fail> {
     let plant = again(|| example(rt.alloc(), SOURCE))?;
     let want = [Some(0), None, Some(0), Some(1), None, Some(2), Some(1)];
     assert!(rt; numbers(&plant) == want);
+    assert!(rt; plant.epoch().seconds() == 1_704_067_200);
     for (shown, want) in plant.consoles().iter().zip([(1, Some(0)), (2, Some(1))]) {
         assert!(rt; console(shown) == want);
     }
