@@ -1,0 +1,5 @@
+mod Capping
+mod Naming
+mod Alike
+mod Tables
+mod Totals
