@@ -1,0 +1,228 @@
+-- The names that well-formed units declare are distinct in their source.
+use Rattle.std.proofs.Common.{◌≡◌, ◌∙◌, ap, sym, refl, ℕ, suc, Bool, true, false, not, cond, if◌then◌else◌, List, [], ◌∷◌, ◌++◌, append_assoc, append-nil, map, Option, Some, None}
+use Rattle.std.proofs.lemmas.Bool.{or_parts, or_from}
+use Rattle.std.proofs.lemmas.List.{map-append}
+use Rattle.std.proofs.lemmas.List.Concat.{flat_map-append}
+use Rattle.std.proofs.lemmas.List.Folds.{list_any-append}
+use Rattle.std.proofs.lemmas.List.Elements.{All-nil, All-cons, All-append, All-filter, All-weaker, All-head, All-tail, filter-append, filter_map-append}
+use Rattle.std.specs.Prelude.{◌||◌, ◌&&◌, filter_map, flat_map}
+use Rattle.std.specs.List.{list_any, list_all, cons_option, All}
+use Rattle.std.specs.Str.{bytes_eq}
+use Rattle.plant_types.specs.Words.{folded}
+use Rattle.st_parser.specs.declared.unit.Sort.{Sort}
+use Rattle.st_parser.specs.declared.unit.Sort.TheVariants as sort
+use Rattle.st_parser.specs.Units.{PlainSection, PlainPou, PlainUnit}
+use Rattle.st_names.specs.DeclaredNames.{PlainDeclared, declared_in, declared_words}
+use Rattle.st_names.specs.Shared.{Shared, global, pou, shared_in, is_block}
+use Rattle.st_names.specs.Scopes.{is_external}
+use Rattle.st_names.specs.Taken as taken
+use Rattle.st_names.specs.Taken.{is_among, repeats, or_place}
+use Rattle.st_names.specs.Known.{body_known, declared_known, globals_misnamed, pou_misnamed}
+use Rattle.st_names.specs.Faults.{first_pou, first_unit, first_misnamed}
+use Rattle.st_names.proofs.Entries.{turned}
+use Rattle.st_typing.specs.Faults.{AreTyped}
+use Rattle.plant_logic.specs.declared.logic.Variable.{Variable}
+use Rattle.plant_logic.specs.declared.logic.Local.{Local}
+use Rattle.plant_logic.specs.declared.logic.Instance.{Instance}
+use Rattle.plant_logic.specs.Source.{PlainRoutine}
+use Rattle.plant_logic.specs.Pous.{pous_of, block_pous, program_pous, block_names, pou_word}
+use Rattle.plant_logic.specs.Units.{global_by, global_of, local_by, local_of, instance_by, instance_of, block_ref, routine_of, declared_globals, source_in}
+use Rattle.plant_logic.specs.Names.{global_words, own_words, instance_words}
+use Rattle.plant_logic.specs.Layout.{AreNamedApart, IsDistinctlyNamed}
+use Rattle.plant_logic.proofs.Growing.{fused}
+use Rattle.plant_logic.proofs.Picked.{none_picked, picked_apart}
+use Rattle.plant_logic.proofs.Apart.{none_if, none_or, none_misnamed, shared_word, words_apart}
+
+-- a declared variable as a global; an instance is none
+abbrev pub variable_by : PlainDeclared → Sort → Option Variable
+variable_by d (sort.Kind kind) = Some (record { name = d.name; region = d.region; kind = kind })
+variable_by d (sort.Block word) = None
+
+-- the global variable that is shared
+abbrev pub pick_global : Shared → Option Variable
+pick_global (global d) = variable_by d d.sort
+pick_global (pou p) = None
+
+global_by_is : (d : PlainDeclared) (s : Sort) (rest : List Variable) → global_by d s ++ rest ≡ cons_option (variable_by d s) rest
+global_by_is d (sort.Kind kind) rest = refl
+global_by_is d (sort.Block word) rest = refl
+
+of_globals : (ds : List PlainDeclared) → flat_map global_of ds ≡ filter_map pick_global (map global ds)
+of_globals [] = refl
+of_globals (d ∷ ds) = ap (λ vs. global_of d ++ vs) (of_globals ds) ∙ global_by_is d d.sort (filter_map pick_global (map global ds))
+
+no_globals : (ps : List PlainPou) → filter_map pick_global (map pou ps) ≡ []
+no_globals [] = refl
+no_globals (p ∷ ps) = no_globals ps
+
+-- the globals are picked out of what is shared
+pub globals_picked : (units : List PlainUnit) → flat_map global_of (declared_globals units) ≡ filter_map pick_global (shared_in units)
+globals_picked [] = refl
+globals_picked (unit ∷ units) =
+    let ds = declared_in unit.globals in
+    let globals = map global ds in
+    let pous = map pou unit.pous in
+    flat_map-append global_of ds (declared_globals units)
+    ∙ (λ i. of_globals ds i ++ globals_picked units i)
+    ∙ ap (λ vs. vs ++ filter_map pick_global (shared_in units))
+    (sym (filter_map-append pick_global globals pous ∙ ap (λ vs. filter_map pick_global globals ++ vs) (no_globals unit.pous) ∙ append-nil (filter_map pick_global globals)))
+    ∙ sym (filter_map-append pick_global (globals ++ pous) (shared_in units))
+
+variable_named : (d : PlainDeclared) (s : Sort) (v : Variable) → variable_by d s ≡ Some v → v.name ≡ d.name
+variable_named d (sort.Kind kind) v e = let is : record { name = d.name; region = d.region; kind = kind } ≡ v = cc in ap (λ (x : Variable). x.name) (sym is)
+variable_named d (sort.Block word) v e = absurd (cc)
+
+global_named : (s : Shared) (v : Variable) → pick_global s ≡ Some v → folded v.name ≡ shared_word s
+global_named (global d) v e = ap folded (variable_named d d.sort v e)
+global_named (pou p) v e = absurd (cc)
+
+-- no two globals have one name
+pub globals_apart : (units : List PlainUnit) → first_misnamed units ≡ None → repeats (global_words (flat_map global_of (declared_globals units))) ≡ false
+globals_apart units e =
+    ap (λ gs. repeats (global_words gs)) (globals_picked units) ∙ picked_apart shared_word (λ (v : Variable). folded v.name) pick_global global_named (shared_in units) (words_apart units e)
+
+-- the program that is shared
+abbrev pub pick_program : Shared → Option PlainPou
+pick_program (global d) = None
+pick_program (pou p) = if is_block p.kind then None else Some p
+
+no_programs : (ds : List PlainDeclared) → filter_map pick_program (map global ds) ≡ []
+no_programs [] = refl
+no_programs (d ∷ ds) = no_programs ds
+
+program_is : (b : Bool) (p : PlainPou) (rest : List PlainPou) → cond (not b) (p ∷ rest) rest ≡ cons_option (if b then None else Some p) rest
+program_is true p rest = refl
+program_is false p rest = refl
+
+of_pous : (ps : List PlainPou) → program_pous ps ≡ filter_map pick_program (map pou ps)
+of_pous [] = refl
+of_pous (p ∷ ps) = program_is (is_block p.kind) p (program_pous ps) ∙ ap (cons_option (pick_program (pou p))) (of_pous ps)
+
+-- the programs are picked out of what is shared
+pub programs_picked : (units : List PlainUnit) → program_pous (pous_of units) ≡ filter_map pick_program (shared_in units)
+programs_picked [] = refl
+programs_picked (unit ∷ units) =
+    let globals = map global (declared_in unit.globals) in
+    let pous = map pou unit.pous in
+    filter-append (λ p. not (is_block p.kind)) unit.pous (pous_of units)
+    ∙ (λ i. of_pous unit.pous i ++ programs_picked units i)
+    ∙ ap (λ ps. ps ++ filter_map pick_program (shared_in units)) (sym (filter_map-append pick_program globals pous ∙ ap (λ ps. ps ++ filter_map pick_program pous) (no_programs (declared_in unit.globals))))
+    ∙ sym (filter_map-append pick_program (globals ++ pous) (shared_in units))
+
+program_at : (b : Bool) (p q : PlainPou) → (if b then None else Some p) ≡ Some q → pou_word q ≡ pou_word p
+program_at true p q e = absurd (cc)
+program_at false p q e = let is : p ≡ q = cc in ap pou_word (sym is)
+
+program_named : (s : Shared) (q : PlainPou) → pick_program s ≡ Some q → pou_word q ≡ shared_word s
+program_named (global d) q e = absurd (cc)
+program_named (pou p) q e = program_at (is_block p.kind) p q e
+
+-- no two programs have one name
+pub programs_apart : (units : List PlainUnit) → first_misnamed units ≡ None → repeats (map pou_word (program_pous (pous_of units))) ≡ false
+programs_apart units e =
+    ap (λ ps. repeats (map pou_word ps)) (programs_picked units) ∙ picked_apart shared_word pou_word pick_program program_named (shared_in units) (words_apart units e)
+
+module _ (bad_globals : List PlainSection → Bool) (bad_pou : PlainPou → Bool) where
+  good_pous : (source n : ℕ) (ps : List PlainPou) → first_pou bad_globals bad_pou source n ps ≡ None → All (λ p. bad_pou p ≡ false) ps
+  good_pous source n [] e = All-nil (λ p. bad_pou p ≡ false)
+  good_pous source n (p ∷ ps) e =
+      let parts = none_if (bad_pou p) (record { source = source; pou = Some n }) (first_pou bad_globals bad_pou source (suc n) ps) e in
+      All-cons (λ p. bad_pou p ≡ false) p ps parts.0 (good_pous source (suc n) ps parts.1)
+
+  -- no block or program is bad where no unit is
+  pub each_pou : (source : ℕ) (units : List PlainUnit) → first_unit bad_globals bad_pou source units ≡ None → All (λ p. bad_pou p ≡ false) (pous_of units)
+  each_pou source [] e = All-nil (λ p. bad_pou p ≡ false)
+  each_pou source (unit ∷ units) e =
+      let parts = none_if (bad_globals unit.globals) (record { source = source; pou = None }) (or_place (first_pou bad_globals bad_pou source 0 unit.pous) (first_unit bad_globals bad_pou (suc source) units)) e in
+      let rest = none_or (first_pou bad_globals bad_pou source 0 unit.pous) (first_unit bad_globals bad_pou (suc source) units) parts.1 in
+      All-append (λ p. bad_pou p ≡ false) unit.pous (pous_of units) (good_pous source 0 unit.pous rest.0) (each_pou (suc source) units rest.1)
+
+declared_once : (units : List PlainUnit) (p : PlainPou) → pou_misnamed units p ≡ false → taken.repeats (declared_words (declared_in p.sections)) ≡ false
+declared_once units p e =
+    let own = declared_in p.sections in
+    (or_parts (taken.repeats (declared_words own)) (not (list_all (declared_known units own) own && body_known units own p.body)) e).0
+
+-- no block or program declares a name twice
+pub each_declared_once : (units : List PlainUnit) → first_misnamed units ≡ None → All (λ p. taken.repeats (declared_words (declared_in p.sections)) ≡ false) (pous_of units)
+each_declared_once units e =
+    All-weaker (λ p. pou_misnamed units p ≡ false) (λ p. taken.repeats (declared_words (declared_in p.sections)) ≡ false) (declared_once units) (pous_of units) (each_pou (globals_misnamed units) (pou_misnamed units) 0 units (none_misnamed units e).1)
+
+-- a routine's own variables and its instances, out of what it declares
+abbrev word : PlainDeclared → List ℕ
+word d = folded d.name
+
+module _ (names : List (List ℕ)) where
+  abbrev own : List PlainDeclared → List (List ℕ)
+  own ds = own_words (flat_map local_of ds)
+
+  abbrev held : List PlainDeclared → List (List ℕ)
+  held ds = instance_words (flat_map (instance_of names) ds)
+
+  -- what no name of a list is, none of its names of either sort is
+  own_lacks : (w : List ℕ) (outside : Bool) (d : PlainDeclared) (s : Sort) (rest : List Local) → bytes_eq w (word d) ≡ false → is_among (own_words rest) w ≡ false → is_among (own_words ((if outside then [] else local_by d s) ++ rest)) w ≡ false
+  own_lacks w true d s rest other none = none
+  own_lacks w false d (sort.Kind kind) rest other none = rw other none
+  own_lacks w false d (sort.Block type) rest other none = none
+
+  held_lacks : (w : List ℕ) (outside : Bool) (d : PlainDeclared) (s : Sort) (rest : List Instance) → bytes_eq w (word d) ≡ false → is_among (instance_words rest) w ≡ false → is_among (instance_words ((if outside then [] else instance_by names d s) ++ rest)) w ≡ false
+  held_lacks w true d s rest other none = none
+  held_lacks w false d (sort.Kind kind) rest other none = none
+  held_lacks w false d (sort.Block type) rest other none = rw other none
+
+  own_none : (w : List ℕ) (ds : List PlainDeclared) → is_among (map word ds) w ≡ false → is_among (own ds) w ≡ false
+  own_none w [] none = refl
+  own_none w (d ∷ ds) none = let parts = or_parts (bytes_eq w (word d)) (is_among (map word ds) w) none in own_lacks w (is_external d.section) d d.sort (flat_map local_of ds) parts.0 (own_none w ds parts.1)
+
+  held_none : (w : List ℕ) (ds : List PlainDeclared) → is_among (map word ds) w ≡ false → is_among (held ds) w ≡ false
+  held_none w [] none = refl
+  held_none w (d ∷ ds) none = let parts = or_parts (bytes_eq w (word d)) (is_among (map word ds) w) none in held_lacks w (is_external d.section) d d.sort (flat_map (instance_of names) ds) parts.0 (held_none w ds parts.1)
+
+  none_both : (w : List ℕ) (xs ys : List (List ℕ)) → is_among xs w ≡ false → is_among ys w ≡ false → is_among (xs ++ ys) w ≡ false
+  none_both w xs ys left right = list_any-append (bytes_eq w) xs ys ∙ or_from (is_among xs w) (is_among ys w) left right
+
+  lacks_inserted : (x w : List ℕ) (xs ys : List (List ℕ)) → bytes_eq x w ≡ false → is_among (xs ++ ys) x ≡ false → is_among (xs ++ w ∷ ys) x ≡ false
+  lacks_inserted x w [] ys other none = rw other none
+  lacks_inserted x w (z ∷ zs) ys other none =
+      let parts = or_parts (bytes_eq x z) (is_among (zs ++ ys) x) none in
+      or_from (bytes_eq x z) (is_among (zs ++ w ∷ ys) x) parts.0 (lacks_inserted x w zs ys other parts.1)
+
+  inserted_apart : (w : List ℕ) (xs ys : List (List ℕ)) → is_among (xs ++ ys) w ≡ false → repeats (xs ++ ys) ≡ false → repeats (xs ++ w ∷ ys) ≡ false
+  inserted_apart w [] ys none apart = or_from (is_among ys w) (repeats ys) none apart
+  inserted_apart w (x ∷ xs) ys none apart =
+      let parts = or_parts (is_among (xs ++ ys) x) (repeats (xs ++ ys)) apart in
+      let others = or_parts (bytes_eq w x) (is_among (xs ++ ys) w) none in
+      or_from (is_among (xs ++ w ∷ ys) x) (repeats (xs ++ w ∷ ys)) (lacks_inserted x w xs ys (turned x w ∙ others.0) parts.0) (inserted_apart w xs ys others.1 parts.1)
+
+  one_more : (outside : Bool) (d : PlainDeclared) (s : Sort) (ls : List Local) (is : List Instance) → is_among (own_words ls ++ instance_words is) (word d) ≡ false → repeats (own_words ls ++ instance_words is) ≡ false
+      → repeats (own_words ((if outside then [] else local_by d s) ++ ls) ++ instance_words ((if outside then [] else instance_by names d s) ++ is)) ≡ false
+  one_more true d s ls is none apart = apart
+  one_more false d (sort.Kind kind) ls is none apart = or_from (is_among (own_words ls ++ instance_words is) (word d)) (repeats (own_words ls ++ instance_words is)) none apart
+  one_more false d (sort.Block type) ls is none apart = inserted_apart (word d) (own_words ls) (instance_words is) none apart
+
+  own_and_held : (ds : List PlainDeclared) → repeats (map word ds) ≡ false → repeats (own ds ++ held ds) ≡ false
+  own_and_held [] apart = refl
+  own_and_held (d ∷ ds) apart =
+      let parts = or_parts (is_among (map word ds) (word d)) (repeats (map word ds)) apart in
+      one_more (is_external d.section) d d.sort (flat_map local_of ds) (flat_map (instance_of names) ds) (none_both (word d) (own ds) (held ds) (own_none (word d) ds parts.0) (held_none (word d) ds parts.0)) (own_and_held ds parts.1)
+
+  pub routine_apart : (p : PlainPou) → taken.repeats (declared_words (declared_in p.sections)) ≡ false → AreNamedApart (routine_of names p)
+  routine_apart p once = own_and_held (declared_in p.sections) once
+
+  pub routines_apart : (ps : List PlainPou) → All (λ p. taken.repeats (declared_words (declared_in p.sections)) ≡ false) ps → All AreNamedApart (map (routine_of names) ps)
+  routines_apart [] each = All-nil AreNamedApart
+  routines_apart (p ∷ ps) each =
+      All-cons AreNamedApart (routine_of names p) (map (routine_of names) ps) (routine_apart p (All-head (λ p. taken.repeats (declared_words (declared_in p.sections)) ≡ false) p ps each)) (routines_apart ps (All-tail (λ p. taken.repeats (declared_words (declared_in p.sections)) ≡ false) p ps each))
+
+-- the declared names of the source of well-formed units are distinct
+pub typed_distinct : (units : List PlainUnit) → AreTyped units → IsDistinctlyNamed (source_in units)
+typed_distinct units typed =
+    let e = typed.are_shallow.are_short.constant.are_apart.kinded.named.names in
+    let names = block_names units in
+    let pous = pous_of units in
+    let once : All (λ p. taken.repeats (declared_words (declared_in p.sections)) ≡ false) pous = each_declared_once units e in
+    record {
+      globals_apart = globals_apart units e;
+      programs_apart = ap repeats (sym (fused (λ (r : PlainRoutine). folded r.name) (routine_of names) (program_pous pous))) ∙ programs_apart units e;
+      in_programs = routines_apart names (program_pous pous) (All-filter (λ p. not (is_block p.kind)) (λ p. taken.repeats (declared_words (declared_in p.sections)) ≡ false) pous once);
+      in_blocks = routines_apart names (block_pous pous) (All-filter (λ p. is_block p.kind) (λ p. taken.repeats (declared_words (declared_in p.sections)) ≡ false) pous once);
+    }

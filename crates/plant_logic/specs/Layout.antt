@@ -1,0 +1,121 @@
+-- The layout of a source: the paths of all values, and of all standard blocks, each list in one order.
+use Rattle.std.specs.Prelude.{◌≡◌, ℕ, ℤ, List, [], ◌∷◌, ◌++◌, map, flat_map, length, false}
+use Rattle.plant_types.specs.Words.{folded}
+use Rattle.std_blocks.specs.Calls.{Call}
+use Rattle.st_names.specs.Taken.{repeats}
+use Rattle.std.specs.List.{All}
+use Rattle.plant_logic.specs.declared.logic.Variable.{Variable}
+use Rattle.plant_logic.specs.declared.logic.Local.{Local}
+use Rattle.plant_logic.specs.declared.logic.Instance.{Instance}
+use Rattle.plant_logic.specs.declared.logic.BlockRef.{BlockRef}
+use Rattle.plant_logic.specs.declared.logic.BlockRef.TheVariants.{Ton, Tof, RTrig, Declared}
+use Rattle.plant_logic.specs.Source.{PlainRoutine, Source}
+use Rattle.plant_logic.specs.Names.{global_words, own_words, instance_words}
+use Rattle.plant_logic.specs.Blocks.{by_type}
+use Rattle.plant_logic.specs.Worlds.{Path, World, same_path, in_word, pt_word, clk_word}
+
+-- the standard block at a path
+pub record ClockAt : Type 0 where
+  pub of : BlockRef
+  pub path : Path
+
+-- the values of an instance at a path in small letters: the inputs of a standard block, or what its block type has
+abbrev pub block_values : (ℕ → Path → List Path) → BlockRef → Path → List Path
+block_values inner Ton path = (in_word ∷ path) ∷ (pt_word ∷ path) ∷ []
+block_values inner Tof path = (in_word ∷ path) ∷ (pt_word ∷ path) ∷ []
+block_values inner RTrig path = (clk_word ∷ path) ∷ []
+block_values inner (Declared n) path = inner n path
+
+abbrev pub instance_values : (ℕ → Path → List Path) → List Instance → Path → List Path
+instance_values inner [] path = []
+instance_values inner (i ∷ is) path = block_values inner i.of (folded i.name ∷ path) ++ instance_values inner is path
+
+-- the values of a routine's own variables, in order of declaration
+abbrev pub own_values : List Local → Path → List Path
+own_values [] path = []
+own_values (l ∷ ls) path = (folded l.name ∷ path) ∷ own_values ls path
+
+-- the values of a routine at a path in small letters: those of its own variables, then instance by instance
+abbrev pub values_rule : (ℕ → Path → List Path) → PlainRoutine → Path → List Path
+values_rule inner r path = own_values r.locals path ++ instance_values inner r.instances path
+
+-- the same of the block type of a number
+abbrev pub routine_values : List PlainRoutine → ℕ → Path → List Path
+routine_values blocks = by_type (λ path. []) values_rule blocks
+
+-- the standard blocks of an instance at a path: itself, or those of its block type
+abbrev pub block_clocks : (ℕ → Path → List ClockAt) → BlockRef → Path → List ClockAt
+block_clocks inner Ton path = record { of = Ton; path = path } ∷ []
+block_clocks inner Tof path = record { of = Tof; path = path } ∷ []
+block_clocks inner RTrig path = record { of = RTrig; path = path } ∷ []
+block_clocks inner (Declared n) path = inner n path
+
+abbrev pub instance_clocks : (ℕ → Path → List ClockAt) → List Instance → Path → List ClockAt
+instance_clocks inner [] path = []
+instance_clocks inner (i ∷ is) path = block_clocks inner i.of (folded i.name ∷ path) ++ instance_clocks inner is path
+
+-- the standard blocks of a routine at a path in small letters, instance by instance
+abbrev pub clocks_rule : (ℕ → Path → List ClockAt) → PlainRoutine → Path → List ClockAt
+clocks_rule inner r path = instance_clocks inner r.instances path
+
+-- the same of the block type of a number
+abbrev pub routine_clocks : List PlainRoutine → ℕ → Path → List ClockAt
+routine_clocks blocks = by_type (λ path. []) clocks_rule blocks
+
+-- how many values and how many standard blocks an instance of the block type of a number has
+abbrev pub cells_per_type : List PlainRoutine → ℕ → ℕ
+cells_per_type blocks n = length (routine_values blocks n [])
+
+abbrev pub clocks_per_type : List PlainRoutine → ℕ → ℕ
+clocks_per_type blocks n = length (routine_clocks blocks n [])
+
+-- the values of the globals, in order of declaration
+abbrev pub global_values : List Variable → List Path
+global_values globals = map (λ word. word ∷ []) (global_words globals)
+
+-- the values of programs, one after another
+abbrev pub program_values : List PlainRoutine → List PlainRoutine → List Path
+program_values blocks [] = []
+program_values blocks (p ∷ ps) = values_rule (routine_values blocks) p (folded p.name ∷ []) ++ program_values blocks ps
+
+abbrev pub program_clocks : List PlainRoutine → List PlainRoutine → List ClockAt
+program_clocks blocks [] = []
+program_clocks blocks (p ∷ ps) = clocks_rule (routine_clocks blocks) p (folded p.name ∷ []) ++ program_clocks blocks ps
+
+-- the paths of all values: the globals, then program by program
+abbrev pub cell_paths : Source → List Path
+cell_paths source = global_values source.globals ++ program_values source.blocks source.programs
+
+-- all standard blocks, program by program
+abbrev pub all_clocks : Source → List ClockAt
+all_clocks source = program_clocks source.blocks source.programs
+
+-- the paths of all standard blocks
+abbrev pub clock_paths : Source → List Path
+clock_paths source = map (λ (c : ClockAt). c.path) (all_clocks source)
+
+-- values and calls stand for a world: they are what it has at each path, in order
+pub record Stands (source : Source) (values : List ℤ) (calls : List (List Call)) (w : World) : Type 0 where
+  pub values_are : values ≡ map w.values (cell_paths source)
+  pub calls_are : calls ≡ map w.calls (clock_paths source)
+
+-- a path is none of a list's
+abbrev pub Absent : Path → List Path → Type 0
+Absent p [] = Unit {0}
+Absent p (q ∷ qs) = (same_path p q ≡ false) × Absent p qs
+
+-- no path stands twice
+abbrev pub NoneTwice : List Path → Type 0
+NoneTwice [] = Unit {0}
+NoneTwice (p ∷ ps) = Absent p ps × NoneTwice ps
+
+-- a routine's own variables and its instances, all together, have different names, letter case ignored
+abbrev pub AreNamedApart : PlainRoutine → Type 0
+AreNamedApart r = repeats (own_words r.locals ++ instance_words r.instances) ≡ false
+
+-- a source's declared names are distinct: those of its globals, those of its programs, and those of each routine
+pub record IsDistinctlyNamed (source : Source) : Type 0 where
+  pub globals_apart : repeats (global_words source.globals) ≡ false
+  pub programs_apart : repeats (map (λ p. folded p.name) source.programs) ≡ false
+  pub in_programs : All AreNamedApart source.programs
+  pub in_blocks : All AreNamedApart source.blocks

@@ -1,0 +1,71 @@
+-- Names in a routine, and what they name: its own variables hide globals.
+use Rattle.std.specs.Prelude.{ℕ, List, map, position, Option, option_map, option_and_then, unwrap_or, slice_get, if◌then◌else◌, None, Some, codes}
+use Rattle.std.specs.Option.{option_map_or}
+use Rattle.std.specs.Str.{bytes_eq}
+use Rattle.plant_types.specs.Words.{folded, same_word}
+use Rattle.plant_types.specs.declared.values.Kind.{Kind}
+use Rattle.plant_types.specs.declared.values.Kind.TheVariants as kind
+use Rattle.st_tree.specs.Plain.{PlainBody}
+use Rattle.st_tree.specs.Kinds.{meant}
+use Rattle.st_names.specs.Scopes.{or_other}
+use Rattle.plant_logic.specs.declared.logic.Variable.{Variable}
+use Rattle.plant_logic.specs.declared.logic.Local.{Local}
+use Rattle.plant_logic.specs.declared.logic.Instance.{Instance}
+use Rattle.plant_logic.specs.declared.logic.BlockRef.{BlockRef}
+use Rattle.plant_logic.specs.declared.logic.BlockRef.TheVariants.{Ton, Tof, RTrig, Declared}
+use Rattle.plant_logic.specs.Source.{PlainRoutine, Source}
+
+-- the globals' names in small letters, in order of declaration
+abbrev pub global_words : List Variable → List (List ℕ)
+global_words globals = map (λ (global : Variable). folded global.name) globals
+
+-- the names of a routine's own variables in small letters, in order of declaration
+abbrev pub own_words : List Local → List (List ℕ)
+own_words locals = map (λ (local : Local). folded local.name) locals
+
+-- the names of a routine's instances in small letters, in order of declaration
+abbrev pub instance_words : List Instance → List (List ℕ)
+instance_words instances = map (λ (i : Instance). folded i.name) instances
+
+-- the index of a name, in any letter case, in a list of names in small letters
+abbrev pub find_word : List (List ℕ) → List ℕ → Option ℕ
+find_word words name = position (bytes_eq (folded name)) words
+
+-- the routine's own variable of a name
+abbrev pub local_named : PlainRoutine → List ℕ → Option Local
+local_named r name = option_and_then (slice_get r.locals) (find_word (own_words r.locals) name)
+
+-- the routine's instance of a name
+abbrev pub instance_named : PlainRoutine → List ℕ → Option Instance
+instance_named r name = option_and_then (slice_get r.instances) (find_word (instance_words r.instances) name)
+
+-- what the routine's instance of a name is of
+abbrev pub block_named : PlainRoutine → List ℕ → Option BlockRef
+block_named r name = option_map (λ (i : Instance). i.of) (instance_named r name)
+
+-- the kind of the routine's own variable of a name
+abbrev pub own_kind : PlainRoutine → List ℕ → Option Kind
+own_kind r name = option_map (λ (l : Local). l.kind) (local_named r name)
+
+-- the kind of the global of a name
+abbrev pub global_kind : List Variable → List ℕ → Option Kind
+global_kind globals name = option_map (λ (g : Variable). g.kind) (option_and_then (slice_get globals) (find_word (global_words globals) name))
+
+-- the kind of a variable: the routine's own of the name, else the global; BOOL if there is none
+abbrev pub kind_named : List Variable → PlainRoutine → List ℕ → Kind
+kind_named globals r name = unwrap_or (or_other (own_kind r name) (global_kind globals name)) kind.Bool
+
+-- the kind of an output: ET of a standard block is a TIME and Q a BOOL, and that of a declared block type is the kind of its own variable of the name; BOOL if there is none
+abbrev pub output_kind_of : List PlainRoutine → Option BlockRef → List ℕ → Kind
+output_kind_of blocks None name = kind.Bool
+output_kind_of blocks (Some Ton) name = if same_word name (codes "ET") then kind.Time else kind.Bool
+output_kind_of blocks (Some Tof) name = if same_word name (codes "ET") then kind.Time else kind.Bool
+output_kind_of blocks (Some RTrig) name = kind.Bool
+output_kind_of blocks (Some (Declared n)) name = option_map_or (λ b. unwrap_or (own_kind b name) kind.Bool) (slice_get blocks n) kind.Bool
+
+abbrev pub output_kind_named : List PlainRoutine → PlainRoutine → (instance name : List ℕ) → Kind
+output_kind_named blocks r instance name = output_kind_of blocks (block_named r instance) name
+
+-- the body that is meant by the body or the initial values of a routine of a source: its statements are numbered from 1, and each operator is that of its operands' kind
+abbrev pub meant_in : Source → PlainRoutine → PlainBody (List ℕ) → PlainBody (List ℕ)
+meant_in source r body = meant (kind_named source.globals r) (output_kind_named source.blocks r) body

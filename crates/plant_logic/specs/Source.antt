@@ -1,0 +1,36 @@
+-- A source, as contracts see it.
+use Rattle.std.specs.Prelude.{ℕ, List, map}
+use Rattle.plant_logic.specs.declared.logic.Logic.{Logic}
+use Rattle.plant_logic.specs.declared.logic.Routine.{Routine}
+use Rattle.plant_logic.specs.declared.logic.Variable.{Variable}
+use Rattle.plant_logic.specs.declared.logic.Local.{Local}
+use Rattle.plant_logic.specs.declared.logic.Instance.{Instance}
+use Rattle.st_tree.specs.Plain.{PlainBody}
+use Rattle.st_tree.specs.View.{view_body}
+
+-- a program or a block type: its name as declared, its own variables and its instances in order of declaration, an assignment for each initial value that is written for a variable of its own, and its body
+pub record PlainRoutine : Type 0 where
+  pub name : List ℕ
+  pub locals : List Local
+  pub instances : List Instance
+  pub starts : PlainBody (List ℕ)
+  pub body : PlainBody (List ℕ)
+
+-- the globals in order of declaration, an assignment for each initial value that is written for one of these, and the programs and the block types, each in order of text
+pub record Source : Type 0 where
+  pub globals : List Variable
+  pub starts : PlainBody (List ℕ)
+  pub programs : List PlainRoutine
+  pub blocks : List PlainRoutine
+
+abbrev pub view_routine : Routine → PlainRoutine
+view_routine r = record { name = r.name; locals = r.locals.items; instances = r.instances.items; starts = view_body r.starts.items; body = view_body r.body.items }
+
+-- the source of a Logic
+abbrev pub source_of : Logic → Source
+source_of logic = record {
+  globals = logic.globals.items;
+  starts = view_body logic.starts.items;
+  programs = map view_routine logic.programs.items;
+  blocks = map view_routine logic.blocks.items;
+}

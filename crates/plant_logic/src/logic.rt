@@ -1,0 +1,66 @@
+//! A source that was parsed: global variables, programs and block types.
+
+use plant_types::{Kind, Region, Text};
+use st_tree::Stmt;
+
+/// The global variables, the programs and the block types of a plant.
+#[derive(Drop)]
+pub struct Logic {
+    /// In order of declaration.
+    pub globals: Vec<Variable>,
+    /// An assignment for each initial value that is written for a global.
+    pub starts: Vec<Stmt<Text>>,
+    /// In order of text.
+    pub programs: Vec<Routine>,
+    /// The block types that are declared, in order of text. Their numbers count from 0.
+    pub blocks: Vec<Routine>,
+}
+
+/// A global variable, with its name as declared.
+#[derive(Drop)]
+pub struct Variable {
+    pub name: Text,
+    /// The region of its address; `None` for a variable without an address.
+    pub region: Option<Region>,
+    pub kind: Kind,
+}
+
+/// A routine's own variable, with its name as declared.
+#[derive(Drop)]
+pub struct Local {
+    pub name: Text,
+    pub kind: Kind,
+}
+
+/// What an instance is of: a standard block (IEC 61131-3), or the declared block type of a number.
+#[derive(Clone, Copy, PartialEq, Eq, Debug, Drop)]
+pub enum BlockRef {
+    /// The on-delay timer `TON`.
+    Ton,
+    /// The off-delay timer `TOF`.
+    Tof,
+    /// The edge detector `R_TRIG`.
+    RTrig,
+    /// The declared block type of a number, from 0 in order of text.
+    Declared(usize),
+}
+
+/// An instance, with its name as declared.
+#[derive(Drop)]
+pub struct Instance {
+    pub name: Text,
+    pub of: BlockRef,
+}
+
+/// A routine: a program or a block type (IEC 61131-3), with its name as declared.
+#[derive(Drop)]
+pub struct Routine {
+    pub name: Text,
+    /// Its own variables in order of declaration: those of VAR, VAR_INPUT and VAR_OUTPUT.
+    pub locals: Vec<Local>,
+    /// Its instances in order of declaration.
+    pub instances: Vec<Instance>,
+    /// An assignment for each initial value that is written for one of its own variables.
+    pub starts: Vec<Stmt<Text>>,
+    pub body: Vec<Stmt<Text>>,
+}
