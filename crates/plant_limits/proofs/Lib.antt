@@ -3,3 +3,4 @@ mod Naming
 mod Alike
 mod Tables
 mod Totals
+mod CountExamples

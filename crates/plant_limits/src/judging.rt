@@ -1,6 +1,6 @@
 //! The limits of a source, and what its programs cost.
 
-ghost use Rattle.std.specs.Prelude.{◌≡◌, ◌+◌, min, map, nat_lt, IfOk, MatchResult};
+ghost use Rattle.std.specs.Prelude.{◌≡◌, ◌+◌, min, map, length, nat_lt, IfOk, MatchResult};
 ghost use Rattle.std.specs.List.{sum_by, list_any};
 ghost use Rattle.plant_logic.specs.Source.{source_of};
 ghost use Rattle.plant_logic.specs.Blocks.{AreBelow};
@@ -15,10 +15,10 @@ use plant_logic::Logic;
 use std::alloc::{AllocError, Global};
 
 /// The slots of the globals and the programs, up to the last number.
-fn all_slots(globals: usize, programs: &[Counts]) -> u64
-    ensures { result ≡ min (globals + sum_by (λ program. program.slots) programs.now) 65537 }
+fn all_slots(logic: &Logic, programs: &[Counts]) -> u64
+    ensures { result ≡ min (length logic.now.globals.items + sum_by (λ program. program.slots) programs.now) 65537 }
 {
-    let mut total = count(LAST_SLOTS, globals);
+    let mut total = count(LAST_SLOTS, logic.globals.len());
     for program in programs {
         total = add(LAST_SLOTS, total, program.slots);
     }
@@ -57,7 +57,7 @@ pub fn limits(alloc: Global, logic: &Logic, order: &[usize]) -> Result<(), Limit
     ensures { MatchResult result (λ _. KeepsLimits (source_of logic.now)) (IsLimitFault (source_of logic.now)) }
 {
     let programs = count_programs(alloc, logic, order)?;
-    let slots = all_slots(logic.globals.len(), &programs);
+    let slots = all_slots(logic, &programs);
     if slots >= LAST_SLOTS {
         return Err(LimitFault::Slots);
     }

@@ -1,4 +1,4 @@
-use Rattle.std.proofs.Common.{◌≡◌, ◌∙◌, sym, length, arith, rules}
+use Rattle.std.proofs.Common.{◌∙◌, sym, arith}
 use Rattle.plant_logic.specs.Source.{source_of}
 use Rattle.plant_limits.specs.Counts.{program_costs}
 use Rattle.plant_limits.proofs.Totals.{slots_are, size_is, costly_is, one_past, none_past}
@@ -6,8 +6,7 @@ use Rattle.plant_limits.proofs.judging.limits.Goals as goal
 
 pub returns-then-slots-ge-LAST_SLOTS : goal.returns-then-slots-ge-LAST_SLOTS
 returns-then-slots-ge-LAST_SLOTS c =
-    let globals : c.len.result ≡ length c.args.logic.now.globals.items = search rules in
-    let slots = slots_are (source_of c.args.logic.now) c.deref.result.now c.in_ok-programs.programs.items c.len.result c.all_slots-slots.result c.deref.ensures.value c.in_ok-programs.ensures globals c.all_slots-slots.ensures in
+    let slots = slots_are (source_of c.args.logic.now) c.deref.result.now c.in_ok-programs.programs.items c.all_slots-slots.result c.deref.ensures.value c.in_ok-programs.ensures c.all_slots-slots.ensures in
     let past = c.if-slots-ge-LAST_SLOTS.true in
     omega arith
 
@@ -15,8 +14,7 @@ pub returns-then-size-ge-LAST_SIZE : goal.returns-then-size-ge-LAST_SIZE
 returns-then-size-ge-LAST_SIZE c =
     let source = source_of c.args.logic.now in
     let programs = c.in_ok-programs.programs.items in
-    let globals : c.len.result ≡ length c.args.logic.now.globals.items = search rules in
-    let slots = slots_are source c.deref.result.now programs c.len.result c.all_slots-slots.result c.deref.ensures.value c.in_ok-programs.ensures globals c.all_slots-slots.ensures in
+    let slots = slots_are source c.deref.result.now programs c.all_slots-slots.result c.deref.ensures.value c.in_ok-programs.ensures c.all_slots-slots.ensures in
     let few = c.if-slots-ge-LAST_SLOTS.false in
     let size = size_is source c.deref-2.result.now programs c.all_size-size.result c.deref-2.ensures.value c.in_ok-programs.ensures c.all_size-size.ensures in
     let past = c.if-size-ge-LAST_SIZE.true in (
@@ -28,8 +26,7 @@ pub returns-then-some_costly : goal.returns-then-some_costly
 returns-then-some_costly c =
     let source = source_of c.args.logic.now in
     let programs = c.in_ok-programs.programs.items in
-    let globals : c.len.result ≡ length c.args.logic.now.globals.items = search rules in
-    let slots = slots_are source c.deref.result.now programs c.len.result c.all_slots-slots.result c.deref.ensures.value c.in_ok-programs.ensures globals c.all_slots-slots.ensures in
+    let slots = slots_are source c.deref.result.now programs c.all_slots-slots.result c.deref.ensures.value c.in_ok-programs.ensures c.all_slots-slots.ensures in
     let few = c.if-slots-ge-LAST_SLOTS.false in
     let size = size_is source c.deref-2.result.now programs c.all_size-size.result c.deref-2.ensures.value c.in_ok-programs.ensures c.all_size-size.ensures in
     let small = c.if-size-ge-LAST_SIZE.false in
@@ -43,8 +40,7 @@ pub returns : goal.returns
 returns c =
     let source = source_of c.args.logic.now in
     let programs = c.in_ok-programs.programs.items in
-    let globals : c.len.result ≡ length c.args.logic.now.globals.items = search rules in
-    let slots = slots_are source c.deref.result.now programs c.len.result c.all_slots-slots.result c.deref.ensures.value c.in_ok-programs.ensures globals c.all_slots-slots.ensures in
+    let slots = slots_are source c.deref.result.now programs c.all_slots-slots.result c.deref.ensures.value c.in_ok-programs.ensures c.all_slots-slots.ensures in
     let few = c.if-slots-ge-LAST_SLOTS.false in
     let size = size_is source c.deref-2.result.now programs c.all_size-size.result c.deref-2.ensures.value c.in_ok-programs.ensures c.all_size-size.ensures in
     let small = c.if-size-ge-LAST_SIZE.false in
