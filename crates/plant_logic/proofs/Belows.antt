@@ -33,7 +33,7 @@ use Rattle.plant_logic.specs.Units.{block_ref, instance_by, instance_of, routine
 use Rattle.plant_logic.specs.Blocks.{Declares, AreBelow}
 use Rattle.plant_logic.proofs.Apart.{typed_blocks_apart}
 
-abbrev name_of : PlainPou → List ℕ
+abbrev pub name_of : PlainPou → List ℕ
 name_of p = p.name
 
 -- the blocks that are ordered are those of the source
@@ -111,7 +111,7 @@ among_right : {A : Type 0} (xs ys : List A) (a : A) → Among ys a → Among (xs
 among_right [] ys a here = here
 among_right (x ∷ xs) ys a here = inr (among_right xs ys a here)
 
-among_flat : {A B : Type 0} (f : A → List B) (xs : List A) (b : B) → Among (flat_map f xs) b → (a : A) × Among xs a × Among (f a) b
+pub among_flat : {A B : Type 0} (f : A → List B) (xs : List A) (b : B) → Among (flat_map f xs) b → (a : A) × Among xs a × Among (f a) b
 among_flat f [] b here = elim here [ ]
 among_flat f (x ∷ xs) b here =
     elim (among_append (f x) (flat_map f xs) b here) [
@@ -130,7 +130,7 @@ among_map f (x ∷ xs) b (inl is) = (x, is)
 among_map f (x ∷ xs) b (inr later) = among_map f xs b later
 
 -- an instance is declared as one of the block types that are listed
-instance_at : (names : List (List ℕ)) (outside : Bool) (d : PlainDeclared) (s : Sort) (i : Instance) → Among (if outside then [] else instance_by names d s) i → (word : List ℕ) × (s ≡ sort.Block word) × (i.of ≡ block_ref names word)
+pub instance_at : (names : List (List ℕ)) (outside : Bool) (d : PlainDeclared) (s : Sort) (i : Instance) → Among (if outside then [] else instance_by names d s) i → (word : List ℕ) × (s ≡ sort.Block word) × (i.of ≡ block_ref names word)
 instance_at names true d s i here = elim here [ ]
 instance_at names false d (sort.Kind kind) i here = elim here [ ]
 instance_at names false d (sort.Block word) i (inl is) = (word, refl, ap (λ (x : Instance). x.of) (sym is))

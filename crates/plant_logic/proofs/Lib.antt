@@ -9,3 +9,5 @@ pub mod Layouts
 pub mod Levels
 mod Agreeing
 mod Distinct
+mod Seats
+mod Knowns

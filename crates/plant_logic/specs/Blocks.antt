@@ -1,11 +1,12 @@
 -- Rules that go by cases on a block type: what they give, where no block type holds itself.
 use Rattle.std.specs.Prelude.{◌≡◌, ◌<◌, ℕ, zero, suc, List, length, Some, slice_get, take}
+use Rattle.std.specs.List.{All}
 use Rattle.std.specs.Option.{option_map_or}
 use Rattle.block_order.specs.Chains.{Among}
 use Rattle.block_order.specs.Blocks.{Once}
 use Rattle.plant_logic.specs.declared.logic.Instance.{Instance}
 use Rattle.plant_logic.specs.declared.logic.BlockRef.TheVariants.{Declared}
-use Rattle.plant_logic.specs.Source.{PlainRoutine}
+use Rattle.plant_logic.specs.Source.{PlainRoutine, Source}
 
 -- what a rule gives for the block type of a number, so many levels deep: it may ask for the block types that this one declares
 abbrev pub levels : {A : Type 0} → A → ((ℕ → A) → PlainRoutine → A) → List PlainRoutine → (depth n : ℕ) → A
@@ -19,6 +20,15 @@ by_type none rule blocks n = levels none rule blocks (length blocks) n
 -- a routine has an instance of the declared block type of a number
 abbrev pub Declares : PlainRoutine → ℕ → Type 0
 Declares r n = (i : Instance) × Among r.instances i × (i.of ≡ Declared n)
+
+-- each declared block type that a routine has an instance of is one of these
+abbrev pub DeclaresThere : List PlainRoutine → PlainRoutine → Type 0
+DeclaresThere blocks r = (n : ℕ) → Declares r n → n < length blocks
+
+-- a source has the block types of all its instances
+pub record HasItsTypes (source : Source) : Type 0 where
+  pub in_programs : All (DeclaresThere source.blocks) source.programs
+  pub in_blocks : All (DeclaresThere source.blocks) source.blocks
 
 -- a rule asks only for block types that the routine declares
 abbrev pub AsksDeclared : {A : Type 0} → ((ℕ → A) → PlainRoutine → A) → Type 0

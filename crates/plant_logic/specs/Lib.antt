@@ -5,3 +5,4 @@ pub mod Blocks
 pub mod Names
 pub mod Worlds
 pub mod Layout
+pub mod Seats

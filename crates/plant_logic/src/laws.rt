@@ -1,15 +1,19 @@
 //! Laws of sources. These functions do nothing: each has a law as its contract, for the crates above.
 
-ghost use Rattle.std.specs.Prelude.{◌≡◌, ℕ, List, Some, slice_get};
+ghost use Rattle.std.specs.Prelude.{◌≡◌, ◌+◌, ◌∷◌, [], ℕ, ℤ, List, Some, slice_get, slice_set};
+ghost use Rattle.plant_types.specs.Words.{folded};
+ghost use Rattle.std_blocks.specs.Calls.{Call};
+ghost use Rattle.plant_logic.specs.declared.logic.Instance.{Instance};
 ghost use Rattle.block_order.specs.Blocks.{AreOrdered};
 ghost use Rattle.st_parser.specs.Units.{PlainUnit};
 ghost use Rattle.st_typing.specs.Blocks.{blocks_of};
 ghost use Rattle.st_typing.specs.Faults.{AreTyped};
 ghost use Rattle.plant_logic.specs.Source.{PlainRoutine, Source};
 ghost use Rattle.plant_logic.specs.Units.{source_in};
-ghost use Rattle.plant_logic.specs.Blocks.{by_type, AsksDeclared, AreBelow};
-ghost use Rattle.plant_logic.specs.Worlds.{run_rule, run_routine, begin_rule, routine_begun};
-ghost use Rattle.plant_logic.specs.Layout.{values_rule, routine_values, clocks_rule, routine_clocks, cell_paths, clock_paths, NoneTwice, IsDistinctlyNamed};
+ghost use Rattle.plant_logic.specs.Blocks.{by_type, AsksDeclared, AreBelow, HasItsTypes};
+ghost use Rattle.plant_logic.specs.Worlds.{Path, World, words_of, path_in, assign, with_call, run_rule, run_routine, begin_rule, routine_begun};
+ghost use Rattle.plant_logic.specs.Layout.{ClockAt, block_values, values_rule, routine_values, block_clocks, clocks_rule, routine_clocks, cell_paths, all_clocks, clock_paths, Stands, NoneTwice, IsDistinctlyNamed};
+ghost use Rattle.plant_logic.specs.Seats.{StandsFrom, value_offset, clock_offset, program_values_base, program_clocks_base, value_number};
 
 /// Where an order lists each block type after those that it declares, what a rule gives for a block type is the rule's own answer, by
 /// what it gives for the block types that this one declares.
@@ -39,6 +43,11 @@ pub fn typed_names_are_distinct()
     ensures { (units : List PlainUnit) → AreTyped units → IsDistinctlyNamed (source_in units) }
 {}
 
+/// The source of well-formed units has the block types of all its instances.
+pub fn typed_types_are_there()
+    ensures { (units : List PlainUnit) → AreTyped units → HasItsTypes (source_in units) }
+{}
+
 /// What the block type of a number does is its body's run, in which a call of an instance does what the instance's block type does.
 pub fn block_type_runs()
     ensures { (source : Source) (order : List ℕ) (t n : ℕ) (r : PlainRoutine) → AreBelow source.blocks order → slice_get source.blocks n ≡ Some r
@@ -61,4 +70,64 @@ pub fn block_type_has_values()
 pub fn block_type_has_clocks()
     ensures { (blocks : List PlainRoutine) (order : List ℕ) (n : ℕ) (r : PlainRoutine) → AreBelow blocks order → slice_get blocks n ≡ Some r
         → routine_clocks blocks n ≡ clocks_rule (routine_clocks blocks) r }
+{}
+
+/// The values of a program stand among all values from the program's first one on.
+pub fn program_values_stand()
+    ensures { (source : Source) (k : ℕ) (p : PlainRoutine) → slice_get source.programs k ≡ Some p
+        → StandsFrom (cell_paths source) (program_values_base source k) (values_rule (routine_values source.blocks) p (folded p.name ∷ [])) }
+{}
+
+/// Where a routine's values stand in a list from a number on, there those of its instance of a number stand, from the instance's offset on.
+pub fn instance_values_stand()
+    ensures { (blocks : List PlainRoutine) (all : List Path) (r : PlainRoutine) (path : Path) (base k : ℕ) (i : Instance)
+        → StandsFrom all base (values_rule (routine_values blocks) r path) → slice_get r.instances k ≡ Some i
+        → StandsFrom all (base + value_offset blocks r k) (block_values (routine_values blocks) i.of (folded i.name ∷ path)) }
+{}
+
+/// The standard blocks of a program stand among all standard blocks from the program's first one on.
+pub fn program_clocks_stand()
+    ensures { (source : Source) (k : ℕ) (p : PlainRoutine) → slice_get source.programs k ≡ Some p
+        → StandsFrom (all_clocks source) (program_clocks_base source k) (clocks_rule (routine_clocks source.blocks) p (folded p.name ∷ [])) }
+{}
+
+/// Where a routine's standard blocks stand in a list from a number on, there those of its instance of a number stand, from the instance's
+/// offset on.
+pub fn instance_clocks_stand()
+    ensures { (blocks : List PlainRoutine) (all : List ClockAt) (r : PlainRoutine) (path : Path) (base k : ℕ) (i : Instance)
+        → StandsFrom all base (clocks_rule (routine_clocks blocks) r path) → slice_get r.instances k ≡ Some i
+        → StandsFrom all (base + clock_offset blocks r k) (block_clocks (routine_clocks blocks) i.of (folded i.name ∷ path)) }
+{}
+
+/// Where a routine's values stand among all values from a number on, there the value of a name's number has the path of the name.
+pub fn named_value_stands()
+    ensures { (source : Source) (r : PlainRoutine) (path : Path) (base : ℕ) (name : List ℕ) (n : ℕ)
+        → StandsFrom (cell_paths source) base (values_rule (routine_values source.blocks) r (words_of path))
+        → value_number source.globals r base name ≡ Some n → slice_get (cell_paths source) n ≡ Some (path_in r path name) }
+{}
+
+/// The value of a path's number is the world's value at the path.
+pub fn value_of_number()
+    ensures { (source : Source) (values : List ℤ) (calls : List (List Call)) (w : World) → Stands source values calls w
+        → (n : ℕ) (p : Path) → slice_get (cell_paths source) n ≡ Some p → slice_get values n ≡ Some (w.values p) }
+{}
+
+/// Writing the value of a path's number stands for assigning it at the path.
+pub fn value_written()
+    ensures { (source : Source) (values : List ℤ) (calls : List (List Call)) (w : World) → Stands source values calls w
+        → (n : ℕ) (p : Path) → IsDistinctlyNamed source → (x : ℤ) → slice_get (cell_paths source) n ≡ Some p
+        → Stands source (slice_set values n x) calls (assign w p x) }
+{}
+
+/// The calls of the number of a standard block's path are those that the world has at the path.
+pub fn calls_of_number()
+    ensures { (source : Source) (values : List ℤ) (calls : List (List Call)) (w : World) → Stands source values calls w
+        → (n : ℕ) (p : Path) → slice_get (clock_paths source) n ≡ Some p → slice_get calls n ≡ Some (w.calls p) }
+{}
+
+/// Taking note of a call at the number of a standard block's path stands for its call at the path.
+pub fn call_taken()
+    ensures { (source : Source) (values : List ℤ) (calls : List (List Call)) (w : World) → Stands source values calls w
+        → (n : ℕ) (p : Path) → IsDistinctlyNamed source → (c : Call) → slice_get (clock_paths source) n ≡ Some p
+        → Stands source values (slice_set calls n (c ∷ w.calls p)) (with_call w p c) }
 {}

@@ -1,6 +1,7 @@
 //! From units to the source that they make.
 
-ghost use Rattle.std.specs.Prelude.{◌≡◌, ◌++◌, IfOk, map, flat_map, false};
+ghost use Rattle.std.specs.Prelude.{◌≡◌, ◌++◌, IfOk, map, flat_map, false, not};
+ghost use Rattle.st_names.specs.Scopes.{is_external};
 ghost use Rattle.st_tree.specs.View.{view_stmt, view_body};
 ghost use Rattle.st_parser.specs.Units.{PlainPou, view_pou, view_unit};
 ghost use Rattle.st_names.specs.DeclaredNames.{declared_in};
@@ -48,6 +49,13 @@ fn globals_of(alloc: Global, list: &[Declared<'_>]) -> Result<Vec<Variable>, All
     Ok(variables)
 }
 
+/// Whether what is declared is a routine's own; a VAR_EXTERNAL is the global of its name.
+fn is_own(declared: &Declared<'_>) -> bool
+    ensures { result ≡ not (is_external declared.now.section) }
+{
+    !matches!(declared.section(), SectionKind::External)
+}
+
 /// Adds a declared variable to a routine's own; an instance is none, and a VAR_EXTERNAL is the global of its name. Fails if allocation
 /// fails.
 fn push_local(
@@ -57,7 +65,7 @@ fn push_local(
 ) -> Result<(), AllocError>
     ensures { IfOk result (λ _. locals.new.items ≡ locals.old.items ++ local_of declared.now) }
 {
-    if let SectionKind::External = declared.section() {
+    if !is_own(declared) {
         return Ok(());
     }
     let Sort::Kind(kind) = declared.sort() else {
@@ -105,7 +113,7 @@ fn push_instance(
 ) -> Result<(), AllocError>
     ensures { IfOk result (λ _. instances.new.items ≡ instances.old.items ++ instance_of names.now declared.now) }
 {
-    if let SectionKind::External = declared.section() {
+    if !is_own(declared) {
         return Ok(());
     }
     let Sort::Block(word) = declared.sort() else {

@@ -1,0 +1,6 @@
+mod Capping
+mod Naming
+mod Alike
+mod Tables
+mod Totals
+mod CountExamples

@@ -1,0 +1,52 @@
+use Rattle.std.proofs.Common.{◌∙◌, sym, arith}
+use Rattle.plant_logic.specs.Source.{source_of}
+use Rattle.plant_limits.specs.Counts.{program_costs}
+use Rattle.plant_limits.proofs.Totals.{slots_are, size_is, costly_is, one_past, none_past}
+use Rattle.plant_limits.proofs.judging.limits.Goals as goal
+
+pub returns-then-slots-ge-LAST_SLOTS : goal.returns-then-slots-ge-LAST_SLOTS
+returns-then-slots-ge-LAST_SLOTS c =
+    let slots = slots_are (source_of c.args.logic.now) c.deref.result.now c.in_ok-programs.programs.items c.all_slots-slots.result c.deref.ensures.value c.in_ok-programs.ensures c.all_slots-slots.ensures in
+    let past = c.if-slots-ge-LAST_SLOTS.true in
+    omega arith
+
+pub returns-then-size-ge-LAST_SIZE : goal.returns-then-size-ge-LAST_SIZE
+returns-then-size-ge-LAST_SIZE c =
+    let source = source_of c.args.logic.now in
+    let programs = c.in_ok-programs.programs.items in
+    let slots = slots_are source c.deref.result.now programs c.all_slots-slots.result c.deref.ensures.value c.in_ok-programs.ensures c.all_slots-slots.ensures in
+    let few = c.if-slots-ge-LAST_SLOTS.false in
+    let size = size_is source c.deref-2.result.now programs c.all_size-size.result c.deref-2.ensures.value c.in_ok-programs.ensures c.all_size-size.ensures in
+    let past = c.if-size-ge-LAST_SIZE.true in (
+      omega arith,
+      omega arith,
+    )
+
+pub returns-then-some_costly : goal.returns-then-some_costly
+returns-then-some_costly c =
+    let source = source_of c.args.logic.now in
+    let programs = c.in_ok-programs.programs.items in
+    let slots = slots_are source c.deref.result.now programs c.all_slots-slots.result c.deref.ensures.value c.in_ok-programs.ensures c.all_slots-slots.ensures in
+    let few = c.if-slots-ge-LAST_SLOTS.false in
+    let size = size_is source c.deref-2.result.now programs c.all_size-size.result c.deref-2.ensures.value c.in_ok-programs.ensures c.all_size-size.ensures in
+    let small = c.if-size-ge-LAST_SIZE.false in
+    let costly = costly_is source c.deref-3.result.now programs c.some_costly.result c.deref-3.ensures.value c.in_ok-programs.ensures c.some_costly.ensures in (
+      omega arith,
+      omega arith,
+      one_past 2000000 (program_costs source) (sym costly ∙ c.if-some_costly.true),
+    )
+
+pub returns : goal.returns
+returns c =
+    let source = source_of c.args.logic.now in
+    let programs = c.in_ok-programs.programs.items in
+    let slots = slots_are source c.deref.result.now programs c.all_slots-slots.result c.deref.ensures.value c.in_ok-programs.ensures c.all_slots-slots.ensures in
+    let few = c.if-slots-ge-LAST_SLOTS.false in
+    let size = size_is source c.deref-2.result.now programs c.all_size-size.result c.deref-2.ensures.value c.in_ok-programs.ensures c.all_size-size.ensures in
+    let small = c.if-size-ge-LAST_SIZE.false in
+    let costly = costly_is source c.deref-3.result.now programs c.some_costly.result c.deref-3.ensures.value c.in_ok-programs.ensures c.some_costly.ensures in
+    record {
+      slots = omega arith;
+      size = omega arith;
+      cost = none_past 2000000 (program_costs source) (sym costly ∙ c.if-some_costly.false);
+    }

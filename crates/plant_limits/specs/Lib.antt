@@ -1,0 +1,4 @@
+pub mod Counts
+pub mod Limits
+pub mod Measures
+pub mod Weighed

@@ -1,0 +1,86 @@
+//! The limits of a source, and what its programs cost.
+
+ghost use Rattle.std.specs.Prelude.{◌≡◌, ◌+◌, min, map, length, nat_lt, IfOk, MatchResult};
+ghost use Rattle.std.specs.List.{sum_by, list_any};
+ghost use Rattle.plant_logic.specs.Source.{source_of};
+ghost use Rattle.plant_logic.specs.Blocks.{AreBelow};
+ghost use Rattle.plant_limits.specs.Counts.{program_costs};
+ghost use Rattle.plant_limits.specs.Limits.{capped, KeepsCost, KeepsLimits, IsLimitFault};
+
+use crate::counting::count_programs;
+use crate::fault::LimitFault;
+use crate::measures::{Counts, LAST_COST, LAST_SIZE, LAST_SLOTS};
+use crate::stopping::{add, count};
+use plant_logic::Logic;
+use std::alloc::{AllocError, Global};
+
+/// The slots of the globals and the programs, up to the last number.
+fn all_slots(logic: &Logic, programs: &[Counts]) -> u64
+    ensures { result ≡ min (length logic.now.globals.items + sum_by (λ program. program.slots) programs.now) 65537 }
+{
+    let mut total = count(LAST_SLOTS, logic.globals.len());
+    for program in programs {
+        total = add(LAST_SLOTS, total, program.slots);
+    }
+    total
+}
+
+/// The size of the programs together, up to the last number.
+fn all_size(programs: &[Counts]) -> u64
+    ensures { result ≡ min (sum_by (λ program. program.size) programs.now) 1000001 }
+{
+    let mut total = 0;
+    for program in programs {
+        total = add(LAST_SIZE, total, program.size);
+    }
+    total
+}
+
+/// Whether the cost of a program is past its limit.
+fn some_costly(programs: &[Counts]) -> bool
+    ensures { result ≡ list_any (λ program. nat_lt 2000000 program.cost) programs.now }
+{
+    for program in programs {
+        if program.cost >= LAST_COST {
+            return true;
+        }
+    }
+    false
+}
+
+/// Judges the limits on slots, size and cost. The order lists the block types, each after those that it declares. An instance that is never
+/// called has its slots, a block type that no program uses counts for nothing. Its steps are as many as the text is long.
+///
+/// The error is the first limit that the source is past, or `Memory` where allocation failed.
+pub fn limits(alloc: Global, logic: &Logic, order: &[usize]) -> Result<(), LimitFault>
+    requires { AreBelow (source_of logic.now).blocks order.now }
+    ensures { MatchResult result (λ _. KeepsLimits (source_of logic.now)) (IsLimitFault (source_of logic.now)) }
+{
+    let programs = count_programs(alloc, logic, order)?;
+    let slots = all_slots(logic, &programs);
+    if slots >= LAST_SLOTS {
+        return Err(LimitFault::Slots);
+    }
+    let size = all_size(&programs);
+    if size >= LAST_SIZE {
+        return Err(LimitFault::Size);
+    }
+    if some_costly(&programs) {
+        return Err(LimitFault::Cost);
+    }
+    Ok(())
+}
+
+/// What each program costs, in order; 2,000,001 for one that costs more than 2,000,000. Fails if allocation fails.
+pub fn costs(alloc: Global, logic: &Logic, order: &[usize]) -> Result<Vec<u64>, AllocError>
+    requires { AreBelow (source_of logic.now).blocks order.now }
+    ensures stopped { IfOk result (λ costs. costs.items ≡ map (capped 2000000) (program_costs (source_of logic.now))) }
+    ensures kept { IfOk result (λ costs. KeepsCost (source_of logic.now) → costs.items ≡ program_costs (source_of logic.now)) }
+{
+    let programs = count_programs(alloc, logic, order)?;
+    let mut costs = Vec::new(alloc);
+    for program in &programs {
+        costs.push(program.cost)?;
+    }
+    Ok(costs)
+}
