@@ -1,5 +1,5 @@
 -- What stands where in the lists of all values and all standard blocks.
-use Rattle.std.proofs.Common.{◌≡◌, ◌∙◌, ap, sym, subst, refl, arith, ℕ, ℤ, zero, suc, ◌+◌, ◌<◌, Bool, true, false, List, [], ◌∷◌, ◌++◌, map, length, get_or, Option, Some, None, slice_get}
+use Rattle.std.proofs.Common.{◌≡◌, ◌∙◌, ap, sym, subst, refl, arith, ℕ, ℤ, zero, suc, ◌+◌, List, [], ◌∷◌, ◌++◌, map, length, get_or, Option, Some, None, slice_get}
 use Rattle.std.specs.Prelude.{is_some, option_map, if◌then◌else◌, slice_set}
 use Rattle.std.specs.Option.{option_map_or}
 use Rattle.std.specs.Str.{bytes_eq}
@@ -18,9 +18,9 @@ use Rattle.plant_logic.specs.declared.logic.BlockRef.TheVariants.{Ton, Tof, RTri
 use Rattle.plant_logic.specs.Source.{PlainRoutine, Source}
 use Rattle.plant_logic.specs.Names.{global_words, own_words, find_word}
 use Rattle.plant_logic.specs.Blocks.{levels}
-use Rattle.plant_logic.specs.Worlds.{Path, World, words_of, path_of, path_in, assign, with_call, same_path}
-use Rattle.plant_logic.specs.Layout.{ClockAt, block_values, instance_values, own_values, values_rule, routine_values, block_clocks, instance_clocks, clocks_rule, routine_clocks, global_values, program_values, program_clocks, cell_paths, all_clocks, clock_paths, Stands, NoneTwice, IsDistinctlyNamed}
-use Rattle.plant_logic.specs.Seats.{StandsFrom, value_count, clock_count, values_before, clocks_before, value_offset, clock_offset, program_values_before, program_clocks_before, program_values_base, program_clocks_base, own_or_global, value_number}
+use Rattle.plant_logic.specs.Worlds.{Path, World, words_of, path_of, path_in, assign, with_call}
+use Rattle.plant_logic.specs.Layout.{ClockAt, block_values, instance_values, own_values, values_rule, routine_values, block_clocks, instance_clocks, clocks_rule, routine_clocks, global_values, program_values, program_clocks, cell_paths, all_clocks, clock_paths, Stands, IsDistinctlyNamed}
+use Rattle.plant_logic.specs.Seats.{StandsFrom, value_count, clock_count, values_before, clocks_before, value_offset, program_values_before, program_clocks_before, program_values_base, program_clocks_base, own_or_global, value_number}
 use Rattle.plant_logic.proofs.Paths.{written}
 use Rattle.plant_logic.proofs.Layouts.{cells_once, clocks_once}
 
