@@ -35,7 +35,10 @@ pub fn serve_files<R: Files + Input + Print + Eprint + Wait + AllocGlobal>(
     let mut feed = Reading::new(rt.reader());
     let mut sink = Writing::new(io::writer(rt));
     let folder = Disk { files: rt };
-    ended(rt, run_from(rt, rt.alloc(), &folder, path, &mut feed, &mut sink))
+    ended(
+        rt,
+        run_from(rt, rt.alloc(), &folder, path, &mut feed, &mut sink),
+    )
 }
 
 /// Serves the example plant over standard input and output.
@@ -43,5 +46,16 @@ pub fn serve_example<R: Input + Print + Eprint + Wait + AllocGlobal>(rt: &R) -> 
     let mut feed = Reading::new(rt.reader());
     let mut sink = Writing::new(io::writer(rt));
     let sources = [(SOURCE_NAME, SOURCE)];
-    ended(rt, run(rt, rt.alloc(), PLANT, &sources, ALARMS, &mut feed, &mut sink))
+    ended(
+        rt,
+        run(
+            rt,
+            rt.alloc(),
+            PLANT,
+            &sources,
+            ALARMS,
+            &mut feed,
+            &mut sink,
+        ),
+    )
 }
