@@ -3,86 +3,59 @@
 use crate::example::{ALARMS, PLANT, SOURCE, SOURCE_NAME};
 use crate::prints::stopped;
 use command_line::Ended;
-use engine::Engine;
-use plant_config::Plant;
-use serving::{Disk, Reading, ServeFault, Writing, admit, admit_from, serve};
+use serving::{Disk, Reading, RunEnd, ServeFault, Writing, admit_from, run, run_from};
 use std::io;
 use std::rt::Files;
 use std::sync::Wait;
 
-/// Reads a plant from its files, and writes on standard output why it is refused; or that it is accepted, where that is asked for.
-fn read<R: Files + Print + AllocGlobal>(
-    rt: &R,
-    path: &str,
-    accepted: bool,
-) -> Result<Option<Plant>, ServeFault> {
-    admit_from(
-        rt.alloc(),
-        &Disk { files: rt },
-        path,
-        accepted,
-        &mut Writing::new(io::writer(rt)),
-    )
-}
-
-/// Serves standard input.
-fn serve_input<R: Input + Print + Eprint + Wait + AllocGlobal>(
-    rt: &R,
-    engine: &mut Engine,
-) -> Ended {
-    let mut feed = Reading::new(rt.reader());
-    let mut sink = Writing::new(io::writer(rt));
-    match serve(rt, rt.alloc(), engine, &mut feed, &mut sink) {
-        Ok(()) => Ended::Done,
+/// How the program ends after a run.
+fn ended<R: Eprint>(rt: &R, run: Result<RunEnd, ServeFault>) -> Ended {
+    match run {
+        Ok(RunEnd::Served) => Ended::Done,
+        Ok(RunEnd::Refused) => Ended::Refused,
         Err(fault) => stopped(rt, fault),
-    }
-}
-
-/// Serves a plant, if there is one.
-fn serve_plant<R: Input + Print + Eprint + Wait + AllocGlobal>(
-    rt: &R,
-    plant: Option<Plant>,
-) -> Ended {
-    let Some(plant) = plant else {
-        return Ended::Refused;
-    };
-    match Engine::new(rt.alloc(), plant) {
-        Ok(mut engine) => serve_input(rt, &mut engine),
-        Err(_) => stopped(rt, ServeFault::Memory),
     }
 }
 
 /// Tells whether the plant of a plant file's path is accepted.
 pub fn check<R: Files + Print + Eprint + AllocGlobal>(rt: &R, path: &str) -> Ended {
-    match read(rt, path, true) {
+    let mut sink = Writing::new(io::writer(rt));
+    match admit_from(rt.alloc(), &Disk { files: rt }, path, true, &mut sink) {
         Ok(Some(_)) => Ended::Done,
         Ok(None) => Ended::Refused,
         Err(fault) => stopped(rt, fault),
     }
 }
 
-/// Serves the plant of a plant file's path.
+/// Serves the plant of a plant file's path over standard input and output.
 pub fn serve_files<R: Files + Input + Print + Eprint + Wait + AllocGlobal>(
     rt: &R,
     path: &str,
 ) -> Ended {
-    match read(rt, path, false) {
-        Ok(plant) => serve_plant(rt, plant),
-        Err(fault) => stopped(rt, fault),
-    }
+    let mut feed = Reading::new(rt.reader());
+    let mut sink = Writing::new(io::writer(rt));
+    let folder = Disk { files: rt };
+    ended(
+        rt,
+        run_from(rt, rt.alloc(), &folder, path, &mut feed, &mut sink),
+    )
 }
 
-/// Serves the example plant.
+/// Serves the example plant over standard input and output.
 pub fn serve_example<R: Input + Print + Eprint + Wait + AllocGlobal>(rt: &R) -> Ended {
-    match admit(
-        rt.alloc(),
-        PLANT,
-        &[(SOURCE_NAME, SOURCE)],
-        ALARMS,
-        false,
-        &mut Writing::new(io::writer(rt)),
-    ) {
-        Ok(plant) => serve_plant(rt, plant),
-        Err(fault) => stopped(rt, fault),
-    }
+    let mut feed = Reading::new(rt.reader());
+    let mut sink = Writing::new(io::writer(rt));
+    let sources = [(SOURCE_NAME, SOURCE)];
+    ended(
+        rt,
+        run(
+            rt,
+            rt.alloc(),
+            PLANT,
+            &sources,
+            ALARMS,
+            &mut feed,
+            &mut sink,
+        ),
+    )
 }

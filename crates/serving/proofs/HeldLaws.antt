@@ -11,7 +11,7 @@ use Rattle.command_text.specs.Commands.{command_of}
 use Rattle.command_text.proofs.ShortLaws.{command_of-short}
 use Rattle.serving.specs.Input.{has_lf, after_last_lf, without_cr, ended_lines, last_line, lines_of}
 use Rattle.serving.specs.declared.fault.ServeFault.{ServeFault}
-use Rattle.serving.specs.Session.{Answered, Stopped, Serves, IsHeld}
+use Rattle.serving.specs.Session.{Answered, Stopped, Serves, IsHeld, HasTaken}
 use Rattle.serving.proofs.InputLaws.{after_last_lf-none, after_last_lf-lf, after_last_lf-any, has_lf-after_last_lf, after_last_lf-more, ended_lines-more, ended_lines-none, ended_lines-lf, has_lf-append}
 use Rattle.serving.proofs.SessionLaws.{answered-none, answered-more, stopped-none, stopped-more, stopped-longer}
 
@@ -103,13 +103,8 @@ module _ (plant plant' : PlainPlant) (input : List ℕ) (h₀ h₁ h₂ : List E
 
 -- ---- the parts of a piece: a front that was taken, a line with its LF, and what comes then
 
--- the bytes held, and a front of the piece: its lines are answered, and what follows them is held
-pub record Taken (plant : PlainPlant) (input held : List ℕ) (h₀ h₁ : List Event) (w₀ w₁ : Option (List ℕ)) : Type 0 where
-  pub answered : Answered plant (ended_lines input) h₀ h₁ w₀ w₁
-  pub holds : IsHeld (after_last_lf input) held
-
 -- bytes without LF
-pub taken-hold : (plant : PlainPlant) (raw held bytes held' : List ℕ) (h : List Event) (w : Option (List ℕ)) → IsHeld raw held → has_lf bytes ≡ false → held' ≡ take 1048578 (held ++ bytes) → Taken plant (raw ++ bytes) held' h h w w
+pub taken-hold : (plant : PlainPlant) (raw held bytes held' : List ℕ) (h : List Event) (w : Option (List ℕ)) → IsHeld raw held → has_lf bytes ≡ false → held' ≡ take 1048578 (held ++ bytes) → HasTaken plant (raw ++ bytes) held' h h w w
 taken-hold plant raw held bytes held' h w k n e =
     let none : has_lf (raw ++ bytes) ≡ false = has_lf-append raw bytes k.no_lf n in
     record {
@@ -117,17 +112,17 @@ taken-hold plant raw held bytes held' h w k n e =
       holds = subst (λ (xs : List ℕ). IsHeld xs held') (sym (after_last_lf-none (raw ++ bytes) none)) (record { no_lf = none; held_is = e ∙ held-more raw held bytes k });
     }
 
-pub taken-none : (plant : PlainPlant) (raw held : List ℕ) (h : List Event) (w : Option (List ℕ)) → IsHeld raw held → Taken plant (raw ++ []) held h h w w
+pub taken-none : (plant : PlainPlant) (raw held : List ℕ) (h : List Event) (w : Option (List ℕ)) → IsHeld raw held → HasTaken plant (raw ++ []) held h h w w
 taken-none plant raw held h w k =
     taken-hold plant raw held [] held h w k refl (k.held_is ∙ sym (take-take 1048578 1048578 raw (omega arith)) ∙ sym (ap (λ (xs : List ℕ). take 1048578 xs) (append-nil held ∙ k.held_is)))
 
 -- nothing was read yet
-pub taken-nothing : (plant : PlainPlant) (h : List Event) (w : Option (List ℕ)) → Taken plant [] [] h h w w
+pub taken-nothing : (plant : PlainPlant) (h : List Event) (w : Option (List ℕ)) → HasTaken plant [] [] h h w w
 taken-nothing plant h w = record { answered = answered-none plant h w; holds = record { no_lf = refl; held_is = refl } }
 
 -- an input, and then a piece
-pub taken-piece : (plant plant' : PlainPlant) (input piece held held' : List ℕ) (h₀ h₁ h₂ : List Event) (w₀ w₁ w₂ : Option (List ℕ)) → plant' ≡ plant → Taken plant input held h₀ h₁ w₀ w₁
-    → Answered plant' (ended_lines (after_last_lf input ++ piece)) h₁ h₂ w₁ w₂ → IsHeld (after_last_lf (after_last_lf input ++ piece)) held' → Taken plant (input ++ piece) held' h₀ h₂ w₀ w₂
+pub taken-piece : (plant plant' : PlainPlant) (input piece held held' : List ℕ) (h₀ h₁ h₂ : List Event) (w₀ w₁ w₂ : Option (List ℕ)) → plant' ≡ plant → HasTaken plant input held h₀ h₁ w₀ w₁
+    → Answered plant' (ended_lines (after_last_lf input ++ piece)) h₁ h₂ w₁ w₂ → IsHeld (after_last_lf (after_last_lf input ++ piece)) held' → HasTaken plant (input ++ piece) held' h₀ h₂ w₀ w₂
 taken-piece plant plant' input piece held held' h₀ h₁ h₂ w₀ w₁ w₂ same before a k = record {
   answered = answered-input plant plant' input piece h₀ h₁ h₂ w₀ w₁ w₂ same before.answered a;
   holds = held-more_input input piece held' k;
@@ -152,11 +147,11 @@ serves-bytes r raw held line e₀ e₁ w₀ w₁ k n q = subst (λ (ls : List (L
 stopped-further : (plant : PlainPlant) (xs ys : List ℕ) (h₀ h₁ : List Event) (w₀ w₁ : Option (List ℕ)) → Stopped plant (ended_lines xs) h₀ h₁ w₀ w₁ → Stopped plant (ended_lines (xs ++ ys)) h₀ h₁ w₀ w₁
 stopped-further plant xs ys h₀ h₁ w₀ w₁ q = subst (λ (ls : List (List ℕ)). Stopped plant ls h₀ h₁ w₀ w₁) (sym (ended_lines-more xs ys)) (stopped-longer plant (ended_lines xs) (ended_lines (after_last_lf xs ++ ys)) h₀ h₁ w₀ w₁ q)
 
-module _ (plant plant' : PlainPlant) (raw front held : List ℕ) (h₀ h₁ h₂ : List Event) (w₀ w₁ w₂ : Option (List ℕ)) (same : plant' ≡ plant) (before : Taken plant (raw ++ front) held h₀ h₁ w₀ w₁) where
+module _ (plant plant' : PlainPlant) (raw front held : List ℕ) (h₀ h₁ h₂ : List Event) (w₀ w₁ w₂ : Option (List ℕ)) (same : plant' ≡ plant) (before : HasTaken plant (raw ++ front) held h₀ h₁ w₀ w₁) where
   -- a line with its LF, after which nothing is held
-  pub taken-line : (line held' : List ℕ) → held' ≡ [] → Answered plant' (ended_lines (after_last_lf (raw ++ front) ++ (line ++ 10 ∷ []))) h₁ h₂ w₁ w₂ → Taken plant (raw ++ (front ++ (line ++ 10 ∷ []))) held' h₀ h₂ w₀ w₂
+  pub taken-line : (line held' : List ℕ) → held' ≡ [] → Answered plant' (ended_lines (after_last_lf (raw ++ front) ++ (line ++ 10 ∷ []))) h₁ h₂ w₁ w₂ → HasTaken plant (raw ++ (front ++ (line ++ 10 ∷ []))) held' h₀ h₂ w₀ w₂
   taken-line line held' e a =
-      subst (λ (xs : List ℕ). Taken plant xs held' h₀ h₂ w₀ w₂) (append_assoc raw front (line ++ 10 ∷ []))
+      subst (λ (xs : List ℕ). HasTaken plant xs held' h₀ h₂ w₀ w₂) (append_assoc raw front (line ++ 10 ∷ []))
       (record {
         answered = answered-input plant plant' (raw ++ front) (line ++ 10 ∷ []) h₀ h₁ h₂ w₀ w₁ w₂ same before.answered a;
         holds = subst (λ (xs : List ℕ). IsHeld xs held') (sym (ap after_last_lf (sym (append_assoc (raw ++ front) line (10 ∷ []))) ∙ after_last_lf-any ((raw ++ front) ++ line))) (record { no_lf = refl; held_is = e });
@@ -169,17 +164,17 @@ module _ (plant plant' : PlainPlant) (raw front held : List ℕ) (h₀ h₁ h₂
       (stopped-further plant ((raw ++ front) ++ line) more h₀ h₂ w₀ w₂ (stopped-input plant plant' (raw ++ front) line h₀ h₁ h₂ w₀ w₁ w₂ same before.answered s))
 
 -- the rest of a piece, without LF
-pub taken-rest : (plant : PlainPlant) (raw front rest held held' : List ℕ) (h₀ h₁ : List Event) (w₀ w₁ : Option (List ℕ)) → Taken plant (raw ++ front) held h₀ h₁ w₀ w₁ → has_lf rest ≡ false → held' ≡ take 1048578 (held ++ rest)
-    → Taken plant (raw ++ (front ++ rest)) held' h₀ h₁ w₀ w₁
+pub taken-rest : (plant : PlainPlant) (raw front rest held held' : List ℕ) (h₀ h₁ : List Event) (w₀ w₁ : Option (List ℕ)) → HasTaken plant (raw ++ front) held h₀ h₁ w₀ w₁ → has_lf rest ≡ false → held' ≡ take 1048578 (held ++ rest)
+    → HasTaken plant (raw ++ (front ++ rest)) held' h₀ h₁ w₀ w₁
 taken-rest plant raw front rest held held' h₀ h₁ w₀ w₁ before n e =
-    let t : Taken plant (after_last_lf (raw ++ front) ++ rest) held' h₁ h₁ w₁ w₁ = taken-hold plant (after_last_lf (raw ++ front)) held rest held' h₁ w₁ before.holds n e in
-    subst (λ (xs : List ℕ). Taken plant xs held' h₀ h₁ w₀ w₁) (append_assoc raw front rest)
+    let t : HasTaken plant (after_last_lf (raw ++ front) ++ rest) held' h₁ h₁ w₁ w₁ = taken-hold plant (after_last_lf (raw ++ front)) held rest held' h₁ w₁ before.holds n e in
+    subst (λ (xs : List ℕ). HasTaken plant xs held' h₀ h₁ w₀ w₁) (append_assoc raw front rest)
     (record {
       answered = answered-input plant plant (raw ++ front) rest h₀ h₁ h₁ w₀ w₁ w₁ refl before.answered t.answered;
       holds = held-more_input (raw ++ front) rest held' t.holds;
     })
 
-pub stopped-rest : (plant : PlainPlant) (raw front more held : List ℕ) (h₀ h₁ : List Event) (w₀ w₁ : Option (List ℕ)) → Taken plant (raw ++ front) held h₀ h₁ w₀ w₁ → Stopped plant (ended_lines (raw ++ (front ++ more))) h₀ h₁ w₀ w₁
+pub stopped-rest : (plant : PlainPlant) (raw front more held : List ℕ) (h₀ h₁ : List Event) (w₀ w₁ : Option (List ℕ)) → HasTaken plant (raw ++ front) held h₀ h₁ w₀ w₁ → Stopped plant (ended_lines (raw ++ (front ++ more))) h₀ h₁ w₀ w₁
 stopped-rest plant raw front more held h₀ h₁ w₀ w₁ before =
     subst (λ (xs : List ℕ). Stopped plant (ended_lines xs) h₀ h₁ w₀ w₁) (append_assoc raw front more) (stopped-stays plant (raw ++ front) more h₀ h₁ w₀ w₁ before.answered)
 

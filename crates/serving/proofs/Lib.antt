@@ -5,3 +5,4 @@ pub mod HeldLaws
 pub mod AnswerLaws
 pub mod FetchLaws
 pub mod AdmitLaws
+pub mod RunLaws

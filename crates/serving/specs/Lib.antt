@@ -5,3 +5,4 @@ pub mod Faults
 pub mod Laws
 pub mod Fetches
 pub mod Admits
+pub mod Runs

@@ -41,6 +41,27 @@ pub record IsHeld (raw held : List ℕ) : Type 0 where
   pub no_lf : has_lf raw ≡ false
   pub held_is : held ≡ take 1048578 raw
 
+-- a session so far: the lines that ended in the input took effect and were answered, and what follows the last of them is held
+pub record HasTaken (plant : PlainPlant) (input held : List ℕ) (h₀ h₁ : List Event) (w₀ w₁ : Option (List ℕ)) : Type 0 where
+  pub answered : Answered plant (ended_lines input) h₀ h₁ w₀ w₁
+  pub holds : IsHeld (after_last_lf input) held
+
+-- a step with a piece of the input: whatever the session had taken, it has taken the piece too
+abbrev pub Goes : PlainPlant → (piece old new : List ℕ) → (h₁ h₂ : List Event) → (w₁ w₂ : Option (List ℕ)) → Type 0
+Goes plant piece old new h₁ h₂ w₁ w₂ =
+    (input : List ℕ) (h₀ : List Event) (w₀ : Option (List ℕ)) → HasTaken plant input old h₀ h₁ w₀ w₁ → HasTaken plant (input ++ piece) new h₀ h₂ w₀ w₂
+
+-- a step at the end of the input: whatever the session had taken, all lines of it are answered, the last one too
+abbrev pub Ends : PlainPlant → (old : List ℕ) → (h₁ h₂ : List Event) → (w₁ w₂ : Option (List ℕ)) → Type 0
+Ends plant old h₁ h₂ w₁ w₂ =
+    (input : List ℕ) (h₀ : List Event) (w₀ : Option (List ℕ)) → HasTaken plant input old h₀ h₁ w₀ w₁ → Answered plant (lines_of input) h₀ h₂ w₀ w₂
+
+-- a step that failed: whatever the session had taken, it stopped within the lines that were read with the piece
+abbrev pub Stops : PlainPlant → (piece : List ℕ) → (remaining : Option (List ℕ)) → (old : List ℕ) → (h₁ h₂ : List Event) → (w₁ w₂ : Option (List ℕ)) → Type 0
+Stops plant piece remaining old h₁ h₂ w₁ w₂ =
+    (input : List ℕ) (h₀ : List Event) (w₀ : Option (List ℕ)) → HasTaken plant input old h₀ h₁ w₀ w₁
+    → (lines : List (List ℕ)) × AreRead remaining (input ++ piece) lines × Stopped plant lines h₀ h₂ w₀ w₂
+
 -- these lines were answered where the result is Ok, and where it is Err the session stopped within them
 abbrev pub Serves : {T : Type 0} → Result T ServeFault → List (List ℕ) → PlainEngine → PlainEngine → Option (List ℕ) → Option (List ℕ) → Type 0
 Serves result lines e₀ e₁ w₀ w₁ = OnOk result (Answered e₀.plant lines e₀.history e₁.history w₀ w₁) × OnErr result (Stopped e₀.plant lines e₀.history e₁.history w₀ w₁)

@@ -3,7 +3,7 @@ ghost use Rattle.std.specs.Io.KnownBytes.{Appends, Consumes, ReadConsumes, IsAtE
 ghost use Rattle.command_text.specs.Commands.{command_of};
 ghost use Rattle.serving.specs.Input.{has_lf, without_cr, after_last_lf, ended_lines, last_line, lines_of};
 ghost use Rattle.serving.specs.Faults.{is_read, is_write};
-ghost use Rattle.serving.specs.Session.{Answered, Stopped, Serves, Continues, IsHeld, AreRead, out_text};
+ghost use Rattle.serving.specs.Session.{Answered, Stopped, Serves, Continues, IsHeld, AreRead, Goes, Ends, Stops, out_text};
 
 use crate::answer::answer_line;
 use crate::fault::ServeFault;
@@ -12,6 +12,7 @@ use command_text::Pool;
 use engine::Engine;
 use memchr::memchr;
 use std::alloc::{AllocError, Global};
+use std::marker::Model;
 use std::sync::Wait;
 
 /// How many bytes are asked of the feed at once.
@@ -95,17 +96,17 @@ fn hold(held: &mut Vec<u8>, bytes: &[u8]) -> Result<(), AllocError>
     held.extend_from_slice(kept)
 }
 
-/// What a session keeps between two pieces of its input: the bytes of a line that hasn't ended yet, and room for an answer and for
-/// the pairs of a line.
+/// What is kept between two pieces of an input: the bytes of a line that hasn't ended yet, and room for an answer and for the pairs of a
+/// line.
 #[derive(Drop)]
-struct Session {
+struct Lines {
     alloc: Global,
     held: Vec<u8>,
     text: Vec<u8>,
     pool: Pool,
 }
 
-impl Session {
+impl Lines {
     /// Takes the bytes of the input up to an LF, and answers the line that ends there.
     fn take_line<S: Sink>(
         &mut self,
@@ -167,6 +168,7 @@ impl Session {
     /// Answers the last line of the input, which has no LF; there is none if nothing is held.
     fn take_end<S: Sink>(&mut self, engine: &mut Engine, sink: &mut S) -> Result<(), ServeFault>
         ensures continues { Continues result engine.old engine.new (S.broken sink.old) (S.broken sink.new) }
+        ensures held { OnOk result (self.new.held.items ≡ []) }
         ensures serves { (raw : List ℕ) → IsHeld raw self.old.held.items
             → Serves result (last_line raw) engine.old engine.new (S.written sink.old) (S.written sink.new) }
     {
@@ -180,7 +182,9 @@ impl Session {
             &mut self.pool,
             &mut self.text,
             self.held.as_slice(),
-        )
+        )?;
+        self.held.clear();
+        Ok(())
     }
 }
 
@@ -199,6 +203,85 @@ pub(crate) fn fill<F: Feed>(feed: &mut F, piece: &mut Vec<u8>) -> Result<usize, 
     ensures broken { F.broken feed.new ≡ (F.broken feed.old || is_err result) }
 {
     feed.read(piece.as_mut_slice())
+}
+
+/// How a step of a session went.
+#[derive(Clone, Copy, Debug, PartialEq, Eq, Drop)]
+pub enum Step {
+    /// Bytes were read, and the lines that ended in them were answered.
+    More,
+    /// The input has ended, and its last line was answered.
+    Ended,
+}
+
+/// A session with an engine: what it has read of a line that hasn't ended yet. Contracts see these bytes.
+#[derive(Drop)]
+pub struct Session {
+    lines: Lines,
+    /// Room for what is read at once.
+    piece: Vec<u8>,
+}
+
+impl Model for Session {
+    ghost use Rattle.std.specs.Prelude.{◌≡◌, ℕ, List, vec_len};
+
+    ghost Value = { List ℕ };
+
+    ghost view = { λ s. s.lines.held.items };
+
+    ghost invariant = { λ s. vec_len s.piece ≡ 65536 };
+}
+
+impl Session {
+    /// A session before its first step. Fails if allocation fails.
+    pub fn new(alloc: Global) -> Result<Session, AllocError>
+        ensures { IfOk result (λ s. s ≡ []) }
+    {
+        let piece = empty_piece(alloc)?;
+        let lines = Lines {
+            alloc,
+            held: Vec::new(alloc),
+            text: Vec::new(alloc),
+            pool: Pool::new(alloc),
+        };
+        Ok(Session { lines, piece })
+    }
+
+    /// Reads once, and answers each line that ends in what was read before the next takes effect; at the end of the input it answers the
+    /// last line. Whenever a step has returned `Ok`, what was written is exactly the text for all lines that have ended so far.
+    ///
+    /// Returns `Memory` only where an allocation failed, and `Read` and `Write` only where the feed or the sink failed in this call. After
+    /// an error a beginning of the lines took effect, and the session is of no more use. It waits where its feed waits.
+    pub fn step<F: Feed, S: Sink>(
+        &mut self,
+        engine: &mut Engine,
+        feed: &mut F,
+        sink: &mut S,
+    ) -> Result<Step, ServeFault>
+        requires feed { F.broken feed.old ≡ false }
+        requires sink { S.broken sink.old ≡ false }
+        ensures plant { engine.new.plant ≡ engine.old.plant }
+        ensures more { IfOk result (λ step. step ≡ Step.More → (piece : List ℕ) × Consumes (F.remaining feed.old) (F.remaining feed.new) piece
+            × Goes engine.old.plant piece self.old self.new engine.old.history engine.new.history (S.written sink.old) (S.written sink.new)) }
+        ensures ended { IfOk result (λ step. step ≡ Step.Ended → Consumes (F.remaining feed.old) (F.remaining feed.new) [] × IsAtEnd (F.remaining feed.new) × (self.new ≡ [])
+            × Ends engine.old.plant self.old engine.old.history engine.new.history (S.written sink.old) (S.written sink.new)) }
+        ensures err { OnErr result ((piece : List ℕ) × Consumes (F.remaining feed.old) (F.remaining feed.new) piece
+            × Stops engine.old.plant piece (F.remaining feed.new) self.old engine.old.history engine.new.history (S.written sink.old) (S.written sink.new)) }
+        ensures cut { IsErrOf result ServeFault.Read → Consumes (F.remaining feed.old) (F.remaining feed.new) [] × (engine.new.history ≡ engine.old.history) × (S.written sink.new ≡ S.written sink.old) }
+        ensures read { F.broken feed.new ≡ is_read result }
+        ensures write { S.broken sink.new ≡ is_write result }
+    {
+        let Ok(n) = fill(feed, &mut self.piece) else {
+            return Err(ServeFault::Read);
+        };
+        if n == 0 {
+            self.lines.take_end(engine, sink)?;
+            return Ok(Step::Ended);
+        }
+        let (now, _) = self.piece.as_slice().split_at(n);
+        self.lines.take_piece(engine, sink, now)?;
+        Ok(Step::More)
+    }
 }
 
 /// Answers the lines of a feed until its end. Each answer is written before the next line takes effect and before more is read.
@@ -236,22 +319,12 @@ pub fn serve<H: Wait, F: Feed, S: Sink>(
     ensures read { F.broken feed.new ≡ is_read result }
     ensures write { S.broken sink.new ≡ is_write result }
 {
-    let mut session = Session {
-        alloc,
-        held: Vec::new(alloc),
-        text: Vec::new(alloc),
-        pool: Pool::new(alloc),
-    };
-    let mut piece = empty_piece(alloc)?;
+    let mut session = Session::new(alloc)?;
     for _ in rt.forever() {
-        let Ok(n) = fill(feed, &mut piece) else {
-            return Err(ServeFault::Read);
-        };
-        if n == 0 {
-            return session.take_end(engine, sink);
+        match session.step(engine, feed, sink)? {
+            Step::More => {}
+            Step::Ended => return Ok(()),
         }
-        let (now, _) = piece.as_slice().split_at(n);
-        session.take_piece(engine, sink, now)?;
     }
     unreachable!()
 }

@@ -1,6 +1,6 @@
-use Rattle.std.proofs.Common.{◌≡◌, List, ℕ, false, vec_len}
+use Rattle.std.proofs.Common.{◌≡◌, List, ℕ, false}
 use Rattle.std.specs.Io.KnownBytes.{Consumes}
-use Rattle.serving.proofs.HeldLaws.{Taken}
+use Rattle.serving.specs.Session.{HasTaken}
 use Rattle.serving.proofs.session.serve.Given as goal
 
 -- the lines that ended in what was read are answered, and what follows them is held
@@ -8,9 +8,8 @@ abbrev pub invariant-loop : goal.invariant-loop
 invariant-loop g l = record {
   goes : (goal.iterator-loop g).can_next l.iterator' × (goal.iterator-loop g).is_finite l.iterator';
   so_far : (input : List ℕ) × Consumes (g.F.Feed.remaining l.fn.feed) (g.F.Feed.remaining l.feed) input
-      × Taken l.fn.engine.plant input l.session.held.items l.fn.engine.history l.engine.history (g.S.Sink.written l.fn.sink) (g.S.Sink.written l.sink);
+      × HasTaken l.fn.engine.plant input l.session l.fn.engine.history l.engine.history (g.S.Sink.written l.fn.sink) (g.S.Sink.written l.sink);
   plant : l.engine.plant ≡ l.fn.engine.plant;
   feed : g.F.Feed.broken l.feed ≡ false;
   sink : g.S.Sink.broken l.sink ≡ false;
-  room : vec_len l.piece ≡ 65536;
 }

@@ -4,7 +4,7 @@ use Rattle.command_text.specs.Commands.{command_of}
 use Rattle.serving.specs.Input.{without_cr}
 use Rattle.serving.proofs.SessionLaws.{stopped-none}
 use Rattle.serving.proofs.HeldLaws.{empty_vec, bare_line, held_line, held_short, answered-bytes, stopped-bytes, serves-bytes}
-use Rattle.serving.proofs.session.Session.take_line.Goals as goal
+use Rattle.serving.proofs.session.Lines.take_line.Goals as goal
 
 pub returns-then-is_empty-clause-serves : goal.returns-then-is_empty-clause-serves
 returns-then-is_empty-clause-serves g c = λ raw k.

@@ -3,7 +3,7 @@ use Rattle.std.proofs.Math.Bool.{or-false}
 use Rattle.std.proofs.lemmas.Result.{err_from_is_err_and}
 use Rattle.serving.specs.Input.{after_last_lf}
 use Rattle.serving.proofs.HeldLaws.{held_short, piece_is, taken-none, taken-line, taken-rest, stopped-front, stopped-rest}
-use Rattle.serving.proofs.session.Session.take_piece.Goals as goal
+use Rattle.serving.proofs.session.Lines.take_piece.Goals as goal
 
 pub loop-line-init : goal.loop-line-init
 loop-line-init g c = record { so_far = ([], refl, λ raw k. taken-none _ raw _ _ _ k); plant = refl; sink = refl }

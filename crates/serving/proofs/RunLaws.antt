@@ -1,0 +1,56 @@
+-- What a run did, by what was told of its plant and what its session did.
+use Rattle.std.proofs.Common.{◌≡◌, ℕ, false, List, [], subst, refl, sym, Option, Some, None, Ok, Err, inl, inr}
+use Rattle.std.specs.Io.KnownBytes.{Appends}
+use Rattle.std.proofs.KnownBytes.{Appends-trans}
+use Rattle.std.proofs.lemmas.Option.{none-some}
+use Rattle.plant_config.specs.Plants.{PlainPlant}
+use Rattle.plant_config.specs.Files.{Texts}
+use Rattle.serving.specs.declared.fault.ServeFault.{ServeFault}
+use Rattle.serving.specs.declared.runs.RunEnd.TheVariants as run_end
+use Rattle.serving.specs.Admits.{IsVerdict, IsFilesVerdict, IsTold}
+use Rattle.serving.specs.Fetches.{Finds}
+use Rattle.serving.specs.Runs.{IsServed, IsStopped, IsRun}
+use Rattle.serving.proofs.SessionLaws.{stopped-more}
+
+-- a verdict has no line beside a plant
+abbrev pub IsQuiet : (Option PlainPlant → List ℕ → Type 0) → Type 0
+IsQuiet verdict = (plant : PlainPlant) (line : List ℕ) → verdict (Some plant) line → line ≡ []
+
+pub quiet-texts : (texts : Texts) → IsQuiet (IsVerdict texts false)
+quiet-texts texts plant line v = v.1
+
+pub quiet-files : (finds : Finds) (path : List ℕ) → IsQuiet (IsFilesVerdict finds path false)
+quiet-files finds path plant line (inl v) = v.2.1
+quiet-files finds path plant line (inr v) = absurd (none-some plant (sym v.3))
+
+module _ (verdict : Option PlainPlant → List ℕ → Type 0) (quiet : IsQuiet verdict) (plant : PlainPlant) (r₀ r₁ w₀ w w₁ : Option (List ℕ)) (told : IsTold verdict w₀ w (Ok (Some plant))) where
+  -- the plant was told of, and its session served
+  pub run-served : IsServed plant r₀ r₁ w w₁ → IsRun verdict r₀ r₁ w₀ w₁ (Ok run_end.Served)
+  run-served s =
+      let bare = quiet plant told.0 told.1 in (
+        plant,
+        subst (verdict (Some plant)) bare told.1,
+        record {
+          input = s.input;
+          read = s.read;
+          at_end = s.at_end;
+          wrote = Appends-trans w₀ w w₁ [] _ (subst (Appends w₀ w) bare told.2) s.wrote;
+        },
+      )
+
+  -- the plant was told of, and its session stopped
+  pub run-stopped : (e : ServeFault) → IsStopped plant r₀ r₁ w w₁ → IsRun verdict r₀ r₁ w₀ w₁ (Err e)
+  run-stopped e s =
+      let bare = quiet plant told.0 told.1 in
+      inr (
+        plant,
+        subst (verdict (Some plant)) bare told.1,
+        record {
+          input = s.input;
+          lines = s.lines;
+          history = s.history;
+          read = s.read;
+          are_read = s.are_read;
+          stopped = stopped-more plant [] s.lines [] [] s.history w₀ w w₁ (record { history_is = refl; wrote = subst (Appends w₀ w) bare told.2 }) s.stopped;
+        },
+      )

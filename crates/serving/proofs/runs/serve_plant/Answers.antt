@@ -1,0 +1,18 @@
+use Rattle.std.proofs.Common.{[], refl, inl}
+use Rattle.std.proofs.KnownBytes.{Consumes-nil}
+use Rattle.std.proofs.lemmas.Result.{on_ok_weaker, on_err_weaker}
+use Rattle.serving.proofs.SessionLaws.{stopped-none}
+use Rattle.serving.proofs.runs.serve_plant.Goals as goal
+
+pub returns-in-Ok-clause-ok : goal.returns-in-Ok-clause-ok
+returns-in-Ok-clause-ok g c =
+    let done = rw (c.in-Ok.ensures.0, c.in-Ok.ensures.1) at c.serve.ensures.ok in
+    on_ok_weaker c.serve.result (λ a. record { input = a.0; read = a.1; at_end = a.2; wrote = a.3.wrote }) done
+
+pub returns-in-Ok-clause-err : goal.returns-in-Ok-clause-err
+returns-in-Ok-clause-err g c =
+    let cut = rw (c.in-Ok.ensures.0, c.in-Ok.ensures.1) at c.serve.ensures.err in
+    on_err_weaker c.serve.result (λ a. record { input = a.0; lines = a.1; history = c.serve.new.engine.history; read = a.2; are_read = a.3; stopped = a.4 }) cut
+
+pub returns-in-Err-clause-err : goal.returns-in-Err-clause-err
+returns-in-Err-clause-err g c = record { input = []; lines = []; history = []; read = Consumes-nil _; are_read = inl refl; stopped = stopped-none _ _ _ _ _ refl }

@@ -1,0 +1,107 @@
+//! A run: a plant is read, and its session served.
+
+ghost use Rattle.std.specs.Prelude.{◌≡◌, ◌||◌, map, false, OnOk, OnErr};
+ghost use Rattle.plant_config.specs.Files.{texts_of};
+ghost use Rattle.serving.specs.Admits.{IsVerdict, IsFilesVerdict};
+ghost use Rattle.serving.specs.Faults.{is_read, is_write};
+ghost use Rattle.serving.specs.Runs.{IsServed, IsStopped, IsRun};
+
+use crate::fault::ServeFault;
+use crate::folder::Folder;
+use crate::session::serve;
+use crate::streams::{Feed, Sink};
+use crate::verdict::{admit, admit_from};
+use engine::Engine;
+use plant_config::Plant;
+use std::alloc::Global;
+use std::sync::Wait;
+
+/// What came of a run.
+#[derive(Clone, Copy, Debug, PartialEq, Eq, Drop)]
+pub enum RunEnd {
+    /// The plant was served to the end of the input.
+    Served,
+    /// The plant was refused, and nothing was read.
+    Refused,
+}
+
+/// Serves a plant from its first event to the end of the input.
+fn serve_plant<H: Wait, F: Feed, S: Sink>(
+    rt: &H,
+    alloc: Global,
+    plant: Plant,
+    feed: &mut F,
+    sink: &mut S,
+) -> Result<(), ServeFault>
+    requires feed { F.broken feed.old ≡ false }
+    requires sink { S.broken sink.old ≡ false }
+    ensures ok { OnOk result (IsServed plant (F.remaining feed.old) (F.remaining feed.new) (S.written sink.old) (S.written sink.new)) }
+    ensures err { OnErr result (IsStopped plant (F.remaining feed.old) (F.remaining feed.new) (S.written sink.old) (S.written sink.new)) }
+    ensures read { F.broken feed.new ≡ is_read result }
+    ensures write { S.broken sink.new ≡ is_write result }
+{
+    match Engine::new(alloc, plant) {
+        Ok(engine) => {
+            let mut engine = engine;
+            serve(rt, alloc, &mut engine, feed, sink)
+        }
+        Err(_) => Err(ServeFault::Memory),
+    }
+}
+
+/// Reads a plant from its texts, as `admit` does, and serves it to the end of the input; or writes the line of its refusal.
+///
+/// After `Served` what was written is exactly the text that belongs to the plant and to the bytes that were read, and after `Refused`
+/// exactly the line of the refusal. Returns `Memory` only where an allocation failed, and `Read` and `Write` only where the feed or the
+/// sink failed in this call. It returns only where `serve` does.
+pub fn run<H: Wait, F: Feed, S: Sink>(
+    rt: &H,
+    alloc: Global,
+    plant: &[u8],
+    sources: &[(&str, &[u8])],
+    alarms: &[u8],
+    feed: &mut F,
+    sink: &mut S,
+) -> Result<RunEnd, ServeFault>
+    requires feed { F.broken feed.old ≡ false }
+    requires sink { S.broken sink.old ≡ false }
+    ensures run { IsRun (IsVerdict (texts_of plant.now (map (λ s. s.0.now) sources.now) (map (λ s. s.1.now) sources.now) alarms.now) false)
+        (F.remaining feed.old) (F.remaining feed.new) (S.written sink.old) (S.written sink.new) result }
+    ensures read { F.broken feed.new ≡ is_read result }
+    ensures write { S.broken sink.new ≡ is_write result }
+{
+    match admit(alloc, plant, sources, alarms, false, sink) {
+        Ok(Some(plant)) => match serve_plant(rt, alloc, plant, feed, sink) {
+            Ok(()) => Ok(RunEnd::Served),
+            Err(fault) => Err(fault),
+        },
+        Ok(None) => Ok(RunEnd::Refused),
+        Err(fault) => Err(fault),
+    }
+}
+
+/// Reads a plant from its files, as `admit_from` does, and serves it to the end of the input; or writes the line of its refusal, or of
+/// the file that isn't found. What it returns, and what is written then, is as `run` says.
+pub fn run_from<H: Wait, D: Folder, F: Feed, S: Sink>(
+    rt: &H,
+    alloc: Global,
+    folder: &D,
+    path: &str,
+    feed: &mut F,
+    sink: &mut S,
+) -> Result<RunEnd, ServeFault>
+    requires feed { F.broken feed.old ≡ false }
+    requires sink { S.broken sink.old ≡ false }
+    ensures run { IsRun (IsFilesVerdict (D.finds folder.now) path.now false) (F.remaining feed.old) (F.remaining feed.new) (S.written sink.old) (S.written sink.new) result }
+    ensures read { F.broken feed.new ≡ is_read result }
+    ensures write { S.broken sink.new ≡ is_write result }
+{
+    match admit_from(alloc, folder, path, false, sink) {
+        Ok(Some(plant)) => match serve_plant(rt, alloc, plant, feed, sink) {
+            Ok(()) => Ok(RunEnd::Served),
+            Err(fault) => Err(fault),
+        },
+        Ok(None) => Ok(RunEnd::Refused),
+        Err(fault) => Err(fault),
+    }
+}
