@@ -1,8 +1,8 @@
 -- The rules of this crate ask only for the block types that a routine declares.
-use Rattle.std.proofs.Common.{◌≡◌, ◌∙◌, ap, refl, ℕ, ℤ, zero, suc, List, [], ◌∷◌, ◌++◌, Option, Some, None, slice_get, inl, inr}
+use Rattle.std.proofs.Common.{◌≡◌, ◌∙◌, ap, refl, ℕ, zero, suc, List, [], ◌∷◌, ◌++◌, Option, Some, None, slice_get, inl, inr}
 use Rattle.std.specs.Prelude.{option_and_then}
 use Rattle.plant_types.specs.Words.{folded}
-use Rattle.st_tree.specs.Meaning.{Space, Ran, Done, run_all}
+use Rattle.st_tree.specs.Meaning.{Ran, run_all}
 use Rattle.block_order.specs.Chains.{Among}
 use Rattle.plant_logic.specs.declared.logic.Instance.{Instance}
 use Rattle.plant_logic.specs.declared.logic.BlockRef.{BlockRef}

@@ -4,15 +4,15 @@ use Rattle.std.proofs.lemmas.Bool.{or_parts}
 use Rattle.std.proofs.lemmas.List.{map-append, length-map}
 use Rattle.std.proofs.lemmas.List.Elements.{filter-append}
 use Rattle.std.proofs.lemmas.Iterator.Adapters.{position_from-zero}
-use Rattle.std.proofs.lemmas.Option.{slice_get-map, slice_get_within, slice_get-get_or}
-use Rattle.std.specs.Prelude.{◌⊎◌, flat_map, option_map, unwrap_or, get_or}
+use Rattle.std.proofs.lemmas.Option.{slice_get-map, slice_get_within}
+use Rattle.std.specs.Prelude.{◌⊎◌, flat_map, option_map, unwrap_or}
 use Rattle.std.specs.List.{position_from}
 use Rattle.std.specs.Str.{bytes_eq}
 use Rattle.std.specs.Cmp.Lexicographic.{bytes_decides}
 use Rattle.plant_types.specs.Words.{folded, same_word}
 use Rattle.word_index.specs.Names.{find_name}
 use Rattle.block_order.specs.Chains.{Among}
-use Rattle.block_order.specs.Blocks.{PlainBlock, first_of, Once, IsOrder, AreOrdered}
+use Rattle.block_order.specs.Blocks.{first_of, IsOrder, AreOrdered}
 use Rattle.st_parser.specs.declared.unit.Sort.{Sort}
 use Rattle.st_parser.specs.declared.unit.Sort.TheVariants as sort
 use Rattle.st_parser.specs.declared.unit.SectionKind.{SectionKind}
@@ -25,10 +25,9 @@ use Rattle.st_names.proofs.Entries.{turned}
 use Rattle.st_typing.specs.Blocks.{declaration_types, section_types, block_of, pou_blocks, blocks_among, blocks_of}
 use Rattle.st_typing.specs.Faults.{AreTyped}
 use Rattle.plant_logic.specs.declared.logic.Instance.{Instance}
-use Rattle.plant_logic.specs.declared.logic.BlockRef.{BlockRef}
 use Rattle.plant_logic.specs.declared.logic.BlockRef.TheVariants.{Ton, Tof, RTrig, Declared}
-use Rattle.plant_logic.specs.Source.{PlainRoutine, Source}
-use Rattle.plant_logic.specs.Pous.{pous_of, block_pous, pou_word, block_names}
+use Rattle.plant_logic.specs.Source.{PlainRoutine}
+use Rattle.plant_logic.specs.Pous.{pous_of, block_pous, pou_word}
 use Rattle.plant_logic.specs.Units.{block_ref, instance_by, instance_of, routine_of, source_in}
 use Rattle.plant_logic.specs.Blocks.{Declares, AreBelow}
 use Rattle.plant_logic.proofs.Apart.{typed_blocks_apart}

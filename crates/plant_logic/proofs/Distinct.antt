@@ -1,12 +1,11 @@
 -- The names that well-formed units declare are distinct in their source.
-use Rattle.std.proofs.Common.{◌≡◌, ◌∙◌, ap, sym, refl, ℕ, suc, Bool, true, false, not, cond, if◌then◌else◌, List, [], ◌∷◌, ◌++◌, append_assoc, append-nil, map, Option, Some, None}
+use Rattle.std.proofs.Common.{◌≡◌, ◌∙◌, ap, sym, refl, ℕ, suc, Bool, true, false, not, cond, if◌then◌else◌, List, [], ◌∷◌, ◌++◌, append-nil, map, Option, Some, None}
 use Rattle.std.proofs.lemmas.Bool.{or_parts, or_from}
-use Rattle.std.proofs.lemmas.List.{map-append}
 use Rattle.std.proofs.lemmas.List.Concat.{flat_map-append}
 use Rattle.std.proofs.lemmas.List.Folds.{list_any-append}
 use Rattle.std.proofs.lemmas.List.Elements.{All-nil, All-cons, All-append, All-filter, All-weaker, All-head, All-tail, filter-append, filter_map-append}
-use Rattle.std.specs.Prelude.{◌||◌, ◌&&◌, filter_map, flat_map}
-use Rattle.std.specs.List.{list_any, list_all, cons_option, All}
+use Rattle.std.specs.Prelude.{◌&&◌, filter_map, flat_map}
+use Rattle.std.specs.List.{list_all, cons_option, All}
 use Rattle.std.specs.Str.{bytes_eq}
 use Rattle.plant_types.specs.Words.{folded}
 use Rattle.st_parser.specs.declared.unit.Sort.{Sort}
@@ -26,11 +25,11 @@ use Rattle.plant_logic.specs.declared.logic.Local.{Local}
 use Rattle.plant_logic.specs.declared.logic.Instance.{Instance}
 use Rattle.plant_logic.specs.Source.{PlainRoutine}
 use Rattle.plant_logic.specs.Pous.{pous_of, block_pous, program_pous, block_names, pou_word}
-use Rattle.plant_logic.specs.Units.{global_by, global_of, local_by, local_of, instance_by, instance_of, block_ref, routine_of, declared_globals, source_in}
+use Rattle.plant_logic.specs.Units.{global_by, global_of, local_by, local_of, instance_by, instance_of, routine_of, declared_globals, source_in}
 use Rattle.plant_logic.specs.Names.{global_words, own_words, instance_words}
 use Rattle.plant_logic.specs.Layout.{AreNamedApart, IsDistinctlyNamed}
 use Rattle.plant_logic.proofs.Growing.{fused}
-use Rattle.plant_logic.proofs.Picked.{none_picked, picked_apart}
+use Rattle.plant_logic.proofs.Picked.{picked_apart}
 use Rattle.plant_logic.proofs.Apart.{none_if, none_or, none_misnamed, shared_word, words_apart}
 
 -- a declared variable as a global; an instance is none

@@ -1,35 +1,30 @@
 -- Each instance in the source of well-formed units is of a standard block, or of a block type of the source.
-use Rattle.std.proofs.Common.{◌≡◌, ◌∙◌, ap, sym, refl, ℕ, zero, suc, ◌+◌, ◌<◌, Bool, true, false, not, if◌then◌else◌, List, [], ◌∷◌, map, length, Option, Some, None, inl, inr, arith}
+use Rattle.std.proofs.Common.{◌≡◌, ◌∙◌, ap, sym, refl, ℕ, suc, ◌<◌, Bool, true, false, not, if◌then◌else◌, List, [], ◌∷◌, map, length, Option, Some, None, inl, inr, arith}
 use Rattle.std.specs.Prelude.{◌&&◌, ◌||◌, is_some, option_map, filter_map, unwrap_or, codes}
 use Rattle.std.specs.List.{list_any, list_all, cons_option, All}
 use Rattle.std.specs.Str.{bytes_eq}
 use Rattle.std.proofs.lemmas.Bool.{cases_Bool, and_parts, or_parts, or_cases, or_left, or_right, both_ways}
 use Rattle.std.proofs.lemmas.List.{length-map}
-use Rattle.std.proofs.lemmas.List.Elements.{All-nil, All-cons, All-head, All-tail, All-filter, All-weaker}
+use Rattle.std.proofs.lemmas.List.Elements.{All-nil, All-cons, All-head, All-tail, All-filter}
 use Rattle.plant_types.specs.Words.{folded, same_word}
 use Rattle.word_index.specs.Names.{find_name}
 use Rattle.block_order.specs.Chains.{Among}
-use Rattle.block_order.specs.Blocks.{PlainBlock, first_of}
-use Rattle.st_parser.specs.declared.unit.Sort.{Sort}
-use Rattle.st_parser.specs.declared.unit.Sort.TheVariants as sort
+use Rattle.block_order.specs.Blocks.{first_of}
 use Rattle.st_parser.specs.Units.{PlainPou, PlainUnit}
 use Rattle.st_names.specs.First.{first_that}
-use Rattle.st_names.specs.DeclaredNames.{PlainDeclared, declared_in, declared_words}
-use Rattle.st_names.specs.Shared.{Shared, global, pou, shared_name, shared_in, find_shared, as_block, is_block, block_named, global_named}
-use Rattle.st_names.specs.BlockTypes.{BlockType, ton, tof, r_trig, declared_block, block_type}
+use Rattle.st_names.specs.DeclaredNames.{declared_in, declared_words}
+use Rattle.st_names.specs.Shared.{Shared, global, pou, shared_name, shared_in, as_block, is_block, block_named, global_named}
+use Rattle.st_names.specs.BlockTypes.{ton, tof, r_trig, declared_block, block_type}
 use Rattle.st_names.specs.Scopes.{is_external}
 use Rattle.st_names.specs.Taken.{repeats}
 use Rattle.st_names.specs.Known.{body_known, declared_known, sort_known, option_known, globals_misnamed, pou_misnamed}
-use Rattle.st_names.specs.Faults.{first_misnamed}
 use Rattle.st_names.proofs.Entries.{same_turned}
 use Rattle.st_typing.specs.Blocks.{block_of}
 use Rattle.st_typing.specs.Faults.{AreTyped}
-use Rattle.plant_logic.specs.declared.logic.Instance.{Instance}
-use Rattle.plant_logic.specs.declared.logic.BlockRef.{BlockRef}
 use Rattle.plant_logic.specs.declared.logic.BlockRef.TheVariants.{Ton, Tof, RTrig, Declared}
-use Rattle.plant_logic.specs.Source.{PlainRoutine, Source}
+use Rattle.plant_logic.specs.Source.{PlainRoutine}
 use Rattle.plant_logic.specs.Pous.{pous_of, block_pous, program_pous, block_names}
-use Rattle.plant_logic.specs.Units.{block_ref, instance_of, routine_of, source_in}
+use Rattle.plant_logic.specs.Units.{instance_of, routine_of, source_in}
 use Rattle.plant_logic.specs.Blocks.{Declares, DeclaresThere, HasItsTypes}
 use Rattle.plant_logic.proofs.Apart.{none_misnamed, pick_block, blocks_picked}
 use Rattle.plant_logic.proofs.Belows.{name_of, first_found, among_flat, instance_at}

@@ -1,6 +1,6 @@
 -- In a source whose declared names are distinct no path stands twice.
-use Rattle.std.proofs.Common.{◌≡◌, ◌∙◌, ap, sym, subst, refl, ℕ, zero, suc, Bool, true, false, List, [], ◌∷◌, ◌++◌, map, length, Option, Some, None, slice_get}
-use Rattle.std.specs.List.{list_any, All}
+use Rattle.std.proofs.Common.{◌≡◌, sym, subst, refl, ℕ, zero, suc, false, List, [], ◌∷◌, ◌++◌, map, length, Option, Some, None, slice_get}
+use Rattle.std.specs.List.{All}
 use Rattle.std.specs.Option.{option_map_or}
 use Rattle.std.specs.Str.{bytes_eq}
 use Rattle.std.proofs.lemmas.Bool.{or_parts}
@@ -8,17 +8,16 @@ use Rattle.std.proofs.lemmas.List.{map-append}
 use Rattle.std.proofs.lemmas.List.Elements.{All-head, All-tail}
 use Rattle.plant_types.specs.Words.{folded}
 use Rattle.st_names.specs.Taken.{is_among, repeats}
-use Rattle.plant_logic.specs.declared.logic.Variable.{Variable}
 use Rattle.plant_logic.specs.declared.logic.Local.{Local}
 use Rattle.plant_logic.specs.declared.logic.Instance.{Instance}
 use Rattle.plant_logic.specs.declared.logic.BlockRef.{BlockRef}
 use Rattle.plant_logic.specs.declared.logic.BlockRef.TheVariants.{Ton, Tof, RTrig, Declared}
 use Rattle.plant_logic.specs.Source.{PlainRoutine, Source}
 use Rattle.plant_logic.specs.Names.{global_words, own_words, instance_words}
-use Rattle.plant_logic.specs.Blocks.{levels, by_type}
-use Rattle.plant_logic.specs.Worlds.{Path, same_path, in_word, pt_word, clk_word}
-use Rattle.plant_logic.specs.Layout.{ClockAt, block_values, instance_values, own_values, values_rule, routine_values, block_clocks, instance_clocks, clocks_rule, routine_clocks, global_values, program_values, program_clocks, cell_paths, all_clocks, clock_paths, Absent, NoneTwice, AreNamedApart, IsDistinctlyNamed}
-use Rattle.plant_logic.proofs.Paths.{Disjoint, absent_append, once_append, Under, AllUnder, self_under, apart_labels, label_under, absent_under, under_all, under_more, all_more, Inside, AllInside, inside_under, under_inside, inside_all, absent_alone}
+use Rattle.plant_logic.specs.Blocks.{levels}
+use Rattle.plant_logic.specs.Worlds.{Path, in_word, pt_word, clk_word}
+use Rattle.plant_logic.specs.Layout.{ClockAt, block_values, instance_values, own_values, values_rule, routine_values, block_clocks, instance_clocks, clocks_rule, routine_clocks, program_values, program_clocks, cell_paths, clock_paths, Absent, NoneTwice, AreNamedApart, IsDistinctlyNamed}
+use Rattle.plant_logic.proofs.Paths.{Disjoint, absent_append, once_append, Under, AllUnder, self_under, apart_labels, label_under, absent_under, under_all, all_more, AllInside, inside_under, under_inside, inside_all, absent_alone}
 
 -- the element of a number is one of those that a property holds of
 pub all_at : {A : Type 0} (P : A → Type 0) (xs : List A) (n : ℕ) (x : A) → All P xs → slice_get xs n ≡ Some x → P x

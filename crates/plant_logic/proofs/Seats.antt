@@ -1,5 +1,5 @@
 -- What stands where in the lists of all values and all standard blocks.
-use Rattle.std.proofs.Common.{◌≡◌, ◌∙◌, ap, sym, subst, refl, arith, ℕ, ℤ, zero, suc, ◌+◌, ◌<◌, Bool, true, false, List, [], ◌∷◌, ◌++◌, map, length, get_or, Option, Some, None, slice_get}
+use Rattle.std.proofs.Common.{◌≡◌, ◌∙◌, ap, sym, subst, refl, arith, ℕ, ℤ, zero, suc, ◌+◌, List, [], ◌∷◌, ◌++◌, map, length, get_or, Option, Some, None, slice_get}
 use Rattle.std.specs.Prelude.{is_some, option_map, if◌then◌else◌, slice_set}
 use Rattle.std.specs.Option.{option_map_or}
 use Rattle.std.specs.Str.{bytes_eq}
@@ -18,14 +18,14 @@ use Rattle.plant_logic.specs.declared.logic.BlockRef.TheVariants.{Ton, Tof, RTri
 use Rattle.plant_logic.specs.Source.{PlainRoutine, Source}
 use Rattle.plant_logic.specs.Names.{global_words, own_words, find_word}
 use Rattle.plant_logic.specs.Blocks.{levels}
-use Rattle.plant_logic.specs.Worlds.{Path, World, words_of, path_of, path_in, assign, with_call, same_path}
-use Rattle.plant_logic.specs.Layout.{ClockAt, block_values, instance_values, own_values, values_rule, routine_values, block_clocks, instance_clocks, clocks_rule, routine_clocks, global_values, program_values, program_clocks, cell_paths, all_clocks, clock_paths, Stands, NoneTwice, IsDistinctlyNamed}
-use Rattle.plant_logic.specs.Seats.{StandsFrom, value_count, clock_count, values_before, clocks_before, value_offset, clock_offset, program_values_before, program_clocks_before, program_values_base, program_clocks_base, own_or_global, value_number}
+use Rattle.plant_logic.specs.Worlds.{Path, World, words_of, path_of, path_in, assign, with_call}
+use Rattle.plant_logic.specs.Layout.{ClockAt, block_values, instance_values, own_values, values_rule, routine_values, block_clocks, instance_clocks, clocks_rule, routine_clocks, global_values, program_values, program_clocks, cell_paths, all_clocks, clock_paths, Stands, IsDistinctlyNamed}
+use Rattle.plant_logic.specs.Seats.{StandsFrom, value_count, clock_count, values_before, clocks_before, value_offset, program_values_before, program_clocks_before, program_values_base, program_clocks_base, own_or_global, value_number}
 use Rattle.plant_logic.proofs.Paths.{written}
 use Rattle.plant_logic.proofs.Layouts.{cells_once, clocks_once}
 
 -- two lists, one after the other, in a third
-at_front : {A : Type 0} (xs ys : List A) (i : ℕ) (a : A) → slice_get xs i ≡ Some a → slice_get (xs ++ ys) i ≡ Some a
+pub at_front : {A : Type 0} (xs ys : List A) (i : ℕ) (a : A) → slice_get xs i ≡ Some a → slice_get (xs ++ ys) i ≡ Some a
 at_front [] ys i a at = absurd (cc)
 at_front (x ∷ xs) ys zero a at = at
 at_front (x ∷ xs) ys (suc i) a at = at_front xs ys i a at
@@ -204,7 +204,7 @@ program_clocks_stand source k p at =
     (program_clocks_among source.blocks (all_clocks source) source.programs 0 k p (stands_whole (all_clocks source)) at)
 
 -- what is found by name
-word_at : (words : List (List ℕ)) (name : List ℕ) (i : ℕ) → find_word words name ≡ Some i → slice_get words i ≡ Some (folded name)
+pub word_at : (words : List (List ℕ)) (name : List ℕ) (i : ℕ) → find_word words name ≡ Some i → slice_get words i ≡ Some (folded name)
 word_at words name i is =
     let found = position-Some (bytes_eq (folded name)) words i (folded name) is in
     slice_get-get_or words i (folded name) found.0 ∙ ap Some (sym ((bytes_decides (folded name) (get_or words i (folded name))).0 found.1))

@@ -1,5 +1,5 @@
 -- The layout of a source: the paths of all values, and of all standard blocks, each list in one order.
-use Rattle.std.specs.Prelude.{◌≡◌, ℕ, ℤ, List, [], ◌∷◌, ◌++◌, map, flat_map, length, false}
+use Rattle.std.specs.Prelude.{◌≡◌, ℕ, ℤ, List, [], ◌∷◌, ◌++◌, map, length, false}
 use Rattle.plant_types.specs.Words.{folded}
 use Rattle.std_blocks.specs.Calls.{Call}
 use Rattle.st_names.specs.Taken.{repeats}

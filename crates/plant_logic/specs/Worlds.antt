@@ -1,5 +1,5 @@
 -- Worlds, and what routines do in them.
-use Rattle.std.specs.Prelude.{◌≡◌, ℕ, ℤ, pos, Bool, true, false, ◌&&◌, if◌then◌else◌, List, [], ◌∷◌, map, is_some, Option, Some, None, option_map, slice_get, codes}
+use Rattle.std.specs.Prelude.{ℕ, ℤ, pos, Bool, true, false, ◌&&◌, if◌then◌else◌, List, [], ◌∷◌, map, is_some, Option, Some, None, slice_get, codes}
 use Rattle.std.specs.Str.{bytes_eq}
 use Rattle.plant_types.specs.Words.{folded, same_word}
 use Rattle.plant_types.specs.Values.{truth, is_true}
@@ -8,7 +8,6 @@ use Rattle.std_blocks.specs.Timers.{ton, tof}
 use Rattle.std_blocks.specs.Edges.{r_trig}
 use Rattle.st_tree.specs.Plain.{done}
 use Rattle.st_tree.specs.Meaning.{Space, Ran, Done, Trapped, run_all}
-use Rattle.plant_logic.specs.declared.logic.Variable.{Variable}
 use Rattle.plant_logic.specs.declared.logic.Instance.{Instance}
 use Rattle.plant_logic.specs.declared.logic.BlockRef.{BlockRef}
 use Rattle.plant_logic.specs.declared.logic.BlockRef.TheVariants.{Ton, Tof, RTrig, Declared}
