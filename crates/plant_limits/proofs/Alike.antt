@@ -1,8 +1,8 @@
 -- Rules that give the same up to a last number, where what they ask for is the same up to it.
-use Rattle.std.proofs.Common.{◌≡◌, ◌∙◌, ap, sym, refl, ℕ, ◌+◌, ◌*◌, min, List, [], ◌∷◌, length, Option, Some, None, inl, inr, arith}
+use Rattle.std.proofs.Common.{◌≡◌, ap, refl, ℕ, ◌+◌, ◌*◌, min, List, [], ◌∷◌, length, Option, Some, None, inl, inr, arith}
 use Rattle.std.specs.List.{sum_by}
 use Rattle.std.proofs.lemmas.List.Sums.{sum_by-cons}
-use Rattle.st_tree.specs.Plain.{PlainExpr, PlainArgument, PlainStmt, empty, assign, call, choose, select, repeat, PlainBody, done, next, Branches, no_branch, branch, Choices, no_choice, choice}
+use Rattle.st_tree.specs.Plain.{PlainExpr, PlainStmt, empty, assign, call, choose, select, repeat, PlainBody, done, next, Branches, no_branch, branch, Choices, no_choice, choice}
 use Rattle.st_tree.specs.Costs.{expr_cost, tests_cost, labels_cost, arguments_cost, weight, weight_all, branches_weight, choices_weight}
 use Rattle.block_order.specs.Chains.{Among}
 use Rattle.plant_logic.specs.declared.logic.BlockRef.{BlockRef}
@@ -13,7 +13,7 @@ use Rattle.plant_logic.specs.Names.{instance_named}
 use Rattle.plant_logic.specs.Blocks.{Declares, AsksDeclared}
 use Rattle.plant_limits.specs.declared.measures.Measure.{Measure}
 use Rattle.plant_limits.specs.declared.measures.Measure.TheVariants as measure
-use Rattle.plant_limits.specs.Counts.{instance_slots, routine_slots, instance_weight, called_weight, routine_size, routine_cost}
+use Rattle.plant_limits.specs.Counts.{instance_slots, routine_slots, instance_weight, called_weight}
 use Rattle.plant_limits.specs.Measures.{joined, turns_by, routine_weight}
 use Rattle.plant_limits.proofs.Capping.{sums, products, joins}
 use Rattle.plant_limits.proofs.Naming.{named_among}

@@ -35,14 +35,14 @@ products last a b c d first second =
     elim (cases_lt 0 last) [
       | inr none ↦ omega arith
       | inl some ↦ elim (cases_lt a last) [
-          | inr beyond ↦ past_first last a b c d some beyond (omega arith) second
-          | inl below ↦ (
-              let same : b ≡ a = omega arith in
-              elim (cases_lt c last) [
-                | inr beyond ↦ rw (mul_comm a c, mul_comm b d) (past_first last c d a b some beyond (omega arith) first)
-                | inl below' ↦ (let same' : d ≡ c = omega arith in rw (same, same'))
-              ])
-        ]
+        | inr beyond ↦ past_first last a b c d some beyond (omega arith) second
+        | inl below ↦ (
+            let same : b ≡ a = omega arith in
+            elim (cases_lt c last) [
+              | inr beyond ↦ rw (mul_comm a c, mul_comm b d) (past_first last c d a b some beyond (omega arith) first)
+              | inl below' ↦ (let same' : d ≡ c = omega arith in rw (same, same'))
+            ])
+      ]
     ]
 
 -- a FOR

@@ -1,10 +1,9 @@
 -- What worked examples count.
-use Rattle.std.proofs.Common.{◌≡◌, ◌∙◌, ap, sym, ℕ, pos, List, [], ◌∷◌, ◌+◌, ◌*◌, None, refl}
+use Rattle.std.proofs.Common.{◌≡◌, ap, sym, ℕ, pos, List, [], ◌∷◌, ◌+◌, ◌*◌, None, refl}
 use Rattle.std.specs.Prelude.{codes}
 use Rattle.plant_types.specs.declared.values.Kind.TheVariants.{Dint}
 use Rattle.st_tree.specs.declared.tree.Literal.TheVariants.{Integer}
 use Rattle.st_tree.specs.declared.tree.Binary.TheVariants.{Add}
-use Rattle.st_tree.specs.declared.controls.Span.{Span}
 use Rattle.st_tree.specs.Plain.{literal, read, binary, output, PlainExpr, assign, call, repeat, PlainBody, done, next}
 use Rattle.st_tree.proofs.Counting.{turns_up}
 use Rattle.st_typing.specs.Constants.{for_turns}

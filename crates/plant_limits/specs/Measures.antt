@@ -2,7 +2,6 @@
 use Rattle.std.specs.Prelude.{◌≡◌, ℕ, ◌+◌, max, min, List, length, Option, Some, None, slice_get}
 use Rattle.std.specs.Option.{option_map_or, option_and_then}
 use Rattle.st_tree.specs.Plain.{PlainExpr}
-use Rattle.st_tree.specs.Costs.{weight_all}
 use Rattle.st_typing.specs.Constants.{for_turns}
 use Rattle.word_index.specs.Names.{find_name}
 use Rattle.plant_logic.specs.declared.logic.BlockRef.{BlockRef}

@@ -57,11 +57,7 @@ fn weigh_routine(
 }
 
 /// The counts of a routine, by those of the block types. Fails if allocation fails.
-fn count_routine(
-    alloc: Global,
-    table: &[Counts],
-    routine: &Routine,
-) -> Result<Counts, AllocError>
+fn count_routine(alloc: Global, table: &[Counts], routine: &Routine) -> Result<Counts, AllocError>
     ensures { IfOk result (λ counts. counts ≡ counts_by table.now (view_routine routine.now)) }
 {
     let instances = instances_of(alloc, routine)?;

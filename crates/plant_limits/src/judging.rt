@@ -49,7 +49,8 @@ fn some_costly(programs: &[Counts]) -> bool
 }
 
 /// Judges the limits on slots, size and cost. The order lists the block types, each after those that it declares. An instance that is never
-/// called has its slots, a block type that no program uses counts for nothing. Its steps are as many as the text is long.
+/// called has its slots, a block type that no program uses counts for nothing. Each body is gone
+/// through once for its size and once for its cost, whatever the number of its instances.
 ///
 /// The error is the first limit that the source is past, or `Memory` where allocation failed.
 pub fn limits(alloc: Global, logic: &Logic, order: &[usize]) -> Result<(), LimitFault>

@@ -18,9 +18,11 @@ mod counting;
 mod fault;
 mod instances;
 mod judging;
+mod laws;
 mod measures;
 mod stopping;
 mod weighing;
 
 pub use fault::LimitFault;
 pub use judging::{costs, limits};
+pub use laws::block_type_counts;

@@ -11,3 +11,4 @@ mod Agreeing
 mod Distinct
 mod Seats
 mod Knowns
+mod Members

@@ -25,7 +25,7 @@ use Rattle.plant_logic.proofs.Paths.{written}
 use Rattle.plant_logic.proofs.Layouts.{cells_once, clocks_once}
 
 -- two lists, one after the other, in a third
-at_front : {A : Type 0} (xs ys : List A) (i : ℕ) (a : A) → slice_get xs i ≡ Some a → slice_get (xs ++ ys) i ≡ Some a
+pub at_front : {A : Type 0} (xs ys : List A) (i : ℕ) (a : A) → slice_get xs i ≡ Some a → slice_get (xs ++ ys) i ≡ Some a
 at_front [] ys i a at = absurd (cc)
 at_front (x ∷ xs) ys zero a at = at
 at_front (x ∷ xs) ys (suc i) a at = at_front xs ys i a at
@@ -204,7 +204,7 @@ program_clocks_stand source k p at =
     (program_clocks_among source.blocks (all_clocks source) source.programs 0 k p (stands_whole (all_clocks source)) at)
 
 -- what is found by name
-word_at : (words : List (List ℕ)) (name : List ℕ) (i : ℕ) → find_word words name ≡ Some i → slice_get words i ≡ Some (folded name)
+pub word_at : (words : List (List ℕ)) (name : List ℕ) (i : ℕ) → find_word words name ≡ Some i → slice_get words i ≡ Some (folded name)
 word_at words name i is =
     let found = position-Some (bytes_eq (folded name)) words i (folded name) is in
     slice_get-get_or words i (folded name) found.0 ∙ ap Some (sym ((bytes_decides (folded name) (get_or words i (folded name))).0 found.1))

@@ -1,8 +1,10 @@
 -- Where the values and the standard blocks of instances stand in the lists of all, by number.
-use Rattle.std.specs.Prelude.{◌≡◌, ℕ, zero, suc, ◌+◌, List, [], ◌∷◌, length, Option, Some, None, slice_get}
+use Rattle.std.specs.Prelude.{◌≡◌, ℕ, zero, suc, ◌+◌, Bool, true, false, if◌then◌else◌, List, [], ◌∷◌, length, Option, Some, None, option_and_then, slice_get, codes}
+use Rattle.plant_types.specs.Words.{same_word}
 use Rattle.plant_logic.specs.declared.logic.Variable.{Variable}
 use Rattle.plant_logic.specs.declared.logic.Instance.{Instance}
 use Rattle.plant_logic.specs.declared.logic.BlockRef.{BlockRef}
+use Rattle.plant_logic.specs.declared.logic.BlockRef.TheVariants.{Ton, Tof, RTrig, Declared}
 use Rattle.plant_logic.specs.Source.{PlainRoutine, Source}
 use Rattle.plant_logic.specs.Names.{global_words, own_words, find_word}
 use Rattle.plant_logic.specs.Layout.{block_values, values_rule, routine_values, block_clocks, clocks_rule, routine_clocks}
@@ -64,3 +66,19 @@ own_or_global base None other = other
 -- the number of the value of a name in a routine whose first value has a number: a variable of its own hides a global
 abbrev pub value_number : List Variable → PlainRoutine → (base : ℕ) → List ℕ → Option ℕ
 value_number globals r base name = own_or_global base (find_word (own_words r.locals) name) (find_word (global_words globals) name)
+
+-- the numbers of a timer's inputs
+abbrev pub timer_number : List ℕ → Option ℕ
+timer_number name = if same_word name (codes "IN") then Some 0 else if same_word name (codes "PT") then Some 1 else None
+
+-- the number, from an instance's first value, of an input of a standard block, or of the block type's own variable of a name: an input or an output
+abbrev pub member_number : List PlainRoutine → BlockRef → List ℕ → Option ℕ
+member_number blocks Ton name = timer_number name
+member_number blocks Tof name = timer_number name
+member_number blocks RTrig name = if same_word name (codes "CLK") then Some 0 else None
+member_number blocks (Declared n) name = option_and_then (λ (b : PlainRoutine). find_word (own_words b.locals) name) (slice_get blocks n)
+
+-- an instance is of a standard block
+abbrev pub is_of_standard : BlockRef → Bool
+is_of_standard (Declared n) = false
+is_of_standard _ = true

@@ -1,9 +1,11 @@
 //! Laws of sources. These functions do nothing: each has a law as its contract, for the crates above.
 
-ghost use Rattle.std.specs.Prelude.{◌≡◌, ◌+◌, ◌∷◌, [], ℕ, ℤ, List, Some, slice_get, slice_set};
+ghost use Rattle.std.specs.Prelude.{◌≡◌, ◌+◌, ◌∷◌, [], ℕ, ℤ, List, Some, slice_get, slice_set, true};
 ghost use Rattle.plant_types.specs.Words.{folded};
 ghost use Rattle.std_blocks.specs.Calls.{Call};
 ghost use Rattle.plant_logic.specs.declared.logic.Instance.{Instance};
+ghost use Rattle.plant_logic.specs.declared.logic.BlockRef.{BlockRef};
+ghost use Rattle.plant_logic.specs.Names.{find_word, instance_words, instance_named};
 ghost use Rattle.block_order.specs.Blocks.{AreOrdered};
 ghost use Rattle.st_parser.specs.Units.{PlainUnit};
 ghost use Rattle.st_typing.specs.Blocks.{blocks_of};
@@ -13,7 +15,7 @@ ghost use Rattle.plant_logic.specs.Units.{source_in};
 ghost use Rattle.plant_logic.specs.Blocks.{by_type, AsksDeclared, AreBelow, HasItsTypes};
 ghost use Rattle.plant_logic.specs.Worlds.{Path, World, words_of, path_in, assign, with_call, run_rule, run_routine, begin_rule, routine_begun};
 ghost use Rattle.plant_logic.specs.Layout.{ClockAt, block_values, values_rule, routine_values, block_clocks, clocks_rule, routine_clocks, cell_paths, all_clocks, clock_paths, Stands, NoneTwice, IsDistinctlyNamed};
-ghost use Rattle.plant_logic.specs.Seats.{StandsFrom, value_offset, clock_offset, program_values_base, program_clocks_base, value_number};
+ghost use Rattle.plant_logic.specs.Seats.{StandsFrom, value_offset, clock_offset, program_values_base, program_clocks_base, value_number, member_number, is_of_standard};
 
 /// Where an order lists each block type after those that it declares, what a rule gives for a block type is the rule's own answer, by
 /// what it gives for the block types that this one declares.
@@ -130,4 +132,23 @@ pub fn call_taken()
     ensures { (source : Source) (values : List ℤ) (calls : List (List Call)) (w : World) → Stands source values calls w
         → (n : ℕ) (p : Path) → IsDistinctlyNamed source → (c : Call) → slice_get (clock_paths source) n ≡ Some p
         → Stands source values (slice_set calls n (c ∷ w.calls p)) (with_call w p c) }
+{}
+
+/// Where an instance's values stand in a list from a number on, there the value of a member's number has the path of the member: an input
+/// of a standard block, an input or an output of a declared block type.
+pub fn member_stands()
+    ensures { (blocks : List PlainRoutine) (order : List ℕ) (all : List Path) (base : ℕ) (path : Path) (b : BlockRef) (name : List ℕ) (m : ℕ) → AreBelow blocks order
+        → StandsFrom all base (block_values (routine_values blocks) b path) → member_number blocks b name ≡ Some m → slice_get all (base + m) ≡ Some (folded name ∷ path) }
+{}
+
+/// Where an instance's standard blocks stand in a list from a number on, there stands the instance itself if it is of a standard block.
+pub fn clock_stands()
+    ensures { (blocks : List PlainRoutine) (all : List ClockAt) (base : ℕ) (path : Path) (b : BlockRef) → is_of_standard b ≡ true
+        → StandsFrom all base (block_clocks (routine_clocks blocks) b path) → slice_get all base ≡ Some (record { of = b; path = path }) }
+{}
+
+/// The instance of a name's number is the one that the name finds, and the two have the same small letters.
+pub fn instance_found()
+    ensures { (r : PlainRoutine) (name : List ℕ) (k : ℕ) → find_word (instance_words r.instances) name ≡ Some k
+        → (i : Instance) × (slice_get r.instances k ≡ Some i) × (instance_named r name ≡ Some i) × (folded i.name ≡ folded name) }
 {}

@@ -12,7 +12,7 @@ mod units;
 
 pub use laws::{
     answered_by_rule, block_type_begins, block_type_has_clocks, block_type_has_values,
-    block_type_runs, call_taken, calls_of_number, clocks_stand_once, instance_clocks_stand,
+    block_type_runs, call_taken, calls_of_number, clock_stands, clocks_stand_once, instance_clocks_stand, instance_found, member_stands,
     instance_values_stand, named_value_stands, order_is_of_source, program_clocks_stand,
     program_values_stand, typed_names_are_distinct, typed_types_are_there, value_of_number,
     value_written, values_stand_once,

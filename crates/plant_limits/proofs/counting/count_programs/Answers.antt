@@ -1,8 +1,7 @@
-use Rattle.std.proofs.Common.{◌≡◌, ◌≤◌, ◌∙◌, ap, sym, subst, map, length, arith}
+use Rattle.std.proofs.Common.{◌≤◌, ◌∙◌, ap, sym, subst, map, length, arith}
 use Rattle.std.proofs.lemmas.List.{take_all}
 use Rattle.plant_logic.specs.declared.logic.Routine.{Routine}
 use Rattle.plant_logic.specs.Source.{view_routine}
-use Rattle.plant_logic.specs.Blocks.{AreBelow}
 use Rattle.plant_limits.specs.Measures.{counts_by, routine_counts, AreCounted}
 use Rattle.plant_limits.proofs.Tables.{mapped_more, map_both, counted_all}
 use Rattle.plant_limits.proofs.counting.count_programs.Goals as goal

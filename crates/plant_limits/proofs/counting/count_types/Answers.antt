@@ -1,4 +1,4 @@
-use Rattle.std.proofs.Common.{◌≡◌, ◌∙◌, ap, refl, ◌<◌, length, map, get_or, set, rules, arith}
+use Rattle.std.proofs.Common.{◌∙◌, ap, refl, ◌<◌, length, map, get_or, set, rules, arith}
 use Rattle.std.proofs.lemmas.List.{length-map, length-set}
 use Rattle.plant_logic.specs.Source.{view_routine}
 use Rattle.plant_limits.specs.Measures.{counts_by}

@@ -1,4 +1,3 @@
-use Rattle.std.proofs.Common.{arith}
 use Rattle.plant_logic.specs.Source.{view_routine}
 use Rattle.plant_limits.specs.Measures.{block_of}
 use Rattle.plant_limits.proofs.Naming.{named_on, named_all}
@@ -11,7 +10,7 @@ loop-instance-preserved c =
     record {
       long = c.in_ok-push_instance.ensures.long;
       found = named_on c.args.routine.now.instances.items c.deref-instance-items.result.now c.loop-instance.instance-index c.instance-item.result (block_of before.names before.blocks.items) (block_of after.names after.blocks.items) c.deref-instance-items.ensures.value
-      c.loop-instance-test.true c.instance-item.is c.loop-instance.invariant.found c.in_ok-push_instance.ensures.found;
+          c.loop-instance-test.true c.instance-item.is c.loop-instance.invariant.found c.in_ok-push_instance.ensures.found;
     }
 
 pub returns : goal.returns

@@ -1,4 +1,4 @@
-use Rattle.std.proofs.Common.{◌≡◌, ◌∙◌, ap, sym, ◌+◌, min}
+use Rattle.std.proofs.Common.{◌∙◌, ap, sym, ◌+◌, min}
 use Rattle.st_tree.specs.View.{view_expr, view_stmt, view_body, view_choices}
 use Rattle.st_tree.specs.Costs.{expr_cost, labels_cost}
 use Rattle.st_tree.proofs.Views.{view_stmt-Case}
