@@ -17,3 +17,11 @@ last_clk (clk ∷ clks) = clk
 
 abbrev pub trig_state : List Bool → PlainTrigState
 trig_state clks = record { last = last_clk clks }
+
+-- the state after a call is its CLK
+abbrev pub trig_step : Bool → PlainTrigState → PlainTrigState
+trig_step clk state = record { last = clk }
+
+-- Q that a call gives, by the state before it
+abbrev pub trig_shown : Bool → PlainTrigState → Bool
+trig_shown clk state = clk && not state.last

@@ -1,7 +1,7 @@
 ghost use Rattle.std.specs.Prelude.{◌≡◌, [], ◌∷◌, List};
 ghost use Rattle.std_blocks.specs.Calls.{Call, call};
 ghost use Rattle.std_blocks.specs.Timers.{ton};
-ghost use Rattle.std_blocks.specs.States.{ton_state};
+ghost use Rattle.std_blocks.specs.States.{ton_state, ton_step, ton_shown};
 
 use crate::preset::preset;
 use std::marker::Model;
@@ -33,6 +33,8 @@ impl TonState {
     /// Calls the timer with IN and PT at a moment, and returns Q and ET (PT, ET and the moment in milliseconds). A PT below 0 counts
     /// as 0. Moments don't go back from call to call; where one does, no time has passed.
     pub fn call(&mut self, input: bool, pt: i64, moment: u64) -> (bool, i64)
+        ensures step { self.new ≡ ton_step (call input pt moment) self.old }
+        ensures shown { (result.0, result.1) ≡ ton_shown (call input pt moment) self.old }
         ensures outputs { (calls : List Call) → self.old ≡ ton_state calls → (result.0, result.1) ≡ ton (call input pt moment ∷ calls) }
         ensures state { (calls : List Call) → self.old ≡ ton_state calls → self.new ≡ ton_state (call input pt moment ∷ calls) }
     {

@@ -1,5 +1,5 @@
 ghost use Rattle.std.specs.Prelude.{◌≡◌, [], ◌∷◌, List, Bool};
-ghost use Rattle.std_blocks.specs.Edges.{r_trig, trig_state};
+ghost use Rattle.std_blocks.specs.Edges.{r_trig, trig_state, trig_step, trig_shown};
 
 use std::marker::Model;
 
@@ -29,6 +29,8 @@ impl TrigState {
 
     /// Calls the detector with CLK and returns Q: TRUE where CLK is TRUE and was FALSE in the call before, or there was none.
     pub fn call(&mut self, clk: bool) -> bool
+        ensures step { self.new ≡ trig_step clk self.old }
+        ensures shown { result ≡ trig_shown clk self.old }
         ensures output { (clks : List Bool) → self.old ≡ trig_state clks → result ≡ r_trig (clk ∷ clks) }
         ensures state { (clks : List Bool) → self.old ≡ trig_state clks → self.new ≡ trig_state (clk ∷ clks) }
     {

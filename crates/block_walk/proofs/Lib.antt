@@ -1,0 +1,7 @@
+pub mod Clocks
+mod Ranks
+pub mod Firsts
+pub mod Numbers
+pub mod Moved
+mod Steps
+mod Turns

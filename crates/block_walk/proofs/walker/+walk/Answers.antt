@@ -1,0 +1,202 @@
+use Rattle.std.proofs.Common.{◌≡◌, ◌∙◌, ap, sym, subst, refl, length, ◌<◌, pos, neg_ℤ, ◌^◌, ◌+ℤ◌, ◌≤ℤ◌, ◌<ℤ◌, to_z, of_z, w64, arith, rules, [], ℕ}
+use Rattle.std.specs.Int.{w128}
+use Rattle.std.proofs.lemmas.Int.{ints}
+use Rattle.std.proofs.lemmas.Bool.{ltb-false}
+use Rattle.std.proofs.lemmas.Option.{slice_get_past}
+use Rattle.std.proofs.lemmas.Result.{err_from_is_err_and}
+use Rattle.st_tree.specs.declared.tree.Stmt.{size-Stmt}
+use Rattle.st_tree.specs.declared.tree.Branch.{size-Branch}
+use Rattle.st_tree.specs.declared.tree.Choice.{size-Choice}
+use denote.Param.Weighed.{most}
+use Rattle.st_tree.specs.View.{view_expr, view_option, view_stmt, view_body}
+use Rattle.st_tree.specs.Meaning.{run_all, turns}
+use Rattle.st_tree.specs.Controls.{control_values}
+use Rattle.st_tree.proofs.Views.{view_stmt-For}
+use Rattle.st_tree.proofs.Depth.{size-If, size-Case, size-For}
+use Rattle.st_tree.proofs.Counting.{falls_up, falls_down, up_on, down_on}
+use Rattle.block_walk.specs.Frames.{InTurn, frame_paths}
+use Rattle.block_walk.specs.Walks.{placed, run_within, called, space_within, paths_within}
+use Rattle.block_walk.proofs.Ranks.{frame_at, frame_less}
+use Rattle.block_walk.proofs.Firsts.{within_past}
+use Rattle.block_walk.proofs.Numbers.{number_below}
+use Rattle.block_walk.proofs.Steps.{seat_at, standard_called, inside_done, inside_trapped, for_done, frame_ran, frame_path}
+use Rattle.block_walk.proofs.Turns.{ran_body, between_fits, up_same, down_same}
+use Rattle.block_walk.proofs.walker.+walk.Goals as goal
+
+pub run_within-run_body-requires : goal.run_within-run_body-requires
+run_within-run_body-requires t c =
+    let inside : c.args.k < length c.args.frames.now = omega arith in
+    let less = frame_less c.args.frames.now c.args.limit c.args.k c.index-frames-k.result c.deref-then-k-limit.result.now c.if-k-limit.true inside c.index-frames-k.is c.deref-then-k-limit.ensures.value in
+    let at = frame_at c.args.frames.now c.args.k c.index-frames-k.result inside c.index-frames-k.is in
+    let own : InTurn (frame_paths c.args.frames.now c.args.k) c.deref.result.now = subst (InTurn (frame_paths c.args.frames.now c.args.k)) (sym c.deref.ensures.value) (c.requires.in_turn c.args.k c.index-frames-k.result at) in
+    (omega (arith, less), (omega (arith, inside), (c.requires.in_turn, (own, (omega arith, omega arith)))))
+
+pub run_within-returns-then-k-limit-clause-ran : goal.run_within-returns-then-k-limit-clause-ran
+run_within-returns-then-k-limit-clause-ran t c =
+    let inside : c.args.k < length c.args.frames.now = omega arith in
+    let at = frame_at c.args.frames.now c.args.k c.index-frames-k.result inside c.index-frames-k.is in
+    frame_ran c.args.moment c.args.globals c.args.limit c.args.k c.args.frames.now c.args.base c.index-frames-k.result c.deref.result.now c.deref-then-k-limit.result.now c.run_body.result c.args.cells.now c.run_body.new.cells c.if-k-limit.true at c.deref.ensures.value c.deref-then-k-limit.ensures.value c.run_body.ensures.ran
+
+pub run_within-returns-then-k-limit-clause-path : goal.run_within-returns-then-k-limit-clause-path
+run_within-returns-then-k-limit-clause-path t c =
+    let inside : c.args.k < length c.args.frames.now = omega arith in
+    let at = frame_at c.args.frames.now c.args.k c.index-frames-k.result inside c.index-frames-k.is in
+    frame_path c.args.moment c.args.globals c.args.limit c.args.k c.args.frames.now c.args.base c.index-frames-k.result c.deref.result.now c.deref-then-k-limit.result.now c.run_body.result c.if-k-limit.true at c.deref.ensures.value c.run_body.ensures.path
+
+pub run_within-returns-else-k-limit-clause-ran : goal.run_within-returns-else-k-limit-clause-ran
+run_within-returns-else-k-limit-clause-ran t c = sym (within_past c.args.frames.now c.args.limit c.args.k c.args.moment c.args.globals c.args.base c.args.cells.now (omega arith))
+
+pub run_stmt-run_first_true-requires : goal.run_stmt-run_first_true-requires
+run_stmt-run_first_true-requires t c =
+    let size = ap (size-Stmt ℕ) c.in-If.is ∙ size-If c.in-If.number c.in-If.branches c.in-If.last in
+    let same = ap (most (size-Branch ℕ)) c.deref-in-If.ensures.value in
+    (omega (arith, size, same), (c.requires.there, (c.requires.in_turn, (c.requires.own, c.requires.room))))
+
+pub run_stmt-run_body-requires : goal.run_stmt-run_body-requires
+run_stmt-run_body-requires t c =
+    let size = ap (size-Stmt ℕ) c.in-If.is ∙ size-If c.in-If.number c.in-If.branches c.in-If.last in
+    let same = ap (most (size-Stmt ℕ)) c.deref-then-not-branch.ensures.value in
+    (omega (arith, size, same), (c.requires.there, (c.requires.in_turn, (c.requires.own, c.requires.room))))
+
+pub run_stmt-run_first_fit-requires : goal.run_stmt-run_first_fit-requires
+run_stmt-run_first_fit-requires t c =
+    let size = ap (size-Stmt ℕ) c.in-Case.is ∙ size-Case c.in-Case.number c.in-Case.selector c.in-Case.choices c.in-Case.last in
+    let same = ap (most (size-Choice ℕ)) c.deref-in-Case.ensures.value in
+    (omega (arith, size, same), (c.requires.there, (c.requires.in_turn, (c.requires.own, c.requires.room))))
+
+pub run_stmt-run_body-requires-then-not-branch-2 : goal.run_stmt-run_body-requires-then-not-branch-2
+run_stmt-run_body-requires-then-not-branch-2 t c =
+    let size = ap (size-Stmt ℕ) c.in-Case.is ∙ size-Case c.in-Case.number c.in-Case.selector c.in-Case.choices c.in-Case.last in
+    let same = ap (most (size-Stmt ℕ)) c.deref-then-not-branch-2.ensures.value in
+    (omega (arith, size, same), (c.requires.there, (c.requires.in_turn, (c.requires.own, c.requires.room))))
+
+pub run_stmt-run_turns-requires : goal.run_stmt-run_turns-requires
+run_stmt-run_turns-requires t c =
+    let size = ap (size-Stmt ℕ) c.in-For.is ∙ size-For c.in-For.number c.in-For.variable c.in-For.from c.in-For.to c.in-For.by c.in-For.body in
+    let same = ap (most (size-Stmt ℕ)) c.deref-in-For.ensures.value in
+    (omega (arith, size, same), (c.requires.there, (c.requires.in_turn, (c.requires.own, c.requires.room))))
+
+pub run_stmt-returns-in_ok-span-in-For-clause-ran : goal.run_stmt-returns-in_ok-span-in-For-clause-ran
+run_stmt-returns-in_ok-span-in-For-clause-ran t c =
+    let s = space_within c.args.moment c.args.globals c.args.frames.now c.args.limit c.args.seats.now c.args.base in
+    let is = ap view_stmt c.in-For.is ∙ view_stmt-For c.in-For.number c.in-For.variable c.in-For.from c.in-For.to c.in-For.by c.in-For.body in
+    let turned = c.run_turns.ensures.ran ∙ ap (λ b. turns (λ w n. s.put w c.in-For.variable n) (run_all s (view_body b)) (control_values c.in_ok-span-in-For.span) c.args.cells.now) c.deref-in-For.ensures.value in
+    for_done s (view_stmt c.args.stmt.now) c.in-For.number c.in-For.variable (view_expr c.in-For.from) (view_expr c.in-For.to) (view_option c.in-For.by) (view_body c.in-For.body.items) c.span_of-bounds.result c.in_ok-span-in-For.span _ c.args.cells.now is (search rules) c.in_ok-span-in-For.ensures.ok turned
+
+pub run_called-returns-in-None-clause-ran : goal.run_called-returns-in-None-clause-ran
+run_called-returns-in-None-clause-ran t c =
+    let none = slice_get_past c.args.seats.now c.args.instance (ltb-false c.args.instance (length c.args.seats.now) (sym c.in-None.ensures.lookup.0)) in
+    sym (ap (λ o. called c.args.moment (placed (run_within c.args.moment c.args.globals c.args.frames.now c.args.limit)) o c.args.base [] c.args.cells.now) none)
+
+pub run_called-returns-in-Standard-clause-ran : goal.run_called-returns-in-Standard-clause-ran
+run_called-returns-in-Standard-clause-ran t c =
+    let at = seat_at c.args.seats.now c.args.instance c.in-Some.seat.now (sym c.in-Some.ensures.lookup.0) c.in-Some.ensures.lookup.1 in
+    standard_called c.args.moment c.args.globals (placed (run_within c.args.moment c.args.globals c.args.frames.now c.args.limit)) c.args.seats.now c.args.base c.args.instance c.in-Some.seat.now c.in-Standard.standard c.args.cells.now c.call_clock.new.cells at c.in-Standard.is c.call_clock.ensures
+
+pub run_called-returns-in-Ok-clause-ran : goal.run_called-returns-in-Ok-clause-ran
+run_called-returns-in-Ok-clause-ran t c =
+    let at = seat_at c.args.seats.now c.args.instance c.in-Some.seat.now (sym c.in-Some.ensures.lookup.0) c.in-Some.ensures.lookup.1 in
+    inside_done c.args.moment c.args.globals c.args.limit c.args.frames.now c.args.seats.now c.args.base c.args.instance c.in-Some.seat.now c.in-Frame.k c.args.cells.now c.run_within.new.cells at c.in-Frame.is c.in-Ok.ensures.ran
+
+pub run_called-overflow_add-result : goal.run_called-overflow_add-result
+run_called-overflow_add-result t c =
+    let at = seat_at c.args.seats.now c.args.instance c.in-Some.seat.now (sym c.in-Some.ensures.lookup.0) c.in-Some.ensures.lookup.1 in
+    record { fits = (number_below (frame_paths c.args.frames.now c.args.limit) c.args.seats.now c.args.instance c.in-Some.seat.now c.in-Frame.k c.in-Err.stop.path c.requires.own at c.in-Frame.is c.in-Err.ensures.path).fits }
+
+pub run_called-returns-in-Err-clause-ran : goal.run_called-returns-in-Err-clause-ran
+run_called-returns-in-Err-clause-ran t c =
+    let at = seat_at c.args.seats.now c.args.instance c.in-Some.seat.now (sym c.in-Some.ensures.lookup.0) c.in-Some.ensures.lookup.1 in
+    inside_trapped c.args.moment c.args.globals c.args.limit c.args.frames.now c.args.seats.now c.args.base c.args.instance c.in-Some.seat.now c.in-Frame.k c.args.cells.now c.run_within.new.cells c.in-Err.stop at c.in-Frame.is c.requires.own c.in-Err.ensures.path c.in-Err.ensures.ran
+
+pub run_called-returns-in-Err-clause-path : goal.run_called-returns-in-Err-clause-path
+run_called-returns-in-Err-clause-path t c =
+    let at = seat_at c.args.seats.now c.args.instance c.in-Some.seat.now (sym c.in-Some.ensures.lookup.0) c.in-Some.ensures.lookup.1 in
+    (number_below (frame_paths c.args.frames.now c.args.limit) c.args.seats.now c.args.instance c.in-Some.seat.now c.in-Frame.k c.in-Err.stop.path c.requires.own at c.in-Frame.is c.in-Err.ensures.path).inside
+
+pub count_up-loop-at-smaller : goal.count_up-loop-at-smaller
+count_up-loop-at-smaller t c =
+    falls_up (to_z w128 c.loop-at.at-bits) (to_z w64 (of_z w64 c.args.to)) (to_z w64 (of_z w64 c.args.step)) (to_z w128 (of_z w128 (to_z w128 c.loop-at.at-bits +ℤ to_z w128 (of_z w128 c.from-at-in-loop-at.result))))
+    (omega (arith, ints)) (grind (arith, ints)) (omega (arith, ints))
+
+pub count_up-loop-at-preserved : goal.count_up-loop-at-preserved
+count_up-loop-at-preserved t c =
+    let s = space_within c.args.moment c.args.globals c.args.frames.now c.args.limit c.args.seats.now c.args.base in
+    let paths = paths_within c.args.frames.now c.args.limit c.args.seats.now in
+    let at = to_z w128 c.loop-at.at-bits in
+    let to = to_z w64 (of_z w64 c.args.to) in
+    let step = to_z w64 (of_z w64 c.args.step) in
+    let next = to_z w128 (of_z w128 (to_z w128 c.loop-at.at-bits +ℤ to_z w128 (of_z w128 c.from-at-in-loop-at.result))) in
+    let sign : pos 0 <ℤ step = omega (arith, ints) in
+    let within : at ≤ℤ to = grind (arith, ints) in
+    let later : next ≡ at +ℤ step = omega (arith, ints) in
+    let beyond : to_z w64 (of_z w64 c.args.from) ≤ℤ next = omega (arith, ints) in
+    let bounded : next ≤ℤ pos (2 ^ 65) = omega (arith, ints) in
+    let cast : to_z w64 (of_z w64 at) ≡ at = between_fits at c.args.from c.args.to c.ranges.from c.ranges.to c.loop-at.invariant.1 within in
+    let did = ran_body s paths c.args.slot (view_body c.args.body.now) at _ c.loop-at.cells c.set_variable.new.cells c.run_body.new.cells c.run_body.result _ cast c.set_variable.ensures c.run_body.ensures.ran c.in_ok-run_body.was in (
+      up_on (λ w n. s.put w c.args.slot n) (run_all s (view_body c.args.body.now)) at to step next c.loop-at.cells _ _ c.loop-at.invariant.0 sign within later did,
+      beyond,
+      bounded,
+    )
+
+pub count_down-loop-at-smaller : goal.count_down-loop-at-smaller
+count_down-loop-at-smaller t c =
+    falls_down (to_z w128 c.loop-at.at-bits) (to_z w64 (of_z w64 c.args.to)) (to_z w64 (of_z w64 c.args.step)) (to_z w128 (of_z w128 (to_z w128 c.loop-at.at-bits +ℤ to_z w128 (of_z w128 c.from-at-in-loop-at.result))))
+    (omega (arith, ints)) (grind (arith, ints)) (omega (arith, ints))
+
+pub count_down-loop-at-preserved : goal.count_down-loop-at-preserved
+count_down-loop-at-preserved t c =
+    let s = space_within c.args.moment c.args.globals c.args.frames.now c.args.limit c.args.seats.now c.args.base in
+    let paths = paths_within c.args.frames.now c.args.limit c.args.seats.now in
+    let at = to_z w128 c.loop-at.at-bits in
+    let to = to_z w64 (of_z w64 c.args.to) in
+    let step = to_z w64 (of_z w64 c.args.step) in
+    let next = to_z w128 (of_z w128 (to_z w128 c.loop-at.at-bits +ℤ to_z w128 (of_z w128 c.from-at-in-loop-at.result))) in
+    let sign : step <ℤ pos 0 = omega (arith, ints) in
+    let within : to ≤ℤ at = grind (arith, ints) in
+    let later : next ≡ at +ℤ step = omega (arith, ints) in
+    let beyond : next ≤ℤ to_z w64 (of_z w64 c.args.from) = omega (arith, ints) in
+    let bounded : neg_ℤ (pos (2 ^ 65)) ≤ℤ next = omega (arith, ints) in
+    let cast : to_z w64 (of_z w64 at) ≡ at = between_fits at c.args.to c.args.from c.ranges.to c.ranges.from within c.loop-at.invariant.1 in
+    let did = ran_body s paths c.args.slot (view_body c.args.body.now) at _ c.loop-at.cells c.set_variable.new.cells c.run_body.new.cells c.run_body.result _ cast c.set_variable.ensures c.run_body.ensures.ran c.in_ok-run_body.was in (
+      down_on (λ w n. s.put w c.args.slot n) (run_all s (view_body c.args.body.now)) at to step next c.loop-at.cells _ _ c.loop-at.invariant.0 sign within later did,
+      beyond,
+      bounded,
+    )
+
+pub count_up-returns-in_err-run_body-clause-ran : goal.count_up-returns-in_err-run_body-clause-ran
+count_up-returns-in_err-run_body-clause-ran t c =
+    let s = space_within c.args.moment c.args.globals c.args.frames.now c.args.limit c.args.seats.now c.args.base in
+    let paths = paths_within c.args.frames.now c.args.limit c.args.seats.now in
+    let at = to_z w128 c.loop-at.at-bits in
+    let to = to_z w64 (of_z w64 c.args.to) in
+    let step = to_z w64 (of_z w64 c.args.step) in
+    let sign : pos 0 <ℤ step = omega (arith, ints) in
+    let within : at ≤ℤ to = grind (arith, ints) in
+    let first : to_z w64 (of_z w64 c.args.from) ≡ c.args.from = omega (arith, ints) in
+    let second : to ≡ c.args.to = omega (arith, ints) in
+    let third : step ≡ c.args.step = omega (arith, ints) in
+    let cast : to_z w64 (of_z w64 at) ≡ at = between_fits at c.args.from c.args.to c.ranges.from c.ranges.to c.loop-at.invariant.1 within in
+    let did = ran_body s paths c.args.slot (view_body c.args.body.now) at _ c.loop-at.cells c.set_variable.new.cells c.run_body.new.cells c.run_body.result _ cast c.set_variable.ensures c.run_body.ensures.ran c.in_err-run_body.was in
+    let p = err_from_is_err_and c.from_residual.result c.from_residual.ensures.1 in
+    rw (p.1, p.2)
+    (up_on (λ w n. s.put w c.args.slot n) (run_all s (view_body c.args.body.now)) at to step (at +ℤ step) c.loop-at.cells _ _ c.loop-at.invariant.0 sign within refl did
+    ∙ up_same s paths c.args.slot (view_body c.args.body.now) (to_z w64 (of_z w64 c.args.from)) c.args.from to c.args.to step c.args.step c.args.cells.now first second third)
+
+pub count_down-returns-in_err-run_body-clause-ran : goal.count_down-returns-in_err-run_body-clause-ran
+count_down-returns-in_err-run_body-clause-ran t c =
+    let s = space_within c.args.moment c.args.globals c.args.frames.now c.args.limit c.args.seats.now c.args.base in
+    let paths = paths_within c.args.frames.now c.args.limit c.args.seats.now in
+    let at = to_z w128 c.loop-at.at-bits in
+    let to = to_z w64 (of_z w64 c.args.to) in
+    let step = to_z w64 (of_z w64 c.args.step) in
+    let sign : step <ℤ pos 0 = omega (arith, ints) in
+    let within : to ≤ℤ at = grind (arith, ints) in
+    let first : to_z w64 (of_z w64 c.args.from) ≡ c.args.from = omega (arith, ints) in
+    let second : to ≡ c.args.to = omega (arith, ints) in
+    let third : step ≡ c.args.step = omega (arith, ints) in
+    let cast : to_z w64 (of_z w64 at) ≡ at = between_fits at c.args.to c.args.from c.ranges.to c.ranges.from within c.loop-at.invariant.1 in
+    let did = ran_body s paths c.args.slot (view_body c.args.body.now) at _ c.loop-at.cells c.set_variable.new.cells c.run_body.new.cells c.run_body.result _ cast c.set_variable.ensures c.run_body.ensures.ran c.in_err-run_body.was in
+    let p = err_from_is_err_and c.from_residual.result c.from_residual.ensures.1 in
+    rw (p.1, p.2)
+    (down_on (λ w n. s.put w c.args.slot n) (run_all s (view_body c.args.body.now)) at to step (at +ℤ step) c.loop-at.cells _ _ c.loop-at.invariant.0 sign within refl did
+    ∙ down_same s paths c.args.slot (view_body c.args.body.now) (to_z w64 (of_z w64 c.args.from)) c.args.from to c.args.to step c.args.step c.args.cells.now first second third)

@@ -1,0 +1,4 @@
+pub mod Clocks
+pub mod Cells
+pub mod Frames
+pub mod Walks

@@ -1,0 +1,38 @@
+//! The bodies of routines, and where the instances in them lie.
+
+use crate::clock::Standard;
+use plant_types::Text;
+use st_tree::Stmt;
+
+/// What an instance is of: a standard block, or the frame of a number in the table.
+#[derive(Clone, Copy, Debug, PartialEq, Eq, Drop)]
+pub enum SeatOf {
+    Standard(Standard),
+    Frame(usize),
+}
+
+/// An instance of a block in a routine: its name as declared, and how far its first value, its first clock and its first path number are
+/// from those of the routine.
+#[derive(Drop)]
+pub struct Seat {
+    pub name: Text,
+    pub of: SeatOf,
+    pub values: usize,
+    pub clocks: usize,
+    pub paths: u32,
+}
+
+/// A program or a block type: its instances in order of declaration, the statements that assign its initial values, and its body.
+#[derive(Drop)]
+pub struct Frame {
+    pub seats: Vec<Seat>,
+    pub starts: Vec<Stmt<usize>>,
+    pub body: Vec<Stmt<usize>>,
+}
+
+/// Where the values and the clocks of the instance that runs begin in the cells.
+#[derive(Clone, Copy, Debug, Drop)]
+pub struct Base {
+    pub values: u128,
+    pub clocks: u128,
+}
