@@ -25,6 +25,7 @@ use Rattle.block_flatten.specs.Sound.{IsSound}
 use Rattle.st_walk.specs.Worlds.{World, assign, opening, path_of, run_program, Stands}
 use Rattle.st_walk.specs.Ranges.{AllInRange}
 use Rattle.st_walk.proofs.Ranges.{run_program_keeps, assigned_global_keeps, opening_in_range}
+use Rattle.journal_core.specs.declared.row.Row.{Row}
 use Rattle.plant_config.specs.Plants.{PlainPlant}
 use Rattle.plant_config.specs.Names.{globals_of}
 use Rattle.engine.specs.declared.event.Event.{Event}
@@ -154,8 +155,8 @@ lawful_in_range plant history sound lawful =
     lawful_keeps plant (λ s. AllInRange plant.source s.world) (λ s e taken holds. event_in plant s e sound taken holds) history (opening_in_range plant.source sound) lawful
 
 -- the cells of an engine stand for such a world
-pub engine_stands : (plant : PlainPlant) (history : List Event) (k : PlainState) → IsEngine plant history k → StandInRange plant.source k.cells
-engine_stands plant history k is = record {
+pub engine_stands : (plant : PlainPlant) (history : List Event) (rows : List Row) (k : PlainState) → IsEngine plant history rows k → StandInRange plant.source k.cells
+engine_stands plant history rows k is = record {
   world = (system plant history).world;
   stands = is.state_is.world_stands;
   in_range = lawful_in_range plant history is.plant_is.sound is.lawful;

@@ -9,3 +9,6 @@ pub mod Twins
 mod Lawful
 mod InRange
 mod Shown
+mod Journals
+mod OrderRows
+mod Commits

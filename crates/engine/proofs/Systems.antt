@@ -20,6 +20,7 @@ use Rattle.block_flatten.specs.Source.{PlainProgram, Source}
 use Rattle.block_flatten.specs.Sound.{IsSound}
 use Rattle.st_walk.specs.Worlds.{World, Stands, opening, run_program}
 use Rattle.st_walk.specs.Slots.{cell}
+use Rattle.journal_core.specs.declared.row.Row.{Row}
 use Rattle.plant_config.specs.declared.rows.AlarmRow.{AlarmRow}
 use Rattle.plant_config.specs.Plants.{PlainPlant, IsPlant, IsAlarmRow}
 use Rattle.engine.specs.declared.event.TheConstants.{MOST_EVENTS}
@@ -35,6 +36,7 @@ use Rattle.plant_config.specs.Names.{globals_of, programs_of, body_paths}
 use Rattle.engine.specs.Programs.{Scanned, opening_faulted, after_run, programs_from, with_inputs, global_in, world_after}
 use Rattle.engine.specs.Orders.{order_outcome, alarms_by, faulted_by, reply_by}
 use Rattle.engine.specs.System.{System, system, step, taken_scan, scan_event, order_event, opening_system, opening_alarm, scanned_by, after_scan_event, ordered, conditions, suppressions, alarms_after, sites_of, outputs_from, out_at, outs_from}
+use Rattle.engine.specs.Journal.{IsJournal}
 use Rattle.engine.specs.Lawful.{IsTaken, IsLawfulHistory}
 use Rattle.engine.specs.Reports.{PlainReport}
 use Rattle.engine.specs.Engines.{PlainEngine, PlainState, PlainScanEffect, PlainPrepared, PlainPreparedOrder, after_effect, Fits, FitsOrder, IsState, IsEngine, IsReport, state_of}
@@ -158,10 +160,10 @@ scan_agrees plant sys old new image t r is within held made =
     }
 
 -- the numbers that are reported are there
-numbers_more : {A : Type 0} (xs : List (ℕ × A)) (n m : ℕ) → n ≤ m → All (λ x. x.0 < n) xs → All (λ x. x.0 < m) xs
+pub numbers_more : {A : Type 0} (xs : List (ℕ × A)) (n m : ℕ) → n ≤ m → All (λ x. x.0 < n) xs → All (λ x. x.0 < m) xs
 numbers_more {A} xs n m h all = All-weaker (λ (x : ℕ × A). x.0 < n) (λ (x : ℕ × A). x.0 < m) (λ x below. omega arith) xs all
 
-changes_within : (n : ℕ) (old new : List PlainAlarm) → All (λ c. c.0 < n + length old) (changes_from n old new)
+pub changes_within : (n : ℕ) (old new : List PlainAlarm) → All (λ c. c.0 < n + length old) (changes_from n old new)
 changes_within n [] new = All-nil (λ (x : ℕ × PlainChange). x.0 < n + 0)
 changes_within n (a ∷ old) [] = All-nil (λ (x : ℕ × PlainChange). x.0 < n + suc (length old))
 changes_within n (a ∷ old) (b ∷ new) =
@@ -224,8 +226,8 @@ effect_anywhere plant sys next old k effect held keeps after = record {
 }
 
 -- a scan that was made ready from what an engine holds fits that engine, where it has room
-pub scan_fits : (e : PlainEngine) (p : PlainPrepared) (old : PlainState) (events : ℕ) (pairs : List PlainPair) (t : ℕ) → IsPlant e.plant → IsState e.plant (state_of e) old → IsPreparedScan e.plant old events pairs t p → events ≡ length e.history → 0 < e.room → Fits e p
-scan_fits e p old events pairs t plant_is held scan counted there =
+pub scan_fits : (e : PlainEngine) (p : PlainPrepared) (old : PlainState) (events : ℕ) (pairs : List PlainPair) (t : ℕ) → IsPlant e.plant → IsState e.plant (state_of e) old → IsPreparedScan e.plant old events pairs t p → events ≡ length e.history → 0 < e.room → length p.report.faults + length p.report.changes ≤ e.row_room → Fits e p
+scan_fits e p old events pairs t plant_is held scan counted there rows_there =
     let sys = state_of e in
     let image = scan.image in
     let is = scan.event_is in
@@ -236,6 +238,9 @@ scan_fits e p old events pairs t plant_is held scan counted there =
     let after = scan_agrees e.plant sys old new image t p.report plant_is within held made in
     record {
       room = there;
+      image = image;
+      event_is = is ∙ ap (event.Scan image) (sym made.reported_at);
+      row_room = rows_there;
       effect_is = λ k keeps. subst (λ s. IsState e.plant s (after_effect p.effect k)) (sym next) (effect_anywhere e.plant sys (after_scan_event e.plant sys image t) old k p.effect held keeps after);
       in_range = after.in_range;
       report_is = subst (λ x. IsReport e.plant sys x p.report) (sym is) (scan_reports e.plant sys old new image t p.report plant_is within (kept_alarms e.plant e.history old held) held made);
@@ -275,8 +280,8 @@ sites_there plant is =
     (All-weaker (IsAlarmRow plant) (λ row. IsSite (length plant.areas) (site row)) (λ row there. record { area = there.area; lowest = there.lowest; highest = there.highest }) plant.alarms is.alarms)
 
 -- before the first event
-pub opening_agrees : (plant : PlainPlant) (k : PlainState) → IsPlant plant → Stands plant.source k.cells (opening plant.source) → k.faulted ≡ opening_faulted (programs_of plant) → k.sites ≡ sites_of plant.alarms → k.alarms ≡ map opening_alarm plant.alarms → k.outputs ≡ outputs_from 0 plant.source.globals (cell k.cells) → k.moment ≡ 0 → IsLawfulHistory plant [] → IsEngine plant [] k
-opening_agrees plant k is stands faulted sites alarms outputs moment lawful =
+pub opening_agrees : (plant : PlainPlant) (k : PlainState) → IsPlant plant → Stands plant.source k.cells (opening plant.source) → k.faulted ≡ opening_faulted (programs_of plant) → k.sites ≡ sites_of plant.alarms → k.alarms ≡ map opening_alarm plant.alarms → k.outputs ≡ outputs_from 0 plant.source.globals (cell k.cells) → k.moment ≡ 0 → IsLawfulHistory plant [] → IsJournal plant [] [] → IsEngine plant [] [] k
+opening_agrees plant k is stands faulted sites alarms outputs moment lawful journal =
     record {
       state_is = subst (λ s. IsState plant s k) (sym (system_none plant)) (record {
         world_stands = stands;
@@ -289,6 +294,8 @@ opening_agrees plant k is stands faulted sites alarms outputs moment lawful =
       });
       plant_is = is;
       lawful = lawful;
+      journal = journal;
+      until = All-nil (λ (row : Row). row.moment ≤ k.moment);
     }
 
 -- an order where the history has room
@@ -299,8 +306,8 @@ order_event_room plant history console order few =
     grind (arith, nat_tests)
 
 -- an order that was made ready from what an engine holds fits that engine, where it has room
-pub order_fits : (e : PlainEngine) (k : PlainState) (console : ℕ) (order : Order) (p : PlainPreparedOrder) → IsState e.plant (state_of e) k → IsPreparedOrder e.plant k console order p → length e.history < MOST_EVENTS → 0 < e.room → FitsOrder e p
-order_fits e k console order p held made few there =
+pub order_fits : (e : PlainEngine) (k : PlainState) (console : ℕ) (order : Order) (p : PlainPreparedOrder) → IsState e.plant (state_of e) k → IsPreparedOrder e.plant k console order p → length e.history < MOST_EVENTS → 0 < e.room → 2 ≤ e.row_room → FitsOrder e p
+order_fits e k console order p held made few there rows_there =
     let sys = state_of e in
     let is : p.done ≡ ordered e.plant sys p.console p.order =
     made.done_is
@@ -311,6 +318,7 @@ order_fits e k console order p held made few there =
     ∙ ap (ordered e.plant sys p.console) (sym made.order_is) in
     record {
       room = there;
+      row_room = rows_there;
       done_is = is;
       reply_is = made.reply_is ∙ ap (λ a. reply_by p.done a) held.alarms_are ∙ ap (λ d. reply_by d sys.alarms) is;
       taken = order_event_room e.plant e.history p.console p.order few;

@@ -1,10 +1,11 @@
 -- What an engine shows, what a scan reports, and when something made ready fits an engine.
-use Rattle.std.specs.Prelude.{◌≡◌, ℕ, ◌<◌, ◌≤◌, ℤ, Bool, List, [], ◌∷◌, ◌++◌, length, map, All, Result, Ok, refl}
+use Rattle.std.specs.Prelude.{◌≡◌, ℕ, ◌+◌, ◌<◌, ◌≤◌, ℤ, Bool, List, [], ◌∷◌, ◌++◌, length, map, All, Result, Ok, refl}
 use Rattle.std.specs.Coded.{Coded, code_by, coded×, coded_list, coded_ℕ}
 use Rattle.plant_types.specs.Pairs.{PlainPair}
 use Rattle.plant_types.specs.declared.values.Value.{Value}
 use Rattle.st_walk.specs.Worlds.{Stands}
 use Rattle.st_walk.specs.Runs.{place_spot}
+use Rattle.journal_core.specs.declared.row.Row.{Row}
 use Rattle.alarm_machine.specs.Alarms.{PlainAlarm}
 use Rattle.alarm_bank.specs.declared.rows.Site.{Site}
 use Rattle.alarm_bank.specs.Moves.{put_all}
@@ -22,12 +23,14 @@ use Rattle.engine.specs.declared.state.Effect.{Effect}
 use Rattle.engine.specs.Reports.{PlainReport}
 use Rattle.engine.specs.System.{System, system, step, scan_event, faults_of, changes_of, outs_of, outputs_of, sites_of, ordered, reply_to}
 use Rattle.engine.specs.Lawful.{IsTaken, IsLawfulHistory}
+use Rattle.engine.specs.Journal.{IsJournal}
 
--- the plant, the events so far, and for how many more there is room
+-- the plant, the events so far, for how many more there is room, and for how many rows of the journal
 pub record PlainEngine : Type 0 where
   pub plant : PlainPlant
   pub history : List Event
   pub room : ℕ
+  pub row_room : ℕ
 
 -- the state of an engine's system
 abbrev pub state_of : PlainEngine → System
@@ -36,8 +39,8 @@ state_of e = system e.plant e.history
 -- a code of what an engine shows
 abbrev pub engine_code : Coded PlainEngine
 engine_code =
-    code_by (PlainPlant × (List Event × ℕ)) (coded× plant_code (coded× (coded_list event_row.the_row.coded) coded_ℕ))
-    (λ e. (e.plant, (e.history, e.room))) (λ p. record { plant = p.0; history = p.1.0; room = p.1.1 }) (λ _. refl)
+    code_by (PlainPlant × (List Event × (ℕ × ℕ))) (coded× plant_code (coded× (coded_list event_row.the_row.coded) (coded× coded_ℕ coded_ℕ)))
+    (λ e. (e.plant, (e.history, (e.room, e.row_room)))) (λ p. record { plant = p.0; history = p.1.0; room = p.1.1.0; row_room = p.1.1.1 }) (λ _. refl)
 
 -- what an engine keeps beside its plant and its history: the cells of the variables, the faulted programs, the area and priority of each alarm, the alarms, the outputs and the last moment
 pub record PlainState : Type 0 where
@@ -94,13 +97,16 @@ pub record PlainPrepared : Type 0 where
   pub effect : PlainScanEffect
   pub report : PlainReport
 
--- an engine may commit it: there is room, it is what that event makes of this engine's plant and history, and the event was taken there
+-- an engine may commit it: there is room, for its rows too, its event is a scan at the moment of its report, it is what that event makes of this engine's plant and history, and the event was taken there
 pub record Fits (e : PlainEngine) (p : PlainPrepared) : Type 0 where
   pub room : 0 < e.room
+  pub image : List (ℕ × Value)
+  pub event_is : p.event ≡ event.Scan image p.report.moment
   pub effect_is : (k : PlainState) → IsState e.plant (state_of e) k → IsState e.plant (system e.plant (e.history ++ p.event ∷ [])) (after_effect p.effect k)
   pub in_range : p.effect.moment ≤ LAST_MOMENT
   pub report_is : IsReport e.plant (state_of e) p.event p.report
   pub taken : IsTaken e.plant (state_of e) p.event
+  pub row_room : length p.report.faults + length p.report.changes ≤ e.row_room
 
 -- an order that was made ready: what it does, and its reply
 pub record PlainPreparedOrder : Type 0 where
@@ -109,15 +115,18 @@ pub record PlainPreparedOrder : Type 0 where
   pub done : Result Effect OrderFault
   pub reply : Reply
 
--- an engine may commit it: there is room, that is what the order does in this engine's state, and the order was taken there
+-- an engine may commit it: there is room, for two rows too, that is what the order does in this engine's state, and the order was taken there
 pub record FitsOrder (e : PlainEngine) (p : PlainPreparedOrder) : Type 0 where
   pub room : 0 < e.room
   pub done_is : p.done ≡ ordered e.plant (state_of e) p.console p.order
   pub reply_is : p.reply ≡ reply_to e.plant (state_of e) p.console p.order
   pub taken : IsTaken e.plant (state_of e) (event.Order p.console p.order)
+  pub row_room : 2 ≤ e.row_room
 
--- what an engine keeps is what the system after its history has, what holds of each plant holds of this one, and the history is lawful
-pub record IsEngine (plant : PlainPlant) (history : List Event) (k : PlainState) : Type 0 where
+-- what an engine keeps is what the system after its history has, what holds of each plant holds of this one, the history is lawful, and the rows are its journal, none of them later than the last scan
+pub record IsEngine (plant : PlainPlant) (history : List Event) (rows : List Row) (k : PlainState) : Type 0 where
   pub state_is : IsState plant (system plant history) k
   pub plant_is : IsPlant plant
   pub lawful : IsLawfulHistory plant history
+  pub journal : IsJournal plant history rows
+  pub until : All (λ row. row.moment ≤ k.moment) rows

@@ -3,6 +3,7 @@ pub mod Image
 pub mod Orders
 pub mod System
 pub mod Lawful
+pub mod Journal
 pub mod Reports
 pub mod Engines
 pub mod Steps

@@ -1,6 +1,7 @@
 -- What an order of a console does, or why it is refused.
 use Rattle.std.specs.Prelude.{ℕ, ◌==◌, Bool, true, false, ◌&&◌, List, if◌then◌else◌, Option, Some, None, Result, Ok, Err, slice_get, slice_set}
 use Rattle.std.specs.List.{list_any}
+use Rattle.std.specs.Option.{option_map}
 use Rattle.alarm_machine.specs.declared.states.Verb.{Verb}
 use Rattle.alarm_machine.specs.declared.states.Verb.TheVariants as verb
 use Rattle.alarm_machine.specs.declared.states.OrderFault.{OrderFault}
@@ -72,6 +73,11 @@ alarms_by _ alarms = alarms
 abbrev pub faulted_by : Result Effect OrderFault → List Bool → List Bool
 faulted_by (Ok (effect.Restarted n)) faulted = slice_set faulted n false
 faulted_by _ faulted = faulted
+
+-- the alarm whose code an order changes, by its number, with the change
+abbrev pub changed_by : Result Effect OrderFault → List PlainAlarm → Option (ℕ × PlainChange)
+changed_by (Ok (effect.Changed n alarm)) alarms = option_map (λ change. (n, change)) (change_from (slice_get alarms n) alarm)
+changed_by _ alarms = None
 
 -- the reply: the refusal, or the change of the alarm's code if there is one
 abbrev pub reply_by : Result Effect OrderFault → List PlainAlarm → Reply

@@ -1,21 +1,24 @@
 //! The engine: its public calls.
 
-ghost use Rattle.std.specs.Prelude.{◌≡◌, ◌+◌, ◌<◌, ◌≤◌, ◌++◌, [], ◌∷◌, length, slice_get, Some, Ok, IfOk, OnOk, OnErr, IfErr};
+ghost use Rattle.std.specs.Prelude.{◌≡◌, ◌+◌, ◌<◌, ◌≤◌, ◌++◌, [], ◌∷◌, length, slice_get, string_bytes, Some, Ok, IfOk, OnOk, OnErr, IfErr};
 ghost use Rattle.std.specs.Option.{option_map};
 ghost use Rattle.engine.specs.Image.{IsDue};
 ghost use Rattle.engine.specs.Orders.{restart_of};
 ghost use Rattle.engine.specs.System.{scan_event, order_event, reply_to, outputs_of, summary_of};
 ghost use Rattle.engine.specs.Lawful.{IsLawfulHistory};
+ghost use Rattle.engine.specs.Journal.{IsJournal, IsLine, journal_of};
 ghost use Rattle.engine.specs.Engines.{state_of, Fits, FitsOrder, IsReport, TakesScan};
 
 use crate::event::{EngineFault, Event, MOST_EVENTS, Order, Reply, Report};
 use crate::image::Input;
 use crate::indexed::IndexedPlant;
+use crate::journal::{name_of, push_order, push_scan, row_count};
 use crate::orders::{PreparedOrder, prepared_order};
 use crate::scan::{Prepared, prepared_scan};
 use crate::state::{ScanEffect, State, alarm_state, apply, apply_scan, opening_state};
 use alarm_bank::Summary;
 use alarm_machine::{AlarmState, Verb};
+use journal_core::{Log, row_text};
 use plant_config::Plant;
 use plant_types::{Pair, Value};
 use std::alloc::{AllocError, Global};
@@ -26,6 +29,7 @@ use std::marker::Model;
 pub struct Engine {
     plant: IndexedPlant,
     history: Vec<Event>,
+    log: Log,
     state: State,
     /// What an earlier scan replaced: only its room is used.
     spare: Option<ScanEffect>,
@@ -43,9 +47,9 @@ impl Model for Engine {
 
     ghost use Rattle.engine.specs.Engines.{IsEngine};
 
-    ghost view = { λ e. record { plant = e.plant; history = e.history.items; room = vec_capacity e.history - vec_len e.history } };
+    ghost view = { λ e. record { plant = e.plant; history = e.history.items; room = vec_capacity e.history - vec_len e.history; row_room = e.log.room } };
 
-    ghost invariant = { λ e. IsEngine e.plant e.history.items e.state };
+    ghost invariant = { λ e. IsEngine e.plant e.history.items e.log.rows e.state };
 }
 
 impl Engine {
@@ -57,10 +61,12 @@ impl Engine {
         let state = opening_state(alloc, &plant)?;
         let plant = IndexedPlant::new(alloc, plant)?;
         let history = Vec::new(alloc);
+        let log = Log::new(alloc);
         let inputs = Vec::new(alloc);
         Ok(Engine {
             plant,
             history,
+            log,
             state,
             spare: None,
             inputs,
@@ -111,13 +117,33 @@ impl Engine {
         self.state.outputs.as_slice()
     }
 
-    /// Makes a scan ready: runs the programs on copies, and allocates all that `commit` needs. It changes neither plant nor history.
+    /// The journal: the rows that the events so far added, numbered from 1.
+    pub fn journal(&self) -> &Log
+        ensures journal { IsJournal self.now.plant self.now.history result.now.rows }
+        ensures row_room { result.now.room ≡ self.now.row_room }
+    {
+        &self.log
+    }
+
+    /// The text of the journal's row of a number, from 1, with the name that it bears: a fault's path, an alarm's tag, an order's target as
+    /// declared, or `?` where the order was refused because there is none. Fails if allocation fails.
+    pub fn line(&self, alloc: Global, number: u64) -> Result<String, AllocError>
+        requires first { 1 ≤ number }
+        requires last { number ≤ length (journal_of self.now.plant self.now.history) }
+        ensures { IfOk result (λ text. IsLine self.now.plant self.now.history number (string_bytes text)) }
+    {
+        let row = &self.log.rows()[(number - 1) as usize];
+        let plant = self.plant.plant();
+        row_text(alloc, plant.epoch(), row, name_of(plant, row.entry))
+    }
+
+    /// Makes a scan ready: runs the programs on copies, and allocates all that `commit` needs, room for the rows of the journal too. It changes neither plant nor history.
     ///
     /// The pairs name inputs, letter case ignored; the moment is in milliseconds. The refusals, in the order in which they are tested:
     /// `MomentRange` (E2) above 4,000,000,000,000, `MomentBack` (E1) before the last scan, `ImageName` (E3) for a name that is no input
     /// or comes twice, `ImageKind` (E4) for a value that doesn't fit its input, `HistoryFull` (E6) at 1,000,000 events. `Memory` comes
     /// only if allocation fails: of the image, of room for its inputs and for what it leaves of the variables and outputs, of the alarms that it
-    /// moves, of a flag for each global if the image has more than 16 inputs, and of the report's lists.
+    /// moves, of a flag for each global if the image has more than 16 inputs, of the report's lists and of its rows.
     pub fn prepare(
         &mut self,
         alloc: Global,
@@ -127,6 +153,7 @@ impl Engine {
         ensures plant { self.new.plant ≡ self.old.plant }
         ensures history { self.new.history ≡ self.old.history }
         ensures room { self.old.room ≤ self.new.room }
+        ensures row_room { self.old.row_room ≤ self.new.row_room }
         ensures ok { IfOk result (λ p. Fits self.new p × (scan_event self.old.plant (state_of self.old) pairs.now moment ≡ Ok p.event)) }
         ensures err { IfErr result (λ e. IsDue e (scan_event self.old.plant (state_of self.old) pairs.now moment)) }
     {
@@ -141,16 +168,18 @@ impl Engine {
             pairs,
             moment,
         )?;
+        self.log.reserve(row_count(&prepared.report))?;
         self.history.reserve(1)?;
         Ok(prepared)
     }
 
-    /// Adds a scan that was made ready to the history, and returns what it did. It allocates nothing and can't fail.
+    /// Adds a scan that was made ready to the history and its rows to the journal, and returns what it did. It allocates nothing and can't fail.
     pub fn commit(&mut self, prepared: Prepared) -> Report
         requires { Fits self.old prepared }
         ensures plant { self.new.plant ≡ self.old.plant }
         ensures history { self.new.history ≡ self.old.history ++ prepared.event ∷ [] }
         ensures room { self.new.room + 1 ≡ self.old.room }
+        ensures row_room { self.new.row_room + (length result.faults + length result.changes) ≡ self.old.row_room }
         ensures report { IsReport self.old.plant (state_of self.old) prepared.event result }
     {
         let Prepared {
@@ -158,6 +187,7 @@ impl Engine {
             effect,
             report,
         } = prepared;
+        push_scan(&mut self.log, &report);
         self.history.push_reserved(event);
         self.spare = Some(apply_scan(effect, &mut self.state));
         report
@@ -175,6 +205,7 @@ impl Engine {
         ensures plant { self.new.plant ≡ self.old.plant }
         ensures history { self.new.history ≡ self.old.history }
         ensures room { self.old.room ≤ self.new.room }
+        ensures row_room { self.old.row_room ≤ self.new.row_room }
         ensures ok { IfOk result (λ p. FitsOrder self.new p × (order_event (state_of self.old) console order ≡ Ok (Event.Order p.console p.order)) × (p.console ≡ console) × (p.order ≡ order)) }
         ensures err { IfErr result (λ e. IsDue e (order_event (state_of self.old) console order)) }
     {
@@ -182,18 +213,20 @@ impl Engine {
             return Err(EngineFault::HistoryFull);
         }
         let prepared = prepared_order(self.plant.plant(), &self.state, console, order);
+        self.log.reserve(2)?;
         self.history.reserve(1)?;
         Ok(prepared)
     }
 
     /// Adds an order that was made ready to the history, does it, and returns the reply: the change of the alarm's code if there is one,
-    /// or the refusal (O1 to O5). A refused order is in the history too, and changes no alarm and no program. It allocates nothing and
+    /// or the refusal (O1 to O5). The order has a row in the journal, and so has that change. A refused order is in the history too, and changes no alarm and no program. It allocates nothing and
     /// can't fail.
     pub fn commit_order(&mut self, prepared: PreparedOrder) -> Reply
         requires { FitsOrder self.old prepared }
         ensures plant { self.new.plant ≡ self.old.plant }
         ensures history { self.new.history ≡ self.old.history ++ Event.Order prepared.console prepared.order ∷ [] }
         ensures room { self.new.room + 1 ≡ self.old.room }
+        ensures row_room { self.old.row_room ≤ self.new.row_room + 2 }
         ensures reply { result ≡ reply_to self.old.plant (state_of self.old) prepared.console prepared.order }
     {
         let PreparedOrder {
@@ -202,6 +235,7 @@ impl Engine {
             done,
             reply,
         } = prepared;
+        push_order(&mut self.log, &self.state, console, order, &done);
         apply(&done, &mut self.state);
         self.history.push_reserved(Event::Order(console, order));
         reply

@@ -83,7 +83,7 @@ fn opening_bank(alloc: Global, plant: &Plant) -> Result<Bank, AllocError>
 /// The state before the first event: each variable has its initial value, no program is faulted, and each alarm is normal. Fails if
 /// allocation fails.
 pub fn opening_state(alloc: Global, plant: &Plant) -> Result<State, AllocError>
-    ensures { IfOk result (IsEngine plant.now []) }
+    ensures { IfOk result (IsEngine plant.now [] []) }
 {
     let globals = plant.flat().globals();
     let cells = Cells::opening(alloc, plant.flat())?;

@@ -300,6 +300,13 @@ impl Plant {
         self.alarms.len() as u32
     }
 
+    /// The instant of moment 0.
+    pub fn epoch(&self) -> &Epoch
+        ensures { result.now ≡ self.now.epoch }
+    {
+        &self.epoch
+    }
+
     /// How many areas there are, at most 64.
     pub fn areas(&self) -> u32
         ensures { result ≡ length self.now.areas }

@@ -3,6 +3,7 @@ use Rattle.alarm_bank.specs.Banks.{PlainBank}
 use Rattle.block_flatten.specs.Source.{Source}
 use Rattle.st_walk.specs.Worlds.{Stands, opening}
 use Rattle.engine.proofs.InRange.{opening_stands}
+use Rattle.engine.proofs.Journals.{journal_empty}
 use Rattle.engine.proofs.Lawful.{lawful_none}
 use Rattle.engine.proofs.Shown.{cells_showable}
 use Rattle.engine.proofs.Systems.{opening_agrees, opening_flags}
@@ -20,6 +21,7 @@ returns c =
     (rw globals at c.in_ok-outputs.ensures)
     (ap (λ (b : PlainBank). b.moment) c.in_ok-bank.ensures)
     (lawful_none _)
+    (journal_empty _)
 
 pub outputs-requires-clause-ranges : goal.outputs-requires-clause-ranges
 outputs-requires-clause-ranges c =

@@ -1,7 +1,30 @@
+use Rattle.engine.proofs.Commits.{scan_committed, scan_until, scan_in_order, scan_room}
 use Rattle.engine.proofs.Lawful.{lawful_next}
 use Rattle.engine.proofs.engine.Engine.commit.Goals as goal
 
 pub invariant_of-self : goal.invariant_of-self
 invariant_of-self c =
     let fits = rw (← c.self.view_is, ← c.prepared.view_is) at c.requires in
-    rw (c.push_reserved.ensures.items, c.apply_scan.ensures) (record { state_is = fits.effect_is c.self.inside.state c.self.invariant.state_is; plant_is = c.self.invariant.plant_is; lawful = lawful_next _ _ _ c.self.invariant.lawful fits.taken })
+    let k = c.self.inside.state in
+    rw (c.push_reserved.ensures.items, c.apply_scan.ensures, c.push_scan.ensures) (record {
+      state_is = fits.effect_is k c.self.invariant.state_is;
+      plant_is = c.self.invariant.plant_is;
+      lawful = lawful_next _ _ _ c.self.invariant.lawful fits.taken;
+      journal = scan_committed _ _ c.self.inside.log fits c.self.invariant.journal;
+      until = scan_until _ _ k c.self.inside.log fits c.self.invariant.state_is c.self.invariant.until;
+    })
+
+pub push_scan-requires-clause-in_order : goal.push_scan-requires-clause-in_order
+push_scan-requires-clause-in_order c =
+    let fits = rw (← c.self.view_is, ← c.prepared.view_is) at c.requires in
+    scan_in_order _ _ c.self.inside.state c.self.inside.log.rows fits c.self.invariant.state_is c.self.invariant.until
+
+pub push_scan-requires-clause-room : goal.push_scan-requires-clause-room
+push_scan-requires-clause-room c =
+    let fits = rw (← c.self.view_is, ← c.prepared.view_is) at c.requires in
+    fits.row_room
+
+pub returns-clause-row_room : goal.returns-clause-row_room
+returns-clause-row_room c =
+    let fits = rw (← c.self.view_is, ← c.prepared.view_is) at c.requires in
+    rw (← c.self.view_is, c.push_scan.ensures) (scan_room c.prepared.inside.report.moment c.self.inside.log c.prepared.inside.report fits.row_room)

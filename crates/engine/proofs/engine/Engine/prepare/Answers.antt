@@ -1,4 +1,4 @@
-use Rattle.std.proofs.Common.{◌≡◌, length, Result, IfErr, rules, subst, sym, ◌∙◌, arith}
+use Rattle.std.proofs.Common.{◌≡◌, ◌+◌, ◌≤◌, length, Result, IfErr, rules, subst, sym, ◌∙◌, arith}
 use Rattle.engine.specs.declared.event.Event.{Event}
 use Rattle.engine.specs.declared.event.EngineFault.{EngineFault}
 use Rattle.engine.specs.Image.{IsDue}
@@ -25,8 +25,9 @@ returns-clause-ok c =
     let made = c.in_ok-prepared.ensures.ok in
     let len : c.len-events.result ≡ length c.self.inside.history.items = search rules in
     let due = scan_event_is c.self.inside.plant c.self.inside.history.items c.self.inside.state c.len-events.result c.args.pairs.now c.args.moment c.self.invariant.state_is len in
-    let held : IsState c.self.inside.plant (system c.self.inside.plant c.reserve.new.self.items) c.self.inside.state = rw c.in_ok-reserve.ensures.items c.self.invariant.state_is in
-    (scan_fits _ c.in_ok-prepared.prepared c.self.inside.state c.len-events.result c.args.pairs.now c.args.moment c.self.invariant.plant_is held made (rw c.in_ok-reserve.ensures.items len) (omega (arith, c.in_ok-reserve.ensures.ok)), rw (← c.self.view_is) (sym due ∙ made.taken))
+    let held : IsState c.self.inside.plant (system c.self.inside.plant c.reserve-2.new.self.items) c.self.inside.state = rw c.in_ok-reserve-2.ensures.items c.self.invariant.state_is in
+    let rows : length c.in_ok-prepared.prepared.report.faults + length c.in_ok-prepared.prepared.report.changes ≤ c.reserve.new.self.room = rw (← c.prepared.view_is) (omega (arith, c.row_count.ensures, c.in_ok-reserve.ensures.ok)) in
+    (scan_fits _ c.in_ok-prepared.prepared c.self.inside.state c.len-events.result c.args.pairs.now c.args.moment c.self.invariant.plant_is held made (rw c.in_ok-reserve-2.ensures.items len) (omega (arith, c.in_ok-reserve-2.ensures.ok)) rows, rw (← c.self.view_is) (sym due ∙ made.taken))
 
 pub prepared_scan-requires-clause-outputs : goal.prepared_scan-requires-clause-outputs
 prepared_scan-requires-clause-outputs c = kept_outputs c.self.inside.plant c.self.inside.history.items c.self.inside.state c.self.invariant.state_is
@@ -35,4 +36,4 @@ pub prepared_scan-requires-clause-sound : goal.prepared_scan-requires-clause-sou
 prepared_scan-requires-clause-sound c = c.self.invariant.plant_is.sound
 
 pub prepared_scan-requires-clause-values : goal.prepared_scan-requires-clause-values
-prepared_scan-requires-clause-values c = engine_stands c.self.inside.plant c.self.inside.history.items c.self.inside.state c.self.invariant
+prepared_scan-requires-clause-values c = engine_stands c.self.inside.plant c.self.inside.history.items c.self.inside.log.rows c.self.inside.state c.self.invariant

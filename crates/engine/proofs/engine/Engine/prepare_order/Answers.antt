@@ -18,8 +18,8 @@ pub returns-clause-ok : goal.returns-clause-ok
 returns-clause-ok c =
     let len : c.len.result ≡ length c.self.inside.history.items = search rules in
     let made = rw c.plant.ensures at c.prepared_order-prepared.ensures in
-    let held : IsState c.self.inside.plant (system c.self.inside.plant c.reserve.new.self.items) c.self.inside.state = rw c.in_ok-reserve.ensures.items c.self.invariant.state_is in (
-      order_fits _ c.self.inside.state c.args.console c.args.order c.prepared_order-prepared.result held made (rw c.in_ok-reserve.ensures.items (omega (arith, len))) (omega (arith, c.in_ok-reserve.ensures.ok)),
+    let held : IsState c.self.inside.plant (system c.self.inside.plant c.reserve-2.new.self.items) c.self.inside.state = rw c.in_ok-reserve-2.ensures.items c.self.invariant.state_is in (
+      order_fits _ c.self.inside.state c.args.console c.args.order c.prepared_order-prepared.result held made (rw c.in_ok-reserve-2.ensures.items (omega (arith, len))) (omega (arith, c.in_ok-reserve-2.ensures.ok)) (omega (arith, c.in_ok-reserve.ensures.ok)),
       rw (← c.self.view_is) (order_event_ready c.self.inside.plant c.self.inside.history.items c.args.console c.args.order c.prepared_order-prepared.result (omega (arith, len)) made.console_is made.order_is),
       made.console_is,
       made.order_is,

@@ -1,0 +1,219 @@
+-- The journal goes on by the rows of one event.
+use Rattle.std.proofs.Common.{◌≡◌, ℕ, suc, ◌+◌, ◌-◌, ◌<◌, ◌≤◌, List, [], ◌∷◌, ◌++◌, length, map, All, fold, refl, ap, sym, ◌∙◌, subst, append_assoc, append-nil, length-append, arith, Option, Some, None}
+use Rattle.std.specs.declared.result.Result.{Result}
+use Rattle.std.specs.Prelude.{slice_get}
+use Rattle.std.specs.Option.{option_map}
+use Rattle.std.proofs.lemmas.Option.{slice_get-map}
+use Rattle.std.proofs.lemmas.List.{map-append, length-map}
+use Rattle.std.proofs.lemmas.List.Elements.{All-nil, All-cons, All-head, All-tail, All-push, All-weaker, All-append, All-map}
+use Rattle.plant_types.specs.declared.values.Place.{Place}
+use Rattle.plant_types.specs.declared.values.Trap.{Trap}
+use Rattle.plant_types.specs.declared.values.Value.{Value}
+use Rattle.alarm_machine.specs.declared.states.OrderFault.{OrderFault}
+use Rattle.alarm_machine.specs.Alarms.{PlainAlarm}
+use Rattle.engine.specs.declared.state.Effect.{Effect}
+use Rattle.alarm_machine.specs.Codes.{PlainChange}
+use Rattle.block_flatten.specs.Source.{Source}
+use Rattle.st_walk.specs.Runs.{place_spot}
+use Rattle.journal_core.specs.declared.row.Entry.{Entry}
+use Rattle.journal_core.specs.declared.row.Entry.TheVariants as entry
+use Rattle.journal_core.specs.declared.row.Row.{Row}
+use Rattle.journal_core.specs.Rows.{PlainLog, after_entry, after_entries, fault_entry, change_entry, last_moment}
+use Rattle.plant_config.specs.Plants.{PlainPlant}
+use Rattle.engine.specs.declared.event.Event.{Event}
+use Rattle.engine.specs.declared.event.Event.TheVariants as event
+use Rattle.engine.specs.declared.event.Order.{Order}
+use Rattle.engine.specs.Orders.{changed_by}
+use Rattle.engine.specs.Reports.{PlainReport}
+use Rattle.engine.specs.Engines.{IsReport}
+use Rattle.alarm_bank.specs.Moves.{changes_from}
+use Rattle.engine.specs.System.{System, system, opening_system, step, ordered}
+use Rattle.engine.proofs.Systems.{system_alarms, system_faulted, changes_within, numbers_more}
+use Rattle.engine.proofs.OrderRows.{order_changes, order_named}
+use Rattle.engine.specs.Journal.{NamedEntry, FaultAt, ChangeOf, named_entry, named_row, fault_entries, change_entries, entries_of, OrderBy, refusal_of, listed, scan_entries, order_entries, rows_from, rows_of, journal_from, journal_of, IsNamed, IsJournal}
+
+length-rows_from : (n moment : ℕ) (entries : List NamedEntry) → length (rows_from n moment entries) ≡ length entries
+length-rows_from n moment [] = refl
+length-rows_from n moment (entry ∷ entries) = ap suc (length-rows_from (n + 1) moment entries)
+
+journal_more : (plant : PlainPlant) (n : ℕ) (sys : System) (history : List Event) (e : Event)
+    → journal_from plant n sys (history ++ e ∷ []) ≡ journal_from plant n sys history ++ rows_of plant (n + length (journal_from plant n sys history)) (fold (step plant) sys history) e
+journal_more plant n sys [] e = append-nil (rows_of plant n sys e) ∙ ap (λ m. rows_of plant m sys e) (let h : n ≡ n + 0 = omega arith in h)
+journal_more plant n sys (d ∷ history) e =
+    let rows = rows_of plant n sys d in
+    let m = n + length (entries_of plant sys d) in
+    let later = journal_from plant m (step plant sys d) history in
+    let last = fold (step plant) (step plant sys d) history in
+    let long = length-rows_from n (step plant sys d).moment (entries_of plant sys d) in
+    let both = length-append rows later in
+    let same : m + length later ≡ n + length (rows ++ later) = omega (arith, long, both) in
+    ap (λ l. rows ++ l) (journal_more plant m (step plant sys d) history e)
+    ∙ ap (λ k. rows ++ (later ++ rows_of plant k last e)) same
+    ∙ sym (append_assoc rows later (rows_of plant (n + length (rows ++ later)) last e))
+
+-- one more event adds its rows
+pub journal_next : (plant : PlainPlant) (history : List Event) (e : Event) → journal_of plant (history ++ e ∷ []) ≡ journal_of plant history ++ rows_of plant (length (journal_of plant history) + 1) (system plant history) e
+unfolding journal_of system
+journal_next plant history e =
+    let rows = journal_from plant 1 (opening_system plant) history in
+    let same : 1 + length rows ≡ length rows + 1 = omega arith in
+    journal_more plant 1 (opening_system plant) history e ∙ ap (λ k. rows ++ rows_of plant k (fold (step plant) (opening_system plant) history) e) same
+
+pub journal_none : (plant : PlainPlant) → journal_of plant [] ≡ []
+unfolding journal_of
+journal_none plant = refl
+
+-- ---- the rows of a log, by names
+abbrev row_for : ℕ → PlainLog → Entry → Row
+row_for moment log entry = record { number = length log.rows + 1; moment = moment; entry = entry }
+
+pub named_after : (source : Source) (moment : ℕ) (log : PlainLog) (entries : List Entry) → map (named_row source) (after_entries moment log entries).rows ≡ map (named_row source) log.rows ++ rows_from (length log.rows + 1) moment (map (named_entry source) entries)
+named_after source moment log [] = sym (append-nil (map (named_row source) log.rows))
+named_after source moment log (entry ∷ entries) =
+    let rest = map (named_entry source) entries in
+    let row = row_for moment log entry in
+    let long : length (log.rows ++ row ∷ []) + 1 ≡ length log.rows + 1 + 1 = ap (λ k. k + 1) (length-append log.rows (row ∷ [])) in
+    named_after source moment (after_entry moment log entry) entries
+    ∙ ap (λ k. map (named_row source) (log.rows ++ row ∷ []) ++ rows_from k moment rest) long
+    ∙ ap (λ l. l ++ rows_from (length log.rows + 1 + 1) moment rest) (map-append (named_row source) log.rows (row ∷ []))
+    ∙ append_assoc (map (named_row source) log.rows) (named_row source row ∷ []) (rows_from (length log.rows + 1 + 1) moment rest)
+
+-- entries that are added one after the other
+pub after_both : (moment : ℕ) (log : PlainLog) (xs ys : List Entry) → after_entries moment (after_entries moment log xs) ys ≡ after_entries moment log (xs ++ ys)
+after_both moment log [] ys = refl
+after_both moment log (x ∷ xs) ys = after_both moment (after_entry moment log x) xs ys
+
+-- what holds of each row of a log and of each that is added
+pub all_after : (P : Row → Type 0) (moment : ℕ) (log : PlainLog) (entries : List Entry) → All P log.rows → ((n : ℕ) → All (λ entry. P (record { number = n; moment = moment; entry = entry })) entries) → All P (after_entries moment log entries).rows
+all_after P moment log [] held new = held
+all_after P moment log (entry ∷ entries) held new =
+    all_after P moment (after_entry moment log entry) entries
+    (All-push P log.rows (row_for moment log entry) held (All-head (λ (x : Entry). P (record { number = length log.rows + 1; moment = moment; entry = x })) entry entries (new (length log.rows + 1))))
+    (λ n. All-tail (λ (x : Entry). P (record { number = n; moment = moment; entry = x })) entry entries (new n))
+
+pub room_after : (moment : ℕ) (log : PlainLog) (entries : List Entry) → (after_entries moment log entries).room ≡ log.room - length entries
+room_after moment log [] = omega arith
+room_after moment log (entry ∷ entries) = let h = room_after moment (after_entry moment log entry) entries in omega (arith, h)
+
+-- the last row's moment is among those of all rows
+pub last_below : (m : ℕ) (rows : List Row) → All (λ row. row.moment ≤ m) rows → last_moment rows ≤ m
+last_below m [] all = omega arith
+last_below m (row ∷ []) all = All-head (λ (r : Row). r.moment ≤ m) row [] all
+last_below m (row ∷ next ∷ rows) all = last_below m (next ∷ rows) (All-tail (λ (r : Row). r.moment ≤ m) row (next ∷ rows) all)
+
+-- rows that are added are not later than their own moment
+last_of_more : (rows : List Row) (row : Row) → last_moment (rows ++ row ∷ []) ≡ row.moment
+last_of_more [] row = refl
+last_of_more (first ∷ []) row = refl
+last_of_more (first ∷ next ∷ rows) row = last_of_more (next ∷ rows) row
+
+pub last_pushed : (moment : ℕ) (log new : PlainLog) (entry : Entry) → new ≡ after_entry moment log entry → last_moment new.rows ≤ moment
+last_pushed moment log new entry is =
+    let last = ap (λ (l : PlainLog). last_moment l.rows) is ∙ last_of_more log.rows (row_for moment log entry) in
+    omega (arith, last)
+
+pub last_after : (moment : ℕ) (log : PlainLog) (entries : List Entry) → last_moment log.rows ≤ moment → last_moment (after_entries moment log entries).rows ≤ moment
+last_after moment log [] late = late
+last_after moment log (entry ∷ entries) late = last_after moment (after_entry moment log entry) entries (last_pushed moment log (after_entry moment log entry) entry refl)
+
+-- after the faults of a scan there is room for its changes
+pub faults_room : (moment : ℕ) (log new : PlainLog) (faults : List (Place × Trap)) (n : ℕ) → new ≡ after_entries moment log (map fault_entry faults) → length faults + n ≤ log.room → n ≤ new.room
+faults_room moment log new faults n is there =
+    let left = ap (λ (l : PlainLog). l.room) is ∙ room_after moment log (map fault_entry faults) in
+    let many = length-map faults fault_entry in
+    omega (arith, left, many, there)
+
+-- the entries of a scan's report, by names
+pub faults_named : (source : Source) (faults : List (Place × Trap)) → map (named_entry source) (map fault_entry faults) ≡ fault_entries (map (λ (f : Place × Trap). (place_spot source f.0, f.1)) faults)
+faults_named source [] = refl
+faults_named source (f ∷ fs) = ap (λ l. FaultAt (place_spot source f.0) f.1 ∷ l) (faults_named source fs)
+
+pub changes_named : (source : Source) (changes : List (ℕ × PlainChange)) → map (named_entry source) (map change_entry changes) ≡ change_entries changes
+changes_named source [] = refl
+changes_named source (c ∷ cs) = ap (λ l. ChangeOf c.0 c.1 ∷ l) (changes_named source cs)
+
+-- ---- a journal goes on
+journal_on : (plant : PlainPlant) (history : List Event) (e : Event) (moment : ℕ) (log : PlainLog) (entries : List Entry) → moment ≡ (step plant (system plant history) e).moment
+    → map (named_entry plant.source) entries ≡ entries_of plant (system plant history) e → All (IsNamed plant) entries → IsJournal plant history log.rows → IsJournal plant (history ++ e ∷ []) (after_entries moment log entries).rows
+journal_on plant history e moment log entries at are within held =
+    let journal = journal_of plant history in
+    let long : length log.rows + 1 ≡ length journal + 1 = ap (λ k. k + 1) (sym (length-map log.rows (named_row plant.source)) ∙ ap length held.rows_are) in
+    record {
+      rows_are = named_after plant.source moment log entries
+          ∙ ap (λ l. l ++ rows_from (length log.rows + 1) moment (map (named_entry plant.source) entries)) held.rows_are
+          ∙ ap (λ n. journal ++ rows_from n moment (map (named_entry plant.source) entries)) long
+          ∙ ap (λ es. journal ++ rows_from (length journal + 1) moment es) are
+          ∙ ap (λ m. journal ++ rows_from (length journal + 1) m (entries_of plant (system plant history) e)) at
+          ∙ sym (journal_next plant history e);
+      named = all_after (λ (row : Row). IsNamed plant row.entry) moment log entries held.named (λ n. within);
+    }
+
+-- by the rows of a scan
+pub scan_journal : (plant : PlainPlant) (history : List Event) (image : List (ℕ × Value)) (t : ℕ) (r : PlainReport) (log : PlainLog) → IsReport plant (system plant history) (event.Scan image t) r → IsJournal plant history log.rows
+    → IsJournal plant (history ++ event.Scan image t ∷ []) (after_entries r.moment log (scan_entries r)).rows
+scan_journal plant history image t r log report held =
+    let P = IsNamed plant in
+    let faults = faults_named plant.source r.faults ∙ ap fault_entries report.faults_are in
+    let changes = changes_named plant.source r.changes ∙ ap change_entries report.changes_are in
+    journal_on plant history (event.Scan image t) r.moment log (scan_entries r) report.moment_is
+    (map-append (named_entry plant.source) (map fault_entry r.faults) (map change_entry r.changes) ∙ (λ i. faults i ++ changes i))
+    (All-append P (map fault_entry r.faults) (map change_entry r.changes) (All-map P fault_entry r.faults report.faults_within) (All-map P change_entry r.changes report.changes_within))
+    held
+
+-- by those of an order
+pub order_journal : (plant : PlainPlant) (history : List Event) (console : ℕ) (order : Order) (log : PlainLog) → IsJournal plant history log.rows
+    → IsJournal plant (history ++ event.Order console order ∷ []) (after_entries (system plant history).moment log (order_entries console order (ordered plant (system plant history) console order) (system plant history).alarms)).rows
+order_journal plant history console order log held =
+    let sys = system plant history in
+    let done = ordered plant sys console order in
+    let changes = changes_from 0 sys.alarms (step plant sys (event.Order console order)).alarms in
+    let are : changes ≡ listed (changed_by done sys.alarms) = order_changes done sys.alarms in
+    let many = system_alarms plant history in
+    let few : All (λ (c : ℕ × PlainChange). c.0 < length plant.alarms) changes = numbers_more changes (0 + length sys.alarms) (length plant.alarms) (omega (arith, many)) (changes_within 0 sys.alarms (step plant sys (event.Order console order)).alarms) in
+    let P = IsNamed plant in
+    journal_on plant history (event.Order console order) sys.moment log (order_entries console order done sys.alarms) refl
+    (ap (λ l. OrderBy console order (refusal_of done) ∷ l) (changes_named plant.source (listed (changed_by done sys.alarms)) ∙ ap change_entries (sym are)))
+    (All-cons P (entry.Order console order.verb order.target (refusal_of done)) (map change_entry (listed (changed_by done sys.alarms)))
+    (order_named plant sys.alarms sys.faulted sys.moment console order (system_faulted plant history))
+    (All-map P change_entry (listed (changed_by done sys.alarms)) (subst (All (λ (c : ℕ × PlainChange). c.0 < length plant.alarms)) are few)))
+    held
+
+-- the rows of a history without events
+pub journal_empty : (plant : PlainPlant) → IsJournal plant [] []
+journal_empty plant = record { rows_are = sym (journal_none plant); named = All-nil (λ (row : Row). IsNamed plant row.entry) }
+
+-- no row is later than the last scan
+each : (P : Entry → Type 0) (xs : List Entry) → ((x : Entry) → P x) → All P xs
+each P [] h = All-nil P
+each P (x ∷ xs) h = All-cons P x xs (h x) (each P xs h)
+
+pub until_after : (m n : ℕ) (log : PlainLog) (entries : List Entry) → m ≤ n → All (λ row. row.moment ≤ m) log.rows → All (λ row. row.moment ≤ n) (after_entries n log entries).rows
+until_after m n log entries later all =
+    all_after (λ (row : Row). row.moment ≤ n) n log entries (All-weaker (λ (row : Row). row.moment ≤ m) (λ (row : Row). row.moment ≤ n) (λ row before. omega (arith, before, later)) log.rows all)
+    (λ k. each (λ x. n ≤ n) entries (λ x. omega arith))
+
+-- how many rows an event adds
+pub length-scan_entries : (r : PlainReport) → length (scan_entries r) ≡ length r.faults + length r.changes
+length-scan_entries r =
+    let sum = length-append (map fault_entry r.faults) (map change_entry r.changes) in
+    let a = length-map r.faults fault_entry in
+    let b = length-map r.changes change_entry in
+    omega (arith, sum, a, b)
+
+few_listed : {A : Type 0} (o : Option A) → length (listed o) ≤ 1
+few_listed None = omega arith
+few_listed (Some a) = omega arith
+
+pub few_order_entries : (console : ℕ) (order : Order) (done : Result Effect OrderFault) (alarms : List PlainAlarm) → length (order_entries console order done alarms) ≤ 2
+few_order_entries console order done alarms =
+    let few = few_listed (changed_by done alarms) in
+    let same = length-map (listed (changed_by done alarms)) change_entry in
+    omega (arith, few, same)
+
+-- the row of a number is that of the journal
+pub row_at : (plant : PlainPlant) (history : List Event) (rows : List Row) (k : ℕ) (row : Row) → IsJournal plant history rows → slice_get rows k ≡ Some row → slice_get (journal_of plant history) k ≡ Some (named_row plant.source row)
+row_at plant history rows k row held at =
+    ap (λ l. slice_get l k) (sym held.rows_are) ∙ slice_get-map (named_row plant.source) rows k ∙ ap (option_map (named_row plant.source)) at
+
+pub as_many_rows : (plant : PlainPlant) (history : List Event) (rows : List Row) → IsJournal plant history rows → length rows ≡ length (journal_of plant history)
+as_many_rows plant history rows held = sym (length-map rows (named_row plant.source)) ∙ ap length held.rows_are

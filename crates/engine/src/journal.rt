@@ -1,0 +1,112 @@
+//! The rows that an event adds to the journal, and the name that a row bears.
+
+ghost use Rattle.std.specs.Prelude.{◌≡◌, ◌≤◌, ◌+◌, length};
+ghost use Rattle.journal_core.specs.Rows.{after_entries, last_moment};
+ghost use Rattle.engine.specs.Orders.{changed_by};
+ghost use Rattle.engine.specs.Journal.{refusal_of, scan_entries, order_entries, IsNamed, HasTarget, target_name, name_of};
+
+use crate::event::{Order, Report};
+use crate::state::{Effect, State};
+use alarm_machine::{Alarm, Change, OrderFault, Verb};
+use journal_core::{Entry, Log};
+use plant_config::Plant;
+
+/// Why an order is refused, if it is.
+fn refusal_of(done: &Result<Effect, OrderFault>) -> Option<OrderFault>
+    ensures { result ≡ refusal_of done.now }
+{
+    match done {
+        Ok(_) => None,
+        Err(fault) => Some(*fault),
+    }
+}
+
+/// The alarm whose code an order changes, by its number, with the change.
+fn changed_by(done: &Result<Effect, OrderFault>, alarms: &[Alarm]) -> Option<(u32, Change)>
+    ensures { result ≡ changed_by done.now alarms.now }
+{
+    let Ok(Effect::Changed(number, alarm)) = done else {
+        return None;
+    };
+    let old = alarms.get(*number as usize)?;
+    let change = Change::between(old.state().code(), alarm.state().code())?;
+    Some((*number, change))
+}
+
+/// How many rows a scan adds.
+pub fn row_count(report: &Report) -> usize
+    ensures { result ≡ length report.now.faults + length report.now.changes }
+{
+    report.faults.len() + report.changes.len()
+}
+
+/// Adds the rows of a scan, for which there is room: its faults in program order, then its changes in the order of the database.
+pub fn push_scan(log: &mut Log, report: &Report)
+    requires room { length report.now.faults + length report.now.changes ≤ log.old.room }
+    requires in_order { last_moment log.old.rows ≤ report.now.moment }
+    ensures { log.new ≡ after_entries report.now.moment log.old (scan_entries report.now) }
+{
+    log.push_faults(report.moment, report.faults.as_slice());
+    log.push_changes(report.moment, report.changes.as_slice());
+}
+
+/// Adds the rows of an order, by what it does in a state: the order with its reply, then the change of an alarm's code. There is room
+/// for two.
+pub fn push_order(
+    log: &mut Log,
+    state: &State,
+    console: u32,
+    order: Order,
+    done: &Result<Effect, OrderFault>,
+)
+    requires room { 2 ≤ log.old.room }
+    requires in_order { last_moment log.old.rows ≤ state.now.moment }
+    ensures { log.new ≡ after_entries state.now.moment log.old (order_entries console order done.now state.now.alarms) }
+{
+    let moment = state.moment;
+    let refused = refusal_of(done);
+    log.push(
+        moment,
+        Entry::Order {
+            console,
+            verb: order.verb,
+            target: order.target,
+            refused,
+        },
+    );
+    if let Some((number, change)) = changed_by(done, state.alarms.as_slice()) {
+        log.push(moment, Entry::Alarm(number, change));
+    }
+}
+
+/// The name of an order's target, as declared.
+fn target_name(plant: &Plant, verb: Verb, number: u32) -> &str
+    requires { HasTarget plant.now verb number }
+    ensures { result.now ≡ target_name plant.now verb number }
+{
+    match verb {
+        Verb::Restart => plant.program(number),
+        _ => plant.tag(number),
+    }
+}
+
+/// The name that a row bears: the path of a fault, the tag of an alarm, the target of an order, `?` where there is none.
+pub fn name_of(plant: &Plant, entry: Entry) -> &str
+    requires { IsNamed plant.now entry }
+    ensures { result.now ≡ name_of plant.now entry }
+{
+    match entry {
+        Entry::Fault(place, _) => plant.path(place.path),
+        Entry::Alarm(alarm, _) => plant.tag(alarm),
+        Entry::Order {
+            console: _,
+            verb,
+            target,
+            refused,
+        } => match (refused, target) {
+            (Some(OrderFault::UnknownTarget), _) => "?",
+            (_, Some(number)) => target_name(plant, verb, number),
+            (_, None) => "?",
+        },
+    }
+}
