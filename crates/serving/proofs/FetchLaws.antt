@@ -1,7 +1,5 @@
 -- Files that are found, one after another.
-use Rattle.std.proofs.Common.{◌≡◌, ℕ, suc, ◌+◌, ◌<◌, List, [], ◌∷◌, ◌++◌, length, map, take, drop, subst, append-nil, append_assoc, inr, option_map, sym, ap, ◌∙◌, Option, Some, None, get_or}
-use Rattle.std.specs.Io.KnownBytes.{Consumes}
-use Rattle.std.proofs.KnownBytes.{Consumes-trans}
+use Rattle.std.proofs.Common.{◌≡◌, ℕ, suc, ◌+◌, ◌<◌, List, [], ◌∷◌, ◌++◌, length, map, take, drop, subst, append_assoc, inr, option_map, sym, ap, ◌∙◌, Option, Some, None, get_or}
 use Rattle.std.proofs.lemmas.List.{map_push, take_more, take-append-drop}
 use Rattle.std.proofs.Math.Seq.{drop-cons}
 use Rattle.serving.specs.declared.texts.FetchFault.{FetchFault}
@@ -10,12 +8,6 @@ use Rattle.plant_file.specs.Read.{plant_file_in}
 use Rattle.plant_config.specs.declared.files.Files.{Files}
 use Rattle.plant_config.specs.Files.{files_of}
 use Rattle.serving.specs.Fetches.{Finds, AreFound, AreMissed, IsFetchFault, IsMiss, beside}
-
--- a read of no bytes adds none
-pub consumed_none : (a b c : Option (List ℕ)) (bytes buf : List ℕ) (n : ℕ) → n ≡ 0 → Consumes a b bytes → Consumes b c (take n buf) → Consumes a c bytes
-consumed_none a b c bytes buf n none before read =
-    let last : Consumes b c [] = subst (λ (k : ℕ). Consumes b c (take k buf)) none read in
-    subst (Consumes a c) (append-nil bytes) (Consumes-trans a b c bytes [] before last)
 
 -- one more file is found
 pub found_more : (finds : Finds) (plant : List ℕ) (names texts : List (List ℕ)) (name text : List ℕ) → AreFound finds plant names texts → finds (beside plant name) (Some text) → AreFound finds plant (names ++ name ∷ []) (texts ++ text ∷ [])

@@ -1,5 +1,5 @@
 -- Where the files of a plant are sought, and what comes of it.
-use Rattle.std.specs.Prelude.{◌≡◌, ◌≢◌, ◌⊎◌, ⊤, ℕ, List, [], ◌∷◌, ◌++◌, Option, Some, None, unwrap_or, option_map}
+use Rattle.std.specs.Prelude.{◌≡◌, ◌≢◌, ◌⊎◌, ⊤, ℕ, ◌<◌, List, [], ◌∷◌, ◌++◌, length, Option, Some, None, unwrap_or, option_map}
 use Rattle.std.specs.Path.{path_parent, path_join}
 use Rattle.plant_file.specs.Read.{plant_file_in}
 use Rattle.plant_config.specs.declared.files.Files.{Files}
@@ -17,6 +17,11 @@ beside plant name = path_join (unwrap_or (path_parent plant) []) name
 -- the names of the files of a plant, in the order in which they are read
 abbrev pub names_of : Files → List (List ℕ)
 names_of files = files.sources ++ files.alarms ∷ []
+
+-- more bytes than so many are to come, where they are known
+abbrev pub HasMore : ℕ → Option (List ℕ) → Type 0
+HasMore most None = ⊤
+HasMore most (Some bytes) = most < length bytes
 
 -- what may be found under a path: the bytes of a file, or none
 abbrev pub Finds : Type 1

@@ -1,7 +1,8 @@
 //! Where files are found by their paths.
 
-ghost use Rattle.std.specs.Prelude.{◌≡◌, ◌≤◌, ◌++◌, length, IfOk, OnOk, IsErrOf, Option, List, ℕ, Some, None};
+ghost use Rattle.std.specs.Prelude.{◌≡◌, ◌≤◌, ◌⊎◌, length, true, IfOk, IsErrOf, Option, List, ℕ, Some, None};
 ghost use Rattle.std.specs.Io.KnownBytes.{Consumes, IsAtEnd};
+ghost use Rattle.serving.specs.Fetches.{HasMore};
 
 use crate::session::{empty_piece, fill};
 use crate::streams::{Feed, Reading};
@@ -43,28 +44,16 @@ pub trait Folder {
         ensures missing { IsErrOf result FileFault.Missing → finds self.now path.now None };
 }
 
-/// Adds bytes to those of a file. Fails with `Missing` if they become too many.
-fn add(bytes: &mut Vec<u8>, more: &[u8]) -> Result<(), FileFault>
-    ensures items { OnOk result (bytes.new.items ≡ bytes.old.items ++ more.now) }
-    ensures size { OnOk result (length bytes.new.items ≤ 16777217) }
-{
-    bytes.extend_from_slice(more)?;
-    if bytes.len() > MOST_BYTES {
-        return Err(FileFault::Missing);
-    }
-    Ok(())
-}
-
 /// Reads a feed to its end. Fails with `Missing` if a read fails, and if the feed has more than 16,777,217 bytes.
 fn read_whole<F: Feed>(alloc: Global, feed: &mut F) -> Result<Vec<u8>, FileFault>
     ensures bytes { IfOk result (λ v. Consumes (F.remaining feed.old) (F.remaining feed.new) v.items) }
     ensures whole { IfOk result (λ v. IsAtEnd (F.remaining feed.new)) }
     ensures size { IfOk result (λ v. length v.items ≤ 16777217) }
+    ensures missing { IsErrOf result FileFault.Missing → (F.broken feed.new ≡ true) ⊎ HasMore 16777217 (F.remaining feed.old) }
 {
     let mut piece = empty_piece(alloc)?;
     let mut bytes = Vec::new(alloc);
-    // Each read gives a byte or more, or is the last.
-    for _ in 0..=MOST_BYTES {
+    'reads: while bytes.len() <= MOST_BYTES {
         let Ok(n) = fill(feed, &mut piece) else {
             return Err(FileFault::Missing);
         };
@@ -72,7 +61,7 @@ fn read_whole<F: Feed>(alloc: Global, feed: &mut F) -> Result<Vec<u8>, FileFault
             return Ok(bytes);
         }
         let (now, _) = piece.as_slice().split_at(n);
-        add(&mut bytes, now)?;
+        bytes.extend_from_slice(now)?;
     }
     Err(FileFault::Missing)
 }

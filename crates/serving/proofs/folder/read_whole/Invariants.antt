@@ -1,7 +1,11 @@
-use Rattle.std.proofs.Common.{◌≡◌, ◌≤◌, length}
+use Rattle.std.proofs.Common.{◌≡◌, ◌-◌, length}
 use Rattle.std.specs.Io.KnownBytes.{Consumes}
 use Rattle.serving.proofs.folder.read_whole.Given as goal
 
--- the bytes so far were read, and aren't too many; the room stays
-abbrev pub invariant-loop : goal.invariant-loop
-invariant-loop g l = Consumes (g.F.Feed.remaining l.fn.feed) (g.F.Feed.remaining l.feed) l.bytes.items × (length l.bytes.items ≤ 16777217) × (length l.piece.items ≡ 65536)
+-- the bytes so far were read; the room stays
+abbrev pub invariant-reads : goal.invariant-reads
+invariant-reads g l = Consumes (g.F.Feed.remaining l.fn.feed) (g.F.Feed.remaining l.feed) l.bytes.items × (length l.piece.items ≡ 65536)
+
+-- each read gives a byte or more, or is the last
+abbrev pub decreases-reads : goal.decreases-reads
+decreases-reads g l = 16777218 - length l.bytes.items
