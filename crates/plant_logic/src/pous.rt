@@ -1,6 +1,6 @@
 //! The blocks and programs of all units, in order of text.
 
-ghost use Rattle.std.specs.Prelude.{◌≡◌, ◌++◌, IfOk, IfSome, ◌<◌, length, map, false};
+ghost use Rattle.std.specs.Prelude.{◌≡◌, ◌++◌, IfOk, map, false};
 ghost use Rattle.st_names.specs.Taken.{repeats};
 ghost use Rattle.st_parser.specs.Units.{PlainPou, view_pou, view_unit};
 ghost use Rattle.plant_logic.specs.Pous.{pous_of, block_pous, program_pous, pou_word};

@@ -3,7 +3,7 @@
 ghost use Rattle.std.specs.Prelude.{◌≡◌, ◌++◌, IfOk, map, flat_map, false, not};
 ghost use Rattle.st_names.specs.Scopes.{is_external};
 ghost use Rattle.st_tree.specs.View.{view_stmt, view_body};
-ghost use Rattle.st_parser.specs.Units.{PlainPou, view_pou, view_unit};
+ghost use Rattle.st_parser.specs.Units.{view_pou, view_unit};
 ghost use Rattle.st_names.specs.DeclaredNames.{declared_in};
 ghost use Rattle.st_names.specs.Taken.{repeats};
 ghost use Rattle.plant_logic.specs.Pous.{pous_of, block_pous, pou_word};
