@@ -1,5 +1,5 @@
 -- Where the inputs and outputs of instances stand, and which instance a name finds.
-use Rattle.std.proofs.Common.{◌≡◌, ◌∙◌, ap, sym, subst, refl, arith, ℕ, zero, suc, ◌+◌, Bool, true, false, List, [], ◌∷◌, map, Option, Some, None, slice_get}
+use Rattle.std.proofs.Common.{◌≡◌, ◌∙◌, ap, sym, subst, refl, arith, ℕ, ◌+◌, Bool, true, false, List, [], ◌∷◌, map, Option, Some, None, slice_get}
 use Rattle.std.specs.Prelude.{if◌then◌else◌, option_map, option_and_then, codes}
 use Rattle.std.specs.Cmp.Lexicographic.{bytes_decides}
 use Rattle.std.proofs.lemmas.Option.{slice_get-map}
@@ -12,7 +12,7 @@ use Rattle.plant_logic.specs.Names.{own_words, instance_words, find_word, instan
 use Rattle.plant_logic.specs.Blocks.{AreBelow}
 use Rattle.plant_logic.specs.Worlds.{Path, in_word, pt_word, clk_word}
 use Rattle.plant_logic.specs.Layout.{ClockAt, block_values, instance_values, own_values, values_rule, routine_values, block_clocks, routine_clocks}
-use Rattle.plant_logic.specs.Seats.{StandsFrom, timer_number, member_number, is_of_standard}
+use Rattle.plant_logic.specs.Seats.{StandsFrom, member_number, is_of_standard}
 use Rattle.plant_logic.proofs.Levels.{by_its_rule}
 use Rattle.plant_logic.proofs.Agreeing.{values_ask}
 use Rattle.plant_logic.proofs.Seats.{at_front, own_at, word_at}
@@ -69,8 +69,8 @@ mapped_at f None b is = absurd (cc)
 mapped_at f (Some a) b is = (a, refl, cc)
 
 -- the instance of a name's number is the one that the name finds, and has its small letters
-pub instance_at : (r : PlainRoutine) (name : List ℕ) (k : ℕ) → find_word (instance_words r.instances) name ≡ Some k → (i : Instance) × (slice_get r.instances k ≡ Some i) × (instance_named r name ≡ Some i) × (folded i.name ≡ folded name)
-instance_at r name k found =
+pub instance_of_number : (r : PlainRoutine) (name : List ℕ) (k : ℕ) → find_word (instance_words r.instances) name ≡ Some k → (i : Instance) × (slice_get r.instances k ≡ Some i) × (instance_named r name ≡ Some i) × (folded i.name ≡ folded name)
+instance_of_number r name k found =
     let word = λ (i : Instance). folded i.name in
     let i = mapped_at word (slice_get r.instances k) (folded name) (sym (slice_get-map word r.instances k) ∙ word_at (instance_words r.instances) name k found) in
     (i.0, i.1, ap (option_and_then (slice_get r.instances)) found ∙ i.1, i.2)

@@ -12,10 +12,11 @@ mod units;
 
 pub use laws::{
     answered_by_rule, block_type_begins, block_type_has_clocks, block_type_has_values,
-    block_type_runs, call_taken, calls_of_number, clock_stands, clocks_stand_once, instance_clocks_stand, instance_found, member_stands,
-    instance_values_stand, named_value_stands, order_is_of_source, program_clocks_stand,
-    program_values_stand, typed_names_are_distinct, typed_types_are_there, value_of_number,
-    value_written, values_stand_once,
+    block_type_runs, call_taken, calls_of_number, clock_stands, clocks_stand_once,
+    instance_clocks_stand, instance_found, instance_values_stand, member_stands,
+    named_value_stands, order_is_of_source, program_clocks_stand, program_values_stand,
+    typed_names_are_distinct, typed_types_are_there, value_of_number, value_written,
+    values_stand_once,
 };
 pub use logic::{BlockRef, Instance, Local, Logic, Routine, Variable};
 pub use units::logic_of;
