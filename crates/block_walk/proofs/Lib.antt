@@ -5,3 +5,4 @@ pub mod Numbers
 pub mod Moved
 mod Steps
 mod Turns
+pub mod Apart

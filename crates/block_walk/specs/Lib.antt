@@ -2,3 +2,4 @@ pub mod Clocks
 pub mod Cells
 pub mod Frames
 pub mod Walks
+pub mod Apart

@@ -20,5 +20,5 @@ mod walker;
 pub use cells::Cells;
 pub use clock::{Clock, Standard, Timer};
 pub use frame::{Base, Frame, Seat, SeatOf};
-pub use laws::{called_clock, frame_runs_its_body};
+pub use laws::{called_clock, frame_runs_its_body, seats_lie_apart};
 pub use walker::{Stop, walk_frame};
