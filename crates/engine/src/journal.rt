@@ -63,7 +63,7 @@ pub fn push_order(
     requires in_order { last_moment log.old.rows ≤ state.now.moment }
     ensures { log.new ≡ after_entries state.now.moment log.old (order_entries console order done.now state.now.alarms) }
 {
-    let moment = state.moment;
+    let moment = state.bank.moment();
     let refused = refusal_of(done);
     log.push(
         moment,
@@ -74,7 +74,7 @@ pub fn push_order(
             refused,
         },
     );
-    if let Some((number, change)) = changed_by(done, state.alarms.as_slice()) {
+    if let Some((number, change)) = changed_by(done, state.bank.alarms()) {
         log.push(moment, Entry::Alarm(number, change));
     }
 }

@@ -269,11 +269,11 @@ impl Plant {
         &self.flat
     }
 
-    /// The moment 0 of the plant: a second of the years 1970 to 2399.
-    pub fn epoch(&self) -> Epoch
-        ensures { result ≡ self.now.epoch }
+    /// The instant of moment 0: a second of the years 1970 to 2399.
+    pub fn epoch(&self) -> &Epoch
+        ensures { result.now ≡ self.now.epoch }
     {
-        self.epoch
+        &self.epoch
     }
 
     /// The consoles, in the order in which the plant lists them.
@@ -298,13 +298,6 @@ impl Plant {
         ensures plant { IsPlant self.now }
     {
         self.alarms.len() as u32
-    }
-
-    /// The instant of moment 0.
-    pub fn epoch(&self) -> &Epoch
-        ensures { result.now ≡ self.now.epoch }
-    {
-        &self.epoch
     }
 
     /// How many areas there are, at most 64.
