@@ -6,3 +6,4 @@ pub mod Moved
 mod Steps
 mod Turns
 pub mod Apart
+pub mod Beginning

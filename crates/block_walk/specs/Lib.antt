@@ -3,3 +3,4 @@ pub mod Cells
 pub mod Frames
 pub mod Walks
 pub mod Apart
+pub mod Starts

@@ -15,10 +15,12 @@ mod clock;
 mod frame;
 mod laws;
 mod reading;
+mod starts;
 mod walker;
 
 pub use cells::Cells;
 pub use clock::{Clock, Standard, Timer};
 pub use frame::{Base, Frame, Seat, SeatOf};
 pub use laws::{called_clock, frame_runs_its_body, seats_lie_apart};
+pub use starts::start_frame;
 pub use walker::{Stop, walk_frame};

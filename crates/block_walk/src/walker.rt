@@ -60,7 +60,7 @@ fn run_within(
 
 /// Runs the statements of a body one after another.
 #[cycle(walk)]
-fn run_body(
+pub(crate) fn run_body(
     frames: &[Frame],
     limit: usize,
     seats: &[Seat],
