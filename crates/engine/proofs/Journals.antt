@@ -30,34 +30,34 @@ use Rattle.alarm_bank.specs.Moves.{changes_from}
 use Rattle.engine.specs.System.{System, system, opening_system, step, ordered}
 use Rattle.engine.proofs.Systems.{system_alarms, system_faulted, changes_within, numbers_more}
 use Rattle.engine.proofs.OrderRows.{order_changes, order_named}
-use Rattle.engine.specs.Journal.{NamedEntry, FaultAt, ChangeOf, named_entry, named_row, fault_entries, change_entries, entries_of, OrderBy, refusal_of, listed, scan_entries, order_entries, rows_from, rows_of, journal_from, journal_of, IsNamed, IsJournal}
+use Rattle.engine.specs.Journal.{NamedEntry, FaultAt, ChangeOf, named_entry, named_row, fault_entries, change_entries, added_entries, OrderBy, refusal_of, listed, scan_entries, order_entries, rows_from, added_rows, journal_from, journal_of, IsNamed, IsJournal}
 
 length-rows_from : (n moment : ℕ) (entries : List NamedEntry) → length (rows_from n moment entries) ≡ length entries
 length-rows_from n moment [] = refl
 length-rows_from n moment (entry ∷ entries) = ap suc (length-rows_from (n + 1) moment entries)
 
 journal_more : (plant : PlainPlant) (n : ℕ) (sys : System) (history : List Event) (e : Event)
-    → journal_from plant n sys (history ++ e ∷ []) ≡ journal_from plant n sys history ++ rows_of plant (n + length (journal_from plant n sys history)) (fold (step plant) sys history) e
-journal_more plant n sys [] e = append-nil (rows_of plant n sys e) ∙ ap (λ m. rows_of plant m sys e) (let h : n ≡ n + 0 = omega arith in h)
+    → journal_from plant n sys (history ++ e ∷ []) ≡ journal_from plant n sys history ++ added_rows plant (n + length (journal_from plant n sys history)) (fold (step plant) sys history) e
+journal_more plant n sys [] e = append-nil (added_rows plant n sys e) ∙ ap (λ m. added_rows plant m sys e) (let h : n ≡ n + 0 = omega arith in h)
 journal_more plant n sys (d ∷ history) e =
-    let rows = rows_of plant n sys d in
-    let m = n + length (entries_of plant sys d) in
+    let rows = added_rows plant n sys d in
+    let m = n + length (added_entries plant sys d) in
     let later = journal_from plant m (step plant sys d) history in
     let last = fold (step plant) (step plant sys d) history in
-    let long = length-rows_from n (step plant sys d).moment (entries_of plant sys d) in
+    let long = length-rows_from n (step plant sys d).moment (added_entries plant sys d) in
     let both = length-append rows later in
     let same : m + length later ≡ n + length (rows ++ later) = omega (arith, long, both) in
     ap (λ l. rows ++ l) (journal_more plant m (step plant sys d) history e)
-    ∙ ap (λ k. rows ++ (later ++ rows_of plant k last e)) same
-    ∙ sym (append_assoc rows later (rows_of plant (n + length (rows ++ later)) last e))
+    ∙ ap (λ k. rows ++ (later ++ added_rows plant k last e)) same
+    ∙ sym (append_assoc rows later (added_rows plant (n + length (rows ++ later)) last e))
 
 -- one more event adds its rows
-pub journal_next : (plant : PlainPlant) (history : List Event) (e : Event) → journal_of plant (history ++ e ∷ []) ≡ journal_of plant history ++ rows_of plant (length (journal_of plant history) + 1) (system plant history) e
+pub journal_next : (plant : PlainPlant) (history : List Event) (e : Event) → journal_of plant (history ++ e ∷ []) ≡ journal_of plant history ++ added_rows plant (length (journal_of plant history) + 1) (system plant history) e
 unfolding journal_of system
 journal_next plant history e =
     let rows = journal_from plant 1 (opening_system plant) history in
     let same : 1 + length rows ≡ length rows + 1 = omega arith in
-    journal_more plant 1 (opening_system plant) history e ∙ ap (λ k. rows ++ rows_of plant k (fold (step plant) (opening_system plant) history) e) same
+    journal_more plant 1 (opening_system plant) history e ∙ ap (λ k. rows ++ added_rows plant k (fold (step plant) (opening_system plant) history) e) same
 
 pub journal_none : (plant : PlainPlant) → journal_of plant [] ≡ []
 unfolding journal_of
@@ -134,7 +134,7 @@ changes_named source (c ∷ cs) = ap (λ l. ChangeOf c.0 c.1 ∷ l) (changes_nam
 
 -- ---- a journal goes on
 journal_on : (plant : PlainPlant) (history : List Event) (e : Event) (moment : ℕ) (log : PlainLog) (entries : List Entry) → moment ≡ (step plant (system plant history) e).moment
-    → map (named_entry plant.source) entries ≡ entries_of plant (system plant history) e → All (IsNamed plant) entries → IsJournal plant history log.rows → IsJournal plant (history ++ e ∷ []) (after_entries moment log entries).rows
+    → map (named_entry plant.source) entries ≡ added_entries plant (system plant history) e → All (IsNamed plant) entries → IsJournal plant history log.rows → IsJournal plant (history ++ e ∷ []) (after_entries moment log entries).rows
 journal_on plant history e moment log entries at are within held =
     let journal = journal_of plant history in
     let long : length log.rows + 1 ≡ length journal + 1 = ap (λ k. k + 1) (sym (length-map log.rows (named_row plant.source)) ∙ ap length held.rows_are) in
@@ -143,7 +143,7 @@ journal_on plant history e moment log entries at are within held =
           ∙ ap (λ l. l ++ rows_from (length log.rows + 1) moment (map (named_entry plant.source) entries)) held.rows_are
           ∙ ap (λ n. journal ++ rows_from n moment (map (named_entry plant.source) entries)) long
           ∙ ap (λ es. journal ++ rows_from (length journal + 1) moment es) are
-          ∙ ap (λ m. journal ++ rows_from (length journal + 1) m (entries_of plant (system plant history) e)) at
+          ∙ ap (λ m. journal ++ rows_from (length journal + 1) m (added_entries plant (system plant history) e)) at
           ∙ sym (journal_next plant history e);
       named = all_after (λ (row : Row). IsNamed plant row.entry) moment log entries held.named (λ n. within);
     }

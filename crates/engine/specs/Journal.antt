@@ -56,22 +56,24 @@ abbrev pub listed : {A : Type 0} → Option A → List A
 listed None = []
 listed (Some a) = a ∷ []
 
--- the entries for faults, and those for changes
+-- the entries for faults
 abbrev pub fault_entries : List (Spot × Trap) → List NamedEntry
 fault_entries faults = map (λ (f : Spot × Trap). FaultAt f.0 f.1) faults
 
+-- the entries for changes of alarms' codes
 abbrev pub change_entries : List (ℕ × PlainChange) → List NamedEntry
 change_entries changes = map (λ (c : ℕ × PlainChange). ChangeOf c.0 c.1) changes
 
 -- the entries that an event adds: a scan its faults in program order, an order itself with its reply; then the changes of alarms' codes in the order of the database
-abbrev pub entries_of : PlainPlant → System → Event → List NamedEntry
-entries_of plant sys (event.Scan image t) = fault_entries (faults_of plant sys (event.Scan image t)) ++ change_entries (changes_of plant sys (event.Scan image t))
-entries_of plant sys (event.Order console order) = OrderBy console order (refusal_of (ordered plant sys console order)) ∷ change_entries (changes_of plant sys (event.Order console order))
+abbrev pub added_entries : PlainPlant → System → Event → List NamedEntry
+added_entries plant sys (event.Scan image t) = fault_entries (faults_of plant sys (event.Scan image t)) ++ change_entries (changes_of plant sys (event.Scan image t))
+added_entries plant sys (event.Order console order) = OrderBy console order (refusal_of (ordered plant sys console order)) ∷ change_entries (changes_of plant sys (event.Order console order))
 
--- the entries for a scan's report, and for an order
+-- the entries that a scan's report has, with the places of its faults
 abbrev pub scan_entries : PlainReport → List Entry
 scan_entries r = map fault_entry r.faults ++ map change_entry r.changes
 
+-- the entries for an order, by what it does to alarms
 abbrev pub order_entries : ℕ → Order → Result Effect OrderFault → List PlainAlarm → List Entry
 order_entries console order done alarms = entry.Order console order.verb order.target (refusal_of done) ∷ map change_entry (listed (changed_by done alarms))
 
@@ -81,13 +83,13 @@ rows_from n moment [] = []
 rows_from n moment (entry ∷ entries) = record { number = n; moment = moment; entry = entry } ∷ rows_from (n + 1) moment entries
 
 -- the rows that an event adds in a state, numbered from a number on: each bears the last scan's moment, a scan's rows its own
-abbrev pub rows_of : PlainPlant → ℕ → System → Event → List NamedRow
-rows_of plant n sys e = rows_from n (step plant sys e).moment (entries_of plant sys e)
+abbrev pub added_rows : PlainPlant → ℕ → System → Event → List NamedRow
+added_rows plant n sys e = rows_from n (step plant sys e).moment (added_entries plant sys e)
 
 -- the rows that events add from a state on, numbered from a number on
 abbrev pub journal_from : PlainPlant → ℕ → System → List Event → List NamedRow
 journal_from plant n sys [] = []
-journal_from plant n sys (e ∷ events) = rows_of plant n sys e ++ journal_from plant (n + length (entries_of plant sys e)) (step plant sys e) events
+journal_from plant n sys (e ∷ events) = added_rows plant n sys e ++ journal_from plant (n + length (added_entries plant sys e)) (step plant sys e) events
 
 -- the journal of a history: the rows of all its events, numbered from 1
 unfoldable pub journal_of : PlainPlant → List Event → List NamedRow
