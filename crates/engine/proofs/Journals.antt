@@ -30,7 +30,7 @@ use Rattle.alarm_bank.specs.Moves.{changes_from}
 use Rattle.engine.specs.System.{System, system, opening_system, step, ordered}
 use Rattle.engine.proofs.Systems.{system_alarms, system_faulted, changes_within, numbers_more}
 use Rattle.engine.proofs.OrderRows.{order_changes, order_named}
-use Rattle.engine.specs.Journal.{NamedEntry, FaultAt, ChangeOf, named_entry, named_row, fault_entries, change_entries, added_entries, OrderBy, refusal_of, listed, scan_entries, order_entries, rows_from, added_rows, journal_from, journal_of, IsNamed, IsJournal}
+use Rattle.engine.specs.Journal.{NamedEntry, FaultAt, ChangeOf, named_entry, named_row, fault_entries, change_entries, added_entries, OrderBy, refusal_of, one_or_none, scan_entries, order_entries, rows_from, added_rows, journal_from, journal_of, IsNamed, IsJournal}
 
 length-rows_from : (n moment : ℕ) (entries : List NamedEntry) → length (rows_from n moment entries) ≡ length entries
 length-rows_from n moment [] = refl
@@ -167,15 +167,15 @@ order_journal plant history console order log held =
     let sys = system plant history in
     let done = ordered plant sys console order in
     let changes = changes_from 0 sys.alarms (step plant sys (event.Order console order)).alarms in
-    let are : changes ≡ listed (changed_by done sys.alarms) = order_changes done sys.alarms in
+    let are : changes ≡ one_or_none (changed_by done sys.alarms) = order_changes done sys.alarms in
     let many = system_alarms plant history in
     let few : All (λ (c : ℕ × PlainChange). c.0 < length plant.alarms) changes = numbers_more changes (0 + length sys.alarms) (length plant.alarms) (omega (arith, many)) (changes_within 0 sys.alarms (step plant sys (event.Order console order)).alarms) in
     let P = IsNamed plant in
     journal_on plant history (event.Order console order) sys.moment log (order_entries console order done sys.alarms) refl
-    (ap (λ l. OrderBy console order (refusal_of done) ∷ l) (changes_named plant.source (listed (changed_by done sys.alarms)) ∙ ap change_entries (sym are)))
-    (All-cons P (entry.Order console order.verb order.target (refusal_of done)) (map change_entry (listed (changed_by done sys.alarms)))
+    (ap (λ l. OrderBy console order (refusal_of done) ∷ l) (changes_named plant.source (one_or_none (changed_by done sys.alarms)) ∙ ap change_entries (sym are)))
+    (All-cons P (entry.Order console order.verb order.target (refusal_of done)) (map change_entry (one_or_none (changed_by done sys.alarms)))
     (order_named plant sys.alarms sys.faulted sys.moment console order (system_faulted plant history))
-    (All-map P change_entry (listed (changed_by done sys.alarms)) (subst (All (λ (c : ℕ × PlainChange). c.0 < length plant.alarms)) are few)))
+    (All-map P change_entry (one_or_none (changed_by done sys.alarms)) (subst (All (λ (c : ℕ × PlainChange). c.0 < length plant.alarms)) are few)))
     held
 
 -- the rows of a history without events
@@ -200,14 +200,14 @@ length-scan_entries r =
     let b = length-map r.changes change_entry in
     omega (arith, sum, a, b)
 
-few_listed : {A : Type 0} (o : Option A) → length (listed o) ≤ 1
-few_listed None = omega arith
-few_listed (Some a) = omega arith
+few_one_or_none : {A : Type 0} (o : Option A) → length (one_or_none o) ≤ 1
+few_one_or_none None = omega arith
+few_one_or_none (Some a) = omega arith
 
 pub few_order_entries : (console : ℕ) (order : Order) (done : Result Effect OrderFault) (alarms : List PlainAlarm) → length (order_entries console order done alarms) ≤ 2
 few_order_entries console order done alarms =
-    let few = few_listed (changed_by done alarms) in
-    let same = length-map (listed (changed_by done alarms)) change_entry in
+    let few = few_one_or_none (changed_by done alarms) in
+    let same = length-map (one_or_none (changed_by done alarms)) change_entry in
     omega (arith, few, same)
 
 -- the row of a number is that of the journal

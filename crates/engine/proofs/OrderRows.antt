@@ -21,7 +21,7 @@ use Rattle.engine.specs.declared.state.Effect.{Effect}
 use Rattle.engine.specs.declared.state.Effect.TheVariants as effect
 use Rattle.engine.specs.Orders.{is_restart, has_area, is_console, order_at, alarm_order, program_order, order_outcome, alarms_by, changed_by}
 use Rattle.alarm_bank.specs.Moves.{change_from, changes_from}
-use Rattle.engine.specs.Journal.{refusal_of, listed, HasTarget, IsNamed}
+use Rattle.engine.specs.Journal.{refusal_of, one_or_none, HasTarget, IsNamed}
 
 no_change : (c : Code) → change_between c c ≡ None
 no_change code.Norm = refl
@@ -42,11 +42,11 @@ changes_same : (n : ℕ) (alarms : List PlainAlarm) → changes_from n alarms al
 changes_same n [] = refl
 changes_same n (a ∷ alarms) = ap (put n (changes_from (n + 1) alarms alarms)) (no_change (code_of a.state)) ∙ changes_same (n + 1) alarms
 
-first_put : (n m : ℕ) (o : Option PlainChange) → n ≡ m → put n [] o ≡ listed (option_map (λ c. (m, c)) o)
+first_put : (n m : ℕ) (o : Option PlainChange) → n ≡ m → put n [] o ≡ one_or_none (option_map (λ c. (m, c)) o)
 first_put n m None same = refl
 first_put n m (Some c) same = ap (λ k. (k, c) ∷ []) same
 
-changes_set : (n k : ℕ) (old : List PlainAlarm) (a : PlainAlarm) → changes_from n old (slice_set old k a) ≡ listed (option_map (λ c. (n + k, c)) (change_from (slice_get old k) a))
+changes_set : (n k : ℕ) (old : List PlainAlarm) (a : PlainAlarm) → changes_from n old (slice_set old k a) ≡ one_or_none (option_map (λ c. (n + k, c)) (change_from (slice_get old k) a))
 changes_set n k [] a = refl
 changes_set n zero (b ∷ old) a =
     ap (λ rest. put n rest (change_between (code_of b.state) (code_of a.state))) (changes_same (n + 1) old)
@@ -54,13 +54,13 @@ changes_set n zero (b ∷ old) a =
 changes_set n (suc k) (b ∷ old) a =
     ap (put n (changes_from (n + 1) old (slice_set old k a))) (no_change (code_of b.state))
     ∙ changes_set (n + 1) k old a
-    ∙ ap (λ m. listed (option_map (λ c. (m, c)) (change_from (slice_get old k) a))) (let h : n + 1 + k ≡ n + suc k = omega arith in h)
+    ∙ ap (λ m. one_or_none (option_map (λ c. (m, c)) (change_from (slice_get old k) a))) (let h : n + 1 + k ≡ n + suc k = omega arith in h)
 
 -- an order changes the code of one alarm, or of none
-pub order_changes : (done : Result Effect OrderFault) (alarms : List PlainAlarm) → changes_from 0 alarms (alarms_by done alarms) ≡ listed (changed_by done alarms)
+pub order_changes : (done : Result Effect OrderFault) (alarms : List PlainAlarm) → changes_from 0 alarms (alarms_by done alarms) ≡ one_or_none (changed_by done alarms)
 order_changes (Err e) alarms = changes_same 0 alarms
 order_changes (Ok (effect.Restarted n)) alarms = changes_same 0 alarms
-order_changes (Ok (effect.Changed n a)) alarms = changes_set 0 n alarms a ∙ ap (λ m. listed (option_map (λ c. (m, c)) (change_from (slice_get alarms n) a))) (let h : 0 + n ≡ n = omega arith in h)
+order_changes (Ok (effect.Changed n a)) alarms = changes_set 0 n alarms a ∙ ap (λ m. one_or_none (option_map (λ c. (m, c)) (change_from (slice_get alarms n) a))) (let h : 0 + n ≡ n = omega arith in h)
 
 -- the target of an order that isn't refused for want of it is there
 named_target : (plant : PlainPlant) (console : ℕ) (verb : Verb) (n : ℕ) (refused : Option OrderFault) → HasTarget plant verb n → IsNamed plant (entry.Order console verb (Some n) refused)

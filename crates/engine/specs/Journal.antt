@@ -52,9 +52,9 @@ refusal_of (Ok effect) = None
 refusal_of (Err fault) = Some fault
 
 -- a list of one thing or none
-abbrev pub listed : {A : Type 0} → Option A → List A
-listed None = []
-listed (Some a) = a ∷ []
+abbrev pub one_or_none : {A : Type 0} → Option A → List A
+one_or_none None = []
+one_or_none (Some a) = a ∷ []
 
 -- the entries for faults
 abbrev pub fault_entries : List (Spot × Trap) → List NamedEntry
@@ -75,7 +75,7 @@ scan_entries r = map fault_entry r.faults ++ map change_entry r.changes
 
 -- the entries for an order, by what it does to alarms
 abbrev pub order_entries : ℕ → Order → Result Effect OrderFault → List PlainAlarm → List Entry
-order_entries console order done alarms = entry.Order console order.verb order.target (refusal_of done) ∷ map change_entry (listed (changed_by done alarms))
+order_entries console order done alarms = entry.Order console order.verb order.target (refusal_of done) ∷ map change_entry (one_or_none (changed_by done alarms))
 
 -- rows of one moment for entries, numbered from a number on
 abbrev pub rows_from : ℕ → ℕ → List NamedEntry → List NamedRow

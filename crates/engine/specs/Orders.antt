@@ -7,6 +7,7 @@ use Rattle.alarm_machine.specs.declared.states.Verb.TheVariants as verb
 use Rattle.alarm_machine.specs.declared.states.OrderFault.{OrderFault}
 use Rattle.alarm_machine.specs.declared.states.OrderFault.TheVariants as fault
 use Rattle.alarm_machine.specs.Alarms.{PlainAlarm, after_order}
+use Rattle.alarm_machine.specs.Codes.{PlainChange}
 use Rattle.alarm_bank.specs.Moves.{change_from}
 use Rattle.plant_file.specs.declared.console.Console.{Console}
 use Rattle.plant_config.specs.Plants.{PlainPlant}
