@@ -1,7 +1,6 @@
 -- What the numbers of a routine's frame mean in cells is what the names mean in worlds.
 use Rattle.std.proofs.Common.{◌≡◌, ◌∙◌, ap, sym, subst, refl, arith, ℕ, ℤ, pos, ◌+◌, Bool, true, false, List, ◌∷◌, length, Some, None, slice_get}
 use Rattle.std.specs.Prelude.{if◌then◌else◌, is_some, option_and_then, unwrap_or, codes}
-use Rattle.std.specs.Str.{bytes_eq}
 use Rattle.plant_types.specs.Words.{folded, same_word}
 use Rattle.plant_types.specs.Values.{truth, is_true}
 use Rattle.std_blocks.specs.Calls.{call}
@@ -21,7 +20,7 @@ use Rattle.plant_logic.specs.Layout.{ClockAt, block_values, values_rule, routine
 use Rattle.plant_logic.specs.Seats.{StandsFrom, member_number, is_of_standard, value_offset, clock_offset}
 use Rattle.plant_logic.proofs.Agreeing.{named_among}
 use Rattle.plant_logic.proofs.Seats.{named_value_stands, instance_stands, instance_clocks_stand, stands_moved}
-use Rattle.plant_logic.proofs.Members.{word_is, member_at, clock_at}
+use Rattle.plant_logic.proofs.Members.{member_at, clock_at}
 use Rattle.block_walk.specs.declared.clock.Standard.TheVariants as standard
 use Rattle.block_walk.specs.declared.clock.Clock.{Clock}
 use Rattle.block_walk.specs.declared.frame.Seat.{Seat}
@@ -47,16 +46,15 @@ Does source f g values clocks =
     (path : Path) (base : Base) → StandsFrom (cell_paths source) base.values (values (words_of path)) → StandsFrom (all_clocks source) base.clocks (clocks (words_of path)) → Same (Matches source) (f path) (g base path)
 
 -- the outputs of standard blocks
-shown_timer : (q : Bool) (et : ℤ) (clock : Clock) (name : List ℕ) (m : ℕ) (a b : Bool) → clock.q ≡ q → clock.et ≡ et → same_word name (codes "Q") ≡ a → same_word name (codes "ET") ≡ b
-    → (if a then Some 0 else if b then Some 1 else None) ≡ Some m → timer_output (q, et) name ≡ shown_by (Some clock) m
-shown_timer q et clock name m true b first second is_q is_et numbered =
-    let zero_is : 0 ≡ m = cc in
-    let other : same_word name (codes "ET") ≡ false = ap (λ w. bytes_eq w (folded (codes "ET"))) (word_is name (codes "Q") is_q) in
-    rw other (ap truth (sym first)) ∙ ap (shown_by (Some clock)) zero_is
-shown_timer q et clock name m false true first second is_q is_et numbered =
+shown_timer : (q : Bool) (et : ℤ) (clock : Clock) (name : List ℕ) (m : ℕ) (a b : Bool) → clock.q ≡ q → clock.et ≡ et → same_word name (codes "ET") ≡ a → same_word name (codes "Q") ≡ b
+    → (if a then Some 1 else if b then Some 0 else None) ≡ Some m → timer_output (q, et) name ≡ shown_by (Some clock) m
+shown_timer q et clock name m true b first second is_et is_q numbered =
     let one_is : 1 ≡ m = cc in
     rw is_et (sym second) ∙ ap (shown_by (Some clock)) one_is
-shown_timer q et clock name m false false first second is_q is_et numbered = absurd (cc)
+shown_timer q et clock name m false true first second is_et is_q numbered =
+    let zero_is : 0 ≡ m = cc in
+    rw is_et (ap truth (sym first)) ∙ ap (shown_by (Some clock)) zero_is
+shown_timer q et clock name m false false first second is_et is_q numbered = absurd (cc)
 
 shown_trigger : (q : Bool) (clock : Clock) (m : ℕ) (a : Bool) → clock.q ≡ q → (if a then Some 0 else None) ≡ Some m → truth q ≡ shown_by (Some clock) m
 shown_trigger q clock m true first numbered = let zero_is : 0 ≡ m = cc in ap truth (sym first) ∙ ap (shown_by (Some clock)) zero_is
@@ -111,10 +109,10 @@ module _ (source : Source) (order : List ℕ) (below : AreBelow source.blocks or
       -- an output
       output_same : (b : BlockRef) → Sits seat b p → (name : List ℕ) (m : ℕ) → shown_number source b name ≡ Some m → worlds.output_at w p (Some b) name ≡ output_by (seated order b) base seat cells m
       output_same Ton sits name m numbered =
-          shown_timer (ton (w.calls p)).0 (ton (w.calls p)).1 (clock_of standard.Ton (w.calls p)) name m (same_word name (codes "Q")) (same_word name (codes "ET")) refl refl refl refl numbered
+          shown_timer (ton (w.calls p)).0 (ton (w.calls p)).1 (clock_of standard.Ton (w.calls p)) name m (same_word name (codes "ET")) (same_word name (codes "Q")) refl refl refl refl numbered
           ∙ ap (λ o. shown_by o m) (sym (clock_shown Ton refl sits))
       output_same Tof sits name m numbered =
-          shown_timer (tof (w.calls p)).0 (tof (w.calls p)).1 (clock_of standard.Tof (w.calls p)) name m (same_word name (codes "Q")) (same_word name (codes "ET")) refl refl refl refl numbered
+          shown_timer (tof (w.calls p)).0 (tof (w.calls p)).1 (clock_of standard.Tof (w.calls p)) name m (same_word name (codes "ET")) (same_word name (codes "Q")) refl refl refl refl numbered
           ∙ ap (λ o. shown_by o m) (sym (clock_shown Tof refl sits))
       output_same RTrig sits name m numbered =
           shown_trigger (clock_of standard.RTrig (w.calls p)).q (clock_of standard.RTrig (w.calls p)) m (same_word name (codes "Q")) refl numbered
