@@ -10,12 +10,14 @@ use Rattle.command_text.specs.Words.{words_of}
 use Rattle.command_text.specs.Numbers.{number_of}
 use Rattle.command_text.specs.Given.{pairs_of}
 
--- a command: nothing, no command (L1), a scan at a moment with pairs of name and value, an order from a console for a target
+-- a command: nothing, no command (L1), a scan at a moment with pairs of name and value, an order from a console for a target, the list of alarms, the journal
 pub data PlainCommand : Type 0 where
   Nothing : PlainCommand
   Unknown : PlainCommand
   Scan : ℕ → List PlainPair → PlainCommand
   Order : Verb → ℕ → List ℕ → PlainCommand
+  Listing : PlainCommand
+  Journal : PlainCommand
 
 -- a command of the code without pointers
 abbrev pub plain_command : Command → PlainCommand
@@ -23,6 +25,8 @@ plain_command command.Nothing = Nothing
 plain_command command.Unknown = Unknown
 plain_command (command.Scan moment pairs) = Scan moment pairs.now
 plain_command (command.Order v console target) = Order v console target.now
+plain_command command.List = Listing
+plain_command command.Journal = Journal
 
 -- the command of the words after scan: MOMENT NAME=VALUE ..
 unfoldable pub scan_of : List (List ℕ) → PlainCommand
@@ -50,6 +54,11 @@ shelve_of (c ∷ tag ∷ ms ∷ []) = elim (number_of 9 c) [
 ]
 shelve_of (c ∷ tag ∷ ms ∷ w ∷ ws) = Unknown
 
+-- a command whose name stands alone: with a further word it is none
+unfoldable pub alone : PlainCommand → List (List ℕ) → PlainCommand
+alone command [] = command
+alone command (w ∷ ws) = Unknown
+
 -- the order that a word names, in small letters, where nothing but a console and a target comes after it; so none for shelve
 unfoldable pub verb_named : List ℕ → Option Verb
 verb_named w =
@@ -67,6 +76,8 @@ command_in [] = Nothing
 command_in (w ∷ ws) =
     if bytes_eq w (codes "scan") then scan_of ws
     else if bytes_eq w (codes "shelve") then shelve_of ws
+    else if bytes_eq w (codes "list") then alone Listing ws
+    else if bytes_eq w (codes "journal") then alone Journal ws
     else elim (verb_named w) [ None ↦ Unknown | Some v ↦ order_of v ws ]
 
 -- whether the first word begins with #

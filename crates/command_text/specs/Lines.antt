@@ -7,6 +7,7 @@ use Rattle.plant_types.specs.declared.values.Value.TheVariants as value
 use Rattle.plant_types.specs.declared.values.Trap.{Trap}
 use Rattle.plant_types.specs.declared.values.Trap.TheVariants as trap
 use Rattle.alarm_machine.specs.Codes.{PlainChange, code_text}
+use Rattle.alarm_machine.specs.declared.states.Code.{Code}
 use Rattle.alarm_machine.specs.Orders.{order_fault_text}
 use Rattle.alarm_machine.specs.declared.states.OrderFault.{OrderFault}
 
@@ -59,3 +60,19 @@ reply_line refused = line_of (codes "REPLY") (reply_text refused ∷ [])
 -- the line for the refusal of a line or an event, by its number
 unfoldable pub refused_line : List ℕ → List ℕ
 refused_line number = line_of (codes "REFUSED") (number ∷ [])
+
+-- the line of an alarm that isn't normal: its tag, its code, its priority
+unfoldable pub state_line : List ℕ → Code → ℕ → List ℕ
+state_line tag code priority = line_of (codes "STATE") (tag ∷ code_text code ∷ decimal priority ∷ [])
+
+-- the line for how many alarms of an area and a priority have a code
+unfoldable pub count_line : List ℕ → ℕ → Code → ℕ → List ℕ
+count_line area priority code count = line_of (codes "COUNT") (area ∷ decimal priority ∷ code_text code ∷ decimal count ∷ [])
+
+-- the line of a row of the journal: its text, LF
+abbrev pub row_line : List ℕ → List ℕ
+row_line text = line_of text []
+
+-- the line at the end of a list or a journal, with the number of lines before it
+unfoldable pub end_line : ℕ → List ℕ
+end_line lines = line_of (codes "END") (decimal lines ∷ [])

@@ -13,4 +13,8 @@ pub enum Command<'a> {
     /// An order from the console of this number, for the alarm with this tag (ISA-18.2), or to restart the program with this name (this profile).
     /// The word is as the line has it, and may name nothing. Of a shelving the time may be any number of up to 19 digits, also one that no alarm takes.
     Order(Verb, u32, &'a [u8]),
+    /// The alarms that aren't normal, and how many alarms have each code.
+    List,
+    /// The rows of the journal.
+    Journal,
 }

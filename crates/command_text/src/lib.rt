@@ -14,6 +14,9 @@ mod words;
 
 pub use command::Command;
 pub use laws::printed_words_are_commands;
-pub use lines::{push_alarm, push_done, push_fault, push_out, push_refused, push_reply};
+pub use lines::{
+    push_alarm, push_count, push_done, push_end, push_fault, push_out, push_refused, push_reply,
+    push_row, push_state,
+};
 pub use parse::read_command;
 pub use pool::Pool;

@@ -1,7 +1,7 @@
 ghost use Rattle.std.specs.Prelude.{◌≡◌, ◌++◌, OnOk, OnErr, length, map, take, ◌∷◌, []};
-ghost use Rattle.command_text.specs.Lines.{line_of, trap_text, fault_line, alarm_line, out_line, done_line, reply_line, refused_line};
+ghost use Rattle.command_text.specs.Lines.{line_of, trap_text, fault_line, alarm_line, out_line, done_line, reply_line, refused_line, state_line, count_line, row_line, end_line};
 
-use alarm_machine::{Change, OrderFault};
+use alarm_machine::{Change, Code, OrderFault};
 use itoa::Buffer;
 use plant_types::{Trap, Value};
 use std::alloc::AllocError;
@@ -184,4 +184,58 @@ pub fn push_refused(out: &mut Vec<u8>, number: &str) -> Result<(), AllocError>
     ensures err { OnErr result (out.new.items ≡ out.old.items) }
 {
     push_one(out, "REFUSED", number)
+}
+
+/// Appends `STATE TAG CODE PRIORITY`: an alarm that isn't normal. Where memory is refused the text is unchanged.
+#[tactic(auto, unfolding(crate::specs::Lines::state_line))]
+pub fn push_state(out: &mut Vec<u8>, tag: &str, code: Code, priority: u32) -> Result<(), AllocError>
+    ensures ok { OnOk result (out.new.items ≡ out.old.items ++ state_line tag.now code priority) }
+    ensures err { OnErr result (out.new.items ≡ out.old.items) }
+{
+    let mut digits = Buffer::new();
+    push_three(out, "STATE", tag, code.text(), digits.format(priority))
+}
+
+/// Appends `COUNT AREA PRIORITY CODE N`: how many alarms of this area and this priority have this code. Where memory is refused the text is
+/// unchanged.
+#[tactic(auto, unfolding(crate::specs::Lines::count_line))]
+pub fn push_count(
+    out: &mut Vec<u8>,
+    area: &str,
+    priority: u32,
+    code: Code,
+    count: u32,
+) -> Result<(), AllocError>
+    ensures ok { OnOk result (out.new.items ≡ out.old.items ++ count_line area.now priority code count) }
+    ensures err { OnErr result (out.new.items ≡ out.old.items) }
+{
+    let mut digits = Buffer::new();
+    let priority = digits.format(priority);
+    let mut number = Buffer::new();
+    push_four(
+        out,
+        "COUNT",
+        area,
+        priority,
+        code.text(),
+        number.format(count),
+    )
+}
+
+/// Appends a row of the journal, of which this is the text, and LF. Where memory is refused the text is unchanged.
+pub fn push_row(out: &mut Vec<u8>, text: &str) -> Result<(), AllocError>
+    ensures ok { OnOk result (out.new.items ≡ out.old.items ++ row_line text.now) }
+    ensures err { OnErr result (out.new.items ≡ out.old.items) }
+{
+    push_line(out, text, &[])
+}
+
+/// Appends `END LINES`: the end of a list or a journal, with the number of lines before it. Where memory is refused the text is unchanged.
+#[tactic(auto, unfolding(crate::specs::Lines::end_line))]
+pub fn push_end(out: &mut Vec<u8>, lines: u64) -> Result<(), AllocError>
+    ensures ok { OnOk result (out.new.items ≡ out.old.items ++ end_line lines) }
+    ensures err { OnErr result (out.new.items ≡ out.old.items) }
+{
+    let mut digits = Buffer::new();
+    push_one(out, "END", digits.format(lines))
 }

@@ -1,6 +1,6 @@
 ghost use Rattle.std.specs.Prelude.{◌≡◌, IfOk};
 ghost use Rattle.command_text.specs.Words.{words_of};
-ghost use Rattle.command_text.specs.Commands.{scan_of, order_of, shelve_of, verb_named, command_in, command_of, is_remark, plain_command};
+ghost use Rattle.command_text.specs.Commands.{scan_of, order_of, shelve_of, alone, verb_named, command_in, command_of, is_remark, plain_command};
 
 use crate::command::Command;
 use crate::given::list_pairs;
@@ -78,6 +78,18 @@ fn parse_shelve<'a>(words: &'a [u8]) -> Command<'a>
     }
 }
 
+/// The command of a name that stands alone: with a word after it there is no command.
+#[tactic(auto, unfolding(crate::specs::Commands::alone))]
+fn parse_alone<'a>(command: Command<'a>, words: &'a [u8]) -> Command<'a>
+    ensures { plain_command result ≡ alone (plain_command command.entry) (words_of words.now) }
+{
+    if next_word(words).is_some() {
+        Command::Unknown
+    } else {
+        command
+    }
+}
+
 /// The order that a word names where only a console and a target come after it; `None` for any other word, also for `shelve`.
 #[tactic(auto, unfolding(crate::specs::Commands::verb_named))]
 fn verb_named(word: &[u8]) -> Option<Verb>
@@ -117,6 +129,12 @@ fn parse_words<'a>(
     }
     if first == b"shelve".as_slice() {
         return Ok(parse_shelve(others));
+    }
+    if first == b"list".as_slice() {
+        return Ok(parse_alone(Command::List, others));
+    }
+    if first == b"journal".as_slice() {
+        return Ok(parse_alone(Command::Journal, others));
     }
     match verb_named(first) {
         Some(verb) => Ok(parse_order(verb, others)),

@@ -1,5 +1,5 @@
 -- Files that are found, one after another.
-use Rattle.std.proofs.Common.{◌≡◌, ℕ, suc, ◌+◌, ◌<◌, List, [], ◌∷◌, ◌++◌, length, map, take, drop, subst, append_assoc, inr, option_map, sym, ap, ◌∙◌, Option, Some, None, get_or}
+use Rattle.std.proofs.Common.{◌≡◌, ℕ, suc, ◌+◌, ◌<◌, List, [], ◌∷◌, ◌++◌, length, map, take, drop, subst, append_assoc, inr, option_map, sym, ap, ◌∙◌, Some, None, get_or}
 use Rattle.std.proofs.lemmas.List.{map_push, take_more, take-append-drop}
 use Rattle.std.proofs.Math.Seq.{drop-cons}
 use Rattle.serving.specs.declared.texts.FetchFault.{FetchFault}

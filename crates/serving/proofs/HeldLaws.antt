@@ -1,6 +1,6 @@
 -- What is held of a line asks for the same as all of it.
 use Rattle.std.proofs.Common.{◌≡◌, ℕ, zero, suc, ◌≤◌, ◌+◌, true, false, List, [], ◌∷◌, ◌++◌, ap, refl, sym, ◌∙◌, arith, append_assoc, append-nil, length, subst, take, eqb, Option, Ok, Err, cond}
-use Rattle.std.specs.Prelude.{OnOk, OnErr, is_ok}
+use Rattle.std.specs.Prelude.{OnOk, is_ok}
 use Rattle.std.specs.declared.result.Result.{Result}
 use Rattle.std.proofs.lemmas.List.{take_all, take-take, length-append, length-take}
 use Rattle.std.proofs.lemmas.Bool.Decides.{nat_tests}
@@ -12,7 +12,7 @@ use Rattle.command_text.proofs.ShortLaws.{command_of-short}
 use Rattle.serving.specs.Input.{has_lf, after_last_lf, without_cr, ended_lines, last_line, lines_of}
 use Rattle.serving.specs.declared.fault.ServeFault.{ServeFault}
 use Rattle.serving.specs.Session.{Answered, Stopped, Serves, IsHeld, HasTaken}
-use Rattle.serving.proofs.InputLaws.{after_last_lf-none, after_last_lf-lf, after_last_lf-any, has_lf-after_last_lf, after_last_lf-more, ended_lines-more, ended_lines-none, ended_lines-lf, has_lf-append}
+use Rattle.serving.proofs.InputLaws.{after_last_lf-none, after_last_lf-any, after_last_lf-more, ended_lines-more, ended_lines-none, ended_lines-lf, has_lf-append}
 use Rattle.serving.proofs.SessionLaws.{answered-none, answered-more, stopped-none, stopped-more, stopped-longer}
 
 -- ---- more bytes of a line

@@ -6,3 +6,4 @@ pub mod AnswerLaws
 pub mod FetchLaws
 pub mod AdmitLaws
 pub mod RunLaws
+pub mod ListingLaws

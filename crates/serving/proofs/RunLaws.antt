@@ -1,5 +1,5 @@
 -- What a run did, by what was told of its plant and what its session did.
-use Rattle.std.proofs.Common.{◌≡◌, ℕ, false, List, [], subst, refl, sym, Option, Some, None, Ok, Err, inl, inr}
+use Rattle.std.proofs.Common.{◌≡◌, ℕ, false, List, [], subst, refl, sym, Option, Some, Ok, Err, inl, inr}
 use Rattle.std.specs.Io.KnownBytes.{Appends}
 use Rattle.std.proofs.KnownBytes.{Appends-trans}
 use Rattle.std.proofs.lemmas.Option.{none-some}

@@ -86,7 +86,7 @@ after_same plant h whole line e = ap (λ (c : PlainCommand). h ++ command_events
 
 answer_same : (plant : PlainPlant) (h : List Event) (whole line : List ℕ) → command_of whole ≡ command_of line → line_answer plant h whole ≡ line_answer plant h line
 unfolding line_answer
-answer_same plant h whole line e = ap (command_answer plant (system plant h)) e
+answer_same plant h whole line e = ap (command_answer plant h (system plant h)) e
 
 -- a line took effect, and its answer is written
 pub answered-line : (plant : PlainPlant) (whole line text : List ℕ) (h₀ h₁ : List Event) (w₀ w₁ : Option (List ℕ)) → command_of whole ≡ command_of line

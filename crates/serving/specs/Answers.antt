@@ -20,7 +20,8 @@ use Rattle.engine.specs.declared.event.Reply.{Reply}
 use Rattle.engine.specs.declared.event.Reply.TheVariants as reply
 use Rattle.engine.specs.Orders.{is_restart}
 use Rattle.engine.specs.System.{System, system, step, scan_event, order_event, reply_to, faults_of, changes_of, outs_of}
-use Rattle.command_text.specs.Commands.{PlainCommand, Nothing, Unknown, Scan, Order, command_of}
+use Rattle.command_text.specs.Commands.{PlainCommand, Nothing, Unknown, Scan, Order, Listing, Journal, command_of}
+use Rattle.serving.specs.Listings.{list_text, journal_text}
 use Rattle.command_text.specs.Lines.{path_text, fault_line, alarm_line, out_line, done_line, reply_line, refused_line}
 
 -- the number of what a text names: for a restart the program of this name, in any letter case; for every other order the alarm of this tag
@@ -113,13 +114,17 @@ command_events plant sys Nothing = []
 command_events plant sys Unknown = []
 command_events plant sys (Scan moment pairs) = event_added (scan_event plant sys pairs moment)
 command_events plant sys (Order verb console word) = event_added (order_event sys console (order_for plant verb word))
+command_events plant sys Listing = []
+command_events plant sys Journal = []
 
--- the answer to a command
-abbrev pub command_answer : PlainPlant → System → PlainCommand → List ℕ
-command_answer plant sys Nothing = []
-command_answer plant sys Unknown = refused_line (codes "L1")
-command_answer plant sys (Scan moment pairs) = event_text (scan_event plant sys pairs moment) (scan_text plant sys)
-command_answer plant sys (Order verb console word) = order_answer plant sys console (order_for plant verb word)
+-- the answer to a command, after a history and in the state that it left
+abbrev pub command_answer : PlainPlant → List Event → System → PlainCommand → List ℕ
+command_answer plant history sys Nothing = []
+command_answer plant history sys Unknown = refused_line (codes "L1")
+command_answer plant history sys (Scan moment pairs) = event_text (scan_event plant sys pairs moment) (scan_text plant sys)
+command_answer plant history sys (Order verb console word) = order_answer plant sys console (order_for plant verb word)
+command_answer plant history sys Listing = list_text plant sys
+command_answer plant history sys Journal = journal_text plant history
 
 -- ---- lines, one after another
 
@@ -129,7 +134,7 @@ after_line plant history line = history ++ command_events plant (system plant hi
 
 -- the answer to a line
 unfoldable pub line_answer : PlainPlant → List Event → List ℕ → List ℕ
-line_answer plant history line = command_answer plant (system plant history) (command_of line)
+line_answer plant history line = command_answer plant history (system plant history) (command_of line)
 
 -- the history after lines
 abbrev pub after_lines : PlainPlant → List Event → List (List ℕ) → List Event

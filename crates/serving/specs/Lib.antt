@@ -1,4 +1,5 @@
 pub mod Input
+pub mod Listings
 pub mod Answers
 pub mod Session
 pub mod Faults

@@ -7,6 +7,7 @@ ghost use Rattle.engine.specs.Orders.{is_restart};
 ghost use Rattle.engine.specs.System.{system, scan_event, order_event};
 ghost use Rattle.serving.specs.Answers.{spots_of, named_by, target_of, tag_for, order_for, order_answer, fault_lines, alarm_lines, out_lines, report_text, order_text, fault_number, event_text, scan_text, event_added, after_line, line_answer};
 
+use crate::listings::{push_journal, push_list};
 use alarm_machine::{Change, Verb};
 use command_text::{
     Command, Pool, push_alarm, push_done, push_fault, push_out, push_refused, push_reply,
@@ -240,5 +241,7 @@ pub(crate) fn answer_line(
         Command::Order(verb, console, word) => {
             answer_order(alloc, engine, text, verb, console, word)
         }
+        Command::List => push_list(text, engine),
+        Command::Journal => push_journal(alloc, text, engine),
     }
 }

@@ -8,6 +8,7 @@ mod answer;
 mod fault;
 mod folder;
 mod laws;
+mod listings;
 mod runs;
 mod session;
 mod streams;

@@ -1,8 +1,7 @@
 use Rattle.std.proofs.Common.{◌++◌, [], refl, ◌∙◌, inl}
 use Rattle.std.proofs.KnownBytes.{Consumes-nil, Consumes-trans}
 use Rattle.std.proofs.lemmas.Result.{err_from_is_err_and}
-use Rattle.serving.proofs.SessionLaws.{stopped-none, text_is}
-use Rattle.serving.proofs.HeldLaws.{taken-nothing}
+use Rattle.serving.proofs.SessionLaws.{stopped-none}
 use Rattle.serving.proofs.session.serve.Goals as goal
 
 pub returns-in_err-session-clause-err : goal.returns-in_err-session-clause-err

@@ -1,7 +1,6 @@
-use Rattle.std.proofs.Common.{◌≡◌, ◌++◌, [], refl, ◌∙◌, take, arith, inl, inr, length, ◌<◌, append-nil, subst}
-use Rattle.std.proofs.Math.Bool.{or-false}
+use Rattle.std.proofs.Common.{◌++◌, [], refl, take, arith, inl, inr, length, ◌<◌, append-nil}
 use Rattle.std.proofs.KnownBytes.{Consumes-nil, Consumes-kept}
-use Rattle.std.proofs.lemmas.Result.{on_ok_weaker, on_err_weaker, err_from_is_err_and}
+use Rattle.std.proofs.lemmas.Result.{err_from_is_err_and}
 use Rattle.serving.specs.Input.{after_last_lf, ended_lines, lines_of}
 use Rattle.serving.proofs.SessionLaws.{consumed_nothing}
 use Rattle.serving.proofs.HeldLaws.{taken-piece, stopped-stays, stopped-input, answered-end, stopped-end}
