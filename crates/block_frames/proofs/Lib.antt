@@ -4,3 +4,5 @@ mod Places
 mod Found
 mod Spaces
 mod Runs
+mod Starts
+mod Opening
