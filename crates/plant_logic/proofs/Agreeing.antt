@@ -64,7 +64,7 @@ called_agree t f g path w name Tof agree = refl
 called_agree t f g path w name RTrig agree = refl
 called_agree t f g path w name (Declared n) agree = ap (λ (h : Path → World → Ran World). h (name ∷ path) w) (agree n refl)
 
-among_at : {A : Type 0} (xs : List A) (n : ℕ) (x : A) → slice_get xs n ≡ Some x → Among xs x
+pub among_at : {A : Type 0} (xs : List A) (n : ℕ) (x : A) → slice_get xs n ≡ Some x → Among xs x
 among_at [] n x is = absurd (cc)
 among_at (y ∷ ys) zero x is = inl (cc)
 among_at (y ∷ ys) (suc n) x is = inr (among_at ys n x is)

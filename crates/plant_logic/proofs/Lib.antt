@@ -7,8 +7,8 @@ pub mod Belows
 pub mod Paths
 pub mod Layouts
 pub mod Levels
-mod Agreeing
+pub mod Agreeing
 mod Distinct
-mod Seats
+pub mod Seats
 mod Knowns
-mod Members
+pub mod Members

@@ -18,7 +18,7 @@ use Rattle.plant_logic.proofs.Agreeing.{values_ask}
 use Rattle.plant_logic.proofs.Seats.{at_front, own_at, word_at}
 
 -- a name that is a word has its small letters
-word_is : (name word : List ℕ) → same_word name word ≡ true → folded name ≡ folded word
+pub word_is : (name word : List ℕ) → same_word name word ≡ true → folded name ≡ folded word
 word_is name word is = (bytes_decides (folded name) (folded word)).0 is
 
 module _ (all : List Path) (base : ℕ) (path : Path) (name : List ℕ) (m : ℕ) where

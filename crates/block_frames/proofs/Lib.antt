@@ -1,0 +1,6 @@
+mod Cells
+mod Names
+mod Places
+mod Found
+mod Spaces
+mod Runs

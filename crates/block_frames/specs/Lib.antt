@@ -1,0 +1,4 @@
+pub mod Numbers
+pub mod Frames
+pub mod Stands
+pub mod Opening
