@@ -6,3 +6,4 @@ mod Spaces
 mod Runs
 mod Starts
 mod Opening
+mod Fitting

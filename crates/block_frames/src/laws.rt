@@ -1,7 +1,12 @@
 //! Laws of frames. These functions do nothing: each has a law as its contract, for the crates above.
 
-ghost use Rattle.std.specs.Prelude.{◌≡◌, ◌+◌, ◌∷◌, [], ℕ, List, length, Some, slice_get};
+ghost use Rattle.std.specs.Prelude.{◌≡◌, ◌+◌, ◌∷◌, [], ℕ, Bool, true, List, length, Option, Some, slice_get};
+ghost use Rattle.plant_types.specs.declared.values.Kind.{Kind};
 ghost use Rattle.st_tree.specs.Alike.{Agree};
+ghost use Rattle.st_tree.specs.Every.{every};
+ghost use Rattle.st_tree.specs.Fits.{Context, all_fit};
+ghost use Rattle.st_tree.specs.Mapping.{Known, body_known};
+ghost use Rattle.st_tree.specs.Plain.{PlainExpr, PlainStmt, repeat, PlainBody};
 ghost use Rattle.plant_logic.specs.Source.{PlainRoutine, Source};
 ghost use Rattle.plant_logic.specs.Blocks.{AreBelow, HasItsTypes};
 ghost use Rattle.plant_logic.specs.Layout.{IsDistinctlyNamed};
@@ -30,4 +35,18 @@ pub fn frames_begin()
     ensures { (source : Source) (order : List ℕ) (start : Frame) (frames : List Frame) → IsFrame source order (globals_routine source) start
         → IsFrames source order frames → AreBelow source.blocks order → HasItsTypes source → IsDistinctlyNamed source → HasAllNames source
         → StandFor source (opening_cells source order start frames) (opening source) }
+{}
+
+/// Each name of a body whose kinds are right is known, where what the body's context has is known, and so is each control variable that a
+/// rule of its statements allows.
+pub fn fitting_names_are_known<V>()
+    ensures { (context : Context V) (known : Known V)
+        → ((v : V) (k : Kind) → context.variable_kind v ≡ Some k → known.has_variable v ≡ true)
+        → ((v : V) → context.may_assign v ≡ true → known.has_variable v ≡ true)
+        → ((v : V) → context.is_instance v ≡ true → known.has_instance v ≡ true)
+        → ((instance name : V) (k : Kind) → context.input_kind instance name ≡ Some k → known.has_input instance name ≡ true)
+        → ((instance name : V) (k : Kind) → context.output_kind instance name ≡ Some k → known.has_output instance name ≡ true)
+        → (rule : PlainStmt V → Bool)
+        → ((number : ℕ) (v : V) (from to : PlainExpr V) (by : Option (PlainExpr V)) (body : PlainBody V) → rule (repeat number v from to by body) ≡ true → known.has_variable v ≡ true)
+        → (body : PlainBody V) → all_fit context body ≡ true → every rule body ≡ true → body_known known body ≡ true }
 {}
