@@ -7,3 +7,4 @@ pub mod FetchLaws
 pub mod AdmitLaws
 pub mod RunLaws
 pub mod ListingLaws
+pub mod PassingLaws

@@ -3,6 +3,7 @@ use Rattle.std.specs.Prelude.{◌≡◌, ℕ, zero, suc, ◌-◌, ◌==◌, if�
 use Rattle.std.specs.Fmt.{decimal}
 use Rattle.std.specs.List.{flat_map}
 use Rattle.std.specs.Option.{option_map}
+use Rattle.std.specs.Io.KnownBytes.{Appends}
 use Rattle.stamps.specs.Stamps.{stamp}
 use Rattle.journal_core.specs.Bodies.{fault_body, alarm_body, order_body}
 use Rattle.alarm_machine.specs.declared.states.AlarmState.{AlarmState}
@@ -116,3 +117,7 @@ pub record HasRow (plant : PlainPlant) (history : List Event) (number : ℕ) (ol
   pub row : NamedRow
   pub row_is : slice_get (journal_of plant history) (number - 1) ≡ Some row
   pub text_is : new ≡ old ++ named_line plant row
+
+-- of a text the front is written, and the rest is held
+abbrev pub IsPassed : (w₀ w₁ : Option (List ℕ)) → (text held : List ℕ) → Type 0
+IsPassed w₀ w₁ text held = (sent : List ℕ) × (text ≡ sent ++ held) × Appends w₀ w₁ sent

@@ -1,4 +1,4 @@
-ghost use Rattle.std.specs.Prelude.{◌≡◌, ◌++◌, ◌⊎◌, ◌<◌, ◌^◌, ◌+◌, OnOk, OnErr, IfSome, All, length, false};
+ghost use Rattle.std.specs.Prelude.{◌≡◌, ◌++◌, ◌⊎◌, ◌<◌, ◌^◌, ◌+◌, OnOk, OnErr, IfOk, IfSome, All, length, false};
 ghost use Rattle.command_text.specs.Lines.{path_text};
 ghost use Rattle.engine.specs.Engines.{state_of};
 ghost use Rattle.plant_config.specs.Names.{alarm_number, tag_of, globals_of, global_of, body_paths};
@@ -6,8 +6,9 @@ ghost use Rattle.st_walk.specs.Runs.{place_spot};
 ghost use Rattle.engine.specs.Orders.{is_restart};
 ghost use Rattle.engine.specs.System.{system, scan_event, order_event};
 ghost use Rattle.serving.specs.Answers.{spots_of, named_by, target_of, tag_for, order_for, order_answer, fault_lines, alarm_lines, out_lines, report_text, order_text, fault_number, event_text, scan_text, event_added, after_line, line_answer};
+ghost use Rattle.serving.specs.Listings.{journal_text};
 
-use crate::listings::{push_journal, push_list};
+use crate::listings::push_list;
 use alarm_machine::{Change, Verb};
 use command_text::{
     Command, Pool, push_alarm, push_done, push_fault, push_out, push_refused, push_reply,
@@ -219,7 +220,16 @@ fn answer_order(
     }
 }
 
-/// Does what a line asks for, with the pool as room for its pairs, and appends its answer. It fails where an allocation failed: before
+/// Where the answer to a line is.
+#[derive(Clone, Copy, Debug, PartialEq, Eq, Drop)]
+pub(crate) enum Said {
+    /// All of it stands in the text.
+    Text,
+    /// It is the journal, and isn't in the text.
+    Journal,
+}
+
+/// Does what a line asks for, with the pool as room for its pairs, and appends its answer, but for the journal's. It fails where an allocation failed: before
 /// the line took effect or after it.
 #[tactic(auto, unfolding(crate::specs::Answers::after_line, crate::specs::Answers::line_answer))]
 pub(crate) fn answer_line(
@@ -228,20 +238,23 @@ pub(crate) fn answer_line(
     pool: &mut Pool,
     text: &mut Vec<u8>,
     line: &[u8],
-) -> Result<(), AllocError>
+) -> Result<Said, AllocError>
     ensures plant { engine.new.plant ≡ engine.old.plant }
     ensures history { OnOk result (engine.new.history ≡ after_line engine.old.plant engine.old.history line.now) }
-    ensures text { OnOk result (text.new.items ≡ text.old.items ++ line_answer engine.old.plant engine.old.history line.now) }
+    ensures text { IfOk result (λ said. said ≡ Said.Text → text.new.items ≡ text.old.items ++ line_answer engine.old.plant engine.old.history line.now) }
+    ensures journal { IfOk result (λ said. said ≡ Said.Journal → line_answer engine.old.plant engine.old.history line.now ≡ journal_text engine.old.plant engine.old.history) }
+    ensures kept { IfOk result (λ said. said ≡ Said.Journal → engine.new.history ≡ engine.old.history) }
     ensures err { OnErr result ((engine.new.history ≡ engine.old.history) ⊎ (engine.new.history ≡ after_line engine.old.plant engine.old.history line.now)) }
 {
     match read_command(alloc, pool, line)? {
-        Command::Nothing => Ok(()),
-        Command::Unknown => push_refused(text, "L1"),
-        Command::Scan(moment, pairs) => answer_scan(alloc, engine, text, moment, pairs),
+        Command::Nothing => {}
+        Command::Unknown => push_refused(text, "L1")?,
+        Command::Scan(moment, pairs) => answer_scan(alloc, engine, text, moment, pairs)?,
         Command::Order(verb, console, word) => {
-            answer_order(alloc, engine, text, verb, console, word)
+            answer_order(alloc, engine, text, verb, console, word)?;
         }
-        Command::List => push_list(text, engine),
-        Command::Journal => push_journal(alloc, text, engine),
+        Command::List => push_list(text, engine)?,
+        Command::Journal => return Ok(Said::Journal),
     }
+    Ok(Said::Text)
 }

@@ -7,6 +7,7 @@
 mod answer;
 mod fault;
 mod folder;
+mod journal;
 mod laws;
 mod listings;
 mod runs;

@@ -1,4 +1,4 @@
-//! The answers to `list` and `journal`.
+//! The answer to `list`, and the lines of the journal.
 
 ghost use Rattle.std.specs.Prelude.{◌≡◌, ◌++◌, ◌<◌, ◌≤◌, ◌^◌, length, OnOk, IfOk};
 ghost use Rattle.std.specs.List.{flat_map};
@@ -6,7 +6,7 @@ ghost use Rattle.alarm_bank.specs.declared.rows.Counted.{Counted};
 ghost use Rattle.engine.specs.Engines.{state_of};
 ghost use Rattle.engine.specs.System.{summary_of};
 ghost use Rattle.engine.specs.Journal.{journal_of};
-ghost use Rattle.serving.specs.Listings.{state_lines_of, state_lines, code_lines, priority_lines, area_lines, count_lines, list_text, journal_text, HasListed, HasRow};
+ghost use Rattle.serving.specs.Listings.{state_lines_of, state_lines, code_lines, priority_lines, area_lines, count_lines, list_text, HasListed, HasRow};
 
 use alarm_bank::Summary;
 use alarm_machine::Code;
@@ -175,7 +175,7 @@ pub(crate) fn push_list(text: &mut Vec<u8>, engine: &Engine) -> Result<(), Alloc
 }
 
 /// How many rows the journal has.
-fn row_total(engine: &Engine) -> u64
+pub(crate) fn row_total(engine: &Engine) -> u64
     ensures { result ≡ length (journal_of engine.now.plant engine.now.history) }
 {
     engine.journal().rows().len() as u64
@@ -183,7 +183,7 @@ fn row_total(engine: &Engine) -> u64
 
 /// Appends the line of the journal's row of a number, from 1. Fails if allocation fails.
 #[tactic(auto, using(crate::proofs::ListingLaws::row_there))]
-fn push_numbered(
+pub(crate) fn push_numbered(
     alloc: Global,
     text: &mut Vec<u8>,
     engine: &Engine,
@@ -195,20 +195,4 @@ fn push_numbered(
 {
     let line = engine.line(alloc, number)?;
     push_row(text, line.as_str())
-}
-
-/// Appends the answer to `journal`. Fails if allocation fails.
-#[tactic(auto, unfolding(crate::specs::Listings::journal_text), using(crate::proofs::ListingLaws::rows_more))]
-pub(crate) fn push_journal(
-    alloc: Global,
-    text: &mut Vec<u8>,
-    engine: &Engine,
-) -> Result<(), AllocError>
-    ensures { OnOk result (text.new.items ≡ text.old.items ++ journal_text engine.now.plant engine.now.history) }
-{
-    let rows = row_total(engine);
-    for row in 0..rows {
-        push_numbered(alloc, text, engine, row + 1)?;
-    }
-    push_end(text, rows)
 }

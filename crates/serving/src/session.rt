@@ -5,8 +5,9 @@ ghost use Rattle.serving.specs.Input.{has_lf, without_cr, after_last_lf, ended_l
 ghost use Rattle.serving.specs.Faults.{is_read, is_write};
 ghost use Rattle.serving.specs.Session.{Answered, Stopped, Serves, Continues, IsHeld, AreRead, Goes, Ends, Stops, out_text};
 
-use crate::answer::answer_line;
+use crate::answer::{Said, answer_line};
 use crate::fault::ServeFault;
+use crate::journal::write_journal;
 use crate::streams::{Failed, Feed, Sink};
 use command_text::Pool;
 use engine::Engine;
@@ -54,8 +55,10 @@ fn answer<S: Sink>(
         → Serves result (whole ∷ []) engine.old engine.new (S.written sink.old) (S.written sink.new) }
 {
     text.clear();
-    answer_line(alloc, engine, pool, text, line)?;
-    put_all(sink, text.as_slice())
+    match answer_line(alloc, engine, pool, text, line)? {
+        Said::Text => put_all(sink, text.as_slice()),
+        Said::Journal => write_journal(alloc, engine, sink, text),
+    }
 }
 
 /// Returns a line without the CR at its end, if it has one.
