@@ -1,2 +1,6 @@
 mod Growing
 mod Joined
+mod Scopes
+mod Built
+mod Tables
+mod Programs

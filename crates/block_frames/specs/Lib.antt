@@ -1,1 +1,5 @@
+pub mod Numbers
+pub mod Frames
+pub mod Stands
 pub mod Scoped
+pub mod Built

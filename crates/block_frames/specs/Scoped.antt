@@ -14,7 +14,10 @@ use Rattle.plant_logic.specs.declared.logic.Variable.{Variable}
 use Rattle.plant_logic.specs.declared.logic.Instance.{Instance}
 use Rattle.plant_logic.specs.declared.logic.BlockRef.{BlockRef}
 use Rattle.plant_logic.specs.declared.logic.BlockRef.TheVariants.{Ton, Tof, RTrig, Declared}
+use Rattle.plant_logic.specs.Source.{PlainRoutine, Source}
 use Rattle.plant_logic.specs.Seats.{own_or_global, timer_number}
+use Rattle.plant_logic.specs.Names.{meant_in}
+use Rattle.block_frames.specs.Numbers.{timer_shows, numbers}
 use Rattle.block_frames.specs.declared.names.Variables.{Variables}
 use Rattle.block_frames.specs.declared.names.Instances.{Instances}
 use Rattle.block_frames.specs.declared.scope.Scope.{Scope}
@@ -69,20 +72,20 @@ abbrev pub own_kind_of : List Variables → ℕ → List ℕ → Option Kind
 own_kind_of members n name = option_and_then (λ (v : Variables). kind_among v name) (slice_get members n)
 
 -- the number of an input of a block
-abbrev pub input_of : List Variables → Option BlockRef → List ℕ → Option ℕ
-input_of members None name = None
-input_of members (Some Ton) name = timer_number name
-input_of members (Some Tof) name = timer_number name
-input_of members (Some RTrig) name = if same_word name (codes "CLK") then Some 0 else None
-input_of members (Some (Declared n)) name = own_number members n name
+abbrev pub input_among : List Variables → Option BlockRef → List ℕ → Option ℕ
+input_among members None name = None
+input_among members (Some Ton) name = timer_number name
+input_among members (Some Tof) name = timer_number name
+input_among members (Some RTrig) name = if same_word name (codes "CLK") then Some 0 else None
+input_among members (Some (Declared n)) name = own_number members n name
 
--- the number of an output of a block: ET of a standard block is 1, and Q is 0
-abbrev pub output_number : List Variables → Option BlockRef → List ℕ → Option ℕ
-output_number members None name = None
-output_number members (Some Ton) name = if same_word name (codes "ET") then Some 1 else Some 0
-output_number members (Some Tof) name = if same_word name (codes "ET") then Some 1 else Some 0
-output_number members (Some RTrig) name = Some 0
-output_number members (Some (Declared n)) name = own_number members n name
+-- the number of an output of a block
+abbrev pub output_among : List Variables → Option BlockRef → List ℕ → Option ℕ
+output_among members None name = None
+output_among members (Some Ton) name = timer_shows name
+output_among members (Some Tof) name = timer_shows name
+output_among members (Some RTrig) name = if same_word name (codes "Q") then Some 0 else None
+output_among members (Some (Declared n)) name = own_number members n name
 
 -- the kind of an output of a block
 abbrev pub output_kind_by : List Variables → Option BlockRef → List ℕ → Kind
@@ -93,10 +96,10 @@ output_kind_by members (Some RTrig) name = kind.Bool
 output_kind_by members (Some (Declared n)) name = unwrap_or (own_kind_of members n name) kind.Bool
 
 abbrev pub input_at : Scope → List ℕ → List ℕ → ℕ
-input_at scope instance name = unwrap_or (input_of scope.members.now (block_among scope.instances.now instance) name) 0
+input_at scope instance name = unwrap_or (input_among scope.members.now (block_among scope.instances.now instance) name) 0
 
 abbrev pub output_at : Scope → List ℕ → List ℕ → ℕ
-output_at scope instance name = unwrap_or (output_number scope.members.now (block_among scope.instances.now instance) name) 0
+output_at scope instance name = unwrap_or (output_among scope.members.now (block_among scope.instances.now instance) name) 0
 
 abbrev pub output_kind_at : Scope → List ℕ → List ℕ → Kind
 output_kind_at scope instance name = output_kind_by scope.members.now (block_among scope.instances.now instance) name
@@ -135,3 +138,19 @@ module _ (scope : Scope) where
 
   abbrev pub flat_choices : ℕ → Choices (List ℕ) → Choices ℕ
   flat_choices n choices = mapped_choices (mapping_of scope) (resolved_choices (kind_at scope) (output_kind_at scope) (numbered_choices n choices))
+
+-- what is known of the variables of each block type
+pub record AreMembers (blocks : List PlainRoutine) (members : List Variables) : Type 0 where
+  pub names_are : map (λ (v : Variables). v.names) members ≡ map (λ (b : PlainRoutine). local_names b.locals) blocks
+  pub kinds_are : map (λ (v : Variables). v.kinds.items) members ≡ map (λ (b : PlainRoutine). local_kinds b.locals) blocks
+
+-- a scope is that of a routine of a source
+pub record IsScope (source : Source) (r : PlainRoutine) (scope : Scope) : Type 0 where
+  pub globals_are : AreVariables (global_names source.globals) (global_kinds source.globals) scope.globals.now
+  pub own_are : AreVariables (local_names r.locals) (local_kinds r.locals) scope.own.now
+  pub instances_are : AreInstances r.instances scope.instances.now
+  pub members_are : AreMembers source.blocks scope.members.now
+
+-- a body over numbers is that of each routine whose scope it is
+abbrev pub IsNumberedIn : Scope → PlainBody (List ℕ) → PlainBody ℕ → Type 0
+IsNumberedIn scope body flat = (source : Source) (r : PlainRoutine) → IsScope source r scope → flat ≡ mapped_body (numbers source r) (meant_in source r body)

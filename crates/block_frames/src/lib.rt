@@ -1,7 +1,14 @@
-//! Frames of a source: for each block type and each program its body over numbers, and where its instances lie. The server doesn't use it
-//! yet.
+//! The frames of a source: the bodies of its block types and programs over numbers, as `block_walk` runs them. The server doesn't use it yet.
+//!
+//! The table has a frame for each block type, in an order in which each stands after those that it declares, and then a frame for each
+//! program. A name becomes a number: a global's is its place among the globals, and those of a routine's own variables follow; an instance's
+//! is its place among the routine's; an input's or output's is 0 or 1 of a standard block, or the place of the block type's own variable.
 #![tactic(auto)]
 
+mod frames;
 mod names;
 mod resolve;
 mod scope;
+mod seats;
+
+pub use frames::frames_of;

@@ -2,7 +2,8 @@
 
 ghost use Rattle.std.specs.Prelude.{◌≡◌};
 ghost use Rattle.plant_logic.specs.Seats.{timer_number};
-ghost use Rattle.block_frames.specs.Scoped.{variable_at, kind_at, instance_at, own_number, own_kind_of, input_of, output_number, output_kind_by, input_at, output_at, output_kind_at};
+ghost use Rattle.block_frames.specs.Numbers.{timer_shows};
+ghost use Rattle.block_frames.specs.Scoped.{variable_at, kind_at, instance_at, own_number, own_kind_of, input_among, output_among, output_kind_by, input_at, output_at, output_kind_at};
 
 use crate::names::{Instances, Variables};
 use plant_logic::BlockRef;
@@ -47,8 +48,8 @@ fn timer_number(name: &str) -> Option<usize>
 }
 
 /// The number of an input of a block; `None` if it has none of the name.
-fn input_of(members: &[Variables], block: Option<BlockRef>, name: &str) -> Option<usize>
-    ensures { result ≡ input_of members.now block name.now }
+fn input_among(members: &[Variables], block: Option<BlockRef>, name: &str) -> Option<usize>
+    ensures { result ≡ input_among members.now block name.now }
 {
     match block? {
         BlockRef::Ton | BlockRef::Tof => timer_number(name),
@@ -63,19 +64,32 @@ fn input_of(members: &[Variables], block: Option<BlockRef>, name: &str) -> Optio
     }
 }
 
-/// The number of an output of a block: for a timer 1 for ET, and else 0.
-fn output_number(members: &[Variables], block: Option<BlockRef>, name: &str) -> Option<usize>
-    ensures { result ≡ output_number members.now block name.now }
+/// The number of a timer's output; `None` if it has none of the name.
+fn timer_shows(name: &str) -> Option<usize>
+    ensures { result ≡ timer_shows name.now }
+{
+    if same_word(name.as_bytes(), b"Q") {
+        Some(0)
+    } else if same_word(name.as_bytes(), b"ET") {
+        Some(1)
+    } else {
+        None
+    }
+}
+
+/// The number of an output of a block; `None` if it has none of the name.
+fn output_among(members: &[Variables], block: Option<BlockRef>, name: &str) -> Option<usize>
+    ensures { result ≡ output_among members.now block name.now }
 {
     match block? {
-        BlockRef::Ton | BlockRef::Tof => {
-            if same_word(name.as_bytes(), b"ET") {
-                Some(1)
-            } else {
+        BlockRef::Ton | BlockRef::Tof => timer_shows(name),
+        BlockRef::RTrig => {
+            if same_word(name.as_bytes(), b"Q") {
                 Some(0)
+            } else {
+                None
             }
         }
-        BlockRef::RTrig => Some(0),
         BlockRef::Declared(number) => own_number(members, number, name),
     }
 }
@@ -135,14 +149,14 @@ impl<'a> Scope<'a> {
     pub fn input(&self, instance: &str, name: &str) -> usize
         ensures { result ≡ input_at self.now instance.now name.now }
     {
-        input_of(self.members, self.instances.block(instance), name).unwrap_or(0)
+        input_among(self.members, self.instances.block(instance), name).unwrap_or(0)
     }
 
     /// The number of an output of an instance.
     pub fn output(&self, instance: &str, name: &str) -> usize
         ensures { result ≡ output_at self.now instance.now name.now }
     {
-        output_number(self.members, self.instances.block(instance), name).unwrap_or(0)
+        output_among(self.members, self.instances.block(instance), name).unwrap_or(0)
     }
 
     /// The kind of an output of an instance.

@@ -1,0 +1,61 @@
+-- The frames of a source: one for each block type in an order, and then one for each program.
+use Rattle.std.specs.Prelude.{◌≡◌, ℕ, ◌+◌, nat_eq, List, [], ◌∷◌, length, position, Option, Some, slice_get, unwrap_or}
+use Rattle.st_tree.specs.View.{view_body}
+use Rattle.st_tree.specs.Mapping.{mapped_body}
+use Rattle.plant_logic.specs.declared.logic.Instance.{Instance}
+use Rattle.plant_logic.specs.declared.logic.BlockRef.{BlockRef}
+use Rattle.plant_logic.specs.declared.logic.BlockRef.TheVariants.{Ton, Tof, RTrig, Declared}
+use Rattle.plant_logic.specs.Source.{PlainRoutine, Source}
+use Rattle.plant_logic.specs.Names.{meant_in}
+use Rattle.plant_logic.specs.Seats.{value_count, clock_count, program_values_base, program_clocks_base}
+use Rattle.block_walk.specs.declared.clock.Standard.TheVariants as standard
+use Rattle.block_walk.specs.declared.frame.SeatOf.{SeatOf}
+use Rattle.block_walk.specs.declared.frame.SeatOf.TheVariants as seat_of
+use Rattle.block_walk.specs.declared.frame.Seat.{Seat}
+use Rattle.block_walk.specs.declared.frame.Base.{Base}
+use Rattle.block_walk.specs.declared.frame.Frame.{Frame}
+use Rattle.block_walk.specs.Frames.{AreInTurn}
+use Rattle.block_frames.specs.Numbers.{numbers}
+
+-- the place of a block type in an order; the place behind all of them if it isn't listed
+abbrev pub place_in : List ℕ → ℕ → ℕ
+place_in order n = unwrap_or (position (nat_eq n) order) (length order)
+
+-- what an instance's seat is of: a standard block, or the frame at the place of its block type
+abbrev pub seated : List ℕ → BlockRef → SeatOf
+seated order Ton = seat_of.Standard standard.Ton
+seated order Tof = seat_of.Standard standard.Tof
+seated order RTrig = seat_of.Standard standard.RTrig
+seated order (Declared n) = seat_of.Frame (place_in order n)
+
+-- the seat of an instance: its name as declared, what it is of, and where its values and its standard blocks begin
+pub record IsSeat (order : List ℕ) (values clocks : ℕ) (i : Instance) (seat : Seat) : Type 0 where
+  pub name_is : seat.name ≡ i.name
+  pub of_is : seat.of ≡ seated order i.of
+  pub values_is : seat.values ≡ values
+  pub clocks_is : seat.clocks ≡ clocks
+
+-- the seats of instances, one after another: each begins where the one before it ends
+abbrev pub AreSeats : List PlainRoutine → List ℕ → (values clocks : ℕ) → List Instance → List Seat → Type 0
+AreSeats blocks order values clocks [] [] = Unit {0}
+AreSeats blocks order values clocks [] (seat ∷ seats) = ⊥
+AreSeats blocks order values clocks (i ∷ is) [] = ⊥
+AreSeats blocks order values clocks (i ∷ is) (seat ∷ seats) =
+    IsSeat order values clocks i seat × AreSeats blocks order (values + value_count blocks i.of) (clocks + clock_count blocks i.of) is seats
+
+-- a frame is a routine's: its instances are its seats, whose values come after the routine's own variables, and its statements are those that are meant, with numbers for names
+pub record IsFrame (source : Source) (order : List ℕ) (r : PlainRoutine) (frame : Frame) : Type 0 where
+  pub seats_are : AreSeats source.blocks order (length r.locals) 0 r.instances frame.seats.items
+  pub starts_are : view_body frame.starts.items ≡ mapped_body (numbers source r) (meant_in source r r.starts)
+  pub body_is : view_body frame.body.items ≡ mapped_body (numbers source r) (meant_in source r r.body)
+
+-- a table has a frame for each block type in an order, and then one for each program, and the instances of each have their path numbers in turn
+pub record IsFrames (source : Source) (order : List ℕ) (frames : List Frame) : Type 0 where
+  pub whole : length frames ≡ length order + length source.programs
+  pub of_blocks : (k n : ℕ) (r : PlainRoutine) (frame : Frame) → slice_get order k ≡ Some n → slice_get source.blocks n ≡ Some r → slice_get frames k ≡ Some frame → IsFrame source order r frame
+  pub of_programs : (k : ℕ) (p : PlainRoutine) (frame : Frame) → slice_get source.programs k ≡ Some p → slice_get frames (length order + k) ≡ Some frame → IsFrame source order p frame
+  pub in_turn : AreInTurn frames
+
+-- where the values and the standard blocks of a program begin
+abbrev pub program_base : Source → ℕ → Base
+program_base source n = record { values = program_values_base source n; clocks = program_clocks_base source n }
