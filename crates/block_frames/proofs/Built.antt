@@ -1,9 +1,9 @@
 -- Lists of what is made for the items of a list, as they grow.
-use Rattle.std.proofs.Common.{◌≡◌, ◌∙◌, ap, sym, refl, ℕ, ◌+◌, ◌<◌, ◌≤◌, ◌||◌, Bool, false, List, [], ◌∷◌, ◌++◌, append_assoc, take, drop, length, get_or, map, Some}
+use Rattle.std.proofs.Common.{◌≡◌, ◌∙◌, ap, sym, refl, ℕ, ◌+◌, ◌<◌, ◌≤◌, ◌||◌, false, List, [], ◌∷◌, ◌++◌, append_assoc, take, drop, length, get_or, map, Some}
 use Rattle.std.specs.Prelude.{slice_get, option_map}
 use Rattle.std.specs.Str.{bytes_eq}
 use Rattle.std.proofs.lemmas.Bool.{or_parts}
-use Rattle.std.proofs.lemmas.List.{take_more, take_all, map_push, drop_more, drop_all}
+use Rattle.std.proofs.lemmas.List.{take_more, map_push, drop_more, drop_all}
 use Rattle.std.proofs.lemmas.List.Folds.{list_any-append}
 use Rattle.std.proofs.lemmas.Option.{slice_get-get_or, slice_get-map}
 use Rattle.st_names.specs.Taken.{is_among, repeats}
@@ -12,7 +12,7 @@ use Rattle.plant_logic.specs.declared.logic.Routine.{Routine}
 use Rattle.plant_logic.specs.Source.{view_routine}
 use Rattle.block_walk.specs.declared.frame.Seat.{Seat}
 use Rattle.block_frames.specs.declared.seats.Extent.{Extent}
-use Rattle.block_frames.specs.declared.seats.Placed.{Placed}
+use Rattle.block_frames.specs.declared.seats.Callee.{Callee}
 use Rattle.block_frames.specs.Built.{plus, extent_by, seat_by, seats_by, ends_by}
 
 -- names before others are apart where all are
@@ -36,7 +36,7 @@ pub append_nothing : {A : Type 0} (xs : List A) → xs ++ [] ≡ xs
 append_nothing [] = refl
 append_nothing (x ∷ xs) = ap (λ l. x ∷ l) (append_nothing xs)
 
-module _ (table : List Placed) (first : Extent) (list : List Instance) where
+module _ (table : List Callee) (first : Extent) (list : List Instance) where
   -- the seats so far, and those of the other instances, are all
   pub record Seated (seats : List Seat) (at : Extent) (i : ℕ) : Type 0 where
     pub seats_are : seats ++ seats_by table at (drop i list) ≡ seats_by table first list

@@ -1,5 +1,5 @@
 -- The frames of programs, behind those of the block types.
-use Rattle.std.proofs.Common.{◌≡◌, ◌∙◌, ap, sym, subst, ℕ, ◌+◌, ◌<◌, ◌≤◌, List, [], ◌∷◌, ◌++◌, length, Some, inl, inr, arith}
+use Rattle.std.proofs.Common.{◌≡◌, ◌∙◌, ap, sym, subst, ℕ, ◌+◌, ◌<◌, List, [], ◌∷◌, ◌++◌, length, Some, inl, inr, arith}
 use Rattle.std.specs.Prelude.{slice_get, nat_lt}
 use Rattle.std.proofs.lemmas.Bool.{cases_Bool}
 use Rattle.std.proofs.lemmas.Bool.Decides.{nat_tests}
@@ -10,12 +10,12 @@ use Rattle.plant_logic.specs.Source.{PlainRoutine, Source}
 use Rattle.plant_logic.specs.Blocks.{Declares, DeclaresThere, AreBelow}
 use Rattle.block_walk.specs.declared.frame.Frame.{Frame}
 use Rattle.block_frames.specs.declared.seats.Extent.{Extent}
-use Rattle.block_frames.specs.declared.seats.Placed.{Placed}
+use Rattle.block_frames.specs.declared.seats.Callee.{Callee}
 use Rattle.block_frames.specs.Frames.{IsFrame, IsFrames}
 use Rattle.block_frames.specs.Built.{IsKnown, IsMade, AreBuilt, AreBegun}
 use Rattle.block_frames.proofs.Tables.{front, at_end, in_turn_more, known_more, made_is_frame, made_in_turn}
 
-pub begun_none : (source : Source) (order : List ℕ) (frames : List Frame) (table : List Placed) → AreBelow source.blocks order → AreBuilt source order (length order) frames table → AreBegun source order 0 frames table
+pub begun_none : (source : Source) (order : List ℕ) (frames : List Frame) (table : List Callee) → AreBelow source.blocks order → AreBuilt source order (length order) frames table → AreBegun source order 0 frames table
 begun_none source order frames table below built = record {
   many = (let many = built.many in omega (arith, many));
   known = λ n less. built.known n (subst (λ l. Among l n) (sym (take_all (length order) order (omega arith))) (below.whole n less));
@@ -24,7 +24,7 @@ begun_none source order frames table below built = record {
   in_turn = built.in_turn;
 }
 
-module _ (source : Source) (order : List ℕ) (k : ℕ) (p : PlainRoutine) (frames frames' : List Frame) (table : List Placed) (frame : Frame) (end : Extent) (begun : AreBegun source order k frames table) (at : slice_get source.programs k ≡ Some p) (types : DeclaresThere source.blocks p)
+module _ (source : Source) (order : List ℕ) (k : ℕ) (p : PlainRoutine) (frames frames' : List Frame) (table : List Callee) (frame : Frame) (end : Extent) (begun : AreBegun source order k frames table) (at : slice_get source.programs k ≡ Some p) (types : DeclaresThere source.blocks p)
     (made : IsMade source table p frame end) (pushed : frames' ≡ frames ++ frame ∷ []) where
   knows : (n : ℕ) → Declares p n → IsKnown source.blocks order frames table n
   knows n declares = begun.known n (types n declares)
@@ -65,7 +65,7 @@ module _ (source : Source) (order : List ℕ) (k : ℕ) (p : PlainRoutine) (fram
       } in
       subst (λ fs. AreBegun source order (k + 1) fs table) (sym pushed) whole
 
-pub begun_all : (source : Source) (order : List ℕ) (frames : List Frame) (table : List Placed) → AreBegun source order (length source.programs) frames table → IsFrames source order frames
+pub begun_all : (source : Source) (order : List ℕ) (frames : List Frame) (table : List Callee) → AreBegun source order (length source.programs) frames table → IsFrames source order frames
 begun_all source order frames table begun = record {
   whole = begun.many;
   of_blocks = λ k n r f. begun.of_blocks k n r f;

@@ -1,16 +1,16 @@
 -- A scope of a routine gives each name the number and the kind that the routine's definition gives it.
 use Rattle.std.proofs.Common.{◌≡◌, ◌∙◌, ap, sym, refl, ℕ, Bool, List, [], ◌∷◌, map, length, Option, Some, None, unwrap_or, inl, inr, arith}
-use Rattle.std.specs.Prelude.{not, position, slice_get, option_and_then, option_map, if◌then◌else◌, codes}
+use Rattle.std.specs.Prelude.{not, position, slice_get, option_and_then, option_map}
 use Rattle.std.specs.List.{prefix_len}
 use Rattle.std.specs.Option.{option_map_or}
 use Rattle.std.specs.Str.{bytes_eq}
 use Rattle.std.proofs.lemmas.List.{length-map}
 use Rattle.std.proofs.lemmas.Option.{slice_get_cases, slice_get_past, slice_get_within, slice_get-map}
-use Rattle.plant_types.specs.Words.{folded, same_word}
+use Rattle.plant_types.specs.Words.{folded}
 use Rattle.plant_types.specs.declared.values.Kind.{Kind}
 use Rattle.plant_types.specs.declared.values.Kind.TheVariants as kind
 use Rattle.st_tree.specs.Plain.{PlainBody}
-use Rattle.st_tree.specs.Mapping.{Mapping, mapped_body}
+use Rattle.st_tree.specs.Mapping.{mapped_body}
 use Rattle.st_tree.specs.Kinds.{resolved_body}
 use Rattle.st_tree.specs.Numbers.{numbered}
 use Rattle.st_names.specs.Scopes.{or_other}
@@ -22,12 +22,11 @@ use Rattle.plant_logic.specs.declared.logic.BlockRef.{BlockRef}
 use Rattle.plant_logic.specs.declared.logic.BlockRef.TheVariants.{Ton, Tof, RTrig, Declared}
 use Rattle.plant_logic.specs.Source.{PlainRoutine, Source}
 use Rattle.plant_logic.specs.Names.{find_word, own_words, global_words, instance_words, own_kind, global_kind, block_named, kind_named, output_kind_of, output_kind_named, meant_in}
-use Rattle.plant_logic.specs.Seats.{own_or_global, value_number, member_number}
+use Rattle.plant_logic.specs.Seats.{own_or_global, member_number}
 use Rattle.block_frames.specs.declared.names.Variables.{Variables}
-use Rattle.block_frames.specs.declared.names.Instances.{Instances}
 use Rattle.block_frames.specs.declared.scope.Scope.{Scope}
-use Rattle.block_frames.specs.Numbers.{shown_number, input_number, output_number, numbers}
-use Rattle.block_frames.specs.Scoped.{kind_among, block_among, AreVariables, AreInstances, AreMembers, IsScope, local_names, local_kinds, global_names, global_kinds, variable_at, kind_at, instance_at, own_number, own_kind_of, input_among, output_among, output_kind_by, input_at, output_at, output_kind_at, mapping_of, flat_body}
+use Rattle.block_frames.specs.Numbers.{shown_number, numbers}
+use Rattle.block_frames.specs.Scoped.{kind_among, block_among, AreVariables, AreMembers, IsScope, local_names, local_kinds, global_names, global_kinds, variable_at, kind_at, instance_at, own_number, own_kind_of, input_among, output_among, output_kind_by, input_at, output_at, output_kind_at, flat_body}
 
 prefix-map : {X Y : Type 0} (p : Y → Bool) (f : X → Y) (xs : List X) → prefix_len (λ x. p (f x)) xs ≡ prefix_len p (map f xs)
 prefix-map p f [] = refl
@@ -100,12 +99,12 @@ module _ (source : Source) (r : PlainRoutine) (scope : Scope) (is : IsScope sour
   member_is n name =
       elim ((slice_get_cases source.blocks n).1) [
         | inl there ↦ elim ((slice_get_cases scope.members.now n).1) [
-            | inl known ↦ (
-                let v = known.0 in
-                let b = there.0 in
-                ap (option_and_then (λ (x : Variables). find_name x.names name)) known.2 ∙ own_found b.locals v (members_each source.blocks scope.members.now is.members_are n b v there.2 known.2) name ∙ sym (ap (option_and_then (λ (x : PlainRoutine). find_word (own_words x.locals) name)) there.2))
-            | inr past ↦ (let same = members_long source.blocks scope.members.now is.members_are in let within = slice_get_within source.blocks n there.0 there.2 in let p = past.0 in absurd (omega (arith, same, within, p)))
-          ]
+          | inl known ↦ (
+              let v = known.0 in
+              let b = there.0 in
+              ap (option_and_then (λ (x : Variables). find_name x.names name)) known.2 ∙ own_found b.locals v (members_each source.blocks scope.members.now is.members_are n b v there.2 known.2) name ∙ sym (ap (option_and_then (λ (x : PlainRoutine). find_word (own_words x.locals) name)) there.2))
+          | inr past ↦ (let same = members_long source.blocks scope.members.now is.members_are in let within = slice_get_within source.blocks n there.0 there.2 in let p = past.0 in absurd (omega (arith, same, within, p)))
+        ]
         | inr past ↦ (
             let same = members_long source.blocks scope.members.now is.members_are in
             let p = past.0 in
@@ -119,12 +118,12 @@ module _ (source : Source) (r : PlainRoutine) (scope : Scope) (is : IsScope sour
   member_kind_is n name =
       elim ((slice_get_cases source.blocks n).1) [
         | inl there ↦ elim ((slice_get_cases scope.members.now n).1) [
-            | inl known ↦ (
-                let v = known.0 in
-                let b = there.0 in
-                ap (λ o. unwrap_or (option_and_then (λ (x : Variables). kind_among x name) o) kind.Bool) known.2 ∙ ap (λ k. unwrap_or k kind.Bool) (own_kind_found b.locals v (members_each source.blocks scope.members.now is.members_are n b v there.2 known.2) name) ∙ sym (ap (kind_of_variable name) there.2))
-            | inr past ↦ (let same = members_long source.blocks scope.members.now is.members_are in let within = slice_get_within source.blocks n there.0 there.2 in let p = past.0 in absurd (omega (arith, same, within, p)))
-          ]
+          | inl known ↦ (
+              let v = known.0 in
+              let b = there.0 in
+              ap (λ o. unwrap_or (option_and_then (λ (x : Variables). kind_among x name) o) kind.Bool) known.2 ∙ ap (λ k. unwrap_or k kind.Bool) (own_kind_found b.locals v (members_each source.blocks scope.members.now is.members_are n b v there.2 known.2) name) ∙ sym (ap (kind_of_variable name) there.2))
+          | inr past ↦ (let same = members_long source.blocks scope.members.now is.members_are in let within = slice_get_within source.blocks n there.0 there.2 in let p = past.0 in absurd (omega (arith, same, within, p)))
+        ]
         | inr past ↦ (
             let same = members_long source.blocks scope.members.now is.members_are in
             let p = past.0 in

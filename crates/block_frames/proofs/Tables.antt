@@ -1,11 +1,11 @@
 -- A table of frames as it grows, each block type after those that it declares.
-use Rattle.std.proofs.Common.{◌≡◌, ◌≢◌, ◌∙◌, ap, sym, subst, refl, ℕ, zero, suc, ◌+◌, ◌^◌, ◌<◌, ◌≤◌, List, [], ◌∷◌, ◌++◌, take, map, length, get_or, set, Option, Some, None, true, false, inl, inr, arith}
+use Rattle.std.proofs.Common.{◌≡◌, ◌≢◌, ◌∙◌, ap, sym, subst, refl, ℕ, zero, suc, ◌+◌, ◌<◌, ◌≤◌, List, [], ◌∷◌, ◌++◌, take, length, get_or, set, Option, Some, None, true, inl, inr, arith}
 use Rattle.std.specs.Prelude.{◌⊎◌, slice_get, nat_eq, nat_lt, if◌then◌else◌}
 use Rattle.std.specs.List.{position_or_len}
 use Rattle.std.specs.Option.{option_map_or}
 use Rattle.std.proofs.lemmas.Bool.{cases_Bool}
 use Rattle.std.proofs.lemmas.Bool.Decides.{nat_tests}
-use Rattle.std.proofs.lemmas.List.{length-map, length-append, length-set, take_more, take_all, get_or-set_same, get_or-set_other}
+use Rattle.std.proofs.lemmas.List.{length-map, length-append, length-set, take_more, get_or-set_same, get_or-set_other}
 use Rattle.std.proofs.lemmas.Option.{slice_get_within, slice_get-get_or}
 use Rattle.plant_types.specs.Words.{folded}
 use Rattle.block_order.specs.Chains.{Among}
@@ -17,15 +17,14 @@ use Rattle.plant_logic.specs.declared.logic.BlockRef.TheVariants.{Ton, Tof, RTri
 use Rattle.plant_logic.specs.Source.{PlainRoutine, Source}
 use Rattle.plant_logic.specs.Blocks.{levels, Declares, AreBelow}
 use Rattle.plant_logic.specs.Worlds.{Path}
-use Rattle.plant_logic.specs.Layout.{ClockAt, own_values, block_values, instance_values, values_rule, routine_values, block_clocks, instance_clocks, clocks_rule, routine_clocks, cells_per_type, clocks_per_type}
+use Rattle.plant_logic.specs.Layout.{ClockAt, own_values, block_values, instance_values, values_rule, routine_values, block_clocks, instance_clocks, clocks_rule, routine_clocks}
 use Rattle.plant_logic.specs.Seats.{value_count, clock_count}
 use Rattle.block_walk.specs.declared.frame.SeatOf.TheVariants as seat_of
-use Rattle.block_walk.specs.declared.frame.Seat.{Seat}
 use Rattle.block_walk.specs.declared.frame.Frame.{Frame}
 use Rattle.block_walk.specs.Frames.{of_frame, of_first, paths_below, seats_paths, routine_paths, frame_paths, AreNumbered, InTurn, AreInTurn}
 use Rattle.block_walk.proofs.Firsts.{paths_is}
 use Rattle.block_frames.specs.declared.seats.Extent.{Extent}
-use Rattle.block_frames.specs.declared.seats.Placed.{Placed}
+use Rattle.block_frames.specs.declared.seats.Callee.{Callee}
 use Rattle.block_frames.specs.Frames.{place_in, seated, AreSeats, IsFrame}
 use Rattle.block_frames.specs.Built.{extent, plus, extent_by, seated_by, seats_by, ends_by, first_of, IsKnown, IsMade, AreBuilt}
 
@@ -128,7 +127,7 @@ clocks_levels blocks zero n p q = refl
 clocks_levels blocks (suc d) n p q = clocks_length_at (levels (λ path. []) clocks_rule blocks d) (clocks_levels blocks d) (slice_get blocks n) p q
 
 -- the seats that a table gives, where it knows the block types of the instances
-module _ (blocks : List PlainRoutine) (order : List ℕ) (frames : List Frame) (table : List Placed) where
+module _ (blocks : List PlainRoutine) (order : List ℕ) (frames : List Frame) (table : List Callee) where
   abbrev paths : ℕ → List Path
   paths = frame_paths frames (length frames)
 
@@ -148,11 +147,11 @@ module _ (blocks : List PlainRoutine) (order : List ℕ) (frames : List Frame) (
   block_is name (Declared n) knows =
       let k = knows n refl in
       record {
-        of_is = ap (λ o. seat_of.Frame (option_map_or (λ (p : Placed). p.place) o 0)) k.at ∙ ap seat_of.Frame k.place_is;
-        values_is = ap (λ o. (option_map_or (λ (p : Placed). p.extent) o (extent 0 0 0)).values) k.at ∙ k.values_is;
-        clocks_is = ap (λ o. (option_map_or (λ (p : Placed). p.extent) o (extent 0 0 0)).clocks) k.at ∙ k.clocks_is;
-        paths_is = ap (λ o. (option_map_or (λ (p : Placed). p.extent) o (extent 0 0 0)).paths) k.at ∙ k.paths_is ∙ sym (length-map (paths k.placed.place) (λ path. path ++ name ∷ []))
-            ∙ sym (ap (λ o. length (paths_below paths name (seat_of.Frame (option_map_or (λ (p : Placed). p.place) o 0)))) k.at);
+        of_is = ap (λ o. seat_of.Frame (option_map_or (λ (p : Callee). p.place) o 0)) k.at ∙ ap seat_of.Frame k.place_is;
+        values_is = ap (λ o. (option_map_or (λ (p : Callee). p.extent) o (extent 0 0 0)).values) k.at ∙ k.values_is;
+        clocks_is = ap (λ o. (option_map_or (λ (p : Callee). p.extent) o (extent 0 0 0)).clocks) k.at ∙ k.clocks_is;
+        paths_is = ap (λ o. (option_map_or (λ (p : Callee). p.extent) o (extent 0 0 0)).paths) k.at ∙ k.paths_is ∙ sym (length-map (paths k.callee.place) (λ path. path ++ name ∷ []))
+            ∙ sym (ap (λ o. length (paths_below paths name (seat_of.Frame (option_map_or (λ (p : Callee). p.place) o 0)))) k.at);
       }
 
   abbrev KnowsAll : List Instance → Type 0
@@ -162,10 +161,11 @@ module _ (blocks : List PlainRoutine) (order : List ℕ) (frames : List Frame) (
   seats_are at [] knows = tt
   seats_are at (i ∷ is) knows =
       let b = block_is i.name i.of (knows i (inl refl)) in
-      let rest = seats_are (plus at (extent_by table i.of)) is (λ j there. knows j (inr there)) in
-      (record { name_is = refl; of_is = b.of_is; values_is = refl; clocks_is = refl },
+      let rest = seats_are (plus at (extent_by table i.of)) is (λ j there. knows j (inr there)) in (
+        record { name_is = refl; of_is = b.of_is; values_is = refl; clocks_is = refl },
         subst (λ v. AreSeats blocks order (at.values + v) (at.clocks + clock_count blocks i.of) is (seats_by table (plus at (extent_by table i.of)) is)) b.values_is
-        (subst (λ c. AreSeats blocks order (at.values + (extent_by table i.of).values) (at.clocks + c) is (seats_by table (plus at (extent_by table i.of)) is)) b.clocks_is rest))
+            (subst (λ c. AreSeats blocks order (at.values + (extent_by table i.of).values) (at.clocks + c) is (seats_by table (plus at (extent_by table i.of)) is)) b.clocks_is rest),
+      )
 
   numbered : (at : Extent) (is : List Instance) → KnowsAll is → AreNumbered paths at.paths (seats_by table at is)
   numbered at [] knows = tt
@@ -198,7 +198,7 @@ module _ (blocks : List PlainRoutine) (order : List ℕ) (frames : List Frame) (
       record { values_is = omega (arith, first, later, values, sum); clocks_is = omega (arith, first', later', clocks, sum'); paths_is = omega (arith, first'', later'', sum'') }
 
 -- a frame that is made by a table which knows the block types that the routine declares
-module _ (source : Source) (order : List ℕ) (frames : List Frame) (table : List Placed) (r : PlainRoutine) (frame : Frame) (end : Extent) (made : IsMade source table r frame end)
+module _ (source : Source) (order : List ℕ) (frames : List Frame) (table : List Callee) (r : PlainRoutine) (frame : Frame) (end : Extent) (made : IsMade source table r frame end)
     (known : (n : ℕ) → Declares r n → IsKnown source.blocks order frames table n) where
   knows_all : KnowsAll source.blocks order frames table r.instances
   knows_all i there n is = known n (i, there, is)
@@ -239,9 +239,9 @@ module _ (source : Source) (order : List ℕ) (frames : List Frame) (table : Lis
       omega (arith, e)
 
 -- what a table knows stays known when a frame is pushed
-pub known_more : (blocks : List PlainRoutine) (order : List ℕ) (frames : List Frame) (more : Frame) (table : List Placed) (n : ℕ) → IsKnown blocks order frames table n → IsKnown blocks order (frames ++ more ∷ []) table n
+pub known_more : (blocks : List PlainRoutine) (order : List ℕ) (frames : List Frame) (more : Frame) (table : List Callee) (n : ℕ) → IsKnown blocks order frames table n → IsKnown blocks order (frames ++ more ∷ []) table n
 known_more blocks order frames more table n k =
-    let j = k.placed.place in
+    let j = k.callee.place in
     let inside = k.within in
     let all = frames ++ more ∷ [] in
     let long = length-append frames (more ∷ []) in
@@ -252,7 +252,7 @@ known_more blocks order frames more table n k =
     let before = paths_is frames (length frames) j here.0 inside here.1 in
     let after = paths_is all (length all) j here.0 less there in
     let same : frame_paths all (length all) j ≡ frame_paths frames (length frames) j = after ∙ (λ i. routine_paths (λ m. paths_more frames (more ∷ []) j most m i) here.0.seats.items) ∙ sym before in
-    record { placed = k.placed; at = k.at; values_is = k.values_is; clocks_is = k.clocks_is; place_is = k.place_is; within = less; paths_is = k.paths_is ∙ ap length (sym same) }
+    record { callee = k.callee; at = k.at; values_is = k.values_is; clocks_is = k.clocks_is; place_is = k.place_is; within = less; paths_is = k.paths_is ∙ ap length (sym same) }
   where
     slice_get_some : (xs : List Frame) (j : ℕ) → j < length xs → (x : Frame) × (slice_get xs j ≡ Some x)
     slice_get_some [] j h = absurd (omega arith)
@@ -294,12 +294,12 @@ among_last (y ∷ ys) x n (inr later) =
       | inr is ↦ inr is
     ]
 
-set_here : (table : List Placed) (a : ℕ) (p : Placed) → a < length table → slice_get (set table a p) a ≡ Some p
+set_here : (table : List Callee) (a : ℕ) (p : Callee) → a < length table → slice_get (set table a p) a ≡ Some p
 set_here table a p within =
     let long = length-set table a p in
     slice_get-get_or (set table a p) a p (omega arith) ∙ ap Some (get_or-set_same table a p p within)
 
-set_there : (table : List Placed) (a n : ℕ) (p known : Placed) → n ≢ a → slice_get table n ≡ Some known → slice_get (set table a p) n ≡ Some known
+set_there : (table : List Callee) (a n : ℕ) (p known : Callee) → n ≢ a → slice_get table n ≡ Some known → slice_get (set table a p) n ≡ Some known
 set_there table a n p known other is =
     let long = length-set table a p in
     let within = slice_get_within table n known is in
@@ -309,15 +309,15 @@ module _ (source : Source) (order : List ℕ) (below : AreBelow source.blocks or
     (has_values : (n : ℕ) (r : PlainRoutine) → slice_get source.blocks n ≡ Some r → routine_values source.blocks n ≡ values_rule (routine_values source.blocks) r)
     (has_clocks : (n : ℕ) (r : PlainRoutine) → slice_get source.blocks n ≡ Some r → routine_clocks source.blocks n ≡ clocks_rule (routine_clocks source.blocks) r) where
   -- the block types that one declares come before it
-  declared_known : (k a : ℕ) (r : PlainRoutine) (frames : List Frame) (table : List Placed) → AreBuilt source order k frames table → slice_get order k ≡ Some a → slice_get source.blocks a ≡ Some r → (n : ℕ) → Declares r n → n < length source.blocks → IsKnown source.blocks order frames table n
+  declared_known : (k a : ℕ) (r : PlainRoutine) (frames : List Frame) (table : List Callee) → AreBuilt source order k frames table → slice_get order k ≡ Some a → slice_get source.blocks a ≡ Some r → (n : ℕ) → Declares r n → n < length source.blocks → IsKnown source.blocks order frames table n
   declared_known k a r frames table built at is n declares there = built.known n (below.after k a n r at is declares there)
 
-  module _ (k a : ℕ) (r : PlainRoutine) (frames frames' : List Frame) (table table' : List Placed) (frame : Frame) (end : Extent) (built : AreBuilt source order k frames table) (at : slice_get order k ≡ Some a) (is : slice_get source.blocks a ≡ Some r)
+  module _ (k a : ℕ) (r : PlainRoutine) (frames frames' : List Frame) (table table' : List Callee) (frame : Frame) (end : Extent) (built : AreBuilt source order k frames table) (at : slice_get order k ≡ Some a) (is : slice_get source.blocks a ≡ Some r)
       (types : (n : ℕ) → Declares r n → n < length source.blocks) (made : IsMade source table r frame end) (pushed : frames' ≡ frames ++ frame ∷ []) (kept : table' ≡ set table a (record { extent = end; place = k })) where
     knows : (n : ℕ) → Declares r n → IsKnown source.blocks order frames table n
     knows n declares = declared_known k a r frames table built at is n declares (types n declares)
 
-    abbrev entry : Placed
+    abbrev entry : Callee
     entry = record { extent = end; place = k }
 
     fresh : IsKnown source.blocks order (frames ++ frame ∷ []) (set table a entry) a
@@ -333,7 +333,7 @@ module _ (source : Source) (order : List ℕ) (below : AreBelow source.blocks or
         let paths : frame_paths all (length all) k ≡ routine_paths (frame_paths frames (length frames)) frame.seats.items =
         paths_is all (length all) k frame less there ∙ (λ i. routine_paths (λ m. paths_more frames (frame ∷ []) k most m i) frame.seats.items) ∙ ap (λ n. routine_paths (frame_paths frames n) frame.seats.items) (sym many) in
         record {
-          placed = entry;
+          callee = entry;
           at = set_here table a entry (omega (arith, inside, long));
           values_is = made_values source order frames table r frame end made knows ∙ ap (λ f. length (f [])) (sym (has_values a r is));
           clocks_is = made_clocks source order frames table r frame end made knows ∙ ap (λ f. length (f [])) (sym (has_clocks a r is));
@@ -355,7 +355,7 @@ module _ (source : Source) (order : List ℕ) (below : AreBelow source.blocks or
                 | inr last ↦ absurd (apart (sym last))
               ] in
               let old = known_more source.blocks order frames frame table n (built.known n before) in
-              record { placed = old.placed; at = set_there table a n entry old.placed apart old.at; values_is = old.values_is; clocks_is = old.clocks_is; place_is = old.place_is; within = old.within; paths_is = old.paths_is })
+              record { callee = old.callee; at = set_there table a n entry old.callee apart old.at; values_is = old.values_is; clocks_is = old.clocks_is; place_is = old.place_is; within = old.within; paths_is = old.paths_is })
         ]
       where
         get_or_is : (xs : List ℕ) (j x : ℕ) → slice_get xs j ≡ Some x → get_or xs j x ≡ x

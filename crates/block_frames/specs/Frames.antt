@@ -1,5 +1,5 @@
 -- The frames of a source: one for each block type in an order, and then one for each program.
-use Rattle.std.specs.Prelude.{◌≡◌, ℕ, ◌+◌, nat_eq, List, [], ◌∷◌, length, position, Option, Some, slice_get, unwrap_or}
+use Rattle.std.specs.Prelude.{◌≡◌, ℕ, ◌+◌, nat_eq, List, [], ◌∷◌, length, position, Some, slice_get, unwrap_or}
 use Rattle.st_tree.specs.View.{view_body}
 use Rattle.st_tree.specs.Mapping.{mapped_body}
 use Rattle.plant_logic.specs.declared.logic.Instance.{Instance}

@@ -6,7 +6,7 @@ use Rattle.plant_types.specs.declared.values.Kind.TheVariants as kind
 use Rattle.st_tree.specs.Plain.{PlainExpr, PlainArgument, PlainStmt, PlainBody, Branches, Choices}
 use Rattle.st_tree.specs.Numbers.{numbered_stmt, numbered, numbered_branches, numbered_choices}
 use Rattle.st_tree.specs.Kinds.{resolved_expr, resolved_argument, resolved_stmt, resolved_body, resolved_branches, resolved_choices}
-use Rattle.st_tree.specs.Mapping.{Mapping, mapped_expr, mapped_option, mapped_argument, mapped_stmt, mapped_body, mapped_branches, mapped_choices}
+use Rattle.st_tree.specs.Mapping.{Mapping, mapped_expr, mapped_argument, mapped_stmt, mapped_body, mapped_branches, mapped_choices}
 use Rattle.st_names.specs.Scopes.{or_other}
 use Rattle.word_index.specs.Names.{find_name}
 use Rattle.plant_logic.specs.declared.logic.Local.{Local}

@@ -15,7 +15,7 @@ ghost use Rattle.block_frames.specs.Built.{seats_by, ends_by, first_of, IsNumber
 use crate::names::{Variables, global_variables, instances_of, own_variables};
 use crate::resolve::resolve_body;
 use crate::scope::Scope;
-use crate::seats::{Extent, Placed, seats_by};
+use crate::seats::{Callee, Extent, seats_by};
 use block_walk::Frame;
 use plant_logic::{Logic, Routine, block_type_has_clocks, block_type_has_values};
 use plant_types::Text;
@@ -53,7 +53,7 @@ fn frame_of(
     globals: &Variables,
     members: &[Variables],
     own: &Variables,
-    table: &[Placed],
+    table: &[Callee],
     routine: &Routine,
 ) -> Result<(Frame, Extent), AllocError>
     requires apart { repeats (instance_words (view_routine routine.now).instances) ≡ false }
@@ -90,10 +90,10 @@ fn frame_of(
 }
 
 /// Room for what is known of so many block types. Fails if allocation fails.
-fn make_table(alloc: Global, count: usize) -> Result<Vec<Placed>, AllocError>
+fn make_table(alloc: Global, count: usize) -> Result<Vec<Callee>, AllocError>
     ensures { IfOk result (λ table. length table.items ≡ count) }
 {
-    let none = Placed {
+    let none = Callee {
         extent: Extent {
             values: 0,
             clocks: 0,
@@ -112,7 +112,7 @@ fn frames_of_blocks(
     globals: &Variables,
     members: &[Variables],
     order: &[usize],
-) -> Result<(Vec<Frame>, Vec<Placed>), AllocError>
+) -> Result<(Vec<Frame>, Vec<Callee>), AllocError>
     requires below { AreBelow (map view_routine blocks.now) order.now }
     requires types { All (DeclaresThere (map view_routine blocks.now)) (map view_routine blocks.now) }
     requires apart { All AreNamedApart (map view_routine blocks.now) }
@@ -127,7 +127,7 @@ fn frames_of_blocks(
         let place = frames.len();
         let own = &members[*number];
         let (frame, extent) = frame_of(alloc, globals, members, own, &table, &blocks[*number])?;
-        table[*number] = Placed { extent, place };
+        table[*number] = Callee { extent, place };
         frames.push(frame)?;
     }
     Ok((frames, table))
@@ -139,7 +139,7 @@ fn add_programs(
     programs: &[Routine],
     globals: &Variables,
     members: &[Variables],
-    table: &[Placed],
+    table: &[Callee],
     frames: &mut Vec<Frame>,
 ) -> Result<(), AllocError>
     requires { All AreNamedApart (map view_routine programs.now) }

@@ -82,7 +82,11 @@ fn resolve_kinded(
 }
 
 /// Resolves an expression.
-fn resolve_expr(alloc: Global, scope: &Scope<'_>, expr: &Expr<Text>) -> Result<Expr<usize>, AllocError>
+fn resolve_expr(
+    alloc: Global,
+    scope: &Scope<'_>,
+    expr: &Expr<Text>,
+) -> Result<Expr<usize>, AllocError>
     ensures { IfOk result (λ e. view_expr e ≡ flat_expr scope.now (view_expr expr.now)) }
 {
     let (expr, _) = resolve_kinded(alloc, scope, expr)?;

@@ -17,7 +17,7 @@ pub struct Extent {
 
 /// What an instance of a block type has, and the place of its frame.
 #[derive(Clone, Copy, Debug, PartialEq, Eq, Drop)]
-pub struct Placed {
+pub struct Callee {
     pub extent: Extent,
     pub place: usize,
 }
@@ -54,7 +54,7 @@ fn plus(a: Extent, b: Extent) -> Result<Extent, AllocError>
 }
 
 /// What an instance of a block has.
-fn extent_by(table: &[Placed], block: BlockRef) -> Extent
+fn extent_by(table: &[Callee], block: BlockRef) -> Extent
     ensures { result ≡ extent_by table.now block }
 {
     match block {
@@ -69,7 +69,7 @@ fn extent_by(table: &[Placed], block: BlockRef) -> Extent
             paths: 0,
         },
         BlockRef::Declared(number) => match table.get(number) {
-            Some(placed) => placed.extent,
+            Some(callee) => callee.extent,
             None => Extent {
                 values: 0,
                 clocks: 0,
@@ -80,7 +80,7 @@ fn extent_by(table: &[Placed], block: BlockRef) -> Extent
 }
 
 /// What the seat of an instance of a block is of.
-fn seated_by(table: &[Placed], block: BlockRef) -> SeatOf
+fn seated_by(table: &[Callee], block: BlockRef) -> SeatOf
     ensures { result ≡ seated_by table.now block }
 {
     match block {
@@ -88,7 +88,7 @@ fn seated_by(table: &[Placed], block: BlockRef) -> SeatOf
         BlockRef::Tof => SeatOf::Standard(Standard::Tof),
         BlockRef::RTrig => SeatOf::Standard(Standard::RTrig),
         BlockRef::Declared(number) => match table.get(number) {
-            Some(placed) => SeatOf::Frame(placed.place),
+            Some(callee) => SeatOf::Frame(callee.place),
             None => SeatOf::Frame(0),
         },
     }
@@ -97,7 +97,7 @@ fn seated_by(table: &[Placed], block: BlockRef) -> SeatOf
 /// The seat of an instance. Fails if allocation fails.
 fn seat_by(
     alloc: Global,
-    table: &[Placed],
+    table: &[Callee],
     at: Extent,
     instance: &Instance,
 ) -> Result<Seat, AllocError>
@@ -115,7 +115,7 @@ fn seat_by(
 /// The seats of instances one after another, and where the last ends. Fails if allocation fails, or no memory has room for so many values.
 pub fn seats_by(
     alloc: Global,
-    table: &[Placed],
+    table: &[Callee],
     first: Extent,
     list: &[Instance],
 ) -> Result<(Vec<Seat>, Extent), AllocError>

@@ -1,8 +1,8 @@
-use Rattle.std.proofs.Common.{◌≡◌, ◌∙◌, ◌<◌, ◌≤◌, ℕ, ap, sym, subst, length, map, get_or, set, Some, rules, arith, ◌∷◌, []}
+use Rattle.std.proofs.Common.{◌≡◌, ◌∙◌, ◌<◌, ap, sym, subst, length, map, get_or, set, Some, rules, arith, ◌∷◌, []}
 use Rattle.std.specs.Prelude.{slice_get}
 use Rattle.std.proofs.lemmas.List.{length-map, length-append, length-set}
 use Rattle.std.proofs.lemmas.Option.{slice_get-get_or}
-use Rattle.plant_logic.specs.Source.{PlainRoutine, view_routine}
+use Rattle.plant_logic.specs.Source.{view_routine}
 use Rattle.plant_logic.specs.Names.{own_words, instance_words}
 use Rattle.plant_logic.specs.Blocks.{AreBelow, DeclaresThere}
 use Rattle.plant_logic.specs.Layout.{AreNamedApart}

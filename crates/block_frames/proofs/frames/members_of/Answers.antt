@@ -24,9 +24,10 @@ loop-block-preserved c =
     let blocks = c.args.blocks.now in
     let v = c.in_ok-own_variables.field-0 in
     let are = c.in_ok-own_variables.ensures in
-    let l = c.loop-block in
-    (mapped_on (λ (x : Variables). x.names) (λ (r : Routine). local_names r.locals.items) blocks l.block-index c.block-item.result l.members.items c.push.new.self.items v c.loop-block-test.true c.block-item.is l.invariant.0 (are.names_are ∙ ap local_names c.deref.ensures.value) c.in_ok-push.ensures.items,
-      mapped_on (λ (x : Variables). x.kinds.items) (λ (r : Routine). local_kinds r.locals.items) blocks l.block-index c.block-item.result l.members.items c.push.new.self.items v c.loop-block-test.true c.block-item.is l.invariant.1 (are.kinds_are ∙ ap local_kinds c.deref.ensures.value) c.in_ok-push.ensures.items)
+    let l = c.loop-block in (
+      mapped_on (λ (x : Variables). x.names) (λ (r : Routine). local_names r.locals.items) blocks l.block-index c.block-item.result l.members.items c.push.new.self.items v c.loop-block-test.true c.block-item.is l.invariant.0 (are.names_are ∙ ap local_names c.deref.ensures.value) c.in_ok-push.ensures.items,
+      mapped_on (λ (x : Variables). x.kinds.items) (λ (r : Routine). local_kinds r.locals.items) blocks l.block-index c.block-item.result l.members.items c.push.new.self.items v c.loop-block-test.true c.block-item.is l.invariant.1 (are.kinds_are ∙ ap local_kinds c.deref.ensures.value) c.in_ok-push.ensures.items,
+    )
 
 pub returns : goal.returns
 returns c =
