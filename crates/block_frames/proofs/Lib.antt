@@ -7,3 +7,9 @@ mod Runs
 mod Starts
 mod Opening
 mod Fitting
+mod Growing
+mod Joined
+mod Scopes
+mod Built
+mod Tables
+mod Programs

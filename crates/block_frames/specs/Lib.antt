@@ -2,3 +2,5 @@ pub mod Numbers
 pub mod Frames
 pub mod Stands
 pub mod Opening
+pub mod Scoped
+pub mod Built

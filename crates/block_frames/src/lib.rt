@@ -6,6 +6,12 @@
 //! `frames_agree` says that frames over cells do what the source does in a world, and `frames_begin` that their initial values are the source's.
 #![tactic(auto)]
 
+mod frames;
 mod laws;
+mod names;
+mod resolve;
+mod scope;
+mod seats;
 
+pub use frames::frames_of;
 pub use laws::{fitting_names_are_known, frames_agree, frames_begin};

@@ -1,0 +1,5 @@
+use Rattle.block_frames.proofs.Built.{Seated}
+use Rattle.block_frames.proofs.seats.seats_by.Given as goal
+
+abbrev pub invariant-loop-instance : goal.invariant-loop-instance
+invariant-loop-instance l = Seated l.table l.fn.first l.list l.seats.items l.at l.instance-index

@@ -1,0 +1,156 @@
+-- What the code knows of the names in a routine, and bodies over numbers by it.
+use Rattle.std.specs.Prelude.{◌≡◌, ℕ, if◌then◌else◌, List, length, map, Option, Some, None, option_and_then, unwrap_or, slice_get, codes}
+use Rattle.plant_types.specs.Words.{same_word}
+use Rattle.plant_types.specs.declared.values.Kind.{Kind}
+use Rattle.plant_types.specs.declared.values.Kind.TheVariants as kind
+use Rattle.st_tree.specs.Plain.{PlainExpr, PlainArgument, PlainStmt, PlainBody, Branches, Choices}
+use Rattle.st_tree.specs.Numbers.{numbered_stmt, numbered, numbered_branches, numbered_choices}
+use Rattle.st_tree.specs.Kinds.{resolved_expr, resolved_argument, resolved_stmt, resolved_body, resolved_branches, resolved_choices}
+use Rattle.st_tree.specs.Mapping.{Mapping, mapped_expr, mapped_argument, mapped_stmt, mapped_body, mapped_branches, mapped_choices}
+use Rattle.st_names.specs.Scopes.{or_other}
+use Rattle.word_index.specs.Names.{find_name}
+use Rattle.plant_logic.specs.declared.logic.Local.{Local}
+use Rattle.plant_logic.specs.declared.logic.Variable.{Variable}
+use Rattle.plant_logic.specs.declared.logic.Instance.{Instance}
+use Rattle.plant_logic.specs.declared.logic.BlockRef.{BlockRef}
+use Rattle.plant_logic.specs.declared.logic.BlockRef.TheVariants.{Ton, Tof, RTrig, Declared}
+use Rattle.plant_logic.specs.Source.{PlainRoutine, Source}
+use Rattle.plant_logic.specs.Seats.{own_or_global, timer_number}
+use Rattle.plant_logic.specs.Names.{meant_in}
+use Rattle.block_frames.specs.Numbers.{timer_shows, numbers}
+use Rattle.block_frames.specs.declared.names.Variables.{Variables}
+use Rattle.block_frames.specs.declared.names.Instances.{Instances}
+use Rattle.block_frames.specs.declared.scope.Scope.{Scope}
+
+-- the kind of the variable of a name
+abbrev pub kind_among : Variables → List ℕ → Option Kind
+kind_among variables name = option_and_then (slice_get variables.kinds.items) (find_name variables.names name)
+
+-- what the instance of a name is of
+abbrev pub block_among : Instances → List ℕ → Option BlockRef
+block_among instances name = option_and_then (slice_get instances.blocks.items) (find_name instances.names name)
+
+-- names and kinds are those of variables, in order
+pub record AreVariables (words : List (List ℕ)) (kinds : List Kind) (variables : Variables) : Type 0 where
+  pub names_are : variables.names ≡ words
+  pub kinds_are : variables.kinds.items ≡ kinds
+
+abbrev pub local_names : List Local → List (List ℕ)
+local_names locals = map (λ (l : Local). l.name) locals
+
+abbrev pub local_kinds : List Local → List Kind
+local_kinds locals = map (λ (l : Local). l.kind) locals
+
+abbrev pub global_names : List Variable → List (List ℕ)
+global_names globals = map (λ (g : Variable). g.name) globals
+
+abbrev pub global_kinds : List Variable → List Kind
+global_kinds globals = map (λ (g : Variable). g.kind) globals
+
+-- names and blocks are those of instances, in order
+pub record AreInstances (list : List Instance) (instances : Instances) : Type 0 where
+  pub names_are : instances.names ≡ map (λ (i : Instance). i.name) list
+  pub blocks_are : instances.blocks.items ≡ map (λ (i : Instance). i.of) list
+
+-- the number of the variable of a name, where the globals have the first numbers and the routine's own variables those after them
+abbrev pub variable_at : Scope → List ℕ → ℕ
+variable_at scope name = unwrap_or (own_or_global (length scope.globals.now.names) (find_name scope.own.now.names name) (find_name scope.globals.now.names name)) 0
+
+-- the kind of the variable of a name
+abbrev pub kind_at : Scope → List ℕ → Kind
+kind_at scope name = unwrap_or (or_other (kind_among scope.own.now name) (kind_among scope.globals.now name)) kind.Bool
+
+-- the number of the instance of a name
+abbrev pub instance_at : Scope → List ℕ → ℕ
+instance_at scope name = unwrap_or (find_name scope.instances.now.names name) 0
+
+-- the number of a block type's own variable of a name, and its kind
+abbrev pub own_number : List Variables → ℕ → List ℕ → Option ℕ
+own_number members n name = option_and_then (λ (v : Variables). find_name v.names name) (slice_get members n)
+
+abbrev pub own_kind_of : List Variables → ℕ → List ℕ → Option Kind
+own_kind_of members n name = option_and_then (λ (v : Variables). kind_among v name) (slice_get members n)
+
+-- the number of an input of a block
+abbrev pub input_among : List Variables → Option BlockRef → List ℕ → Option ℕ
+input_among members None name = None
+input_among members (Some Ton) name = timer_number name
+input_among members (Some Tof) name = timer_number name
+input_among members (Some RTrig) name = if same_word name (codes "CLK") then Some 0 else None
+input_among members (Some (Declared n)) name = own_number members n name
+
+-- the number of an output of a block
+abbrev pub output_among : List Variables → Option BlockRef → List ℕ → Option ℕ
+output_among members None name = None
+output_among members (Some Ton) name = timer_shows name
+output_among members (Some Tof) name = timer_shows name
+output_among members (Some RTrig) name = if same_word name (codes "Q") then Some 0 else None
+output_among members (Some (Declared n)) name = own_number members n name
+
+-- the kind of an output of a block
+abbrev pub output_kind_by : List Variables → Option BlockRef → List ℕ → Kind
+output_kind_by members None name = kind.Bool
+output_kind_by members (Some Ton) name = if same_word name (codes "ET") then kind.Time else kind.Bool
+output_kind_by members (Some Tof) name = if same_word name (codes "ET") then kind.Time else kind.Bool
+output_kind_by members (Some RTrig) name = kind.Bool
+output_kind_by members (Some (Declared n)) name = unwrap_or (own_kind_of members n name) kind.Bool
+
+abbrev pub input_at : Scope → List ℕ → List ℕ → ℕ
+input_at scope instance name = unwrap_or (input_among scope.members.now (block_among scope.instances.now instance) name) 0
+
+abbrev pub output_at : Scope → List ℕ → List ℕ → ℕ
+output_at scope instance name = unwrap_or (output_among scope.members.now (block_among scope.instances.now instance) name) 0
+
+abbrev pub output_kind_at : Scope → List ℕ → List ℕ → Kind
+output_kind_at scope instance name = output_kind_by scope.members.now (block_among scope.instances.now instance) name
+
+-- the numbers in the places of the names
+abbrev pub mapping_of : Scope → Mapping (List ℕ) ℕ
+mapping_of scope = record {
+  variable = variable_at scope;
+  instance = instance_at scope;
+  input_name = input_at scope;
+  output_name = output_at scope;
+  node = λ e. e;
+}
+
+module _ (scope : Scope) where
+  -- an expression over numbers, each operator chosen by the kind of its operands
+  abbrev pub flat_expr : PlainExpr (List ℕ) → PlainExpr ℕ
+  flat_expr e = mapped_expr (mapping_of scope) (resolved_expr (kind_at scope) (output_kind_at scope) e)
+
+  abbrev pub flat_option : Option (PlainExpr (List ℕ)) → Option (PlainExpr ℕ)
+  flat_option None = None
+  flat_option (Some e) = Some (flat_expr e)
+
+  abbrev pub flat_argument : List ℕ → PlainArgument (List ℕ) → PlainArgument ℕ
+  flat_argument instance a = mapped_argument (mapping_of scope) instance (resolved_argument (kind_at scope) (output_kind_at scope) a)
+
+  -- a statement over numbers, each operator chosen by the kind of its operands, the statements numbered from n on
+  abbrev pub flat_stmt : ℕ → PlainStmt (List ℕ) → PlainStmt ℕ
+  flat_stmt n s = mapped_stmt (mapping_of scope) (resolved_stmt (kind_at scope) (output_kind_at scope) (numbered_stmt n s))
+
+  abbrev pub flat_body : ℕ → PlainBody (List ℕ) → PlainBody ℕ
+  flat_body n body = mapped_body (mapping_of scope) (resolved_body (kind_at scope) (output_kind_at scope) (numbered n body))
+
+  abbrev pub flat_branches : ℕ → Branches (List ℕ) → Branches ℕ
+  flat_branches n branches = mapped_branches (mapping_of scope) (resolved_branches (kind_at scope) (output_kind_at scope) (numbered_branches n branches))
+
+  abbrev pub flat_choices : ℕ → Choices (List ℕ) → Choices ℕ
+  flat_choices n choices = mapped_choices (mapping_of scope) (resolved_choices (kind_at scope) (output_kind_at scope) (numbered_choices n choices))
+
+-- what is known of the variables of each block type
+pub record AreMembers (blocks : List PlainRoutine) (members : List Variables) : Type 0 where
+  pub names_are : map (λ (v : Variables). v.names) members ≡ map (λ (b : PlainRoutine). local_names b.locals) blocks
+  pub kinds_are : map (λ (v : Variables). v.kinds.items) members ≡ map (λ (b : PlainRoutine). local_kinds b.locals) blocks
+
+-- a scope is that of a routine of a source
+pub record IsScope (source : Source) (r : PlainRoutine) (scope : Scope) : Type 0 where
+  pub globals_are : AreVariables (global_names source.globals) (global_kinds source.globals) scope.globals.now
+  pub own_are : AreVariables (local_names r.locals) (local_kinds r.locals) scope.own.now
+  pub instances_are : AreInstances r.instances scope.instances.now
+  pub members_are : AreMembers source.blocks scope.members.now
+
+-- a body over numbers is that of each routine whose scope it is
+abbrev pub IsNumberedIn : Scope → PlainBody (List ℕ) → PlainBody ℕ → Type 0
+IsNumberedIn scope body flat = (source : Source) (r : PlainRoutine) → IsScope source r scope → flat ≡ mapped_body (numbers source r) (meant_in source r body)
