@@ -26,7 +26,7 @@ use Rattle.plant_logic.specs.Seats.{own_or_global, member_number}
 use Rattle.block_frames.specs.declared.names.Variables.{Variables}
 use Rattle.block_frames.specs.declared.scope.Scope.{Scope}
 use Rattle.block_frames.specs.Numbers.{shown_number, numbers}
-use Rattle.block_frames.specs.Scoped.{kind_among, block_among, AreVariables, AreMembers, IsScope, local_names, local_kinds, global_names, global_kinds, variable_at, kind_at, instance_at, own_number, own_kind_of, input_among, output_among, output_kind_by, input_at, output_at, output_kind_at, flat_body}
+use Rattle.block_frames.specs.Scoped.{kind_among, block_among, AreVariables, AreMembers, IsScope, local_names, local_kinds, global_names, global_kinds, scope_variable, scope_kind, scope_instance, own_number, own_kind_of, input_among, output_among, output_kind_by, scope_input, scope_output, scope_output_kind, flat_body}
 
 prefix-map : {X Y : Type 0} (p : Y → Bool) (f : X → Y) (xs : List X) → prefix_len (λ x. p (f x)) xs ≡ prefix_len p (map f xs)
 prefix-map p f [] = refl
@@ -78,16 +78,16 @@ module _ (source : Source) (r : PlainRoutine) (scope : Scope) (is : IsScope sour
   long : length scope.globals.now.names ≡ length source.globals
   long = ap length is.globals_are.names_are ∙ length-map source.globals (λ (g : Variable). g.name)
 
-  variable_is : (name : List ℕ) → variable_at scope name ≡ (numbers source r).variable name
+  variable_is : (name : List ℕ) → scope_variable scope name ≡ (numbers source r).variable name
   variable_is name = λ i. unwrap_or (own_or_global (long i) (own_found r.locals scope.own.now is.own_are name i) (global_found source.globals scope.globals.now is.globals_are name i)) 0
 
-  kind_is : (name : List ℕ) → kind_at scope name ≡ kind_named source.globals r name
+  kind_is : (name : List ℕ) → scope_kind scope name ≡ kind_named source.globals r name
   kind_is name = λ i. unwrap_or (or_other (own_kind_found r.locals scope.own.now is.own_are name i) (global_kind_found source.globals scope.globals.now is.globals_are name i)) kind.Bool
 
   instance_found : (name : List ℕ) → find_name scope.instances.now.names name ≡ find_word (instance_words r.instances) name
   instance_found name = ap (λ ns. find_name ns name) is.instances_are.names_are ∙ found (λ (i : Instance). i.name) r.instances name
 
-  instance_is : (name : List ℕ) → instance_at scope name ≡ (numbers source r).instance name
+  instance_is : (name : List ℕ) → scope_instance scope name ≡ (numbers source r).instance name
   instance_is name = λ i. unwrap_or (instance_found name i) 0
 
   block_is : (name : List ℕ) → block_among scope.instances.now name ≡ block_named r name
@@ -151,13 +151,13 @@ module _ (source : Source) (r : PlainRoutine) (scope : Scope) (is : IsScope sour
   kind_by (Some RTrig) name = refl
   kind_by (Some (Declared n)) name = member_kind_is n name
 
-  input_is : (instance name : List ℕ) → input_at scope instance name ≡ (numbers source r).input_name instance name
+  input_is : (instance name : List ℕ) → scope_input scope instance name ≡ (numbers source r).input_name instance name
   input_is instance name = ap (λ o. unwrap_or o 0) (input_by (block_among scope.instances.now instance) name ∙ ap (option_and_then (λ x. member_number source.blocks x name)) (block_is instance))
 
-  output_is : (instance name : List ℕ) → output_at scope instance name ≡ (numbers source r).output_name instance name
+  output_is : (instance name : List ℕ) → scope_output scope instance name ≡ (numbers source r).output_name instance name
   output_is instance name = ap (λ o. unwrap_or o 0) (output_by (block_among scope.instances.now instance) name ∙ ap (option_and_then (λ x. shown_number source x name)) (block_is instance))
 
-  output_kind_is : (instance name : List ℕ) → output_kind_at scope instance name ≡ output_kind_named source.blocks r instance name
+  output_kind_is : (instance name : List ℕ) → scope_output_kind scope instance name ≡ output_kind_named source.blocks r instance name
   output_kind_is instance name = kind_by (block_among scope.instances.now instance) name ∙ ap (λ o. output_kind_of source.blocks o name) (block_is instance)
 
   abbrev maps_at : (body : PlainBody (List ℕ)) → (variable : List ℕ → ℕ) (instance : List ℕ → ℕ) (input output : List ℕ → List ℕ → ℕ) (k : List ℕ → Kind) (o : List ℕ → List ℕ → Kind) → PlainBody ℕ

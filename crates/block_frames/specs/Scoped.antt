@@ -53,16 +53,16 @@ pub record AreInstances (list : List Instance) (instances : Instances) : Type 0 
   pub blocks_are : instances.blocks.items ≡ map (λ (i : Instance). i.of) list
 
 -- the number of the variable of a name, where the globals have the first numbers and the routine's own variables those after them
-abbrev pub variable_at : Scope → List ℕ → ℕ
-variable_at scope name = unwrap_or (own_or_global (length scope.globals.now.names) (find_name scope.own.now.names name) (find_name scope.globals.now.names name)) 0
+abbrev pub scope_variable : Scope → List ℕ → ℕ
+scope_variable scope name = unwrap_or (own_or_global (length scope.globals.now.names) (find_name scope.own.now.names name) (find_name scope.globals.now.names name)) 0
 
 -- the kind of the variable of a name
-abbrev pub kind_at : Scope → List ℕ → Kind
-kind_at scope name = unwrap_or (or_other (kind_among scope.own.now name) (kind_among scope.globals.now name)) kind.Bool
+abbrev pub scope_kind : Scope → List ℕ → Kind
+scope_kind scope name = unwrap_or (or_other (kind_among scope.own.now name) (kind_among scope.globals.now name)) kind.Bool
 
 -- the number of the instance of a name
-abbrev pub instance_at : Scope → List ℕ → ℕ
-instance_at scope name = unwrap_or (find_name scope.instances.now.names name) 0
+abbrev pub scope_instance : Scope → List ℕ → ℕ
+scope_instance scope name = unwrap_or (find_name scope.instances.now.names name) 0
 
 -- the number of a block type's own variable of a name, and its kind
 abbrev pub own_number : List Variables → ℕ → List ℕ → Option ℕ
@@ -95,49 +95,49 @@ output_kind_by members (Some Tof) name = if same_word name (codes "ET") then kin
 output_kind_by members (Some RTrig) name = kind.Bool
 output_kind_by members (Some (Declared n)) name = unwrap_or (own_kind_of members n name) kind.Bool
 
-abbrev pub input_at : Scope → List ℕ → List ℕ → ℕ
-input_at scope instance name = unwrap_or (input_among scope.members.now (block_among scope.instances.now instance) name) 0
+abbrev pub scope_input : Scope → List ℕ → List ℕ → ℕ
+scope_input scope instance name = unwrap_or (input_among scope.members.now (block_among scope.instances.now instance) name) 0
 
-abbrev pub output_at : Scope → List ℕ → List ℕ → ℕ
-output_at scope instance name = unwrap_or (output_among scope.members.now (block_among scope.instances.now instance) name) 0
+abbrev pub scope_output : Scope → List ℕ → List ℕ → ℕ
+scope_output scope instance name = unwrap_or (output_among scope.members.now (block_among scope.instances.now instance) name) 0
 
-abbrev pub output_kind_at : Scope → List ℕ → List ℕ → Kind
-output_kind_at scope instance name = output_kind_by scope.members.now (block_among scope.instances.now instance) name
+abbrev pub scope_output_kind : Scope → List ℕ → List ℕ → Kind
+scope_output_kind scope instance name = output_kind_by scope.members.now (block_among scope.instances.now instance) name
 
 -- the numbers in the places of the names
 abbrev pub mapping_of : Scope → Mapping (List ℕ) ℕ
 mapping_of scope = record {
-  variable = variable_at scope;
-  instance = instance_at scope;
-  input_name = input_at scope;
-  output_name = output_at scope;
+  variable = scope_variable scope;
+  instance = scope_instance scope;
+  input_name = scope_input scope;
+  output_name = scope_output scope;
   node = λ e. e;
 }
 
 module _ (scope : Scope) where
   -- an expression over numbers, each operator chosen by the kind of its operands
   abbrev pub flat_expr : PlainExpr (List ℕ) → PlainExpr ℕ
-  flat_expr e = mapped_expr (mapping_of scope) (resolved_expr (kind_at scope) (output_kind_at scope) e)
+  flat_expr e = mapped_expr (mapping_of scope) (resolved_expr (scope_kind scope) (scope_output_kind scope) e)
 
   abbrev pub flat_option : Option (PlainExpr (List ℕ)) → Option (PlainExpr ℕ)
   flat_option None = None
   flat_option (Some e) = Some (flat_expr e)
 
   abbrev pub flat_argument : List ℕ → PlainArgument (List ℕ) → PlainArgument ℕ
-  flat_argument instance a = mapped_argument (mapping_of scope) instance (resolved_argument (kind_at scope) (output_kind_at scope) a)
+  flat_argument instance a = mapped_argument (mapping_of scope) instance (resolved_argument (scope_kind scope) (scope_output_kind scope) a)
 
   -- a statement over numbers, each operator chosen by the kind of its operands, the statements numbered from n on
   abbrev pub flat_stmt : ℕ → PlainStmt (List ℕ) → PlainStmt ℕ
-  flat_stmt n s = mapped_stmt (mapping_of scope) (resolved_stmt (kind_at scope) (output_kind_at scope) (numbered_stmt n s))
+  flat_stmt n s = mapped_stmt (mapping_of scope) (resolved_stmt (scope_kind scope) (scope_output_kind scope) (numbered_stmt n s))
 
   abbrev pub flat_body : ℕ → PlainBody (List ℕ) → PlainBody ℕ
-  flat_body n body = mapped_body (mapping_of scope) (resolved_body (kind_at scope) (output_kind_at scope) (numbered n body))
+  flat_body n body = mapped_body (mapping_of scope) (resolved_body (scope_kind scope) (scope_output_kind scope) (numbered n body))
 
   abbrev pub flat_branches : ℕ → Branches (List ℕ) → Branches ℕ
-  flat_branches n branches = mapped_branches (mapping_of scope) (resolved_branches (kind_at scope) (output_kind_at scope) (numbered_branches n branches))
+  flat_branches n branches = mapped_branches (mapping_of scope) (resolved_branches (scope_kind scope) (scope_output_kind scope) (numbered_branches n branches))
 
   abbrev pub flat_choices : ℕ → Choices (List ℕ) → Choices ℕ
-  flat_choices n choices = mapped_choices (mapping_of scope) (resolved_choices (kind_at scope) (output_kind_at scope) (numbered_choices n choices))
+  flat_choices n choices = mapped_choices (mapping_of scope) (resolved_choices (scope_kind scope) (scope_output_kind scope) (numbered_choices n choices))
 
 -- what is known of the variables of each block type
 pub record AreMembers (blocks : List PlainRoutine) (members : List Variables) : Type 0 where

@@ -3,7 +3,7 @@
 ghost use Rattle.std.specs.Prelude.{◌≡◌};
 ghost use Rattle.plant_logic.specs.Seats.{timer_number};
 ghost use Rattle.block_frames.specs.Numbers.{timer_shows};
-ghost use Rattle.block_frames.specs.Scoped.{variable_at, kind_at, instance_at, own_number, own_kind_of, input_among, output_among, output_kind_by, input_at, output_at, output_kind_at};
+ghost use Rattle.block_frames.specs.Scoped.{scope_variable, scope_kind, scope_instance, own_number, own_kind_of, input_among, output_among, output_kind_by, scope_input, scope_output, scope_output_kind};
 
 use crate::names::{Instances, Variables};
 use plant_logic::BlockRef;
@@ -118,7 +118,7 @@ impl<'a> Scope<'a> {
     /// The number of the variable of a name, in any letter case: the globals have the first numbers, and the routine's own variables those
     /// after them. One of its own hides a global.
     pub fn variable(&self, name: &str) -> usize
-        ensures { result ≡ variable_at self.now name.now }
+        ensures { result ≡ scope_variable self.now name.now }
     {
         let count = self.globals.names.len();
         let _small = self.own.names.len();
@@ -130,7 +130,7 @@ impl<'a> Scope<'a> {
 
     /// The kind of the variable of a name.
     pub fn kind(&self, name: &str) -> Kind
-        ensures { result ≡ kind_at self.now name.now }
+        ensures { result ≡ scope_kind self.now name.now }
     {
         match self.own.kind(name) {
             Some(kind) => kind,
@@ -140,28 +140,28 @@ impl<'a> Scope<'a> {
 
     /// The number of the instance of a name.
     pub fn instance(&self, name: &str) -> usize
-        ensures { result ≡ instance_at self.now name.now }
+        ensures { result ≡ scope_instance self.now name.now }
     {
         self.instances.names.find(name).unwrap_or(0)
     }
 
     /// The number of an input of an instance.
     pub fn input(&self, instance: &str, name: &str) -> usize
-        ensures { result ≡ input_at self.now instance.now name.now }
+        ensures { result ≡ scope_input self.now instance.now name.now }
     {
         input_among(self.members, self.instances.block(instance), name).unwrap_or(0)
     }
 
     /// The number of an output of an instance.
     pub fn output(&self, instance: &str, name: &str) -> usize
-        ensures { result ≡ output_at self.now instance.now name.now }
+        ensures { result ≡ scope_output self.now instance.now name.now }
     {
         output_among(self.members, self.instances.block(instance), name).unwrap_or(0)
     }
 
     /// The kind of an output of an instance.
     pub fn output_kind(&self, instance: &str, name: &str) -> Kind
-        ensures { result ≡ output_kind_at self.now instance.now name.now }
+        ensures { result ≡ scope_output_kind self.now instance.now name.now }
     {
         output_kind_by(self.members, self.instances.block(instance), name)
     }
