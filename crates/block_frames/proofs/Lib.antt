@@ -7,3 +7,4 @@ mod Runs
 mod Starts
 mod Opening
 mod Fitting
+mod Typed

@@ -8,4 +8,4 @@
 
 mod laws;
 
-pub use laws::{fitting_names_are_known, frames_agree, frames_begin};
+pub use laws::{fitting_names_are_known, frames_agree, frames_begin, variables_have_numbers};
