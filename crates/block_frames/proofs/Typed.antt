@@ -1,4 +1,4 @@
--- The variables of well-formed units have numbers.
+-- The variables and the instances of well-formed units have numbers.
 use Rattle.std.proofs.Common.{◌≡◌, ◌∙◌, ap, sym, subst, refl, arith, ℕ, ◌<◌, Bool, true, false, if◌then◌else◌, List, [], ◌∷◌, ◌++◌, map, length, Option, Some, None, inl, inr}
 use Rattle.std.specs.Prelude.{◌&&◌, is_some, is_none, not, nat_lt, filter_map, flat_map, position, option_and_then}
 use Rattle.std.specs.List.{list_any, list_all, cons_option, position_or_len}
@@ -9,6 +9,9 @@ use Rattle.std.proofs.lemmas.Bool.Decides.{nat_tests}
 use Rattle.plant_types.specs.Words.{folded, same_word}
 use Rattle.plant_types.specs.declared.values.Kind.{Kind}
 use Rattle.st_tree.specs.Kinds.{is_kind}
+use Rattle.st_tree.specs.Plain.{PlainExpr}
+use Rattle.st_parser.specs.declared.unit.SectionKind.{SectionKind}
+use Rattle.st_parser.specs.declared.unit.SectionKind.TheVariants as sections
 use Rattle.st_parser.specs.declared.unit.Sort.{Sort}
 use Rattle.st_parser.specs.declared.unit.Sort.TheVariants as sort
 use Rattle.st_parser.specs.Units.{PlainPou, PlainUnit}
@@ -16,20 +19,21 @@ use Rattle.st_names.specs.First.{first_that}
 use Rattle.st_names.specs.DeclaredNames.{PlainDeclared, declared_in, find_declared, sort_kind}
 use Rattle.st_names.specs.Shared.{Shared, global, pou, shared_name, shared_in, as_global, global_named}
 use Rattle.st_names.specs.Scopes as scopes
-use Rattle.st_names.specs.Scopes.{or_other, is_external, variable_kind, can_control, is_control, is_assignable}
+use Rattle.st_names.specs.Scopes.{or_other, is_external, variable_kind, can_control, is_control, sort_type, instance_type}
 use Rattle.st_names.proofs.Entries.{same_turned}
 use Rattle.st_tree.specs.Fits.{all_fit}
-use Rattle.st_typing.specs.Kinds.{context_of, initial_fits, sort_fits, declared_fits, pou_misfit}
+use Rattle.st_typing.specs.Kinds.{context_of, initial_fits, sort_fits, instance_fits, declared_fits, pou_misfit}
 use Rattle.plant_logic.specs.declared.logic.Variable.{Variable}
 use Rattle.plant_logic.specs.declared.logic.Local.{Local}
+use Rattle.plant_logic.specs.declared.logic.Instance.{Instance}
 use Rattle.plant_types.specs.declared.values.Kind.TheVariants as kinds
 use Rattle.plant_logic.specs.Source.{PlainRoutine, Source}
 use Rattle.plant_logic.specs.Pous.{block_names}
-use Rattle.plant_logic.specs.Units.{local_of, routine_of, source_in}
-use Rattle.plant_logic.specs.Names.{global_words, own_words, find_word}
+use Rattle.plant_logic.specs.Units.{local_of, instance_of, routine_of, source_in}
+use Rattle.plant_logic.specs.Names.{global_words, own_words, instance_words, find_word}
 use Rattle.plant_logic.specs.Seats.{own_or_global}
 use Rattle.plant_logic.proofs.Distinct.{pick_global, globals_picked}
-use Rattle.block_frames.specs.Numbers.{variable_number}
+use Rattle.block_frames.specs.Numbers.{variable_number, instance_number}
 use Rattle.block_frames.proofs.Fitting.{and_then_some, some_kind}
 
 module _ {A : Type 0} (p : A → Bool) where
@@ -120,6 +124,21 @@ module _ (name : List ℕ) where
   global_has units d k found kind =
       placed_some (bytes_eq (folded name)) (global_words (source_in units).globals) (ap (λ gs. has (words_of gs)) (globals_picked units) ∙ globals_have (shared_in units) d k found kind)
 
+  instance_here : (names : List (List ℕ)) (d : PlainDeclared) (word : List ℕ) (rest : List Instance) → same_word d.name name ≡ true → is_external d.section ≡ false → d.sort ≡ sort.Block word → has (instance_words (instance_of names d ++ rest)) ≡ true
+  instance_here names d word rest same own of = rw own (rw of (or_left (same_word name d.name) (has (instance_words rest)) (same_turned name d.name ∙ same)))
+
+  -- an instance that is declared as a routine's own
+  instances_have : (names : List (List ℕ)) (ds : List PlainDeclared) (d : PlainDeclared) (word : List ℕ) → find_declared ds name ≡ Some d → is_external d.section ≡ false → d.sort ≡ sort.Block word → has (instance_words (flat_map (instance_of names) ds)) ≡ true
+  instances_have names [] d word found own of = absurd (cc)
+  instances_have names (e ∷ ds) d word found own of =
+      elim (cases_Bool (same_word e.name name)) [
+        | inl is ↦ (
+            let one : Some e ≡ Some d = (rw is at found) in
+            let same : e ≡ d = cc in
+            instance_here names e word (flat_map (instance_of names) ds) is (ap (λ (x : PlainDeclared). is_external x.section) same ∙ own) (ap (λ (x : PlainDeclared). x.sort) same ∙ of))
+        | inr isnt ↦ any_later (bytes_eq (folded name)) (λ (i : Instance). folded i.name) (instance_of names e) (flat_map (instance_of names) ds) (instances_have names ds d word (rw isnt at found) own of)
+      ]
+
 own_first : (base : ℕ) (o q : Option ℕ) → is_some o ≡ true → is_some (own_or_global base o q) ≡ true
 own_first base None q there = absurd (cc)
 own_first base (Some i) q there = refl
@@ -195,3 +214,31 @@ module _ (units : List PlainUnit) (p : PlainPou) (fits : pou_misfit units p ≡ 
   -- a control variable has a number
   pub control_numbered : (name : List ℕ) → is_control own name ≡ true → is_some (variable_number source r name) ≡ true
   control_numbered name control = controlled_by name (find_declared own name) refl control
+
+  block_of : (d : PlainDeclared) (s : Sort) → is_some (sort_type units s) ≡ true → (word : List ℕ) × (s ≡ sort.Block word)
+  block_of d (sort.Kind k) there = absurd (cc)
+  block_of d (sort.Block word) there = (word, refl)
+
+  not_external : (section : SectionKind) (e : Option (PlainExpr (List ℕ))) → instance_fits section e ≡ true → is_external section ≡ false
+  not_external sections.Local e fit = refl
+  not_external sections.External e fit = absurd (cc)
+  not_external sections.Input e fit = refl
+  not_external sections.Output e fit = refl
+  not_external sections.Global e fit = refl
+
+  instance_by_search : (name : List ℕ) (o q : Option PlainDeclared) → find_declared own name ≡ o → global_named units name ≡ q → ((d : PlainDeclared) → q ≡ Some d → is_some (sort_kind d.sort) ≡ true)
+      → is_some (option_and_then (λ (d : PlainDeclared). sort_type units d.sort) (or_other o q)) ≡ true → is_some (instance_number r name) ≡ true
+  instance_by_search name (Some d) q found other globals there =
+      let block = block_of d d.sort there in
+      let fit = first_passes (λ (e : PlainDeclared). same_word e.name name) (declared_fits units own) own d declared_all found in
+      let local : instance_fits d.section d.initial ≡ true = ap (sort_fits units own d) (sym block.1) ∙ fit in
+      placed_some (bytes_eq (folded name)) (instance_words r.instances) (instances_have name (block_names units) own d block.0 found (not_external d.section d.initial local) block.1)
+  instance_by_search name None (Some d) found other globals there =
+      let block = block_of d d.sort there in
+      let variable : is_some (sort_kind (sort.Block block.0)) ≡ true = ap (λ s. is_some (sort_kind s)) (sym block.1) ∙ globals d refl in
+      absurd (cc)
+  instance_by_search name None None found other globals there = absurd (cc)
+
+  -- an instance has a number, if no global is an instance
+  pub instance_numbered : ((name : List ℕ) (d : PlainDeclared) → global_named units name ≡ Some d → is_some (sort_kind d.sort) ≡ true) → (name : List ℕ) → is_some (instance_type units own name) ≡ true → is_some (instance_number r name) ≡ true
+  instance_numbered globals name there = instance_by_search name (find_declared own name) (global_named units name) refl refl (globals name) there

@@ -8,8 +8,9 @@ ghost use Rattle.st_tree.specs.Fits.{Context, all_fit};
 ghost use Rattle.st_tree.specs.Mapping.{Known, body_known};
 ghost use Rattle.st_tree.specs.Plain.{PlainExpr, PlainStmt, repeat, PlainBody};
 ghost use Rattle.st_parser.specs.Units.{PlainPou, PlainUnit};
-ghost use Rattle.st_names.specs.DeclaredNames.{declared_in};
-ghost use Rattle.st_names.specs.Scopes.{variable_kind, is_control};
+ghost use Rattle.st_names.specs.DeclaredNames.{PlainDeclared, declared_in, sort_kind};
+ghost use Rattle.st_names.specs.Scopes.{variable_kind, instance_type, is_control};
+ghost use Rattle.st_names.specs.Shared.{global_named};
 ghost use Rattle.st_typing.specs.Kinds.{pou_misfit};
 ghost use Rattle.plant_logic.specs.Pous.{block_names};
 ghost use Rattle.plant_logic.specs.Units.{routine_of, source_in};
@@ -20,7 +21,7 @@ ghost use Rattle.plant_logic.specs.Worlds.{World, run_program, globals_routine, 
 ghost use Rattle.block_walk.specs.declared.frame.Frame.{Frame};
 ghost use Rattle.block_walk.specs.Cells.{PlainCells};
 ghost use Rattle.block_walk.specs.Walks.{run_frame};
-ghost use Rattle.block_frames.specs.Numbers.{variable_number, HasAllNames};
+ghost use Rattle.block_frames.specs.Numbers.{variable_number, instance_number, HasAllNames};
 ghost use Rattle.block_frames.specs.Frames.{IsFrame, IsFrames, program_base};
 ghost use Rattle.block_frames.specs.Stands.{StandFor};
 ghost use Rattle.block_frames.specs.Opening.{opening_cells};
@@ -64,4 +65,11 @@ pub fn variables_have_numbers()
         → is_some (variable_number (source_in units) (routine_of (block_names units) p) name) ≡ true }
     ensures controls { (units : List PlainUnit) (p : PlainPou) → pou_misfit units p ≡ false → (name : List ℕ) → is_control (declared_in p.sections) name ≡ true
         → is_some (variable_number (source_in units) (routine_of (block_names units) p) name) ≡ true }
+{}
+
+/// In the routine of a block or program whose kinds are right each instance has a number, if no global is an instance: the grammar has
+/// VAR_GLOBAL alone for globals, where the kinds allow no instance.
+pub fn instances_have_numbers()
+    ensures { (units : List PlainUnit) (p : PlainPou) → pou_misfit units p ≡ false → ((name : List ℕ) (d : PlainDeclared) → global_named units name ≡ Some d → is_some (sort_kind d.sort) ≡ true)
+        → (name : List ℕ) → is_some (instance_type units (declared_in p.sections) name) ≡ true → is_some (instance_number (routine_of (block_names units) p) name) ≡ true }
 {}

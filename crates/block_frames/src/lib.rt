@@ -8,4 +8,7 @@
 
 mod laws;
 
-pub use laws::{fitting_names_are_known, frames_agree, frames_begin, variables_have_numbers};
+pub use laws::{
+    fitting_names_are_known, frames_agree, frames_begin, instances_have_numbers,
+    variables_have_numbers,
+};
