@@ -12,11 +12,11 @@ use Rattle.st_tree.specs.Fits.{Context, is_of, option_is_of, fits_option, takes,
 use Rattle.st_tree.specs.Every.{every, every_inside, every_branch, every_choice}
 use Rattle.st_tree.specs.Mapping.{Known, expr_known, option_known, argument_known, stmt_known, body_known, branches_known, choices_known}
 
-and_then_some : {A B : Type 0} (f : A → Option B) (o : Option A) (b : B) → option_and_then f o ≡ Some b → (a : A) × (o ≡ Some a) × (f a ≡ Some b)
+pub and_then_some : {A B : Type 0} (f : A → Option B) (o : Option A) (b : B) → option_and_then f o ≡ Some b → (a : A) × (o ≡ Some a) × (f a ≡ Some b)
 and_then_some f None b is = absurd (cc)
 and_then_some f (Some a) b is = (a, refl, is)
 
-some_kind : (k : Kind) (o : Option Kind) → is_kind k o ≡ true → (found : Kind) × (o ≡ Some found)
+pub some_kind : (k : Kind) (o : Option Kind) → is_kind k o ≡ true → (found : Kind) × (o ≡ Some found)
 some_kind k None is = absurd (cc)
 some_kind k (Some found) is = (found, refl)
 

@@ -13,3 +13,4 @@ mod Scopes
 mod Built
 mod Tables
 mod Programs
+mod Typed

@@ -1,12 +1,19 @@
 //! Laws of frames. These functions do nothing: each has a law as its contract, for the crates above.
 
-ghost use Rattle.std.specs.Prelude.{◌≡◌, ◌+◌, ◌∷◌, [], ℕ, Bool, true, List, length, Option, Some, slice_get};
+ghost use Rattle.std.specs.Prelude.{◌≡◌, ◌+◌, ◌∷◌, [], ℕ, Bool, true, false, List, length, Option, Some, is_some, slice_get};
 ghost use Rattle.plant_types.specs.declared.values.Kind.{Kind};
 ghost use Rattle.st_tree.specs.Alike.{Agree};
 ghost use Rattle.st_tree.specs.Every.{every};
 ghost use Rattle.st_tree.specs.Fits.{Context, all_fit};
 ghost use Rattle.st_tree.specs.Mapping.{Known, body_known};
 ghost use Rattle.st_tree.specs.Plain.{PlainExpr, PlainStmt, repeat, PlainBody};
+ghost use Rattle.st_parser.specs.Units.{PlainPou, PlainUnit};
+ghost use Rattle.st_names.specs.DeclaredNames.{PlainDeclared, declared_in, sort_kind};
+ghost use Rattle.st_names.specs.Scopes.{variable_kind, instance_type, is_control};
+ghost use Rattle.st_names.specs.Shared.{global_named};
+ghost use Rattle.st_typing.specs.Kinds.{pou_misfit};
+ghost use Rattle.plant_logic.specs.Pous.{block_names};
+ghost use Rattle.plant_logic.specs.Units.{routine_of, source_in};
 ghost use Rattle.plant_logic.specs.Source.{PlainRoutine, Source};
 ghost use Rattle.plant_logic.specs.Blocks.{AreBelow, HasItsTypes};
 ghost use Rattle.plant_logic.specs.Layout.{IsDistinctlyNamed};
@@ -14,7 +21,7 @@ ghost use Rattle.plant_logic.specs.Worlds.{World, run_program, globals_routine, 
 ghost use Rattle.block_walk.specs.declared.frame.Frame.{Frame};
 ghost use Rattle.block_walk.specs.Cells.{PlainCells};
 ghost use Rattle.block_walk.specs.Walks.{run_frame};
-ghost use Rattle.block_frames.specs.Numbers.{HasAllNames};
+ghost use Rattle.block_frames.specs.Numbers.{variable_number, instance_number, HasAllNames};
 ghost use Rattle.block_frames.specs.Frames.{IsFrame, IsFrames, program_base};
 ghost use Rattle.block_frames.specs.Stands.{StandFor};
 ghost use Rattle.block_frames.specs.Opening.{opening_cells};
@@ -49,4 +56,20 @@ pub fn fitting_names_are_known<V>()
         → (rule : PlainStmt V → Bool)
         → ((number : ℕ) (v : V) (from to : PlainExpr V) (by : Option (PlainExpr V)) (body : PlainBody V) → rule (repeat number v from to by body) ≡ true → known.has_variable v ≡ true)
         → (body : PlainBody V) → all_fit context body ≡ true → every rule body ≡ true → body_known known body ≡ true }
+{}
+
+/// In the routine of a block or program whose kinds are right each variable that has a kind has a number, and so has each that may control
+/// a FOR.
+pub fn variables_have_numbers()
+    ensures variables { (units : List PlainUnit) (p : PlainPou) → pou_misfit units p ≡ false → (name : List ℕ) (k : Kind) → variable_kind units (declared_in p.sections) name ≡ Some k
+        → is_some (variable_number (source_in units) (routine_of (block_names units) p) name) ≡ true }
+    ensures controls { (units : List PlainUnit) (p : PlainPou) → pou_misfit units p ≡ false → (name : List ℕ) → is_control (declared_in p.sections) name ≡ true
+        → is_some (variable_number (source_in units) (routine_of (block_names units) p) name) ≡ true }
+{}
+
+/// In the routine of a block or program whose kinds are right each instance has a number, if no global is an instance: the grammar has
+/// VAR_GLOBAL alone for globals, where the kinds allow no instance.
+pub fn instances_have_numbers()
+    ensures { (units : List PlainUnit) (p : PlainPou) → pou_misfit units p ≡ false → ((name : List ℕ) (d : PlainDeclared) → global_named units name ≡ Some d → is_some (sort_kind d.sort) ≡ true)
+        → (name : List ℕ) → is_some (instance_type units (declared_in p.sections) name) ≡ true → is_some (instance_number (routine_of (block_names units) p) name) ≡ true }
 {}

@@ -14,4 +14,7 @@ mod scope;
 mod seats;
 
 pub use frames::frames_of;
-pub use laws::{fitting_names_are_known, frames_agree, frames_begin};
+pub use laws::{
+    fitting_names_are_known, frames_agree, frames_begin, instances_have_numbers,
+    variables_have_numbers,
+};

@@ -8,7 +8,7 @@ pub mod Paths
 pub mod Layouts
 pub mod Levels
 pub mod Agreeing
-mod Distinct
+pub mod Distinct
 pub mod Seats
 mod Knowns
 pub mod Members
