@@ -1,5 +1,5 @@
 mod Cells
-mod Names
+mod Namings
 mod Places
 mod Found
 mod Spaces

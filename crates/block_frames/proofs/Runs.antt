@@ -22,7 +22,7 @@ use Rattle.block_walk.proofs.Firsts.{frame_is}
 use Rattle.block_frames.specs.Numbers.{numbers, numbered_in, HasItsNames, HasAllNames}
 use Rattle.block_frames.specs.Frames.{place_in, IsFrame, IsFrames, program_base}
 use Rattle.block_frames.specs.Stands.{StandFor}
-use Rattle.block_frames.proofs.Names.{meant_known}
+use Rattle.block_frames.proofs.Namings.{meant_known}
 use Rattle.block_frames.proofs.Places.{placed, placed_there, place_is}
 use Rattle.block_frames.proofs.Spaces.{Matches, Does, spaces_lawful}
 

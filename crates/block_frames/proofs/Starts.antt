@@ -34,7 +34,7 @@ use Rattle.block_frames.specs.Numbers.{variable_number, numbers, variables_in, H
 use Rattle.block_frames.specs.Frames.{place_in, seated, AreSeats, IsFrame, IsFrames, program_base}
 use Rattle.block_frames.specs.Stands.{StandFor}
 use Rattle.block_frames.specs.Opening.{programs_started}
-use Rattle.block_frames.proofs.Names.{meant_known}
+use Rattle.block_frames.proofs.Namings.{meant_known}
 use Rattle.block_frames.proofs.Cells.{value_held, value_put}
 use Rattle.block_frames.proofs.Places.{placed, placed_there, place_is}
 use Rattle.block_frames.proofs.Found.{slot_is}
