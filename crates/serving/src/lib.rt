@@ -1,7 +1,8 @@
 //! The server of a plant: it reads commands, one on each line, and answers each before it looks at the next.
 //!
 //! What it writes for an input is a definition on bytes (`out_text`), and `serve` is proved to write exactly that, for every feed and
-//! every sink. `admit` and `admit_from` read a plant, from its texts and from its files, and write what there is to say of it.
+//! every sink; `Session::step` is one read of it. `admit` and `admit_from` read a plant, from its texts and from its files, and write what
+//! there is to say of it. `run` and `run_from` go from there to the end of the input.
 #![tactic(auto)]
 
 mod answer;

@@ -1,4 +1,4 @@
--- What a body costs, and how large it is, by cases on the plain tree. No function and no contract uses these definitions yet: they are for the limits on a source's size and on a scan's steps.
+-- What a body costs, and how large it is, by cases on the plain tree: what the limits on a source's size and on a scan's steps count.
 use Rattle.std.specs.Prelude.{ℕ, ◌+◌, ◌*◌, max, List, [], ◌∷◌, length, Option}
 use Rattle.st_tree.specs.Plain.{PlainExpr, literal, read, output_of, unary, binary, PlainArgument, input, output}
 use Rattle.st_tree.specs.Plain.{PlainStmt, empty, assign, call, choose, select, repeat, PlainBody, done, next, Branches, no_branch, branch, Choices, no_choice, choice}
