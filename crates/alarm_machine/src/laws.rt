@@ -31,12 +31,14 @@ pub fn standing_condition_is_shown()
     ensures { StandingConditionIsShown }
 {}
 
-/// Law: no order takes an alarm from view whose condition stands, but one that shelves it or takes it out of service. (It does nothing when it is called.)
+/// Law: no order takes an alarm from view whose condition stands, but one that shelves it or takes it out of service. (It does nothing when it
+/// is called.)
 pub fn no_order_hides_standing_condition()
     ensures { NoOrderHidesStandingCondition }
 {}
 
-/// Law: of the orders that leave an alarm in service, an acknowledgement alone ends its wait for an acknowledgement. (It does nothing when it is called.)
+/// Law: of the orders that leave an alarm in service, an acknowledgement alone ends its wait for an acknowledgement. (It does nothing when it
+/// is called.)
 pub fn only_ack_acknowledges()
     ensures { OnlyAckAcknowledges }
 {}

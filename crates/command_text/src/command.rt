@@ -10,11 +10,12 @@ pub enum Command<'a> {
     Unknown,
     /// A scan at a moment, in milliseconds, with the values given for inputs, in the line's order.
     Scan(u64, &'a [Pair]),
-    /// An order from the console of this number, for the alarm with this tag (ISA-18.2), or to restart the program with this name (this profile).
-    /// The word is as the line has it, and may name nothing. Of a shelving the time may be any number of up to 19 digits, also one that no alarm takes.
+    /// An order from the console of this number, for the alarm with this tag (ISA-18.2), or to restart the program with this name (this
+    /// profile). The word is as the line has it, and may name nothing. A shelving's time is a number of up to 19 digits, and may be one
+    /// that no alarm takes.
     Order(Verb, u32, &'a [u8]),
-    /// The alarms that aren't normal, and how many alarms have each code.
+    /// To list the alarms that aren't normal, and how many alarms have each code.
     List,
-    /// The rows of the journal.
+    /// To print the rows of the journal.
     Journal,
 }

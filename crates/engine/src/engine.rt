@@ -137,7 +137,8 @@ impl Engine {
         row_text(alloc, plant.epoch(), row, name_of(plant, row.entry))
     }
 
-    /// Makes a scan ready: runs the programs on copies, and allocates all that `commit` needs, room for the rows of the journal too. It changes neither plant nor history.
+    /// Makes a scan ready: runs the programs on copies, and allocates all that `commit` needs, room for the rows of the journal too. It
+    /// changes neither plant nor history.
     ///
     /// The pairs name inputs, letter case ignored; the moment is in milliseconds. The refusals, in the order in which they are tested:
     /// `MomentRange` (E2) above 4,000,000,000,000, `MomentBack` (E1) before the last scan, `ImageName` (E3) for a name that is no input
@@ -219,8 +220,8 @@ impl Engine {
     }
 
     /// Adds an order that was made ready to the history, does it, and returns the reply: the change of the alarm's code if there is one,
-    /// or the refusal (O1 to O5). The order has a row in the journal, and so has that change. A refused order is in the history too, and changes no alarm and no program. It allocates nothing and
-    /// can't fail.
+    /// or the refusal (O1 to O5). The order has a row in the journal, and so has that change. A refused order is in the history too, and
+    /// changes no alarm and no program. It allocates nothing and can't fail.
     pub fn commit_order(&mut self, prepared: PreparedOrder) -> Reply
         requires { FitsOrder self.old prepared }
         ensures plant { self.new.plant ≡ self.old.plant }

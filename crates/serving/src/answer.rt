@@ -229,8 +229,8 @@ pub(crate) enum Said {
     Journal,
 }
 
-/// Does what a line asks for, with the pool as room for its pairs, and appends its answer, but for the journal's. It fails where an allocation failed: before
-/// the line took effect or after it.
+/// Does what a line asks for, with the pool as room for its pairs, and appends its answer; the journal's is left to the caller, who
+/// writes it as it is made. It fails where an allocation failed: before the line took effect or after it.
 #[tactic(auto, unfolding(crate::specs::Answers::after_line, crate::specs::Answers::line_answer))]
 pub(crate) fn answer_line(
     alloc: Global,
