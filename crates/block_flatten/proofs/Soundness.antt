@@ -1,7 +1,7 @@
 -- The source that well-formed units make is sound.
 use Rattle.std.proofs.Common.{◌≡◌, ◌∙◌, ap, refl, ◌≤◌, Bool, true, false, List, [], ◌∷◌, map, Some, None}
 use Rattle.std.proofs.lemmas.Bool.{and_parts, or_parts}
-use Rattle.std.proofs.lemmas.List.Elements.{All-filter, All-from_recursion, recursion_from_All}
+use Rattle.std.proofs.lemmas.List.Elements.{All-filter, All-weaker, All-from_recursion, recursion_from_All}
 use Rattle.std.proofs.lemmas.List.Folds.{list_all-append}
 use Rattle.std.specs.Prelude.{◌&&◌, not, is_some}
 use Rattle.std.specs.List.{list_any, list_all, AllByRecursion}
@@ -97,10 +97,18 @@ programs_good : (bad_globals : List PlainSection → Bool) (bad_pou : PlainPou �
 programs_good bad_globals bad_pou units good =
     recursion_from_All (λ p. bad_pou p ≡ false) (programs_among (pous_of units)) (All-filter (λ p. not (is_block p.kind)) (λ p. bad_pou p ≡ false) (pous_of units) (each_pou bad_globals bad_pou 0 units good))
 
-globals_good : (bad_pou : PlainPou → Bool) (test : PlainDeclared → Bool) (units : List PlainUnit) → first_unit (λ sections. not (list_all test (declared_in sections))) bad_pou 0 units ≡ None → list_all test (declared_globals units) ≡ true
-globals_good bad_pou test units good =
-    let bad_globals : List PlainSection → Bool = λ sections. not (list_all test (declared_in sections)) in
-    globals_pass test units (recursion_from_All (λ (u : PlainUnit). bad_globals u.globals ≡ false) units (each_globals bad_globals bad_pou 0 units good))
+globals_good : (bad_globals : List PlainSection → Bool) (bad_pou : PlainPou → Bool) (test : PlainDeclared → Bool) (units : List PlainUnit) → ((ss : List PlainSection) → bad_globals ss ≡ false → not (list_all test (declared_in ss)) ≡ false)
+    → first_unit bad_globals bad_pou 0 units ≡ None → list_all test (declared_globals units) ≡ true
+globals_good bad_globals bad_pou test units good none =
+    let passes : PlainUnit → Type 0 = λ (u : PlainUnit). not (list_all test (declared_in u.globals)) ≡ false in
+    globals_pass test units
+    (recursion_from_All passes units (All-weaker (λ (u : PlainUnit). bad_globals u.globals ≡ false) passes (λ (u : PlainUnit). good u.globals) units (each_globals bad_globals bad_pou 0 units none)))
+
+-- globals of the right kinds fit
+globals_fit : (units : List PlainUnit) (ss : List PlainSection) → globals_misfit units ss ≡ false → not (list_all (declared_fits units []) (declared_in ss)) ≡ false
+globals_fit units ss right =
+    let fit = list_all (declared_fits units []) (declared_in ss) in
+    ap not (and_parts (list_all typing.is_global ss) fit (not_bad (list_all typing.is_global ss && fit) right)).1
 
 -- of well-formed units, in which no global and no program's own variable is an instance, the source is sound if it has not too many variables
 pub sources_sound : (units : List PlainUnit) → AreTyped units → have_instances units ≡ false → variable_count (source_in units) ≤ 65536 → IsSound (source_in units)
@@ -116,7 +124,7 @@ sources_sound units typed no_instances few =
     record {
       globals_apart = globals_apart units named;
       programs_apart = programs_apart units named;
-      globals_right = globals_right units named no_globals (globals_good (pou_misnamed units) (declared_known units []) units names) (globals_good (pou_misfit units) (declared_fits units []) units kinds) (globals_good pou_inconstant initial_constant units constants);
+      globals_right = globals_right units named no_globals (globals_good (globals_misnamed units) (pou_misnamed units) (declared_known units []) units (λ ss right. right) names) (globals_good (globals_misfit units) (pou_misfit units) (declared_fits units []) units (globals_fit units) kinds) (globals_good globals_inconstant pou_inconstant initial_constant units (λ ss right. right) constants);
       programs_right = All-from_recursion (λ p. IsRight (scoped (globals_of units) p)) (map program_of ps)
           (all_right units named no_globals ps (programs_good (globals_misnamed units) (pou_misnamed units) units names) (programs_good (globals_misfit units) (pou_misfit units) units kinds) (programs_good globals_inconstant pou_inconstant units constants) (none_of has_instance ps apart.1));
       few_programs = few_programs units typed.few;

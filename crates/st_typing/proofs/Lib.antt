@@ -3,3 +3,4 @@ pub mod OneFault
 pub mod Parts
 pub mod Places
 pub mod Settled
+pub mod Spelled

@@ -45,6 +45,10 @@ abbrev pub instance_fits : SectionKind → Option (PlainExpr (List ℕ)) → Boo
 instance_fits section.Local e = is_none e
 instance_fits _ e = false
 
+abbrev pub is_global_section : SectionKind → Bool
+is_global_section section.Global = true
+is_global_section _ = false
+
 -- a variable's initial value may be assigned to it; a VAR_EXTERNAL has none, and the kind of its global
 abbrev pub variable_fits : List PlainUnit → List PlainDeclared → PlainDeclared → Kind → Bool
 variable_fits units own d k =
@@ -59,9 +63,13 @@ sort_fits units own d (sort.Block word) = instance_fits d.section d.initial
 abbrev pub declared_fits : List PlainUnit → List PlainDeclared → PlainDeclared → Bool
 declared_fits units own d = sort_fits units own d d.sort
 
--- a declaration of globals doesn't fit
+-- a section is a VAR_GLOBAL
+abbrev pub is_global : PlainSection → Bool
+is_global s = is_global_section s.kind
+
+-- a declaration of globals doesn't fit; each stands in VAR_GLOBAL, so that no global is an instance
 abbrev pub globals_misfit : List PlainUnit → List PlainSection → Bool
-globals_misfit units sections = not (list_all (declared_fits units []) (declared_in sections))
+globals_misfit units sections = not (list_all is_global sections && list_all (declared_fits units []) (declared_in sections))
 
 -- a declaration or a statement of a block or program doesn't fit
 abbrev pub pou_misfit : List PlainUnit → PlainPou → Bool

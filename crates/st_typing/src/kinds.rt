@@ -9,7 +9,7 @@ ghost use Rattle.st_parser.specs.Units.{view_declaration, view_section, view_pou
 ghost use Rattle.st_names.specs.DeclaredNames.{declared_as, declared_together, declared_by, declared_in, sort_kind};
 ghost use Rattle.st_names.specs.Every.{tests_of};
 ghost use Rattle.st_names.specs.Scopes.{variable_kind, output_kind};
-ghost use Rattle.st_typing.specs.Kinds.{context_of, parts_fit, initial_fits, instance_fits, declared_fits, globals_misfit, pou_misfit};
+ghost use Rattle.st_typing.specs.Kinds.{context_of, parts_fit, initial_fits, instance_fits, declared_fits, is_global, globals_misfit, pou_misfit};
 
 use plant_types::{Kind, Text};
 use st_names::{Rule, Scope, every};
@@ -234,12 +234,24 @@ fn sections_fit<S: Scope>(scope: &S, sections: &[Section]) -> bool
     true
 }
 
+/// Whether each section is a VAR_GLOBAL.
+fn are_global(sections: &[Section]) -> bool
+    ensures { result ≡ list_all is_global (map view_section sections.now) }
+{
+    for section in sections {
+        if !matches!(section.kind, SectionKind::Global) {
+            return false;
+        }
+    }
+    true
+}
+
 /// Whether a declaration of globals has something of another kind than it must have.
 pub fn globals_misfit<S: Scope>(scope: &S, sections: &[Section]) -> bool
     requires { S.own scope.now ≡ [] }
     ensures { result ≡ globals_misfit (S.units scope.now) (map view_section sections.now) }
 {
-    !sections_fit(scope, sections)
+    !(are_global(sections) && sections_fit(scope, sections))
 }
 
 /// Whether a block or program has something of another kind than it must have. Fails if allocation fails.

@@ -16,5 +16,5 @@ mod typed;
 pub use checking::check;
 pub use constants::for_turns;
 pub use fault::TypeFault;
-pub use laws::{one_type_fault, typed_or_not};
+pub use laws::{one_type_fault, spelled_globals_stand, typed_or_not};
 pub use typed::Typed;
