@@ -10,8 +10,6 @@
 //! - 300 turns of `n := n + 1;` inside 1000 turns cost 2,105,002, which is past the limit: the count stops at 2,000,001. Their size is 14.
 //! - A block with `n := n + 1; m := n;` costs 6. Two calls without arguments and one that gives an output to a variable cost 22.
 //! - A TON or a TOF has 3 slots, an R_TRIG 2, also where it is never called. A block type that no program uses has none.
-//!
-//! The server doesn't use it yet.
 #![tactic(auto)]
 
 mod counting;

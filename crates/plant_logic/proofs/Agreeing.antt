@@ -12,6 +12,7 @@ use Rattle.plant_logic.specs.Names.{find_word, instance_words, instance_named, b
 use Rattle.plant_logic.specs.Blocks.{Declares, AsksDeclared}
 use Rattle.plant_logic.specs.Worlds.{Path, World, called, called_named, path_in, assign, output_at, words_of, routine_space, run_rule, block_begun, instances_begun, begun, begin_rule}
 use Rattle.plant_logic.specs.Layout.{ClockAt, block_values, instance_values, own_values, values_rule, block_clocks, instance_clocks, clocks_rule}
+use Rattle.plant_logic.specs.Ranges.{KindAt, block_kinds, instance_kinds, own_kinds, kinds_rule}
 
 -- two families agree on the block types that instances are of
 abbrev pub AgreeOn : {A : Type 0} → (ℕ → A) → (ℕ → A) → List Instance → Type 0
@@ -39,6 +40,23 @@ values_agree f g (i ∷ is) path agree =
 
 pub values_ask : AsksDeclared values_rule
 values_ask f g r agree = λ k path. own_values r.locals path ++ values_agree f g r.instances path (agree_declared f g r agree) k
+
+-- kinds of values
+block_kinds_agree : (f g : ℕ → Path → List KindAt) (b : BlockRef) (path : Path) → ((n : ℕ) → b ≡ Declared n → f n ≡ g n) → block_kinds f b path ≡ block_kinds g b path
+block_kinds_agree f g Ton path agree = refl
+block_kinds_agree f g Tof path agree = refl
+block_kinds_agree f g RTrig path agree = refl
+block_kinds_agree f g (Declared n) path agree = ap (λ (h : Path → List KindAt). h path) (agree n refl)
+
+kinds_agree : (f g : ℕ → Path → List KindAt) (is : List Instance) (path : Path) → AgreeOn f g is → instance_kinds f is path ≡ instance_kinds g is path
+kinds_agree f g [] path agree = refl
+kinds_agree f g (i ∷ is) path agree =
+    let first = block_kinds_agree f g i.of (folded i.name ∷ path) (λ n is_of. agree i n (inl refl) is_of) in
+    let rest = kinds_agree f g is path (agree_later f g i is agree) in
+    λ k. first k ++ rest k
+
+pub kinds_ask : AsksDeclared kinds_rule
+kinds_ask f g r agree = λ k path. own_kinds r.locals path ++ kinds_agree f g r.instances path (agree_declared f g r agree) k
 
 -- standard blocks
 block_clocks_agree : (f g : ℕ → Path → List ClockAt) (b : BlockRef) (path : Path) → ((n : ℕ) → b ≡ Declared n → f n ≡ g n) → block_clocks f b path ≡ block_clocks g b path

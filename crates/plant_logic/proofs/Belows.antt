@@ -101,12 +101,12 @@ among_append (x ∷ xs) ys a (inr later) =
       | inr right ↦ inr right
     ]
 
-among_left : {A : Type 0} (xs ys : List A) (a : A) → Among xs a → Among (xs ++ ys) a
+pub among_left : {A : Type 0} (xs ys : List A) (a : A) → Among xs a → Among (xs ++ ys) a
 among_left [] ys a here = elim here [ ]
 among_left (x ∷ xs) ys a (inl is) = inl is
 among_left (x ∷ xs) ys a (inr later) = inr (among_left xs ys a later)
 
-among_right : {A : Type 0} (xs ys : List A) (a : A) → Among ys a → Among (xs ++ ys) a
+pub among_right : {A : Type 0} (xs ys : List A) (a : A) → Among ys a → Among (xs ++ ys) a
 among_right [] ys a here = here
 among_right (x ∷ xs) ys a here = inr (among_right xs ys a here)
 
@@ -118,7 +118,7 @@ among_flat f (x ∷ xs) b here =
       | inr right ↦ let r = among_flat f xs b right in (r.0, inr r.1, r.2)
     ]
 
-flat_among : {A B : Type 0} (f : A → List B) (xs : List A) (a : A) (b : B) → Among xs a → Among (f a) b → Among (flat_map f xs) b
+pub flat_among : {A B : Type 0} (f : A → List B) (xs : List A) (a : A) (b : B) → Among xs a → Among (f a) b → Among (flat_map f xs) b
 flat_among f [] a b here inside = elim here [ ]
 flat_among f (x ∷ xs) a b (inl is) inside = among_left (f x) (flat_map f xs) b (rw is inside)
 flat_among f (x ∷ xs) a b (inr later) inside = among_right (f x) (flat_map f xs) b (flat_among f xs a b later inside)

@@ -1,7 +1,7 @@
 mod Starts
 mod Growing
 mod Picked
-mod Apart
+pub mod Apart
 mod Made
 pub mod Belows
 pub mod Paths
@@ -10,5 +10,13 @@ pub mod Levels
 pub mod Agreeing
 pub mod Distinct
 pub mod Seats
-mod Knowns
+pub mod Knowns
+mod Firsts
+pub mod KindPaths
+mod Scopes
+mod Holdings
+pub mod Ranging
+pub mod Beginning
+mod Elapsing
+mod Fitting
 pub mod Members

@@ -6,3 +6,6 @@ pub mod Names
 pub mod Worlds
 pub mod Layout
 pub mod Seats
+pub mod Paths
+pub mod Code
+pub mod Ranges

@@ -31,6 +31,10 @@ instance_words instances = map (λ (i : Instance). folded i.name) instances
 abbrev pub find_word : List (List ℕ) → List ℕ → Option ℕ
 find_word words name = position (bytes_eq (folded name)) words
 
+-- the number, from 0, of the first global of a name
+abbrev pub find_global : List Variable → List ℕ → Option ℕ
+find_global globals name = find_word (global_words globals) name
+
 -- the routine's own variable of a name
 abbrev pub local_named : PlainRoutine → List ℕ → Option Local
 local_named r name = option_and_then (slice_get r.locals) (find_word (own_words r.locals) name)
@@ -49,7 +53,7 @@ own_kind r name = option_map (λ (l : Local). l.kind) (local_named r name)
 
 -- the kind of the global of a name
 abbrev pub global_kind : List Variable → List ℕ → Option Kind
-global_kind globals name = option_map (λ (g : Variable). g.kind) (option_and_then (slice_get globals) (find_word (global_words globals) name))
+global_kind globals name = option_map (λ (g : Variable). g.kind) (option_and_then (slice_get globals) (find_global globals name))
 
 -- the kind of a variable: the routine's own of the name, else the global; BOOL if there is none
 abbrev pub kind_named : List Variable → PlainRoutine → List ℕ → Kind

@@ -1,21 +1,27 @@
 //! Laws of sources. These functions do nothing: each has a law as its contract, for the crates above.
 
-ghost use Rattle.std.specs.Prelude.{◌≡◌, ◌+◌, ◌∷◌, [], ℕ, ℤ, List, Some, slice_get, slice_set, true};
+ghost use Rattle.std.specs.Prelude.{◌≡◌, ◌+◌, ◌∷◌, [], ℕ, ℤ, List, map, Some, is_some, slice_get, slice_set, true};
+ghost use Rattle.plant_types.specs.Values.{is_in_range};
 ghost use Rattle.plant_types.specs.Words.{folded};
 ghost use Rattle.std_blocks.specs.Calls.{Call};
+ghost use Rattle.plant_logic.specs.declared.logic.Variable.{Variable};
 ghost use Rattle.plant_logic.specs.declared.logic.Instance.{Instance};
 ghost use Rattle.plant_logic.specs.declared.logic.BlockRef.{BlockRef};
 ghost use Rattle.plant_logic.specs.Names.{find_word, instance_words, instance_named};
 ghost use Rattle.block_order.specs.Blocks.{AreOrdered};
+ghost use Rattle.st_tree.specs.Ranges.{Leaves};
 ghost use Rattle.st_parser.specs.Units.{PlainUnit};
+ghost use Rattle.st_names.specs.DeclaredNames.{PlainDeclared, sort_kind};
+ghost use Rattle.st_names.specs.Shared.{global_named};
 ghost use Rattle.st_typing.specs.Blocks.{blocks_of};
 ghost use Rattle.st_typing.specs.Faults.{AreTyped};
 ghost use Rattle.plant_logic.specs.Source.{PlainRoutine, Source};
 ghost use Rattle.plant_logic.specs.Units.{source_in};
 ghost use Rattle.plant_logic.specs.Blocks.{by_type, AsksDeclared, AreBelow, HasItsTypes};
-ghost use Rattle.plant_logic.specs.Worlds.{Path, World, words_of, path_in, assign, with_call, run_rule, run_routine, begin_rule, routine_begun};
+ghost use Rattle.plant_logic.specs.Worlds.{Path, World, words_of, path_of, path_in, assign, with_call, run_rule, run_routine, run_program, begin_rule, routine_begun, opening};
 ghost use Rattle.plant_logic.specs.Layout.{ClockAt, block_values, values_rule, routine_values, block_clocks, clocks_rule, routine_clocks, cell_paths, all_clocks, clock_paths, Stands, NoneTwice, IsDistinctlyNamed};
 ghost use Rattle.plant_logic.specs.Seats.{StandsFrom, value_offset, clock_offset, program_values_base, program_clocks_base, value_number, member_number, is_of_standard};
+ghost use Rattle.plant_logic.specs.Ranges.{KindAt, all_kinds, AllInRange};
 
 /// Where an order lists each block type after those that it declares, what a rule gives for a block type is the rule's own answer, by
 /// what it gives for the block types that this one declares.
@@ -151,4 +157,36 @@ pub fn clock_stands()
 pub fn instance_found()
     ensures { (r : PlainRoutine) (name : List ℕ) (k : ℕ) → find_word (instance_words r.instances) name ≡ Some k
         → (i : Instance) × (slice_get r.instances k ≡ Some i) × (instance_named r name ≡ Some i) × (folded i.name ≡ folded name) }
+{}
+
+/// The kinds of all values stand at the paths of all values, in the same order.
+pub fn kinds_stand_at_all_values()
+    ensures { (source : Source) → map (λ (v : KindAt). v.path) (all_kinds source) ≡ cell_paths source }
+{}
+
+/// The value of each global is in the range of its kind.
+pub fn global_is_in_range()
+    ensures { (source : Source) (w : World) → AllInRange source w → (i : ℕ) (global : Variable) → slice_get source.globals i ≡ Some global
+        → is_in_range global.kind (w.values (path_of global.name)) ≡ true }
+{}
+
+/// Giving a global a value in the range of its kind keeps each value in range.
+pub fn assigned_global_stays_in_range()
+    ensures { (units : List PlainUnit) → AreTyped units → (w : World) (i : ℕ) (global : Variable) (n : ℤ) → slice_get (source_in units).globals i ≡ Some global
+        → is_in_range global.kind n ≡ true → AllInRange (source_in units) w → AllInRange (source_in units) (assign w (path_of global.name) n) }
+{}
+
+/// A run of a program keeps each value in the range of its kind, whether it ends or traps, if no global is an instance: the grammar has
+/// VAR_GLOBAL alone for globals, where the kinds allow no instance.
+pub fn program_stays_in_range()
+    ensures { (units : List PlainUnit) (order : List ℕ) → AreTyped units → AreBelow (source_in units).blocks order
+        → ((name : List ℕ) (d : PlainDeclared) → global_named units name ≡ Some d → is_some (sort_kind d.sort) ≡ true)
+        → (n t : ℕ) (w : World) → AllInRange (source_in units) w → Leaves (λ w. AllInRange (source_in units) w) (run_program (source_in units) n t w) }
+{}
+
+/// Before the first scan each value is in the range of its variable's kind, if no global is an instance.
+pub fn opening_world_is_in_range()
+    ensures { (units : List PlainUnit) (order : List ℕ) → AreTyped units → AreBelow (source_in units).blocks order
+        → ((name : List ℕ) (d : PlainDeclared) → global_named units name ≡ Some d → is_some (sort_kind d.sort) ≡ true)
+        → AllInRange (source_in units) (opening (source_in units)) }
 {}

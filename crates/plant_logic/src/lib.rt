@@ -2,7 +2,7 @@
 //!
 //! A routine is a program or a block type that a source declares. Its instances are of standard blocks (IEC 61131-3) or of block types,
 //! which are known by number. What a routine does is defined in worlds: a value at the path of each variable, and at the path of each
-//! standard block the list of its calls. Nothing here runs a routine. The server doesn't use it yet.
+//! standard block the list of its calls. Nothing here runs a routine.
 #![tactic(auto)]
 
 mod laws;
@@ -11,12 +11,13 @@ mod pous;
 mod units;
 
 pub use laws::{
-    answered_by_rule, block_type_begins, block_type_has_clocks, block_type_has_values,
-    block_type_runs, call_taken, calls_of_number, clock_stands, clocks_stand_once,
-    instance_clocks_stand, instance_found, instance_values_stand, member_stands,
-    named_value_stands, order_is_of_source, program_clocks_stand, program_values_stand,
-    typed_names_are_distinct, typed_types_are_there, value_of_number, value_written,
-    values_stand_once,
+    answered_by_rule, assigned_global_stays_in_range, block_type_begins, block_type_has_clocks,
+    block_type_has_values, block_type_runs, call_taken, calls_of_number, clock_stands,
+    clocks_stand_once, global_is_in_range, instance_clocks_stand, instance_found,
+    instance_values_stand, kinds_stand_at_all_values, member_stands, named_value_stands,
+    opening_world_is_in_range, order_is_of_source, program_clocks_stand, program_stays_in_range,
+    program_values_stand, typed_names_are_distinct, typed_types_are_there, value_of_number,
+    value_written, values_stand_once,
 };
 pub use logic::{BlockRef, Instance, Local, Logic, Routine, Variable};
 pub use units::logic_of;

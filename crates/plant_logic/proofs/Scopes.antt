@@ -1,0 +1,244 @@
+-- What the names of a routine of well-formed units are: its variables, its instances and their members, with their kinds and paths.
+use Rattle.std.proofs.Common.{◌≡◌, ◌∙◌, ap, sym, subst, refl, ℕ, zero, suc, Bool, true, false, List, [], ◌∷◌, ◌++◌, map, Option, Some, None, slice_get, inl, inr}
+use Rattle.std.specs.Prelude.{◌&&◌, if◌then◌else◌, is_some, is_none, option_map, option_and_then, unwrap_or, flat_map, filter_map}
+use Rattle.std.specs.List.{list_all, cons_option}
+use Rattle.std.specs.Str.{bytes_eq}
+use Rattle.std.specs.Cmp.Lexicographic.{bytes_decides}
+use Rattle.std.proofs.lemmas.Bool.{cases_Bool, and_parts}
+use Rattle.plant_types.specs.Words.{folded, same_word}
+use Rattle.plant_types.specs.declared.values.Kind.{Kind}
+use Rattle.plant_types.specs.declared.values.Kind.TheVariants as kind
+use Rattle.block_order.specs.Chains.{Among}
+use Rattle.st_tree.specs.Kinds.{is_kind}
+use Rattle.st_tree.proofs.RunLaws.{kind_is}
+use Rattle.st_parser.specs.declared.unit.Sort.{Sort}
+use Rattle.st_parser.specs.declared.unit.Sort.TheVariants as sort
+use Rattle.st_parser.specs.Units.{PlainPou, PlainUnit}
+use Rattle.st_names.specs.First.{first_that}
+use Rattle.st_names.specs.DeclaredNames.{PlainDeclared, declared_in, declared_words, find_declared, sort_kind}
+use Rattle.st_names.specs.Shared.{Shared, global, pou, shared_name, shared_in, find_shared, as_global, is_block, global_named}
+use Rattle.st_names.specs.Scopes as scopes
+use Rattle.st_names.specs.Scopes.{or_other, is_external, sort_type, variable_kind, instance_type, input_kind, output_kind, can_control, is_control}
+use Rattle.st_names.specs.Taken.{repeats}
+use Rattle.st_typing.specs.Kinds.{initial_fits, sort_fits, declared_fits}
+use Rattle.plant_logic.specs.declared.logic.Variable.{Variable}
+use Rattle.plant_logic.specs.declared.logic.Local.{Local}
+use Rattle.plant_logic.specs.declared.logic.Instance.{Instance}
+use Rattle.plant_logic.specs.Source.{PlainRoutine, Source}
+use Rattle.plant_logic.specs.Pous.{pous_of, block_pous, block_names, pou_word}
+use Rattle.plant_logic.specs.Units.{local_by, local_of, block_ref, instance_by, instance_of, routine_of, source_in}
+use Rattle.plant_logic.specs.Names.{own_words, find_word, own_kind, global_kind, kind_named}
+use Rattle.plant_logic.specs.Worlds.{Path, words_of, path_of, path_in, globals_routine}
+use Rattle.plant_logic.specs.Ranges.{kind_at, own_kinds, all_kinds}
+use Rattle.plant_logic.proofs.Apart.{shared_word, pick_block}
+use Rattle.plant_logic.proofs.Distinct.{variable_by, pick_global, globals_picked}
+use Rattle.plant_logic.proofs.Picked.{first_picked}
+use Rattle.plant_logic.proofs.Firsts.{finds, first_passes, first_is}
+use Rattle.plant_logic.proofs.KindPaths.{Within, global_among}
+
+-- ---- a declaration as a routine's own variable or instance, if it is one
+abbrev pub own_by : PlainDeclared → Sort → Option Local
+own_by d (sort.Kind kind) = Some (record { name = d.name; kind = kind })
+own_by d (sort.Block word) = None
+
+abbrev pub pick_local : PlainDeclared → Option Local
+pick_local d = if is_external d.section then None else own_by d d.sort
+
+abbrev pub held_by : List (List ℕ) → PlainDeclared → Sort → Option Instance
+held_by types d (sort.Kind kind) = None
+held_by types d (sort.Block word) = Some (record { name = d.name; of = block_ref types word })
+
+abbrev pub pick_instance : List (List ℕ) → PlainDeclared → Option Instance
+pick_instance types d = if is_external d.section then None else held_by types d d.sort
+
+abbrev declared_word : PlainDeclared → List ℕ
+declared_word d = folded d.name
+
+abbrev local_word : Local → List ℕ
+local_word l = folded l.name
+
+abbrev instance_word : Instance → List ℕ
+instance_word i = folded i.name
+
+abbrev variable_word : Variable → List ℕ
+variable_word v = folded v.name
+
+one_local : (b : Bool) (d : PlainDeclared) (s : Sort) (rest : List Local) → (if b then [] else local_by d s) ++ rest ≡ cons_option (if b then None else own_by d s) rest
+one_local true d s rest = refl
+one_local false d (sort.Kind kind) rest = refl
+one_local false d (sort.Block word) rest = refl
+
+locals_picked : (ds : List PlainDeclared) → flat_map local_of ds ≡ filter_map pick_local ds
+locals_picked [] = refl
+locals_picked (d ∷ ds) = ap (λ ls. local_of d ++ ls) (locals_picked ds) ∙ one_local (is_external d.section) d d.sort (filter_map pick_local ds)
+
+one_instance : (types : List (List ℕ)) (b : Bool) (d : PlainDeclared) (s : Sort) (rest : List Instance) → (if b then [] else instance_by types d s) ++ rest ≡ cons_option (if b then None else held_by types d s) rest
+one_instance types true d s rest = refl
+one_instance types false d (sort.Kind kind) rest = refl
+one_instance types false d (sort.Block word) rest = refl
+
+instances_picked : (types : List (List ℕ)) (ds : List PlainDeclared) → flat_map (instance_of types) ds ≡ filter_map (pick_instance types) ds
+instances_picked types [] = refl
+instances_picked types (d ∷ ds) = ap (λ is. instance_of types d ++ is) (instances_picked types ds) ∙ one_instance types (is_external d.section) d d.sort (filter_map (pick_instance types) ds)
+
+local_same : (b : Bool) (d : PlainDeclared) (s : Sort) (l : Local) → (if b then None else own_by d s) ≡ Some l → local_word l ≡ declared_word d
+local_same true d s l is = absurd (cc)
+local_same false d (sort.Kind kind) l is = let e : record { name = d.name; kind = kind } ≡ l = cc in ap local_word (sym e)
+local_same false d (sort.Block word) l is = absurd (cc)
+
+instance_same : (types : List (List ℕ)) (b : Bool) (d : PlainDeclared) (s : Sort) (i : Instance) → (if b then None else held_by types d s) ≡ Some i → instance_word i ≡ declared_word d
+instance_same types true d s i is = absurd (cc)
+instance_same types false d (sort.Kind kind) i is = absurd (cc)
+instance_same types false d (sort.Block word) i is = let e : record { name = d.name; of = block_ref types word } ≡ i = cc in ap instance_word (sym e)
+
+global_by_sort : (d : PlainDeclared) (s : Sort) (v : Variable) → variable_by d s ≡ Some v → variable_word v ≡ declared_word d
+global_by_sort d (sort.Kind kind) v is = let e : record { name = d.name; region = d.region; kind = kind } ≡ v = cc in ap variable_word (sym e)
+global_by_sort d (sort.Block word) v is = absurd (cc)
+
+global_same : (s : Shared) (v : Variable) → pick_global s ≡ Some v → variable_word v ≡ shared_word s
+global_same (global d) v is = global_by_sort d d.sort v is
+global_same (pou p) v is = absurd (cc)
+
+block_by : (b : Bool) (p q : PlainPou) → (if b then Some p else None) ≡ Some q → pou_word q ≡ pou_word p
+block_by true p q is = let e : p ≡ q = cc in ap pou_word (sym e)
+block_by false p q is = absurd (cc)
+
+pub block_same : (s : Shared) (q : PlainPou) → pick_block s ≡ Some q → pou_word q ≡ shared_word s
+block_same (global d) q is = absurd (cc)
+block_same (pou p) q is = block_by (is_block p.kind) p q is
+
+-- a routine has the variables and the instances that are declared as its own, name by name, and what is declared fits
+pub record IsScope (units : List PlainUnit) (own : List PlainDeclared) (r : PlainRoutine) : Type 0 where
+  pub locals : (name : List ℕ) → first_that (λ (l : Local). same_word l.name name) r.locals ≡ option_and_then pick_local (find_declared own name)
+  pub instances : (name : List ℕ) → first_that (λ (i : Instance). same_word i.name name) r.instances ≡ option_and_then (pick_instance (block_names units)) (find_declared own name)
+  pub fits : list_all (declared_fits units own) own ≡ true
+
+pub routine_scope : (units : List PlainUnit) (p : PlainPou) → repeats (declared_words (declared_in p.sections)) ≡ false → list_all (declared_fits units (declared_in p.sections)) (declared_in p.sections) ≡ true
+    → IsScope units (declared_in p.sections) (routine_of (block_names units) p)
+routine_scope units p apart fits =
+    let own = declared_in p.sections in
+    let types = block_names units in
+    record {
+      locals = λ name. ap (first_that (λ (l : Local). same_word l.name name)) (locals_picked own) ∙ first_picked declared_word local_word pick_local (λ d l is. local_same (is_external d.section) d d.sort l is) own (folded name) apart;
+      instances = λ name.
+          ap (first_that (λ (i : Instance). same_word i.name name)) (instances_picked types own) ∙ first_picked declared_word instance_word (pick_instance types) (λ d i is. instance_same types (is_external d.section) d d.sort i is) own (folded name) apart;
+      fits = fits;
+    }
+
+pub globals_scope : (units : List PlainUnit) → IsScope units [] (globals_routine (source_in units))
+globals_scope units = record { locals = λ name. refl; instances = λ name. refl; fits = refl }
+
+-- ---- a routine's own variable of a name
+own_among : (ls : List Local) (p : Path) (j : ℕ) (l : Local) → slice_get ls j ≡ Some l → Among (own_kinds ls p) (kind_at (folded l.name ∷ p) l.kind)
+own_among [] p j l at = absurd (cc)
+own_among (m ∷ ls) p zero l at = inl (let same : m ≡ l = cc in ap (λ (x : Local). kind_at (folded x.name ∷ p) x.kind) same)
+own_among (m ∷ ls) p (suc j) l at = inr (own_among ls p j l at)
+
+-- what is found of a routine's own variables
+pub record IsOwn (r : PlainRoutine) (name : List ℕ) (l : Local) : Type 0 where
+  pub number : ℕ
+  pub found : find_word (own_words r.locals) name ≡ Some number
+  pub at : slice_get r.locals number ≡ Some l
+  pub word : folded l.name ≡ folded name
+
+pub is_own : (r : PlainRoutine) (name : List ℕ) (l : Local) → first_that (λ (l : Local). same_word l.name name) r.locals ≡ Some l → IsOwn r name l
+is_own r name l is =
+    let f = finds local_word r.locals name (Some l) is in
+    record { number = f.0; found = f.1; at = f.2; word = (bytes_decides (folded l.name) (folded name)).0 (first_is (λ (l : Local). same_word l.name name) r.locals l is) }
+
+pub own_kind_is : (r : PlainRoutine) (name : List ℕ) (l : Local) → IsOwn r name l → own_kind r name ≡ Some l.kind
+own_kind_is r name l own = ap (λ o. option_map (λ (l : Local). l.kind) (option_and_then (slice_get r.locals) o)) own.found ∙ ap (option_map (λ (l : Local). l.kind)) own.at
+
+pub own_stands : (r : PlainRoutine) (name : List ℕ) (l : Local) (p : Path) → IsOwn r name l → Among (own_kinds r.locals p) (kind_at (folded name ∷ p) l.kind)
+own_stands r name l p own = subst (λ w. Among (own_kinds r.locals p) (kind_at (w ∷ p) l.kind)) own.word (own_among r.locals p own.number l own.at)
+
+pub local_is : (d : PlainDeclared) (s : Sort) (k : Kind) → is_external d.section ≡ false → sort_kind s ≡ Some k → (if is_external d.section then None else own_by d s) ≡ Some (record { name = d.name; kind = k })
+local_is d (sort.Kind j) k inside is = rw inside (let same : j ≡ k = cc in ap (λ x. Some (record { name = d.name; kind = x })) same)
+local_is d (sort.Block word) k inside is = absurd (cc)
+
+local_none : (d : PlainDeclared) → is_external d.section ≡ true → pick_local d ≡ None
+local_none d outside = rw outside refl
+
+-- ---- the names of a routine
+module _ (units : List PlainUnit) (apart : repeats (map shared_word (shared_in units)) ≡ false) where
+  abbrev source : Source
+  source = source_in units
+
+  abbrev blocks : List PlainPou
+  blocks = block_pous (pous_of units)
+
+  global_first : (name : List ℕ) → first_that (λ (v : Variable). same_word v.name name) source.globals ≡ option_and_then pick_global (find_shared units name)
+  global_first name = ap (first_that (λ (v : Variable). same_word v.name name)) (globals_picked units) ∙ first_picked shared_word variable_word pick_global global_same (shared_in units) (folded name) apart
+
+  global_by_kind : (d : PlainDeclared) (s : Sort) (k : Kind) → sort_kind s ≡ Some k → (v : Variable) × (variable_by d s ≡ Some v) × (v.kind ≡ k)
+  global_by_kind d (sort.Kind j) k is = (record { name = d.name; region = d.region; kind = j }, refl, (let same : j ≡ k = cc in same))
+  global_by_kind d (sort.Block word) k is = absurd (cc)
+
+  global_by_shared : (s : Option Shared) (k : Kind) → option_and_then (λ (g : PlainDeclared). sort_kind g.sort) (as_global s) ≡ Some k → (v : Variable) × (option_and_then pick_global s ≡ Some v) × (v.kind ≡ k)
+  global_by_shared None k is = absurd (cc)
+  global_by_shared (Some (global d)) k is = global_by_kind d d.sort k is
+  global_by_shared (Some (pou p)) k is = absurd (cc)
+
+  -- the first global of a name whose global has a kind has the kind
+  global_at : (name : List ℕ) (k : Kind) → scopes.global_kind units name ≡ Some k → (v : Variable) × (first_that (λ (v : Variable). same_word v.name name) source.globals ≡ Some v) × (v.kind ≡ k)
+  global_at name k is = let v = global_by_shared (find_shared units name) k is in (v.0, global_first name ∙ v.1, v.2)
+
+  global_like : (a b : List ℕ) → folded a ≡ folded b → scopes.global_kind units a ≡ scopes.global_kind units b
+  global_like a b same = λ i. option_and_then (λ (g : PlainDeclared). sort_kind g.sort) (as_global (first_that (λ s. bytes_eq (folded (shared_name s)) (same i)) (shared_in units)))
+
+  module _ (own : List PlainDeclared) (r : PlainRoutine) (scope : IsScope units own r) where
+    -- a variable of a kind: the kind by which bodies are meant is the kind, and its value is one of the kind where the routine's own values are
+    pub record IsVariable (name : List ℕ) (k : Kind) : Type 0 where
+      pub kind_is : kind_named source.globals r name ≡ k
+      pub stands : (path : Path) → Within (all_kinds source) (own_kinds r.locals (words_of path)) → Among (all_kinds source) (kind_at (path_in r path name) k)
+
+    own_variable : (name : List ℕ) (l : Local) → IsOwn r name l → IsVariable name l.kind
+    own_variable name l own = record {
+      kind_is = ap (λ o. unwrap_or (or_other o (global_kind source.globals name)) kind.Bool) (own_kind_is r name l own);
+      stands = λ path within.
+          subst (λ o. Among (all_kinds source) (kind_at (if is_some o then folded name ∷ words_of path else path_of name) l.kind)) (sym own.found) (within (kind_at (folded name ∷ words_of path) l.kind) (own_stands r name l (words_of path) own));
+    }
+
+    global_variable : (name : List ℕ) (v : Variable) → first_that (λ (l : Local). same_word l.name name) r.locals ≡ None → first_that (λ (v : Variable). same_word v.name name) source.globals ≡ Some v → IsVariable name v.kind
+    global_variable name v none is =
+        let absent : find_word (own_words r.locals) name ≡ None = finds local_word r.locals name None none in
+        let f = finds variable_word source.globals name (Some v) is in
+        let word : folded v.name ≡ folded name = (bytes_decides (folded v.name) (folded name)).0 (first_is (λ (v : Variable). same_word v.name name) source.globals v is) in
+        let no_own : own_kind r name ≡ None = ap (λ o. option_map (λ (l : Local). l.kind) (option_and_then (slice_get r.locals) o)) absent in
+        let named : global_kind source.globals name ≡ Some v.kind = ap (λ o. option_map (λ (g : Variable). g.kind) (option_and_then (slice_get source.globals) o)) f.1 ∙ ap (option_map (λ (g : Variable). g.kind)) f.2 in
+        let here : Among (all_kinds source) (kind_at (path_of name) v.kind) = subst (λ w. Among (all_kinds source) (kind_at (w ∷ []) v.kind)) word (global_among source f.0 v f.2) in
+        record {
+          kind_is = (λ i. unwrap_or (or_other (no_own i) (named i)) kind.Bool);
+          stands = λ path within. subst (λ o. Among (all_kinds source) (kind_at (if is_some o then folded name ∷ words_of path else path_of name) v.kind)) (sym absent) here;
+        }
+
+    of_global : (name : List ℕ) (k : Kind) → first_that (λ (l : Local). same_word l.name name) r.locals ≡ None → scopes.global_kind units name ≡ Some k → IsVariable name k
+    of_global name k none is = let v = global_at name k is in subst (IsVariable name) v.2 (global_variable name v.0 none v.1)
+
+    external_kind : (d : PlainDeclared) (s : Sort) (k : Kind) → is_external d.section ≡ true → sort_kind s ≡ Some k → sort_fits units own d s ≡ true → scopes.global_kind units d.name ≡ Some k
+    external_kind d (sort.Kind j) k outside is fits =
+        let same : j ≡ k = cc in
+        let both : (is_none d.initial && is_kind j (scopes.global_kind units d.name)) ≡ true = ap (λ b. if b then is_none d.initial && is_kind j (scopes.global_kind units d.name) else initial_fits units own (Some j) d.initial) (sym outside) ∙ fits in
+        kind_is j (scopes.global_kind units d.name) (and_parts (is_none d.initial) (is_kind j (scopes.global_kind units d.name)) both).1 ∙ ap Some same
+    external_kind d (sort.Block word) k outside is fits = absurd (cc)
+
+    declared_variable : (name : List ℕ) (k : Kind) (d : PlainDeclared) → find_declared own name ≡ Some d → sort_kind d.sort ≡ Some k → IsVariable name k
+    declared_variable name k d found is =
+        let first = scope.locals name ∙ ap (option_and_then pick_local) found in
+        elim (cases_Bool (is_external d.section)) [
+          | inl outside ↦
+              let fit : declared_fits units own d ≡ true = first_passes (λ (e : PlainDeclared). same_word e.name name) (declared_fits units own) own d scope.fits found in
+              let word : folded d.name ≡ folded name = (bytes_decides (folded d.name) (folded name)).0 (first_is (λ (e : PlainDeclared). same_word e.name name) own d found) in
+              of_global name k (first ∙ local_none d outside) (sym (global_like d.name name word) ∙ external_kind d d.sort k outside is fit)
+          | inr inside ↦
+              let l : Local = record { name = d.name; kind = k } in
+              own_variable name l (is_own r name l (first ∙ local_is d d.sort k inside is))
+        ]
+
+    variable_by_search : (name : List ℕ) (k : Kind) (o : Option PlainDeclared) → find_declared own name ≡ o → option_and_then (λ (d : PlainDeclared). sort_kind d.sort) (or_other o (global_named units name)) ≡ Some k → IsVariable name k
+    variable_by_search name k (Some d) found is = declared_variable name k d found is
+    variable_by_search name k None found is = of_global name k (scope.locals name ∙ ap (option_and_then pick_local) found) is
+
+    -- what has a kind is a variable of the kind
+    pub variable_at : (name : List ℕ) (k : Kind) → variable_kind units own name ≡ Some k → IsVariable name k
+    variable_at name k is = variable_by_search name k (find_declared own name) refl is
