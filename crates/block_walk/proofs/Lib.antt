@@ -7,3 +7,6 @@ mod Steps
 mod Turns
 pub mod Apart
 pub mod Beginning
+pub mod Marks
+pub mod Growing
+mod Descents

@@ -33,9 +33,14 @@ module _ (t globals : ℕ) (inner : ℕ → Base → Path → PlainCells → Ran
   moved (Took q) = Took (under path q)
   moved (Passed c) = Passed c
 
+  called_if : (b : Bool) (k : ℕ) (seat : Seat) (c : PlainCells)
+      → (if b then inner k (base_of base seat) (seat.name ∷ path) c else Done c) ≡ under path (if b then placed own k (base_of base seat) (seat.name ∷ []) c else Done c)
+  called_if true k seat c = same k (base_of base seat) (seat.name ∷ path) c ∙ under_name seat.name path (own k (base_of base seat) c)
+  called_if false k seat c = refl
+
   called_of : (of : SeatOf) (seat : Seat) (c : PlainCells) → called_by t inner of base seat path c ≡ under path (called_by t (placed own) of base seat [] c)
   called_of (seat_of.Standard standard) seat c = refl
-  called_of (seat_of.Frame k) seat c = same k (base_of base seat) (seat.name ∷ path) c ∙ under_name seat.name path (own k (base_of base seat) c)
+  called_of (seat_of.Frame k) seat c = called_if seat.is_called k seat c
 
   called_moved : (o : Option Seat) (c : PlainCells) → called t inner o base path c ≡ under path (called t (placed own) o base [] c)
   called_moved None c = refl

@@ -1,8 +1,8 @@
 -- Steps of the walk.
-use Rattle.std.proofs.Common.{◌≡◌, ◌∙◌, ap, sym, subst, refl, ℕ, ℤ, ◌+◌, ◌<◌, List, [], ◌∷◌, length, get_or, true}
+use Rattle.std.proofs.Common.{◌≡◌, ◌∙◌, ap, sym, subst, refl, ℕ, ℤ, ◌+◌, ◌<◌, List, [], ◌∷◌, length, get_or, Bool, true, false}
 use Rattle.std.proofs.lemmas.Bool.{ltb-true}
 use Rattle.std.proofs.lemmas.Option.{slice_get_read}
-use Rattle.std.specs.Prelude.{slice_get, nat_lt, slice_index_or, Option, Some, Ok, Err, Result, IfErr}
+use Rattle.std.specs.Prelude.{slice_get, nat_lt, slice_index_or, if◌then◌else◌, Option, Some, Ok, Err, Result, IfErr}
 use Rattle.plant_types.specs.Values.{is_true}
 use Rattle.plant_types.specs.declared.values.Trap.{Trap}
 use Rattle.std_blocks.specs.Calls as calls
@@ -80,27 +80,36 @@ module _ (t globals : ℕ) (inner : ℕ → Base → Path → PlainCells → Ran
   standard_called instance seat standard c z at is e =
       ap Done e ∙ sym (ap (λ o. called t inner o base [] c) at ∙ ap (λ o. called_by t inner o base seat [] c) is)
 
-  -- a call of an instance of a frame
-  pub frame_called : (instance : ℕ) (seat : Seat) (k : ℕ) (c : PlainCells) → slice_get seats instance ≡ Some seat → seat.of ≡ seat_of.Frame k
+  -- a call of an instance of a frame, by its mark
+  marked_called : (instance : ℕ) (seat : Seat) (k : ℕ) (b : Bool) (c : PlainCells) → slice_get seats instance ≡ Some seat → seat.of ≡ seat_of.Frame k → seat.is_called ≡ b
+      → called t inner (slice_get seats instance) base [] c ≡ (if b then inner k (base_of base seat) (seat.name ∷ []) c else Done c)
+  marked_called instance seat k b c at is marked =
+      ap (λ o. called t inner o base [] c) at ∙ ap (λ o. called_by t inner o base seat [] c) is ∙ ap (λ x. if x then inner k (base_of base seat) (seat.name ∷ []) c else Done c) marked
+
+  pub frame_called : (instance : ℕ) (seat : Seat) (k : ℕ) (c : PlainCells) → slice_get seats instance ≡ Some seat → seat.of ≡ seat_of.Frame k → seat.is_called ≡ true
       → called t inner (slice_get seats instance) base [] c ≡ inner k (base_of base seat) (seat.name ∷ []) c
-  frame_called instance seat k c at is = ap (λ o. called t inner o base [] c) at ∙ ap (λ o. called_by t inner o base seat [] c) is
+  frame_called instance seat k c at is marked = marked_called instance seat k true c at is marked
+
+  pub frame_passed : (instance : ℕ) (seat : Seat) (k : ℕ) (c : PlainCells) → slice_get seats instance ≡ Some seat → seat.of ≡ seat_of.Frame k → seat.is_called ≡ false
+      → Done c ≡ called t inner (slice_get seats instance) base [] c
+  frame_passed instance seat k c at is marked = sym (marked_called instance seat k false c at is marked)
 
 module _ (t globals limit : ℕ) (frames : List Frame) (seats : List Seat) (base : Base) where
   abbrev inner : ℕ → Base → Path → PlainCells → Ran PlainCells
   inner = placed (run_within t globals frames limit)
 
-  pub inside_done : (instance : ℕ) (seat : Seat) (k : ℕ) (c z : PlainCells) → slice_get seats instance ≡ Some seat → seat.of ≡ seat_of.Frame k
+  pub inside_done : (instance : ℕ) (seat : Seat) (k : ℕ) (c z : PlainCells) → slice_get seats instance ≡ Some seat → seat.of ≡ seat_of.Frame k → seat.is_called ≡ true
       → Done z ≡ run_within t globals frames limit k (base_of base seat) c → Done z ≡ called t inner (slice_get seats instance) base [] c
-  inside_done instance seat k c z at is e = ap (under (seat.name ∷ [])) e ∙ sym (frame_called t globals inner seats base instance seat k c at is)
+  inside_done instance seat k c z at is marked e = ap (under (seat.name ∷ [])) e ∙ sym (frame_called t globals inner seats base instance seat k c at is marked)
 
-  pub inside_trapped : (instance : ℕ) (seat : Seat) (k : ℕ) (c z : PlainCells) (stop : Stop) → slice_get seats instance ≡ Some seat → seat.of ≡ seat_of.Frame k → InTurn (frame_paths frames limit) seats → stop.path < length (frame_paths frames limit k)
+  pub inside_trapped : (instance : ℕ) (seat : Seat) (k : ℕ) (c z : PlainCells) (stop : Stop) → slice_get seats instance ≡ Some seat → seat.of ≡ seat_of.Frame k → seat.is_called ≡ true → InTurn (frame_paths frames limit) seats → stop.path < length (frame_paths frames limit k)
       → ended (frame_paths frames limit k) (Err stop) z ≡ run_within t globals frames limit k (base_of base seat) c
       → ended (paths_within frames limit seats) (Err (record { path = seat.paths + stop.path; statement = stop.statement; trap = stop.trap })) z ≡ called t inner (slice_get seats instance) base [] c
-  inside_trapped instance seat k c z stop at is turn h e =
-      let n = number_below (frame_paths frames limit) seats instance seat k stop.path turn at is h in
+  inside_trapped instance seat k c z stop at is marked turn h e =
+      let n = number_below (frame_paths frames limit) seats instance seat k stop.path turn at is marked h in
       ap (λ path. Trapped z (record { path = path; statement = stop.statement }) stop.trap) n.path_is
       ∙ ap (under (seat.name ∷ [])) e
-      ∙ sym (frame_called t globals inner seats base instance seat k c at is)
+      ∙ sym (frame_called t globals inner seats base instance seat k c at is marked)
 
 -- what a FOR did whose bounds and step have values
 module _ (s : Space ℕ PlainCells) where

@@ -18,14 +18,18 @@ abbrev pub of_first : {A : Type 0} → A → ((ℕ → A) → Frame → A) → L
 of_first none rule frames zero k = none
 of_first none rule frames (suc n) k = if nat_eq k n then of_frame none (rule (of_first none rule frames n)) (slice_get frames n) else of_first none rule frames n k
 
--- the paths below an instance: none below a standard block
-abbrev pub paths_below : (ℕ → List Path) → List ℕ → SeatOf → List Path
-paths_below paths name (seat_of.Standard standard) = []
-paths_below paths name (seat_of.Frame k) = map (λ path. path ++ name ∷ []) (paths k)
+-- the paths that end at an instance: those of its frame, and then its name; none at a standard block
+abbrev pub paths_of : (ℕ → List Path) → List ℕ → SeatOf → List Path
+paths_of paths name (seat_of.Standard standard) = []
+paths_of paths name (seat_of.Frame k) = map (λ path. path ++ name ∷ []) (paths k)
+
+-- the paths below an instance: none below a standard block, nor below an instance that its routine doesn't call
+abbrev pub paths_below : (ℕ → List Path) → Seat → List Path
+paths_below paths seat = if seat.is_called then paths_of paths seat.name seat.of else []
 
 abbrev pub seats_paths : (ℕ → List Path) → List Seat → List Path
 seats_paths paths [] = []
-seats_paths paths (seat ∷ seats) = paths_below paths seat.name seat.of ++ seats_paths paths seats
+seats_paths paths (seat ∷ seats) = paths_below paths seat ++ seats_paths paths seats
 
 -- the paths of a routine by their numbers, from the routine on: its own, and then those below each of its instances in turn
 abbrev pub routine_paths : (ℕ → List Path) → List Seat → List Path
@@ -38,7 +42,7 @@ frame_paths frames = of_first [] (λ paths frame. routine_paths paths frame.seat
 -- the first path number of each instance, from one on
 abbrev pub AreNumbered : (ℕ → List Path) → ℕ → List Seat → Type 0
 AreNumbered paths n [] = Unit {0}
-AreNumbered paths n (seat ∷ seats) = (seat.paths ≡ n) × AreNumbered paths (n + length (paths_below paths seat.name seat.of)) seats
+AreNumbered paths n (seat ∷ seats) = (seat.paths ≡ n) × AreNumbered paths (n + length (paths_below paths seat)) seats
 
 -- the instances of a routine have their path numbers in turn, and each number is one of 32 bits
 pub record InTurn (paths : ℕ → List Path) (seats : List Seat) : Type 0 where

@@ -4,3 +4,5 @@ pub mod Frames
 pub mod Walks
 pub mod Apart
 pub mod Starts
+pub mod Standards
+pub mod Paths

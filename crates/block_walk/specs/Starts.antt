@@ -1,5 +1,6 @@
 -- The initial values of a routine, and of the instances below it.
-use Rattle.std.specs.Prelude.{ℕ, List, [], ◌∷◌}
+use Rattle.std.specs.Prelude.{◌≡◌, ℕ, Bool, false, not, ◌||◌, ◌==◌, List, [], ◌∷◌, length, Some, slice_get}
+use Rattle.std.specs.List.{list_any}
 use Rattle.st_tree.specs.View.{view_body}
 use Rattle.st_tree.specs.Meaning.{Space, Ran, Done, Trapped, run_all}
 use Rattle.block_walk.specs.declared.frame.SeatOf.{SeatOf}
@@ -32,3 +33,20 @@ seats_begun inner (seat ∷ seats) base cells = seats_begun inner seats base (se
 unfoldable pub frame_begun : ℕ → List Frame → (limit k : ℕ) → Base → PlainCells → PlainCells
 frame_begun globals frames =
     of_first (λ base cells. cells) (λ inner frame base cells. seats_begun inner frame.seats.items base (left_by (run_all (start_space globals base) (view_body frame.starts.items) cells))) frames
+
+-- an instance of a standard block assigns none, and one of a frame does if the frame does
+abbrev pub seat_has_starts : (ℕ → Bool) → SeatOf → Bool
+seat_has_starts inner (seat_of.Standard standard) = false
+seat_has_starts inner (seat_of.Frame k) = inner k
+
+-- whether a routine assigns an initial value, or an instance below it does, where whether each frame does so is given
+abbrev pub routine_has_starts : (ℕ → Bool) → Frame → Bool
+routine_has_starts inner frame = not (length frame.starts.items == 0) || list_any (λ (seat : Seat). seat_has_starts inner seat.of) frame.seats.items
+
+-- whether the frame of a number assigns an initial value, or an instance below it does
+unfoldable pub frame_has_starts : List Frame → (limit k : ℕ) → Bool
+frame_has_starts frames = of_first false routine_has_starts frames
+
+-- each frame is marked with whether it assigns an initial value, or an instance below it does, by the frames before it
+abbrev pub StartsAreMarked : List Frame → Type 0
+StartsAreMarked frames = (k : ℕ) (frame : Frame) → slice_get frames k ≡ Some frame → frame.has_starts ≡ routine_has_starts (frame_has_starts frames k) frame

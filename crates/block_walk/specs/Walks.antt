@@ -57,9 +57,10 @@ pt_of standard.RTrig base seat cells = pos 0
 abbrev pub called_by : ℕ → (ℕ → Base → Path → PlainCells → Ran PlainCells) → SeatOf → Base → Seat → Path → PlainCells → Ran PlainCells
 called_by t inner (seat_of.Standard standard) base seat path cells =
     Done (clocked cells (base.clocks + seat.clocks) (call (is_true (value_at cells (member_slot base seat 0))) (pt_of standard base seat cells) t))
-called_by t inner (seat_of.Frame k) base seat path cells = inner k (base_of base seat) (seat.name ∷ path) cells
+called_by t inner (seat_of.Frame k) base seat path cells = if seat.is_called then inner k (base_of base seat) (seat.name ∷ path) cells else Done cells
 
--- what a call of an instance does, where what each frame does is given: a standard block's clock is called with the inputs, a frame runs at the instance's base
+-- what a call of an instance does, where what each frame does is given: a standard block's clock is called with the inputs, a frame runs at the instance's base;
+-- an instance of a frame that isn't marked as called does nothing
 abbrev pub called : ℕ → (ℕ → Base → Path → PlainCells → Ran PlainCells) → Option Seat → Base → Path → PlainCells → Ran PlainCells
 called t inner None base path cells = Done cells
 called t inner (Some seat) base path cells = called_by t inner seat.of base seat path cells

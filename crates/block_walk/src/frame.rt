@@ -11,8 +11,8 @@ pub enum SeatOf {
     Frame(usize),
 }
 
-/// An instance of a block in a routine: its name as declared, and how far its first value, its first clock and its first path number are
-/// from those of the routine.
+/// An instance of a block in a routine: its name as declared, how far its first value, its first clock and its first path number are from
+/// those of the routine, and whether the routine calls it.
 #[derive(Drop)]
 pub struct Seat {
     pub name: Text,
@@ -20,14 +20,18 @@ pub struct Seat {
     pub values: usize,
     pub clocks: usize,
     pub paths: u32,
+    pub is_called: bool,
 }
 
-/// A program or a block type: its instances in order of declaration, the statements that assign its initial values, and its body.
+/// A program or a block type: its instances in order of declaration, the statements that assign its initial values, and its body; whether it
+/// assigns an initial value, or an instance below it does; and how many standard blocks it has, nested ones too.
 #[derive(Drop)]
 pub struct Frame {
     pub seats: Vec<Seat>,
     pub starts: Vec<Stmt<usize>>,
     pub body: Vec<Stmt<usize>>,
+    pub has_starts: bool,
+    pub clocks: usize,
 }
 
 /// Where the values and the clocks of the instance that runs begin in the cells.

@@ -3,7 +3,14 @@
 //!
 //! Each routine, a program or a block type, has one body over numbers, in a frame; no body is made for an instance. The frames stand in a
 //! table in which each calls those before it alone. An instance is a seat in the frame of its routine: where its values and its clock lie,
-//! from those of the routine on. A clock is what the instance of a standard block keeps of its calls.
+//! from those of the routine on. A seat says whether the routine calls the instance; one of a frame that isn't called has no path, and a call
+//! of it does nothing. A clock is what the instance of a standard block keeps of its calls.
+//!
+//! A frame says whether it assigns an initial value, or an instance below it does, and how many standard blocks it has, nested ones too. So
+//! an instance with no initial value below it is skipped when these are assigned, and one with no standard block when these are listed.
+//!
+//! The paths below a frame have numbers: 0 is the frame's own, and those below its instances follow, instance by instance. A trap comes with
+//! the number of its path, which can be written out as names.
 //!
 //! In a body a variable below the number of globals is the global of that number; the others are the routine's own, in order. An instance is
 //! the number of its seat. An input or output is, for a standard block, 0 (IN or CLK, and Q) or 1 (PT, and ET), and for a frame the number of
@@ -14,7 +21,9 @@ mod cells;
 mod clock;
 mod frame;
 mod laws;
+mod paths;
 mod reading;
+mod standards;
 mod starts;
 mod walker;
 
@@ -22,5 +31,7 @@ pub use cells::Cells;
 pub use clock::{Clock, Standard, Timer};
 pub use frame::{Base, Frame, Seat, SeatOf};
 pub use laws::{called_clock, frame_runs_its_body, seats_lie_apart};
+pub use paths::push_path;
+pub use standards::push_standards;
 pub use starts::start_frame;
 pub use walker::{Stop, walk_frame};

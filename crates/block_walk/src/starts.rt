@@ -1,7 +1,7 @@
 //! Assigns the initial values of a routine, and of the instances below it.
 
 ghost use Rattle.std.specs.Prelude.{◌≡◌, ◌≤◌, ◌+◌, length};
-ghost use Rattle.block_walk.specs.Starts.{frame_begun, seats_begun};
+ghost use Rattle.block_walk.specs.Starts.{frame_begun, seats_begun, StartsAreMarked};
 ghost use Rattle.block_walk.specs.Walks.{HasRoom};
 
 use crate::cells::Cells;
@@ -18,13 +18,16 @@ fn start_within(
     cells: &mut Cells,
 )
     requires there { limit ≤ length frames.now }
+    requires marked { StartsAreMarked frames.now }
     requires room { HasRoom base limit }
     ensures { cells.new ≡ frame_begun globals frames.now limit k base cells.old }
 {
     if k < limit {
         let frame = &frames[k];
-        let _ended = run_body(&[], 0, &[], globals, base, &frame.starts, cells, 0);
-        start_seats(frames, k, &frame.seats, globals, base, cells);
+        if frame.has_starts {
+            let _ended = run_body(&[], 0, &[], globals, base, &frame.starts, cells, 0);
+            start_seats(frames, k, &frame.seats, globals, base, cells);
+        }
     }
 }
 
@@ -38,6 +41,7 @@ fn start_seats(
     cells: &mut Cells,
 )
     requires there { limit ≤ length frames.now }
+    requires marked { StartsAreMarked frames.now }
     requires room { HasRoom base (limit + 1) }
     ensures { cells.new ≡ seats_begun (frame_begun globals frames.now limit) seats.now base cells.old }
 {
@@ -53,7 +57,8 @@ fn start_seats(
 }
 
 /// Assigns the initial values of the frame of a number, whose values and clocks begin at the given numbers, and then those of its instances
-/// in turn, nested ones too. It allocates nothing. A frame that isn't there does nothing.
+/// in turn, nested ones too. An instance with nothing to assign is skipped by the mark of its frame. It allocates nothing. A frame that isn't
+/// there does nothing.
 pub fn start_frame(
     frames: &[Frame],
     globals: usize,
@@ -62,6 +67,7 @@ pub fn start_frame(
     clocks: usize,
     cells: &mut Cells,
 )
+    requires { StartsAreMarked frames.now }
     ensures { cells.new ≡ frame_begun globals frames.now (length frames.now) k (record { values = values; clocks = clocks }) cells.old }
 {
     let base = Base {

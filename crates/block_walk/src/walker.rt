@@ -209,6 +209,9 @@ fn run_called(
                 Ok(())
             }
             SeatOf::Frame(k) => {
+                if !seat.is_called {
+                    return Ok(());
+                }
                 let inside = Base {
                     values: base.values + seat.values as u128,
                     clocks: base.clocks + seat.clocks as u128,

@@ -19,7 +19,7 @@ use Rattle.block_walk.specs.Walks.{placed, run_within, called, space_within, pat
 use Rattle.block_walk.proofs.Ranks.{frame_at, frame_less}
 use Rattle.block_walk.proofs.Firsts.{within_past}
 use Rattle.block_walk.proofs.Numbers.{number_below}
-use Rattle.block_walk.proofs.Steps.{seat_at, standard_called, inside_done, inside_trapped, for_done, frame_ran, frame_path}
+use Rattle.block_walk.proofs.Steps.{seat_at, standard_called, frame_passed, inside_done, inside_trapped, for_done, frame_ran, frame_path}
 use Rattle.block_walk.proofs.Turns.{ran_body, between_fits, up_same, down_same}
 use Rattle.block_walk.proofs.walker.+walk.Goals as goal
 
@@ -93,25 +93,30 @@ run_called-returns-in-Standard-clause-ran t c =
     let at = seat_at c.args.seats.now c.args.instance c.in-Some.seat.now (sym c.in-Some.ensures.lookup.0) c.in-Some.ensures.lookup.1 in
     standard_called c.args.moment c.args.globals (placed (run_within c.args.moment c.args.globals c.args.frames.now c.args.limit)) c.args.seats.now c.args.base c.args.instance c.in-Some.seat.now c.in-Standard.standard c.args.cells.now c.call_clock.new.cells at c.in-Standard.is c.call_clock.ensures
 
+pub run_called-returns-then-not-seat-clause-ran : goal.run_called-returns-then-not-seat-clause-ran
+run_called-returns-then-not-seat-clause-ran t c =
+    let at = seat_at c.args.seats.now c.args.instance c.in-Some.seat.now (sym c.in-Some.ensures.lookup.0) c.in-Some.ensures.lookup.1 in
+    frame_passed c.args.moment c.args.globals (placed (run_within c.args.moment c.args.globals c.args.frames.now c.args.limit)) c.args.seats.now c.args.base c.args.instance c.in-Some.seat.now c.in-Frame.k c.args.cells.now at c.in-Frame.is c.if-not-seat.true
+
 pub run_called-returns-in-Ok-clause-ran : goal.run_called-returns-in-Ok-clause-ran
 run_called-returns-in-Ok-clause-ran t c =
     let at = seat_at c.args.seats.now c.args.instance c.in-Some.seat.now (sym c.in-Some.ensures.lookup.0) c.in-Some.ensures.lookup.1 in
-    inside_done c.args.moment c.args.globals c.args.limit c.args.frames.now c.args.seats.now c.args.base c.args.instance c.in-Some.seat.now c.in-Frame.k c.args.cells.now c.run_within.new.cells at c.in-Frame.is c.in-Ok.ensures.ran
+    inside_done c.args.moment c.args.globals c.args.limit c.args.frames.now c.args.seats.now c.args.base c.args.instance c.in-Some.seat.now c.in-Frame.k c.args.cells.now c.run_within.new.cells at c.in-Frame.is c.if-not-seat.false c.in-Ok.ensures.ran
 
 pub run_called-overflow_add-result : goal.run_called-overflow_add-result
 run_called-overflow_add-result t c =
     let at = seat_at c.args.seats.now c.args.instance c.in-Some.seat.now (sym c.in-Some.ensures.lookup.0) c.in-Some.ensures.lookup.1 in
-    record { fits = (number_below (frame_paths c.args.frames.now c.args.limit) c.args.seats.now c.args.instance c.in-Some.seat.now c.in-Frame.k c.in-Err.stop.path c.requires.own at c.in-Frame.is c.in-Err.ensures.path).fits }
+    record { fits = (number_below (frame_paths c.args.frames.now c.args.limit) c.args.seats.now c.args.instance c.in-Some.seat.now c.in-Frame.k c.in-Err.stop.path c.requires.own at c.in-Frame.is c.if-not-seat.false c.in-Err.ensures.path).fits }
 
 pub run_called-returns-in-Err-clause-ran : goal.run_called-returns-in-Err-clause-ran
 run_called-returns-in-Err-clause-ran t c =
     let at = seat_at c.args.seats.now c.args.instance c.in-Some.seat.now (sym c.in-Some.ensures.lookup.0) c.in-Some.ensures.lookup.1 in
-    inside_trapped c.args.moment c.args.globals c.args.limit c.args.frames.now c.args.seats.now c.args.base c.args.instance c.in-Some.seat.now c.in-Frame.k c.args.cells.now c.run_within.new.cells c.in-Err.stop at c.in-Frame.is c.requires.own c.in-Err.ensures.path c.in-Err.ensures.ran
+    inside_trapped c.args.moment c.args.globals c.args.limit c.args.frames.now c.args.seats.now c.args.base c.args.instance c.in-Some.seat.now c.in-Frame.k c.args.cells.now c.run_within.new.cells c.in-Err.stop at c.in-Frame.is c.if-not-seat.false c.requires.own c.in-Err.ensures.path c.in-Err.ensures.ran
 
 pub run_called-returns-in-Err-clause-path : goal.run_called-returns-in-Err-clause-path
 run_called-returns-in-Err-clause-path t c =
     let at = seat_at c.args.seats.now c.args.instance c.in-Some.seat.now (sym c.in-Some.ensures.lookup.0) c.in-Some.ensures.lookup.1 in
-    (number_below (frame_paths c.args.frames.now c.args.limit) c.args.seats.now c.args.instance c.in-Some.seat.now c.in-Frame.k c.in-Err.stop.path c.requires.own at c.in-Frame.is c.in-Err.ensures.path).inside
+    (number_below (frame_paths c.args.frames.now c.args.limit) c.args.seats.now c.args.instance c.in-Some.seat.now c.in-Frame.k c.in-Err.stop.path c.requires.own at c.in-Frame.is c.if-not-seat.false c.in-Err.ensures.path).inside
 
 pub count_up-loop-at-smaller : goal.count_up-loop-at-smaller
 count_up-loop-at-smaller t c =
