@@ -20,7 +20,7 @@ pub some_kind : (k : Kind) (o : Option Kind) → is_kind k o ≡ true → (found
 some_kind k None is = absurd (cc)
 some_kind k (Some found) is = (found, refl)
 
-both : (a b : Bool) → a ≡ true → b ≡ true → (a && b) ≡ true
+pub both : (a b : Bool) → a ≡ true → b ≡ true → (a && b) ≡ true
 both true b is also = also
 both false b is also = is
 

@@ -1,4 +1,4 @@
-mod Cells
+pub mod Cells
 mod Namings
 mod Places
 mod Found
@@ -6,11 +6,17 @@ mod Spaces
 mod Runs
 mod Starts
 mod Opening
+mod Flags
+mod Callings
+mod Listed
 mod Fitting
-mod Growing
+pub mod Growing
 mod Joined
 mod Scopes
 mod Built
 mod Tables
 mod Programs
 mod Typed
+mod Shown
+mod Initials
+pub mod Known

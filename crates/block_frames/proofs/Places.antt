@@ -52,18 +52,18 @@ place_is order k n p =
 pub placed_there : (order : List ℕ) (n : ℕ) → Among order n → Placed order (length order) n
 placed_there order n here = placed order (length order) n (among_all order n here)
 
-module _ (blocks : List PlainRoutine) (order : List ℕ) where
+module _ (blocks : List PlainRoutine) (r : PlainRoutine) (order : List ℕ) where
   -- the instance of a number has a seat, after those before it
-  pub seat_found : (is : List Instance) (seats : List Seat) (values clocks k : ℕ) (i : Instance) → AreSeats blocks order values clocks is seats → slice_get is k ≡ Some i
-      → (seat : Seat) × (slice_get seats k ≡ Some seat) × IsSeat order (values + values_before blocks is k) (clocks + clocks_before blocks is k) i seat
+  pub seat_found : (is : List Instance) (seats : List Seat) (values clocks k : ℕ) (i : Instance) → AreSeats blocks r order values clocks is seats → slice_get is k ≡ Some i
+      → (seat : Seat) × (slice_get seats k ≡ Some seat) × IsSeat r order (values + values_before blocks is k) (clocks + clocks_before blocks is k) i seat
   seat_found [] seats values clocks k i are at = absurd (cc)
   seat_found (j ∷ is) [] values clocks k i are at = absurd are
   seat_found (j ∷ is) (seat ∷ seats) values clocks zero i are at =
       let same : j ≡ i = cc in
-      (seat, refl, subst (λ x. IsSeat order (values + 0) (clocks + 0) x seat) same (seat_moved seat j values (values + 0) clocks (clocks + 0) (omega arith) (omega arith) are.0))
+      (seat, refl, subst (λ x. IsSeat r order (values + 0) (clocks + 0) x seat) same (seat_moved seat j values (values + 0) clocks (clocks + 0) (omega arith) (omega arith) are.0))
     where
-      seat_moved : (seat : Seat) (j : Instance) (v v' c c' : ℕ) → v ≡ v' → c ≡ c' → IsSeat order v c j seat → IsSeat order v' c' j seat
-      seat_moved seat j v v' c c' first second is = record { name_is = is.name_is; of_is = is.of_is; values_is = is.values_is ∙ first; clocks_is = is.clocks_is ∙ second }
+      seat_moved : (seat : Seat) (j : Instance) (v v' c c' : ℕ) → v ≡ v' → c ≡ c' → IsSeat r order v c j seat → IsSeat r order v' c' j seat
+      seat_moved seat j v v' c c' first second is = record { name_is = is.name_is; of_is = is.of_is; values_is = is.values_is ∙ first; clocks_is = is.clocks_is ∙ second; called_is = is.called_is }
   seat_found (j ∷ is) (seat ∷ seats) values clocks (suc k) i are at =
       let found = seat_found is seats (values + value_count blocks j.of) (clocks + clock_count blocks j.of) k i are.1 at in
       let it = found.2 in (
@@ -74,5 +74,6 @@ module _ (blocks : List PlainRoutine) (order : List ℕ) where
           of_is = it.of_is;
           values_is = (let same = it.values_is in omega (arith, same));
           clocks_is = (let same = it.clocks_is in omega (arith, same));
+          called_is = it.called_is;
         },
       )

@@ -1,5 +1,5 @@
 -- The frames of a source do what its routines do.
-use Rattle.std.proofs.Common.{◌≡◌, ◌∙◌, sym, subst, refl, arith, ℕ, zero, suc, ◌+◌, ◌<◌, List, [], ◌∷◌, length, Some, slice_get}
+use Rattle.std.proofs.Common.{◌≡◌, ◌∙◌, sym, subst, refl, arith, ℕ, zero, suc, ◌+◌, ◌<◌, true, List, [], ◌∷◌, length, Some, slice_get}
 use Rattle.std.proofs.lemmas.Option.{slice_get_within}
 use Rattle.st_tree.specs.View.{view_body}
 use Rattle.st_tree.specs.Meaning.{Ran, Done, run_all}
@@ -7,7 +7,7 @@ use Rattle.st_tree.specs.Alike.{Agree}
 use Rattle.st_tree.proofs.MappingLaws.{body_same}
 use Rattle.plant_logic.specs.Source.{PlainRoutine, Source}
 use Rattle.plant_logic.specs.Names.{kind_named, output_kind_named, meant_in}
-use Rattle.plant_logic.specs.Blocks.{AreBelow, HasItsTypes, Declares, DeclaresThere}
+use Rattle.plant_logic.specs.Blocks.{AreBelow, HasItsTypes, DeclaresThere}
 use Rattle.plant_logic.specs.Worlds.{Path, World, routine_space, run_rule, run_routine, run_in, run_program}
 use Rattle.plant_logic.specs.Layout.{values_rule, routine_values, clocks_rule, routine_clocks, IsDistinctlyNamed}
 use Rattle.plant_logic.proofs.Levels.{by_its_rule}
@@ -19,10 +19,13 @@ use Rattle.block_walk.specs.declared.frame.Frame.{Frame}
 use Rattle.block_walk.specs.Cells.{PlainCells}
 use Rattle.block_walk.specs.Walks.{frame_space, run_frame}
 use Rattle.block_walk.proofs.Firsts.{frame_is}
-use Rattle.block_frames.specs.Numbers.{numbers, numbered_in, HasItsNames, HasAllNames}
-use Rattle.block_frames.specs.Frames.{place_in, IsFrame, IsFrames, program_base}
+use Rattle.block_frames.specs.Numbers.{numbers, HasItsNames, HasAllNames}
+use Rattle.block_frames.specs.Reached.{AsksFor, flagged}
+use Rattle.block_frames.specs.Frames.{place_in, IsFrame, framed, IsFrames, program_base}
 use Rattle.block_frames.specs.Stands.{StandFor}
 use Rattle.block_frames.proofs.Namings.{meant_known}
+use Rattle.block_frames.proofs.Flags.{asks_declared, declared_asks}
+use Rattle.block_frames.proofs.Callings.{called_known, calls_known}
 use Rattle.block_frames.proofs.Places.{placed, placed_there, place_is}
 use Rattle.block_frames.proofs.Spaces.{Matches, Does, spaces_lawful}
 
@@ -39,16 +42,16 @@ module _ (source : Source) (order : List ℕ) (below : AreBelow source.blocks or
 
   -- a routine's frame does what the routine does, if the frames that it calls do what its block types do
   pub body_does : (r : PlainRoutine) (frame : Frame) (inner : ℕ → Path → World → Ran World) (lower : ℕ → Base → Path → PlainCells → Ran PlainCells) → IsFrame source order r frame → HasItsNames source r
-      → ((n : ℕ) → Declares r n → Does source (inner n) (lower (place_in order n)) (routine_values source.blocks n) (routine_clocks source.blocks n))
+      → ((n : ℕ) → AsksFor true r n → Does source (inner n) (lower (place_in order n)) (routine_values source.blocks n) (routine_clocks source.blocks n))
       → Does source (run_rule source t inner r) (run_body lower frame) (values_rule (routine_values source.blocks) r) (clocks_rule (routine_clocks source.blocks) r)
   body_does r frame inner lower it names callees path base values clocks w cells stands =
       let seats = frame.seats.items in
       let from = routine_space t inner r path in
       let to = frame_space t (length source.globals) lower seats base path in
-      let known = numbered_in source r in
+      let known = called_known source r in
       subst (λ body. Agree (Matches source) (run_rule source t inner r path w) (run_all to body cells)) (sym it.body_is)
       (body_same known (numbers source r) from to (Matches source) (spaces_lawful source order below named r seats it.seats_are path base values clocks t inner lower callees)
-      (meant_in source r r.body) (meant_known known (kind_named source.globals r) (output_kind_named source.blocks r) r.body ∙ names.in_body) w cells stands)
+      (meant_in source r r.body) (meant_known known (kind_named source.globals r) (output_kind_named source.blocks r) r.body ∙ calls_known source r names.in_body) w cells stands)
 
   module _ (frames : List Frame) (are : IsFrames source order frames) (types : HasItsTypes source) (names : HasAllNames source) where
     abbrev lower : ℕ → ℕ → Base → Path → PlainCells → Ran PlainCells
@@ -77,19 +80,23 @@ module _ (source : Source) (order : List ℕ) (below : AreBelow source.blocks or
         (subst (λ c. Does source (run_rule source t (run_routine source t) r) (run_body (lower k) frame) (values_rule (routine_values source.blocks) r) c) (sym clocks) does)))
 
     -- the frame of each block type does what the block type does
-    block_does : (depth limit k n : ℕ) → k < depth → k < limit → slice_get order k ≡ Some n → BlockDoes limit k n
-    block_does zero limit k n deep less at = absurd (omega (arith, deep))
-    block_does (suc d) limit k n deep less at =
+    block_does : (depth limit k n : ℕ) → k < depth → k < limit → slice_get order k ≡ Some n → flagged are.used n ≡ true → flagged are.run n ≡ true → BlockDoes limit k n
+    block_does zero limit k n deep less at used run = absurd (omega (arith, deep))
+    block_does (suc d) limit k n deep less at used run =
         let within = slice_get_within order k n at in
         let r = element source.blocks n (below.within n (among_at order k n at)) in
         let frame = frame_there k (omega (arith, within)) in
         let there = all_at (DeclaresThere source.blocks) source.blocks n r.0 types.in_blocks r.1 in
+        let framed_is : IsFrame source order r.0 frame.0 = subst (λ b. IsFrame source order (framed b r.0) frame.0) run (are.of_blocks k n r.0 frame.0 at r.1 frame.1 used) in
         block_known limit k n r.0 frame.0 less r.1 frame.1
-        (body_does r.0 frame.0 (run_routine source t) (lower k) (are.of_blocks k n r.0 frame.0 at r.1 frame.1) (all_at (HasItsNames source) source.blocks n r.0 names.in_blocks r.1)
-        (λ b declares.
+        (body_does r.0 frame.0 (run_routine source t) (lower k) framed_is (all_at (HasItsNames source) source.blocks n r.0 names.in_blocks r.1)
+        (λ b asks.
+        let declares = asks_declared true r.0 b asks in
         let p = placed order k b (below.after k n b r.0 at r.1 declares (there b declares)) in
         let before = p.below in
-        subst (λ j. BlockDoes k j b) (sym (place_is order k b p)) (block_does d k p.j b (omega (arith, deep, before)) before p.at)))
+        let used' = are.are_used.by_blocks n b r.0 r.1 used (declared_asks r.0 b declares) in
+        let run' = are.are_run.by_blocks n b r.0 r.1 run asks in
+        subst (λ j. BlockDoes k j b) (sym (place_is order k b p)) (block_does d k p.j b (omega (arith, deep, before)) before p.at used' run')))
 
     -- the frame of each program does what the program does
     pub program_does : (n : ℕ) (p : PlainRoutine) → slice_get source.programs n ≡ Some p
@@ -102,10 +109,13 @@ module _ (source : Source) (order : List ℕ) (below : AreBelow source.blocks or
         let less = slice_get_within frames k frame.0 frame.1 in
         subst (λ g. Does source (run_rule source t (run_routine source t) p) g (values_rule (routine_values source.blocks) p) (clocks_rule (routine_clocks source.blocks) p)) (sym (unfolded (length frames) k frame.0 less frame.1))
         (body_does p frame.0 (run_routine source t) (lower k) (are.of_programs n p frame.0 at frame.1) (all_at (HasItsNames source) source.programs n p names.in_programs at)
-        (λ b declares.
+        (λ b asks.
+        let declares = asks_declared true p b asks in
         let q = placed_there order b (below.whole b (there b declares)) in
         let short = q.within in
-        subst (λ j. BlockDoes k j b) (sym (place_is order (length order) b q)) (block_does (suc q.j) k q.j b (omega arith) (omega (arith, short)) q.at)))
+        let used = are.are_used.by_programs n b p at (declared_asks p b declares) in
+        let run = are.are_run.by_programs n b p at asks in
+        subst (λ j. BlockDoes k j b) (sym (place_is order (length order) b q)) (block_does (suc q.j) k q.j b (omega arith) (omega (arith, short)) q.at used run)))
 
 -- the frame of a program agrees with the program
 pub frames_agree : (source : Source) (order : List ℕ) (frames : List Frame) → IsFrames source order frames → AreBelow source.blocks order → HasItsTypes source → IsDistinctlyNamed source → HasAllNames source

@@ -1,6 +1,7 @@
 -- What the numbers of a routine's frame mean in cells is what the names mean in worlds.
 use Rattle.std.proofs.Common.{◌≡◌, ◌∙◌, ap, sym, subst, refl, arith, ℕ, ℤ, pos, ◌+◌, Bool, true, false, List, ◌∷◌, length, Some, None, slice_get}
 use Rattle.std.specs.Prelude.{if◌then◌else◌, is_some, option_and_then, unwrap_or, codes}
+use Rattle.std.proofs.lemmas.Bool.{and_parts}
 use Rattle.plant_types.specs.Words.{folded, same_word}
 use Rattle.plant_types.specs.Values.{truth, is_true}
 use Rattle.std_blocks.specs.Calls.{call}
@@ -13,7 +14,8 @@ use Rattle.plant_logic.specs.declared.logic.BlockRef.{BlockRef}
 use Rattle.plant_logic.specs.declared.logic.BlockRef.TheVariants.{Ton, Tof, RTrig, Declared}
 use Rattle.plant_logic.specs.Source.{PlainRoutine, Source}
 use Rattle.plant_logic.specs.Names.{block_named, instance_named}
-use Rattle.plant_logic.specs.Blocks.{AreBelow, Declares}
+use Rattle.plant_logic.specs.Blocks.{AreBelow}
+use Rattle.plant_logic.specs.Paths.{is_called}
 use Rattle.plant_logic.specs.Worlds as worlds
 use Rattle.plant_logic.specs.Worlds.{Path, World, words_of, path_in, assign, with_call, timer_output, timer_call, trigger_call, in_word, pt_word, clk_word, routine_space, called_named}
 use Rattle.plant_logic.specs.Layout.{ClockAt, block_values, values_rule, routine_values, block_clocks, clocks_rule, routine_clocks, cell_paths, all_clocks, IsDistinctlyNamed}
@@ -29,11 +31,13 @@ use Rattle.block_walk.specs.Clocks.{clock_of}
 use Rattle.block_walk.specs.Cells.{PlainCells, value_at, assigned, clocked}
 use Rattle.block_walk.specs.Walks as walks
 use Rattle.block_walk.specs.Walks.{slot_of, member_slot, base_of, shown_by, output_by, with_input, called_by, frame_space}
-use Rattle.block_frames.specs.Numbers.{variable_number, instance_number, input_number, shown_number, output_number, numbers, numbered_in}
+use Rattle.block_frames.specs.Numbers.{variable_number, instance_number, input_number, shown_number, output_number, numbers}
+use Rattle.block_frames.specs.Reached.{AsksFor}
 use Rattle.block_frames.specs.Frames.{place_in, seated, AreSeats}
 use Rattle.block_frames.specs.Stands.{standard_of, StandFor}
 use Rattle.block_frames.proofs.Cells.{value_held, value_put, clock_held, clock_put}
 use Rattle.block_frames.proofs.Places.{seat_found}
+use Rattle.block_frames.proofs.Callings.{called_known, called_alike}
 use Rattle.block_frames.proofs.Found.{slot_is, Found, found, of_member, block_found, there_is}
 
 -- cells stand for a world
@@ -60,7 +64,7 @@ shown_trigger : (q : Bool) (clock : Clock) (m : ℕ) (a : Bool) → clock.q ≡ 
 shown_trigger q clock m true first numbered = let zero_is : 0 ≡ m = cc in ap truth (sym first) ∙ ap (shown_by (Some clock)) zero_is
 shown_trigger q clock m false first numbered = absurd (cc)
 
-module _ (source : Source) (order : List ℕ) (below : AreBelow source.blocks order) (named : IsDistinctlyNamed source) (r : PlainRoutine) (seats : List Seat) (are : AreSeats source.blocks order (length r.locals) 0 r.instances seats)
+module _ (source : Source) (order : List ℕ) (below : AreBelow source.blocks order) (named : IsDistinctlyNamed source) (r : PlainRoutine) (seats : List Seat) (are : AreSeats source.blocks r order (length r.locals) 0 r.instances seats)
     (path : Path) (base : Base) (values : StandsFrom (cell_paths source) base.values (values_rule (routine_values source.blocks) r (words_of path)))
     (clocks : StandsFrom (all_clocks source) base.clocks (clocks_rule (routine_clocks source.blocks) r (words_of path))) where
   -- a seat at which an instance's values and standard blocks stand, by its path in small letters
@@ -69,9 +73,9 @@ module _ (source : Source) (order : List ℕ) (below : AreBelow source.blocks or
     values_stand : StandsFrom (cell_paths source) (base.values + seat.values) (block_values (routine_values source.blocks) b p)
     clocks_stand : StandsFrom (all_clocks source) (base.clocks + seat.clocks) (block_clocks (routine_clocks source.blocks) b p)
 
-  seated_at : (name : List ℕ) (k : ℕ) (i : Instance) → Found r name k i → (seat : Seat) × (slice_get seats k ≡ Some seat) × (seat.name ≡ i.name) × Sits seat i.of (words_of (i.name ∷ path))
+  seated_at : (name : List ℕ) (k : ℕ) (i : Instance) → Found r name k i → (seat : Seat) × (slice_get seats k ≡ Some seat) × (seat.name ≡ i.name) × Sits seat i.of (words_of (i.name ∷ path)) × (seat.is_called ≡ is_called r i.name)
   seated_at name k i f =
-      let s = seat_found source.blocks order r.instances seats (length r.locals) 0 k i are f.at in
+      let s = seat_found source.blocks r order r.instances seats (length r.locals) 0 k i are f.at in
       let it = s.2 in
       let first = it.values_is in
       let second = it.clocks_is in (
@@ -85,6 +89,7 @@ module _ (source : Source) (order : List ℕ) (below : AreBelow source.blocks or
           clocks_stand = stands_moved (all_clocks source) (base.clocks + clock_offset source.blocks r k) (base.clocks + s.0.clocks) (block_clocks (routine_clocks source.blocks) i.of (words_of (i.name ∷ path))) (omega (arith, second))
               (instance_clocks_stand source.blocks (all_clocks source) r.instances (words_of path) base.clocks k i clocks f.at);
         },
+        it.called_is,
       )
 
   -- the same by the path of the name that finds the instance
@@ -141,31 +146,32 @@ module _ (source : Source) (order : List ℕ) (below : AreBelow source.blocks or
           (clock_put source cells w stands named (base.clocks + seat.clocks) (record { of = RTrig; path = p }) (trigger_call t w p) (clock_sits RTrig refl sits))
 
   module _ (t : ℕ) (inner : ℕ → Path → World → Ran World) (frame : ℕ → Base → Path → PlainCells → Ran PlainCells)
-      (callees : (n : ℕ) → Declares r n → Does source (inner n) (frame (place_in order n)) (routine_values source.blocks n) (routine_clocks source.blocks n)) where
+      (callees : (n : ℕ) → AsksFor true r n → Does source (inner n) (frame (place_in order n)) (routine_values source.blocks n) (routine_clocks source.blocks n)) where
     -- an instance that is called
-    called_same : (i : Instance) (seat : Seat) (w : World) (cells : PlainCells) → StandFor source cells w → Among r.instances i → seat.name ≡ i.name → (b : BlockRef) → i.of ≡ b → Sits seat b (words_of (i.name ∷ path))
+    called_same : (i : Instance) (seat : Seat) (w : World) (cells : PlainCells) → StandFor source cells w → Among r.instances i → is_called r i.name ≡ true → seat.is_called ≡ true → seat.name ≡ i.name → (b : BlockRef) → i.of ≡ b → Sits seat b (words_of (i.name ∷ path))
         → Agree (Matches source) (worlds.called t inner path w i.name b) (called_by t frame (seated order b) base seat path cells)
-    called_same i seat w cells stands here name_is Ton of_is sits =
+    called_same i seat w cells stands here is marked name_is Ton of_is sits =
         let p = words_of (i.name ∷ path) in
         timer_called w cells stands seat p t Ton refl sits (value_at cells (member_slot base seat 0)) (value_at cells (member_slot base seat 1))
         (input_held w cells stands seat p Ton sits 0 (in_word ∷ p) refl) (input_held w cells stands seat p Ton sits 1 (pt_word ∷ p) refl)
-    called_same i seat w cells stands here name_is Tof of_is sits =
+    called_same i seat w cells stands here is marked name_is Tof of_is sits =
         let p = words_of (i.name ∷ path) in
         timer_called w cells stands seat p t Tof refl sits (value_at cells (member_slot base seat 0)) (value_at cells (member_slot base seat 1))
         (input_held w cells stands seat p Tof sits 0 (in_word ∷ p) refl) (input_held w cells stands seat p Tof sits 1 (pt_word ∷ p) refl)
-    called_same i seat w cells stands here name_is RTrig of_is sits =
+    called_same i seat w cells stands here is marked name_is RTrig of_is sits =
         let p = words_of (i.name ∷ path) in
         trigger_called w cells stands seat p t sits (value_at cells (member_slot base seat 0)) (input_held w cells stands seat p RTrig sits 0 (clk_word ∷ p) refl)
-    called_same i seat w cells stands here name_is (Declared n) of_is sits =
-        subst (λ name. Agree (Matches source) (inner n (i.name ∷ path) w) (frame (place_in order n) (base_of base seat) (name ∷ path) cells)) (sym name_is)
-        (callees n (i, here, of_is) (i.name ∷ path) (base_of base seat) sits.values_stand sits.clocks_stand w cells stands)
+    called_same i seat w cells stands here is marked name_is (Declared n) of_is sits =
+        rw marked (subst (λ name. Agree (Matches source) (inner n (i.name ∷ path) w) (frame (place_in order n) (base_of base seat) (name ∷ path) cells)) (sym name_is)
+        (callees n (i, here, of_is, λ on. is) (i.name ∷ path) (base_of base seat) sits.values_stand sits.clocks_stand w cells stands))
 
-    entered : (name : List ℕ) (w : World) (cells : PlainCells) → is_some (instance_number r name) ≡ true → StandFor source cells w
+    entered : (name : List ℕ) (w : World) (cells : PlainCells) → is_some (instance_number r name) ≡ true → is_called r name ≡ true → StandFor source cells w
         → Agree (Matches source) (called_named t inner path w (instance_named r name)) (walks.called t frame (slice_get seats (unwrap_or (instance_number r name) 0)) base path cells)
-    entered name w cells there stands =
+    entered name w cells there calls stands =
         let f = found r name there in
         let s = seated_at name f.0 f.1 f.2 in
-        let same = called_same f.1 s.0 w cells stands (named_among r name f.1 f.2.named) s.2 f.1.of refl s.3 in
+        let is = called_alike r f.1.name name f.2.word calls in
+        let same = called_same f.1 s.0 w cells stands (named_among r name f.1 f.2.named) is (s.4 ∙ is) s.2 f.1.of refl s.3 in
         let seat_at = seat_is name f.0 f.1 f.2 s.0 s.1 in
         let first : worlds.called t inner path w f.1.name f.1.of ≡ called_named t inner path w (instance_named r name) = ap (called_named t inner path w) (sym f.2.named) in
         let second : called_by t frame (seated order f.1.of) base s.0 path cells ≡ walks.called t frame (slice_get seats (unwrap_or (instance_number r name) 0)) base path cells =
@@ -201,13 +207,13 @@ module _ (source : Source) (order : List ℕ) (below : AreBelow source.blocks or
         (input_put w cells stands s.0 (words_of (instance ∷ path)) f.1.of (sits_named instance f.0 f.1 f.2 s.0 s.3) name m x numbered)
 
     -- numbers for names are lawful
-    pub spaces_lawful : IsLawful (numbered_in source r) (numbers source r) (routine_space t inner r path) (frame_space t (length source.globals) frame seats base path) (Matches source)
+    pub spaces_lawful : IsLawful (called_known source r) (numbers source r) (routine_space t inner r path) (frame_space t (length source.globals) frame seats base path) (Matches source)
     spaces_lawful = record {
       path_is = refl;
       variable_is = λ v w cells is m. sym (value_held source cells w m (slot_of (length source.globals) base (unwrap_or (variable_number source r v) 0)) (path_in r path v) (variable_at w cells m v is));
       put_matches = λ v x w cells is m. value_put source cells w m named (slot_of (length source.globals) base (unwrap_or (variable_number source r v) 0)) (path_in r path v) x (variable_at w cells m v is);
       output_is = λ instance name w cells is m. shows instance name w cells is m;
       put_input_matches = λ instance name x w cells is m. takes instance name x w cells is m;
-      enter_agrees = λ instance w cells is m. entered instance w cells is m;
+      enter_agrees = λ instance w cells is m. let parts = and_parts (is_some (instance_number r instance)) (is_called r instance) is in entered instance w cells parts.0 parts.1 m;
       node_is = λ e w cells m. refl;
     }

@@ -1,5 +1,5 @@
 -- The initial values that frames assign are those of their routines.
-use Rattle.std.proofs.Common.{◌≡◌, ◌∙◌, ap, sym, subst, refl, arith, ℕ, zero, suc, ◌+◌, ◌<◌, true, List, [], ◌∷◌, length, Some, slice_get, inl, inr}
+use Rattle.std.proofs.Common.{◌≡◌, ◌∙◌, ap, sym, subst, refl, arith, ℕ, zero, suc, ◌+◌, ◌<◌, Bool, true, false, List, [], ◌∷◌, length, Some, slice_get, inl, inr}
 use Rattle.std.specs.Prelude.{is_some, unwrap_or}
 use Rattle.std.proofs.lemmas.Option.{slice_get_within}
 use Rattle.st_tree.specs.View.{view_body}
@@ -15,7 +15,7 @@ use Rattle.plant_logic.specs.Source.{PlainRoutine, Source}
 use Rattle.plant_logic.specs.Names.{kind_named, output_kind_named, meant_in}
 use Rattle.plant_logic.specs.Blocks.{AreBelow, HasItsTypes, Declares, DeclaresThere}
 use Rattle.plant_logic.specs.Worlds as worlds
-use Rattle.plant_logic.specs.Worlds.{Path, World, words_of, path_in, routine_space, no_calls, begun, block_begun, instances_begun, begin_rule, routine_begun, programs_begun, globals_routine, zero_world, opening}
+use Rattle.plant_logic.specs.Worlds.{Path, World, words_of, path_in, routine_space, no_calls, begun, block_begun, instances_begun, begin_rule, routine_begun, programs_begun}
 use Rattle.plant_logic.specs.Layout.{ClockAt, own_values, block_values, instance_values, values_rule, routine_values, block_clocks, instance_clocks, clocks_rule, routine_clocks, cell_paths, all_clocks, IsDistinctlyNamed}
 use Rattle.plant_logic.specs.Seats.{StandsFrom, value_count, clock_count}
 use Rattle.plant_logic.proofs.Levels.{by_its_rule}
@@ -31,11 +31,13 @@ use Rattle.block_walk.specs.Walks.{slot_of, base_of, under, frame_space, run_wit
 use Rattle.block_walk.proofs.Beginning.{begun_is}
 use Rattle.block_walk.proofs.Moved.{body_moved}
 use Rattle.block_frames.specs.Numbers.{variable_number, numbers, variables_in, HasItsNames, HasAllNames}
-use Rattle.block_frames.specs.Frames.{place_in, seated, AreSeats, IsFrame, IsFrames, program_base}
+use Rattle.block_frames.specs.Reached.{flagged}
+use Rattle.block_frames.specs.Frames.{place_in, seated, AreSeats, IsFrame, framed, IsFrames, program_base}
 use Rattle.block_frames.specs.Stands.{StandFor}
 use Rattle.block_frames.specs.Opening.{programs_started}
 use Rattle.block_frames.proofs.Namings.{meant_known}
 use Rattle.block_frames.proofs.Cells.{value_held, value_put}
+use Rattle.block_frames.proofs.Flags.{declared_asks}
 use Rattle.block_frames.proofs.Places.{placed, placed_there, place_is}
 use Rattle.block_frames.proofs.Found.{slot_is}
 use Rattle.block_frames.proofs.Spaces.{Matches}
@@ -111,14 +113,14 @@ module _ (source : Source) (order : List ℕ) (below : AreBelow source.blocks or
     block_starts RTrig p seat callees values clocks w cells stands = stands
     block_starts (Declared n) p seat callees values clocks w cells stands = callees n refl p (base_of base seat) values clocks w cells stands
 
-    instances_start : (is : List Instance) (seats : List Seat) (v c : ℕ) → AreSeats source.blocks order v c is seats
+    instances_start : (r : PlainRoutine) (is : List Instance) (seats : List Seat) (v c : ℕ) → AreSeats source.blocks r order v c is seats
         → ((i : Instance) (n : ℕ) → Among is i → i.of ≡ Declared n → Begins source (f n) (g (place_in order n)) (values_of n) (clocks_of n))
         → StandsFrom (cell_paths source) (base.values + v) (instance_values values_of is (words_of path)) → StandsFrom (all_clocks source) (base.clocks + c) (instance_clocks clocks_of is (words_of path))
         → (w : World) (cells : PlainCells) → StandFor source cells w → StandFor source (seats_begun g seats base cells) (instances_begun f path is w)
-    instances_start [] [] v c are callees values clocks w cells stands = stands
-    instances_start [] (seat ∷ seats) v c are callees values clocks w cells stands = absurd are
-    instances_start (i ∷ is) [] v c are callees values clocks w cells stands = absurd are
-    instances_start (i ∷ is) (seat ∷ seats) v c are callees values clocks w cells stands =
+    instances_start r [] [] v c are callees values clocks w cells stands = stands
+    instances_start r [] (seat ∷ seats) v c are callees values clocks w cells stands = absurd are
+    instances_start r (i ∷ is) [] v c are callees values clocks w cells stands = absurd are
+    instances_start r (i ∷ is) (seat ∷ seats) v c are callees values clocks w cells stands =
         let p = words_of (i.name ∷ path) in
         let first_values = block_values values_of i.of p in
         let rest_values = instance_values values_of is (words_of path) in
@@ -133,7 +135,7 @@ module _ (source : Source) (order : List ℕ) (below : AreBelow source.blocks or
         (stands_moved (cell_paths source) (base.values + v) (base.values + seat.values) first_values (ap (λ n. base.values + n) (sym it.values_is)) (stands_left (cell_paths source) (base.values + v) first_values rest_values values))
         (stands_moved (all_clocks source) (base.clocks + c) (base.clocks + seat.clocks) first_clocks (ap (λ n. base.clocks + n) (sym it.clocks_is)) (stands_left (all_clocks source) (base.clocks + c) first_clocks rest_clocks clocks))
         w cells stands) in
-        instances_start is seats (v + value_count source.blocks i.of) (c + clock_count source.blocks i.of) are.1 (λ j n here of_is. callees j n (inr here) of_is)
+        instances_start r is seats (v + value_count source.blocks i.of) (c + clock_count source.blocks i.of) are.1 (λ j n here of_is. callees j n (inr here) of_is)
         (stands_right (cell_paths source) (base.values + v) (base.values + (v + value_count source.blocks i.of)) first_values rest_values (omega (arith, many)) values)
         (stands_right (all_clocks source) (base.clocks + c) (base.clocks + (c + clock_count source.blocks i.of)) first_clocks rest_clocks (omega (arith, number)) clocks)
         (block_begun f (i.name ∷ path) i.of w) (seat_begun g seat.of base seat cells) one
@@ -146,10 +148,16 @@ module _ (source : Source) (order : List ℕ) (below : AreBelow source.blocks or
       → ((n : ℕ) → Declares r n → Begins source (f n) (g (place_in order n)) (values_of n) (clocks_of n)) → Begins source (begin_rule source f r) (start_rule g frame) (values_rule values_of r) (clocks_rule clocks_of r)
   routine_starts r frame f g it names callees path base values clocks w cells stands =
       let many = own_count r.locals (words_of path) in
-      instances_start f g path base r.instances frame.seats.items (length r.locals) 0 it.seats_are (λ i n here of_is. callees n (i, here, of_is))
+      instances_start f g path base r r.instances frame.seats.items (length r.locals) 0 it.seats_are (λ i n here of_is. callees n (i, here, of_is))
       (stands_right (cell_paths source) base.values (base.values + length r.locals) (own_values r.locals (words_of path)) (instance_values values_of r.instances (words_of path)) (omega (arith, many)) values)
       (stands_moved (all_clocks source) base.clocks (base.clocks + 0) (instance_clocks clocks_of r.instances (words_of path)) (omega arith) clocks)
       (begun source r path w) (left_by (run_all (start_space (length source.globals) base) (view_body frame.starts.items) cells)) (own_begun r path base values frame it names w cells stands)
+
+  -- the frame of a routine without its body begins as the routine does
+  framed_starts : (b : Bool) (r : PlainRoutine) (frame : Frame) (f : ℕ → Path → World → World) (g : ℕ → Base → PlainCells → PlainCells) → IsFrame source order (framed b r) frame → HasItsNames source r
+      → ((n : ℕ) → Declares r n → Begins source (f n) (g (place_in order n)) (values_of n) (clocks_of n)) → Begins source (begin_rule source f r) (start_rule g frame) (values_rule values_of r) (clocks_rule clocks_of r)
+  framed_starts true r frame f g it names callees = routine_starts r frame f g it names callees
+  framed_starts false r frame f g it names callees = routine_starts (framed false r) frame f g it (record { in_body = refl; in_starts = names.in_starts }) callees
 
   module _ (frames : List Frame) (are : IsFrames source order frames) (types : HasItsTypes source) (names : HasAllNames source) where
     abbrev start : ℕ → ℕ → Base → PlainCells → PlainCells
@@ -177,19 +185,19 @@ module _ (source : Source) (order : List ℕ) (below : AreBelow source.blocks or
         (subst (λ c. Begins source (begin_rule source (routine_begun source) r) (start_rule (start k) frame) (values_rule values_of r) c) (sym clocks) begins)))
 
     -- the frame of each block type begins as the block type does
-    block_begins : (depth limit k n : ℕ) → k < depth → k < limit → slice_get order k ≡ Some n → BlockBegins limit k n
-    block_begins zero limit k n deep less at = absurd (omega (arith, deep))
-    block_begins (suc d) limit k n deep less at =
+    block_begins : (depth limit k n : ℕ) → k < depth → k < limit → slice_get order k ≡ Some n → flagged are.used n ≡ true → BlockBegins limit k n
+    block_begins zero limit k n deep less at used = absurd (omega (arith, deep))
+    block_begins (suc d) limit k n deep less at used =
         let within = slice_get_within order k n at in
         let r = element source.blocks n (below.within n (among_at order k n at)) in
         let frame = frame_there k (omega (arith, within)) in
         let there = all_at (DeclaresThere source.blocks) source.blocks n r.0 types.in_blocks r.1 in
         block_known limit k n r.0 frame.0 less r.1 frame.1
-        (routine_starts r.0 frame.0 (routine_begun source) (start k) (are.of_blocks k n r.0 frame.0 at r.1 frame.1) (all_at (HasItsNames source) source.blocks n r.0 names.in_blocks r.1)
+        (framed_starts (flagged are.run n) r.0 frame.0 (routine_begun source) (start k) (are.of_blocks k n r.0 frame.0 at r.1 frame.1 used) (all_at (HasItsNames source) source.blocks n r.0 names.in_blocks r.1)
         (λ b declares.
         let p = placed order k b (below.after k n b r.0 at r.1 declares (there b declares)) in
         let before = p.below in
-        subst (λ j. BlockBegins k j b) (sym (place_is order k b p)) (block_begins d k p.j b (omega (arith, deep, before)) before p.at)))
+        subst (λ j. BlockBegins k j b) (sym (place_is order k b p)) (block_begins d k p.j b (omega (arith, deep, before)) before p.at (are.are_used.by_blocks n b r.0 r.1 used (declared_asks r.0 b declares)))))
 
     -- the frame of each program begins as the program does
     program_begins : (n : ℕ) (p : PlainRoutine) → slice_get source.programs n ≡ Some p
@@ -205,7 +213,7 @@ module _ (source : Source) (order : List ℕ) (below : AreBelow source.blocks or
         (λ b declares.
         let q = placed_there order b (below.whole b (there b declares)) in
         let short = q.within in
-        subst (λ j. BlockBegins k j b) (sym (place_is order (length order) b q)) (block_begins (suc q.j) k q.j b (omega arith) (omega (arith, short)) q.at)))
+        subst (λ j. BlockBegins k j b) (sym (place_is order (length order) b q)) (block_begins (suc q.j) k q.j b (omega arith) (omega (arith, short)) q.at (are.are_used.by_programs n b p at (declared_asks p b declares)))))
 
     -- the programs in turn
     pub programs_begin : (ps : List PlainRoutine) (n : ℕ) → ((j : ℕ) (p : PlainRoutine) → slice_get ps j ≡ Some p → slice_get source.programs (n + j) ≡ Some p) → (w : World) (cells : PlainCells) → StandFor source cells w

@@ -37,7 +37,7 @@ use Rattle.block_frames.specs.Numbers.{variable_number, instance_number}
 use Rattle.block_frames.proofs.Fitting.{and_then_some, some_kind}
 
 module _ {A : Type 0} (p : A → Bool) where
-  within : (xs : List A) → list_any p xs ≡ true → position_or_len p xs < length xs
+  pub within : (xs : List A) → list_any p xs ≡ true → position_or_len p xs < length xs
   within [] any = absurd (cc)
   within (x ∷ xs) any =
       elim (cases_Bool (p x)) [
@@ -46,22 +46,22 @@ module _ {A : Type 0} (p : A → Bool) where
       ]
 
   -- what a list has has a place in it
-  placed_some : (xs : List A) → list_any p xs ≡ true → is_some (position p xs) ≡ true
+  pub placed_some : (xs : List A) → list_any p xs ≡ true → is_some (position p xs) ≡ true
   placed_some xs any =
       let less = within xs any in
       let is : nat_lt (position_or_len p xs) (length xs) ≡ true = grind (arith, nat_tests) in
       rw is refl
 
-any_later : {A B : Type 0} (p : B → Bool) (f : A → B) (ys xs : List A) → list_any p (map f xs) ≡ true → list_any p (map f (ys ++ xs)) ≡ true
+pub any_later : {A B : Type 0} (p : B → Bool) (f : A → B) (ys xs : List A) → list_any p (map f xs) ≡ true → list_any p (map f (ys ++ xs)) ≡ true
 any_later p f [] xs any = any
 any_later p f (y ∷ ys) xs any = or_right (p (f y)) (list_any p (map f (ys ++ xs))) (any_later p f ys xs any)
 
-kind_is : (s : Sort) (k : Kind) → sort_kind s ≡ Some k → s ≡ sort.Kind k
+pub kind_is : (s : Sort) (k : Kind) → sort_kind s ≡ Some k → s ≡ sort.Kind k
 kind_is (sort.Kind j) k is = let same : j ≡ k = cc in ap sort.Kind same
 kind_is (sort.Block word) k is = absurd (cc)
 
 -- what is found first passes
-first_is : {A : Type 0} (test : A → Bool) (xs : List A) (a : A) → first_that test xs ≡ Some a → test a ≡ true
+pub first_is : {A : Type 0} (test : A → Bool) (xs : List A) (a : A) → first_that test xs ≡ Some a → test a ≡ true
 first_is test [] a is = absurd (cc)
 first_is test (x ∷ xs) a is =
     elim (cases_Bool (test x)) [
@@ -69,7 +69,7 @@ first_is test (x ∷ xs) a is =
       | inr fails ↦ first_is test xs a (rw fails at is)
     ]
 
-first_passes : {A : Type 0} (test q : A → Bool) (xs : List A) (a : A) → list_all q xs ≡ true → first_that test xs ≡ Some a → q a ≡ true
+pub first_passes : {A : Type 0} (test q : A → Bool) (xs : List A) (a : A) → list_all q xs ≡ true → first_that test xs ≡ Some a → q a ≡ true
 first_passes test q [] a all is = absurd (cc)
 first_passes test q (x ∷ xs) a all is =
     let parts = and_parts (q x) (list_all q xs) all in
@@ -79,10 +79,10 @@ first_passes test q (x ∷ xs) a all is =
     ]
 
 module _ (name : List ℕ) where
-  abbrev has : List (List ℕ) → Bool
+  abbrev pub has : List (List ℕ) → Bool
   has words = list_any (bytes_eq (folded name)) words
 
-  local_here : (d : PlainDeclared) (k : Kind) (rest : List Local) → same_word d.name name ≡ true → is_external d.section ≡ false → d.sort ≡ sort.Kind k → has (own_words (local_of d ++ rest)) ≡ true
+  pub local_here : (d : PlainDeclared) (k : Kind) (rest : List Local) → same_word d.name name ≡ true → is_external d.section ≡ false → d.sort ≡ sort.Kind k → has (own_words (local_of d ++ rest)) ≡ true
   local_here d k rest same own kind = rw own (rw kind (or_left (same_word name d.name) (has (own_words rest)) (same_turned name d.name ∙ same)))
 
   -- a variable that is declared as a routine's own
@@ -139,15 +139,15 @@ module _ (name : List ℕ) where
         | inr isnt ↦ any_later (bytes_eq (folded name)) (λ (i : Instance). folded i.name) (instance_of names e) (flat_map (instance_of names) ds) (instances_have names ds d word (rw isnt at found) own of)
       ]
 
-own_first : (base : ℕ) (o q : Option ℕ) → is_some o ≡ true → is_some (own_or_global base o q) ≡ true
+pub own_first : (base : ℕ) (o q : Option ℕ) → is_some o ≡ true → is_some (own_or_global base o q) ≡ true
 own_first base None q there = absurd (cc)
 own_first base (Some i) q there = refl
 
-global_next : (base : ℕ) (o q : Option ℕ) → is_some q ≡ true → is_some (own_or_global base o q) ≡ true
+pub global_next : (base : ℕ) (o q : Option ℕ) → is_some q ≡ true → is_some (own_or_global base o q) ≡ true
 global_next base None q there = there
 global_next base (Some i) q there = refl
 
-not_false : (b : Bool) → not b ≡ false → b ≡ true
+pub not_false : (b : Bool) → not b ≡ false → b ≡ true
 not_false true is = refl
 not_false false is = absurd (cc)
 
@@ -161,7 +161,7 @@ module _ (units : List PlainUnit) (p : PlainPou) (fits : pou_misfit units p ≡ 
   abbrev source : Source
   source = source_in units
 
-  declared_all : list_all (declared_fits units own) own ≡ true
+  pub declared_all : list_all (declared_fits units own) own ≡ true
   declared_all = (and_parts (list_all (declared_fits units own) own) (all_fit (context_of units own) p.body) (not_false (list_all (declared_fits units own) own && all_fit (context_of units own) p.body) fits)).0
 
   local_numbered : (name : List ℕ) (d : PlainDeclared) (k : Kind) → find_declared own name ≡ Some d → is_external d.section ≡ false → sort_kind d.sort ≡ Some k → is_some (variable_number source r name) ≡ true
@@ -219,7 +219,7 @@ module _ (units : List PlainUnit) (p : PlainPou) (fits : pou_misfit units p ≡ 
   block_of d (sort.Kind k) there = absurd (cc)
   block_of d (sort.Block word) there = (word, refl)
 
-  not_external : (section : SectionKind) (e : Option (PlainExpr (List ℕ))) → instance_fits section e ≡ true → is_external section ≡ false
+  pub not_external : (section : SectionKind) (e : Option (PlainExpr (List ℕ))) → instance_fits section e ≡ true → is_external section ≡ false
   not_external sections.Local e fit = refl
   not_external sections.External e fit = absurd (cc)
   not_external sections.Input e fit = refl

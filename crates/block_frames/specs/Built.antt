@@ -1,7 +1,7 @@
 -- What the code builds of a routine by a table of what it knows of each block type.
-use Rattle.std.specs.Prelude.{◌≡◌, ◌<◌, ◌^◌, ℕ, ◌+◌, List, [], ◌∷◌, length, take, slice_get, Some}
+use Rattle.std.specs.Prelude.{◌≡◌, ◌<◌, ◌^◌, ℕ, ◌+◌, ◌==◌, ◌||◌, not, Bool, true, false, List, [], ◌∷◌, length, take, slice_get, Some}
+use Rattle.std.specs.List.{list_any}
 use Rattle.std.specs.Option.{option_map_or}
-use Rattle.st_tree.specs.Plain.{PlainBody}
 use Rattle.st_tree.specs.View.{view_body}
 use Rattle.block_order.specs.Chains.{Among}
 use Rattle.st_tree.specs.Mapping.{mapped_body}
@@ -10,6 +10,7 @@ use Rattle.plant_logic.specs.declared.logic.BlockRef.{BlockRef}
 use Rattle.plant_logic.specs.declared.logic.BlockRef.TheVariants.{Ton, Tof, RTrig, Declared}
 use Rattle.plant_logic.specs.Source.{PlainRoutine, Source}
 use Rattle.plant_logic.specs.Names.{meant_in}
+use Rattle.plant_logic.specs.Paths.{is_called}
 use Rattle.plant_logic.specs.Blocks.{HasItsTypes}
 use Rattle.plant_logic.specs.Layout.{cells_per_type, clocks_per_type}
 use Rattle.block_walk.specs.declared.clock.Standard.TheVariants as standard
@@ -18,11 +19,14 @@ use Rattle.block_walk.specs.declared.frame.SeatOf.TheVariants as seat_of
 use Rattle.block_walk.specs.declared.frame.Seat.{Seat}
 use Rattle.block_walk.specs.declared.frame.Frame.{Frame}
 use Rattle.block_walk.specs.Frames.{frame_paths, AreInTurn}
+use Rattle.block_walk.specs.Starts.{frame_has_starts, StartsAreMarked}
+use Rattle.block_walk.specs.Standards.{frame_standards, ClocksAreCounted}
 use Rattle.block_frames.specs.declared.seats.Extent.{Extent}
 use Rattle.block_frames.specs.declared.seats.Callee.{Callee}
 use Rattle.block_frames.specs.declared.names.Variables.{Variables}
 use Rattle.block_frames.specs.Numbers.{numbers}
-use Rattle.block_frames.specs.Frames.{place_in, IsFrame}
+use Rattle.block_frames.specs.Reached.{flagged, AreReached}
+use Rattle.block_frames.specs.Frames.{place_in, IsFrame, framed}
 use Rattle.block_frames.specs.Scoped.{AreVariables, AreMembers, global_names, global_kinds}
 
 abbrev pub extent : (values clocks paths : ℕ) → Extent
@@ -45,17 +49,34 @@ seated_by table Tof = seat_of.Standard standard.Tof
 seated_by table RTrig = seat_of.Standard standard.RTrig
 seated_by table (Declared n) = seat_of.Frame (option_map_or (λ (p : Callee). p.place) (slice_get table n) 0)
 
-abbrev pub seat_by : List Callee → Extent → Instance → Seat
-seat_by table at i = record { name = i.name; of = seated_by table i.of; values = at.values; clocks = at.clocks; paths = at.paths }
+-- what an instance adds to its routine: path numbers only if the routine calls it
+abbrev pub extent_called : (is_called : Bool) → Extent → Extent
+extent_called true e = e
+extent_called false e = extent e.values e.clocks 0
 
--- the seats of instances, from where the first begins, and where the last ends
-abbrev pub seats_by : List Callee → Extent → List Instance → List Seat
-seats_by table at [] = []
-seats_by table at (i ∷ is) = seat_by table at i ∷ seats_by table (plus at (extent_by table i.of)) is
+-- whether an instance has initial values below it, by a table
+abbrev pub starts_by : List Callee → BlockRef → Bool
+starts_by table Ton = false
+starts_by table Tof = false
+starts_by table RTrig = false
+starts_by table (Declared n) = option_map_or (λ (p : Callee). p.has_starts) (slice_get table n) false
 
-abbrev pub ends_by : List Callee → Extent → List Instance → Extent
-ends_by table at [] = at
-ends_by table at (i ∷ is) = ends_by table (plus at (extent_by table i.of)) is
+-- one of the instances has
+abbrev pub any_starts : List Callee → List Instance → Bool
+any_starts table is = list_any (λ (i : Instance). starts_by table i.of) is
+
+-- the seat of an instance at an extent
+abbrev pub seat_by : List Callee → (is_called : Bool) → Extent → Instance → Seat
+seat_by table is_called at i = record { name = i.name; of = seated_by table i.of; values = at.values; clocks = at.clocks; paths = at.paths; is_called = is_called }
+
+-- the seats of instances, from where the first begins, by the names that are called, and where the last ends
+abbrev pub seats_by : List Callee → (List ℕ → Bool) → Extent → List Instance → List Seat
+seats_by table called at [] = []
+seats_by table called at (i ∷ is) = seat_by table (called i.name) at i ∷ seats_by table called (plus at (extent_called (called i.name) (extent_by table i.of))) is
+
+abbrev pub ends_by : List Callee → (List ℕ → Bool) → Extent → List Instance → Extent
+ends_by table called at [] = at
+ends_by table called at (i ∷ is) = ends_by table called (plus at (extent_called (called i.name) (extent_by table i.of))) is
 
 -- where the first instance of a routine begins
 abbrev pub first_of : PlainRoutine → Extent
@@ -66,10 +87,6 @@ pub record AreOf (source : Source) (globals : Variables) (members : List Variabl
   pub globals_are : AreVariables (global_names source.globals) (global_kinds source.globals) globals
   pub members_are : AreMembers source.blocks members
 
--- a body over numbers is that of a routine of each source with these names and kinds
-abbrev pub IsNumberedBy : Variables → List Variables → PlainRoutine → PlainBody (List ℕ) → PlainBody ℕ → Type 0
-IsNumberedBy globals members r body flat = (source : Source) → AreOf source globals members → flat ≡ mapped_body (numbers source r) (meant_in source r body)
-
 -- a table knows a block type: how much it has, and the frame at its place
 pub record IsKnown (blocks : List PlainRoutine) (order : List ℕ) (frames : List Frame) (table : List Callee) (n : ℕ) : Type 0 where
   pub callee : Callee
@@ -79,36 +96,57 @@ pub record IsKnown (blocks : List PlainRoutine) (order : List ℕ) (frames : Lis
   pub place_is : callee.place ≡ place_in order n
   pub within : callee.place < length frames
   pub paths_is : callee.extent.paths ≡ length (frame_paths frames (length frames) callee.place)
+  pub starts_is : callee.has_starts ≡ frame_has_starts frames (length frames) callee.place
+  pub standards_is : callee.extent.clocks ≡ length (frame_standards frames (length frames) callee.place)
 
--- the first so many block types of an order have their frames, and the table knows them
-pub record AreBuilt (source : Source) (order : List ℕ) (k : ℕ) (frames : List Frame) (table : List Callee) : Type 0 where
+-- the first so many block types of an order have their frames, and the table knows those that are used
+pub record AreBuilt (source : Source) (order : List ℕ) (used run : List Bool) (k : ℕ) (frames : List Frame) (table : List Callee) : Type 0 where
   pub many : length frames ≡ k
   pub long : length table ≡ length source.blocks
-  pub known : (n : ℕ) → Among (take k order) n → IsKnown source.blocks order frames table n
-  pub of_blocks : (j n : ℕ) (r : PlainRoutine) (frame : Frame) → slice_get order j ≡ Some n → slice_get source.blocks n ≡ Some r → slice_get frames j ≡ Some frame → IsFrame source order r frame
+  pub known : (n : ℕ) → Among (take k order) n → flagged used n ≡ true → IsKnown source.blocks order frames table n
+  pub of_blocks : (j n : ℕ) (r : PlainRoutine) (frame : Frame) → slice_get order j ≡ Some n → slice_get source.blocks n ≡ Some r → slice_get frames j ≡ Some frame → flagged used n ≡ true → IsFrame source order (framed (flagged run n) r) frame
   pub in_turn : AreInTurn frames
+  pub marked : StartsAreMarked frames
+  pub counted : ClocksAreCounted frames
 
 -- a frame is what the code builds of a routine by a table, and an extent what it has
 pub record IsMade (source : Source) (table : List Callee) (r : PlainRoutine) (frame : Frame) (end : Extent) : Type 0 where
-  pub seats_are : frame.seats.items ≡ seats_by table (first_of r) r.instances
-  pub end_is : end ≡ ends_by table (first_of r) r.instances
+  pub seats_are : frame.seats.items ≡ seats_by table (is_called r) (first_of r) r.instances
+  pub end_is : end ≡ ends_by table (is_called r) (first_of r) r.instances
   pub few : end.paths < 2 ^ 32
   pub starts_are : view_body frame.starts.items ≡ mapped_body (numbers source r) (meant_in source r r.starts)
   pub body_is : view_body frame.body.items ≡ mapped_body (numbers source r) (meant_in source r r.body)
+  pub marked : frame.has_starts ≡ (not (length frame.starts.items == 0) || any_starts table r.instances)
+  pub counted : frame.clocks ≡ end.clocks
+
+-- a frame has nothing
+pub record IsBlank (frame : Frame) : Type 0 where
+  pub seats_are : frame.seats.items ≡ []
+  pub starts_are : frame.starts.items ≡ []
+  pub marked : frame.has_starts ≡ false
+  pub counted : frame.clocks ≡ 0
+
+-- the same for each source with these names and kinds, where the path numbers are of 32 bits
+abbrev pub AllMade : Variables → List Variables → List Callee → PlainRoutine → Frame → Extent → Type 0
+AllMade globals members table r frame end = (source : Source) → AreOf source globals members → end.paths < 2 ^ 32 → IsMade source table r frame end
 
 -- the same for each source with these names and kinds, and these block types
-abbrev pub AllBuilt : Variables → List Variables → List PlainRoutine → List ℕ → ℕ → List Frame → List Callee → Type 0
-AllBuilt globals members blocks order k frames table = (source : Source) → source.blocks ≡ blocks → AreOf source globals members → AreBuilt source order k frames table
+abbrev pub AllBuilt : Variables → List Variables → List PlainRoutine → List ℕ → (used run : List Bool) → ℕ → List Frame → List Callee → Type 0
+AllBuilt globals members blocks order used run k frames table =
+    (source : Source) → source.blocks ≡ blocks → AreOf source globals members → AreReached false source used → AreBuilt source order used run k frames table
 
 -- the frames of all block types of an order, and those of the first so many programs
-pub record AreBegun (source : Source) (order : List ℕ) (k : ℕ) (frames : List Frame) (table : List Callee) : Type 0 where
+pub record AreBegun (source : Source) (order : List ℕ) (used run : List Bool) (k : ℕ) (frames : List Frame) (table : List Callee) : Type 0 where
   pub many : length frames ≡ length order + k
-  pub known : (n : ℕ) → n < length source.blocks → IsKnown source.blocks order frames table n
-  pub of_blocks : (j n : ℕ) (r : PlainRoutine) (frame : Frame) → slice_get order j ≡ Some n → slice_get source.blocks n ≡ Some r → slice_get frames j ≡ Some frame → IsFrame source order r frame
+  pub known : (n : ℕ) → n < length source.blocks → flagged used n ≡ true → IsKnown source.blocks order frames table n
+  pub of_blocks : (j n : ℕ) (r : PlainRoutine) (frame : Frame) → slice_get order j ≡ Some n → slice_get source.blocks n ≡ Some r → slice_get frames j ≡ Some frame → flagged used n ≡ true → IsFrame source order (framed (flagged run n) r) frame
   pub of_programs : (j : ℕ) (p : PlainRoutine) (frame : Frame) → j < k → slice_get source.programs j ≡ Some p → slice_get frames (length order + j) ≡ Some frame → IsFrame source order p frame
   pub in_turn : AreInTurn frames
+  pub marked : StartsAreMarked frames
+  pub counted : ClocksAreCounted frames
 
 -- so many programs got their frames, for each source with these names and kinds, and these programs
 abbrev pub AllBegun : Variables → List Variables → List PlainRoutine → List Callee → List Frame → ℕ → List Frame → Type 0
 AllBegun globals members programs table before k frames =
-    (source : Source) (order : List ℕ) → source.programs ≡ programs → AreOf source globals members → HasItsTypes source → AreBegun source order 0 before table → AreBegun source order k frames table
+    (source : Source) (order : List ℕ) (used run : List Bool) → source.programs ≡ programs → AreOf source globals members → HasItsTypes source → AreReached false source used
+    → AreBegun source order used run 0 before table → AreBegun source order used run k frames table

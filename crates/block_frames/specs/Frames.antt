@@ -1,5 +1,6 @@
 -- The frames of a source: one for each block type in an order, and then one for each program.
-use Rattle.std.specs.Prelude.{◌≡◌, ℕ, ◌+◌, nat_eq, List, [], ◌∷◌, length, position, Some, slice_get, unwrap_or}
+use Rattle.std.specs.Prelude.{◌≡◌, ℕ, ◌+◌, nat_eq, Bool, true, false, List, [], ◌∷◌, length, position, Some, slice_get, unwrap_or}
+use Rattle.st_tree.specs.Plain.{done}
 use Rattle.st_tree.specs.View.{view_body}
 use Rattle.st_tree.specs.Mapping.{mapped_body}
 use Rattle.plant_logic.specs.declared.logic.Instance.{Instance}
@@ -7,6 +8,8 @@ use Rattle.plant_logic.specs.declared.logic.BlockRef.{BlockRef}
 use Rattle.plant_logic.specs.declared.logic.BlockRef.TheVariants.{Ton, Tof, RTrig, Declared}
 use Rattle.plant_logic.specs.Source.{PlainRoutine, Source}
 use Rattle.plant_logic.specs.Names.{meant_in}
+use Rattle.plant_logic.specs.Paths.{is_called}
+use Rattle.plant_logic.specs.Worlds.{globals_routine}
 use Rattle.plant_logic.specs.Seats.{value_count, clock_count, program_values_base, program_clocks_base}
 use Rattle.block_walk.specs.declared.clock.Standard.TheVariants as standard
 use Rattle.block_walk.specs.declared.frame.SeatOf.{SeatOf}
@@ -15,7 +18,10 @@ use Rattle.block_walk.specs.declared.frame.Seat.{Seat}
 use Rattle.block_walk.specs.declared.frame.Base.{Base}
 use Rattle.block_walk.specs.declared.frame.Frame.{Frame}
 use Rattle.block_walk.specs.Frames.{AreInTurn}
+use Rattle.block_walk.specs.Starts.{StartsAreMarked}
+use Rattle.block_walk.specs.Standards.{ClocksAreCounted}
 use Rattle.block_frames.specs.Numbers.{numbers}
+use Rattle.block_frames.specs.Reached.{flagged, AreReached}
 
 -- the place of a block type in an order; the place behind all of them if it isn't listed
 abbrev pub place_in : List ℕ → ℕ → ℕ
@@ -28,33 +34,53 @@ seated order Tof = seat_of.Standard standard.Tof
 seated order RTrig = seat_of.Standard standard.RTrig
 seated order (Declared n) = seat_of.Frame (place_in order n)
 
--- the seat of an instance: its name as declared, what it is of, and where its values and its standard blocks begin
-pub record IsSeat (order : List ℕ) (values clocks : ℕ) (i : Instance) (seat : Seat) : Type 0 where
+-- the seat of an instance of a routine: its name as declared, what it is of, where its values and its standard blocks begin, and whether the routine calls it
+pub record IsSeat (r : PlainRoutine) (order : List ℕ) (values clocks : ℕ) (i : Instance) (seat : Seat) : Type 0 where
   pub name_is : seat.name ≡ i.name
   pub of_is : seat.of ≡ seated order i.of
   pub values_is : seat.values ≡ values
   pub clocks_is : seat.clocks ≡ clocks
+  pub called_is : seat.is_called ≡ is_called r i.name
 
 -- the seats of instances, one after another: each begins where the one before it ends
-abbrev pub AreSeats : List PlainRoutine → List ℕ → (values clocks : ℕ) → List Instance → List Seat → Type 0
-AreSeats blocks order values clocks [] [] = Unit {0}
-AreSeats blocks order values clocks [] (seat ∷ seats) = ⊥
-AreSeats blocks order values clocks (i ∷ is) [] = ⊥
-AreSeats blocks order values clocks (i ∷ is) (seat ∷ seats) =
-    IsSeat order values clocks i seat × AreSeats blocks order (values + value_count blocks i.of) (clocks + clock_count blocks i.of) is seats
+abbrev pub AreSeats : List PlainRoutine → PlainRoutine → List ℕ → (values clocks : ℕ) → List Instance → List Seat → Type 0
+AreSeats blocks r order values clocks [] [] = Unit {0}
+AreSeats blocks r order values clocks [] (seat ∷ seats) = ⊥
+AreSeats blocks r order values clocks (i ∷ is) [] = ⊥
+AreSeats blocks r order values clocks (i ∷ is) (seat ∷ seats) =
+    IsSeat r order values clocks i seat × AreSeats blocks r order (values + value_count blocks i.of) (clocks + clock_count blocks i.of) is seats
 
 -- a frame is a routine's: its instances are its seats, whose values come after the routine's own variables, and its statements are those that are meant, with numbers for names
 pub record IsFrame (source : Source) (order : List ℕ) (r : PlainRoutine) (frame : Frame) : Type 0 where
-  pub seats_are : AreSeats source.blocks order (length r.locals) 0 r.instances frame.seats.items
+  pub seats_are : AreSeats source.blocks r order (length r.locals) 0 r.instances frame.seats.items
   pub starts_are : view_body frame.starts.items ≡ mapped_body (numbers source r) (meant_in source r r.starts)
   pub body_is : view_body frame.body.items ≡ mapped_body (numbers source r) (meant_in source r r.body)
 
--- a table has a frame for each block type in an order, and then one for each program, and the instances of each have their path numbers in turn
+-- a routine as a frame has it: without its body if nothing comes to call it
+abbrev pub framed : (is_run : Bool) → PlainRoutine → PlainRoutine
+framed true r = r
+framed false r = record { name = r.name; locals = r.locals; instances = r.instances; starts = r.starts; body = done }
+
+-- a table has a frame for each block type in an order, and then one for each program, and the instances of each have their path numbers in turn, and each is marked with what it has;
+-- the frame of a block type is of use if programs have instances of it, directly or through other block types, and has the body if they come to call it
 pub record IsFrames (source : Source) (order : List ℕ) (frames : List Frame) : Type 0 where
+  pub used : List Bool
+  pub run : List Bool
+  pub are_used : AreReached false source used
+  pub are_run : AreReached true source run
   pub whole : length frames ≡ length order + length source.programs
-  pub of_blocks : (k n : ℕ) (r : PlainRoutine) (frame : Frame) → slice_get order k ≡ Some n → slice_get source.blocks n ≡ Some r → slice_get frames k ≡ Some frame → IsFrame source order r frame
+  pub of_blocks : (k n : ℕ) (r : PlainRoutine) (frame : Frame) → slice_get order k ≡ Some n → slice_get source.blocks n ≡ Some r → slice_get frames k ≡ Some frame → flagged used n ≡ true → IsFrame source order (framed (flagged run n) r) frame
   pub of_programs : (k : ℕ) (p : PlainRoutine) (frame : Frame) → slice_get source.programs k ≡ Some p → slice_get frames (length order + k) ≡ Some frame → IsFrame source order p frame
   pub in_turn : AreInTurn frames
+  pub marked : StartsAreMarked frames
+  pub counted : ClocksAreCounted frames
+
+-- a frame is that of the globals' initial values, and a table of it alone is as tables are
+pub record IsStart (source : Source) (start : Frame) : Type 0 where
+  pub is_frame : (order : List ℕ) → IsFrame source order (globals_routine source) start
+  pub in_turn : AreInTurn (start ∷ [])
+  pub marked : StartsAreMarked (start ∷ [])
+  pub counted : ClocksAreCounted (start ∷ [])
 
 -- where the values and the standard blocks of a program begin
 abbrev pub program_base : Source → ℕ → Base

@@ -1,4 +1,5 @@
 pub mod Numbers
+pub mod Reached
 pub mod Frames
 pub mod Stands
 pub mod Opening

@@ -1,26 +1,33 @@
 //! The frames of a source.
 
-ghost use Rattle.std.specs.Prelude.{◌≡◌, ◌<◌, ◌^◌, false, map, IfOk, length};
+ghost use Rattle.std.specs.Prelude.{◌≡◌, ◌<◌, ◌^◌, true, false, map, IfOk, length};
 ghost use Rattle.std.specs.List.{All};
-ghost use Rattle.st_names.specs.Taken.{repeats};
 ghost use Rattle.st_tree.specs.View.{view_body};
 ghost use Rattle.plant_logic.specs.Source.{view_routine, source_of};
-ghost use Rattle.plant_logic.specs.Names.{instance_words};
 ghost use Rattle.plant_logic.specs.Blocks.{AreBelow, DeclaresThere, HasItsTypes};
 ghost use Rattle.plant_logic.specs.Layout.{AreNamedApart, IsDistinctlyNamed};
-ghost use Rattle.block_frames.specs.Scoped.{AreVariables, AreMembers, local_names, local_kinds, IsNumberedIn};
-ghost use Rattle.block_frames.specs.Frames.{IsFrames};
-ghost use Rattle.block_frames.specs.Built.{seats_by, ends_by, first_of, IsNumberedBy, AllBuilt, AllBegun};
+ghost use Rattle.block_frames.specs.Scoped.{AreMembers, IsNumberedIn};
+ghost use Rattle.block_frames.specs.Frames.{framed, IsFrames, IsStart};
+ghost use Rattle.block_frames.specs.Built.{AllMade, IsBlank, AllBuilt, AllBegun};
 
+use crate::called::called_in;
 use crate::names::{Variables, global_variables, instances_of, own_variables};
+use crate::reached::{flagged, reached};
 use crate::resolve::resolve_body;
 use crate::scope::Scope;
-use crate::seats::{Callee, Extent, seats_by};
+use crate::seats::{Callee, Extent, has_starts, seats_by};
 use block_walk::Frame;
 use plant_logic::{Logic, Routine, block_type_has_clocks, block_type_has_values};
 use plant_types::Text;
 use st_tree::Stmt;
 use std::alloc::{AllocError, Global};
+
+/// Nothing.
+const NOTHING: Extent = Extent {
+    values: 0,
+    clocks: 0,
+    paths: 0,
+};
 
 /// The variables of each block type. Fails if allocation fails.
 fn members_of(alloc: Global, blocks: &[Routine]) -> Result<Vec<Variables>, AllocError>
@@ -47,46 +54,81 @@ fn number_body(
     Ok(resolved)
 }
 
-/// The frame of a routine, and what it has. Fails if allocation fails.
+/// The statements that the frame of a routine has: those of its body, if something comes to call it.
+fn statements_of(routine: &Routine, is_run: bool) -> &[Stmt<Text>]
+    ensures { view_body result.now ≡ (framed is_run (view_routine routine.now)).body }
+{
+    if is_run { &routine.body } else { &[] }
+}
+
+/// The frame of a routine, without its body if nothing comes to call it, and what it has. Fails if allocation fails.
 fn frame_of(
     alloc: Global,
     globals: &Variables,
     members: &[Variables],
-    own: &Variables,
     table: &[Callee],
     routine: &Routine,
+    is_run: bool,
 ) -> Result<(Frame, Extent), AllocError>
-    requires apart { repeats (instance_words (view_routine routine.now).instances) ≡ false }
-    requires own { AreVariables (local_names (view_routine routine.now).locals) (local_kinds (view_routine routine.now).locals) own.now }
-    ensures seats { IfOk result (λ made. made.0.seats.items ≡ seats_by table.now (first_of (view_routine routine.now)) (view_routine routine.now).instances) }
-    ensures end { IfOk result (λ made. made.1 ≡ ends_by table.now (first_of (view_routine routine.now)) (view_routine routine.now).instances) }
+    requires { AreNamedApart (view_routine routine.now) }
     ensures few { IfOk result (λ made. made.1.paths < 2 ^ 32) }
-    ensures starts { IfOk result (λ made. IsNumberedBy globals.now members.now (view_routine routine.now) (view_routine routine.now).starts (view_body made.0.starts.items)) }
-    ensures body { IfOk result (λ made. IsNumberedBy globals.now members.now (view_routine routine.now) (view_routine routine.now).body (view_body made.0.body.items)) }
+    ensures made { IfOk result (λ made. AllMade globals.now members.now table.now (framed is_run (view_routine routine.now)) made.0 made.1) }
 {
+    let own = own_variables(alloc, &routine.locals)?;
     let instances = instances_of(alloc, &routine.instances)?;
     let scope = Scope {
         globals,
-        own,
+        own: &own,
         instances: &instances,
         members,
     };
+    let statements = statements_of(routine, is_run);
+    let called = called_in(alloc, statements)?;
     let first = Extent {
         values: routine.locals.len(),
         clocks: 0,
         paths: 1,
     };
-    let (seats, end) = seats_by(alloc, table, first, &routine.instances)?;
+    let (seats, end) = seats_by(alloc, table, &called, first, &routine.instances)?;
     let starts = number_body(alloc, &scope, &routine.starts)?;
-    let body = number_body(alloc, &scope, &routine.body)?;
-    Ok((
-        Frame {
-            seats,
-            starts,
-            body,
-        },
-        end,
-    ))
+    let body = number_body(alloc, &scope, statements)?;
+    let has_starts = has_starts(table, &starts, &routine.instances);
+    let frame = Frame {
+        seats,
+        starts,
+        body,
+        has_starts,
+        clocks: end.clocks,
+    };
+    Ok((frame, end))
+}
+
+/// The frame of a block type, and what it has: nothing, if no program uses it. Fails if allocation fails.
+fn frame_of_block(
+    alloc: Global,
+    globals: &Variables,
+    members: &[Variables],
+    table: &[Callee],
+    block: &Routine,
+    is_used: bool,
+    is_run: bool,
+) -> Result<(Frame, Extent), AllocError>
+    requires { AreNamedApart (view_routine block.now) }
+    ensures few { IfOk result (λ made. made.1.paths < 2 ^ 32) }
+    ensures used { IfOk result (λ made. is_used ≡ true → AllMade globals.now members.now table.now (framed is_run (view_routine block.now)) made.0 made.1) }
+    ensures unused { IfOk result (λ made. is_used ≡ false → IsBlank made.0) }
+{
+    if is_used {
+        return frame_of(alloc, globals, members, table, block, is_run);
+    }
+    let frame = Frame {
+        seats: Vec::new(alloc),
+        starts: Vec::new(alloc),
+        body: Vec::new(alloc),
+        has_starts: false,
+        clocks: 0,
+    };
+    Ok((frame, NOTHING))
 }
 
 /// Room for what is known of so many block types. Fails if allocation fails.
@@ -94,12 +136,9 @@ fn make_table(alloc: Global, count: usize) -> Result<Vec<Callee>, AllocError>
     ensures { IfOk result (λ table. length table.items ≡ count) }
 {
     let none = Callee {
-        extent: Extent {
-            values: 0,
-            clocks: 0,
-            paths: 0,
-        },
+        extent: NOTHING,
         place: 0,
+        has_starts: false,
     };
     let table = vec![in alloc; none; count]?;
     Ok(table)
@@ -112,12 +151,13 @@ fn frames_of_blocks(
     globals: &Variables,
     members: &[Variables],
     order: &[usize],
+    used: &[bool],
+    run: &[bool],
 ) -> Result<(Vec<Frame>, Vec<Callee>), AllocError>
     requires below { AreBelow (map view_routine blocks.now) order.now }
     requires types { All (DeclaresThere (map view_routine blocks.now)) (map view_routine blocks.now) }
     requires apart { All AreNamedApart (map view_routine blocks.now) }
-    requires members { AreMembers (map view_routine blocks.now) members.now }
-    ensures { IfOk result (λ made. AllBuilt globals.now members.now (map view_routine blocks.now) order.now (length order.now) made.0.items made.1.items) }
+    ensures { IfOk result (λ made. AllBuilt globals.now members.now (map view_routine blocks.now) order.now used.now run.now (length order.now) made.0.items made.1.items) }
 {
     block_type_has_values();
     block_type_has_clocks();
@@ -125,9 +165,18 @@ fn frames_of_blocks(
     let mut frames = Vec::new(alloc);
     for number in order {
         let place = frames.len();
-        let own = &members[*number];
-        let (frame, extent) = frame_of(alloc, globals, members, own, &table, &blocks[*number])?;
-        table[*number] = Callee { extent, place };
+        let is_used = flagged(used, *number);
+        let is_run = flagged(run, *number);
+        let block = &blocks[*number];
+        let (frame, extent) = frame_of_block(
+            alloc, globals, members, &table, block, is_used, is_run,
+        )?;
+        let has_starts = frame.has_starts;
+        table[*number] = Callee {
+            extent,
+            place,
+            has_starts,
+        };
         frames.push(frame)?;
     }
     Ok((frames, table))
@@ -146,8 +195,7 @@ fn add_programs(
     ensures { IfOk result (λ _. AllBegun globals.now members.now (map view_routine programs.now) table.now frames.old.items (length programs.now) frames.new.items) }
 {
     for program in programs {
-        let own = own_variables(alloc, &program.locals)?;
-        let (frame, _) = frame_of(alloc, globals, members, &own, table, program)?;
+        let (frame, _) = frame_of(alloc, globals, members, table, program, true)?;
         frames.push(frame)?;
     }
     Ok(())
@@ -169,7 +217,35 @@ pub fn frames_of(alloc: Global, logic: &Logic, order: &[usize]) -> Result<Vec<Fr
     let globals = global_variables(alloc, &logic.globals)?;
     let members = members_of(alloc, blocks)?;
     let known = members.as_slice();
-    let (mut frames, table) = frames_of_blocks(alloc, blocks, &globals, known, order)?;
+    let used = reached(alloc, false, programs, blocks, order)?;
+    let run = reached(alloc, true, programs, blocks, order)?;
+    let (mut frames, table) = frames_of_blocks(alloc, blocks, &globals, known, order, &used, &run)?;
     add_programs(alloc, programs, &globals, known, &table, &mut frames)?;
     Ok(frames)
+}
+
+/// The frame of the globals' initial values, as `block_walk` assigns them. Fails if allocation fails.
+pub fn start_of(alloc: Global, logic: &Logic) -> Result<Frame, AllocError>
+    requires { IsDistinctlyNamed (source_of logic.now) }
+    ensures { IfOk result (IsStart (source_of logic.now)) }
+{
+    let globals = global_variables(alloc, &logic.globals)?;
+    let members = members_of(alloc, logic.blocks.as_slice())?;
+    let own = own_variables(alloc, &[])?;
+    let instances = instances_of(alloc, &[])?;
+    let scope = Scope {
+        globals: &globals,
+        own: &own,
+        instances: &instances,
+        members: &members,
+    };
+    let starts = number_body(alloc, &scope, &logic.starts)?;
+    let has_starts = has_starts(&[], &starts, &[]);
+    Ok(Frame {
+        seats: Vec::new(alloc),
+        starts,
+        body: Vec::new(alloc),
+        has_starts,
+        clocks: 0,
+    })
 }

@@ -1,6 +1,7 @@
 //! Laws of frames. These functions do nothing: each has a law as its contract, for the crates above.
 
-ghost use Rattle.std.specs.Prelude.{◌≡◌, ◌+◌, ◌∷◌, [], ℕ, Bool, true, false, List, length, Option, Some, is_some, slice_get};
+ghost use Rattle.std.specs.Prelude.{◌≡◌, ◌+◌, ◌∷◌, [], ℕ, Bool, true, false, List, length, map, Option, Some, is_some, slice_get};
+ghost use Rattle.plant_types.specs.Words.{folded};
 ghost use Rattle.plant_types.specs.declared.values.Kind.{Kind};
 ghost use Rattle.st_tree.specs.Alike.{Agree};
 ghost use Rattle.st_tree.specs.Every.{every};
@@ -12,18 +13,22 @@ ghost use Rattle.st_names.specs.DeclaredNames.{PlainDeclared, declared_in, sort_
 ghost use Rattle.st_names.specs.Scopes.{variable_kind, instance_type, is_control};
 ghost use Rattle.st_names.specs.Shared.{global_named};
 ghost use Rattle.st_typing.specs.Kinds.{pou_misfit};
+ghost use Rattle.st_typing.specs.Faults.{AreTyped};
 ghost use Rattle.plant_logic.specs.Pous.{block_names};
 ghost use Rattle.plant_logic.specs.Units.{routine_of, source_in};
 ghost use Rattle.plant_logic.specs.Source.{PlainRoutine, Source};
 ghost use Rattle.plant_logic.specs.Blocks.{AreBelow, HasItsTypes};
-ghost use Rattle.plant_logic.specs.Layout.{IsDistinctlyNamed};
+ghost use Rattle.plant_logic.specs.Paths.{paths_rule, type_paths};
+ghost use Rattle.plant_logic.specs.Layout.{ClockAt, clocks_rule, routine_clocks, IsDistinctlyNamed};
 ghost use Rattle.plant_logic.specs.Worlds.{World, run_program, globals_routine, opening};
 ghost use Rattle.block_walk.specs.declared.frame.Frame.{Frame};
 ghost use Rattle.block_walk.specs.Cells.{PlainCells};
+ghost use Rattle.block_walk.specs.Frames.{frame_paths};
+ghost use Rattle.block_walk.specs.Standards.{frame_standards};
 ghost use Rattle.block_walk.specs.Walks.{run_frame};
 ghost use Rattle.block_frames.specs.Numbers.{variable_number, instance_number, HasAllNames};
 ghost use Rattle.block_frames.specs.Frames.{IsFrame, IsFrames, program_base};
-ghost use Rattle.block_frames.specs.Stands.{StandFor};
+ghost use Rattle.block_frames.specs.Stands.{standard_of, StandFor};
 ghost use Rattle.block_frames.specs.Opening.{opening_cells};
 
 /// The frame of a program does in cells what the program does in the world that they stand for: it ends, or traps by the same statement of
@@ -72,4 +77,23 @@ pub fn variables_have_numbers()
 pub fn instances_have_numbers()
     ensures { (units : List PlainUnit) (p : PlainPou) → pou_misfit units p ≡ false → ((name : List ℕ) (d : PlainDeclared) → global_named units name ≡ Some d → is_some (sort_kind d.sort) ≡ true)
         → (name : List ℕ) → is_some (instance_type units (declared_in p.sections) name) ≡ true → is_some (instance_number (routine_of (block_names units) p) name) ≡ true }
+{}
+
+/// Each name in the routines of well-formed units, and in the initial values of their globals, has a number.
+pub fn typed_names_are_known()
+    ensures { (units : List PlainUnit) → AreTyped units → HasAllNames (source_in units) }
+{}
+
+/// The paths of a program's frame by their numbers are those at which the program's statements run, those below each instance that it calls
+/// after its own.
+pub fn frames_have_paths()
+    ensures { (source : Source) (order : List ℕ) (frames : List Frame) → IsFrames source order frames → AreBelow source.blocks order → HasItsTypes source
+        → (n : ℕ) (p : PlainRoutine) → slice_get source.programs n ≡ Some p → frame_paths frames (length frames) (length order + n) ≡ paths_rule (type_paths source.blocks) p }
+{}
+
+/// The standard blocks of a program's frame are those of the program, in order.
+pub fn frames_have_standards()
+    ensures { (source : Source) (order : List ℕ) (frames : List Frame) → IsFrames source order frames → AreBelow source.blocks order → HasItsTypes source
+        → (n : ℕ) (p : PlainRoutine) → slice_get source.programs n ≡ Some p
+        → frame_standards frames (length frames) (length order + n) ≡ map (λ (c : ClockAt). standard_of c.of) (clocks_rule (routine_clocks source.blocks) p (folded p.name ∷ [])) }
 {}

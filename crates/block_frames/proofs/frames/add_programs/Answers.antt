@@ -1,42 +1,34 @@
-use Rattle.std.proofs.Common.{◌∙◌, ap, map}
+use Rattle.std.proofs.Common.{◌≡◌, ◌∙◌, ap, subst, map, length, arith}
 use Rattle.std.specs.Prelude.{slice_get}
-use Rattle.st_names.specs.Taken.{repeats}
 use Rattle.plant_logic.specs.Source.{view_routine}
-use Rattle.plant_logic.specs.Names.{own_words, instance_words}
 use Rattle.plant_logic.specs.Blocks.{DeclaresThere}
 use Rattle.plant_logic.specs.Layout.{AreNamedApart}
-use Rattle.plant_logic.proofs.Layouts.{all_at, later_apart}
-use Rattle.block_frames.proofs.Built.{earlier_apart, routine_at}
+use Rattle.plant_logic.proofs.Layouts.{all_at}
+use Rattle.block_frames.specs.Built.{AreBegun}
+use Rattle.block_frames.proofs.Built.{routine_at}
 use Rattle.block_frames.proofs.Programs.{begun_more}
 use Rattle.block_frames.proofs.frames.add_programs.Goals as goal
 
-pub own_variables-requires : goal.own_variables-requires
-own_variables-requires c =
+pub frame_of-requires : goal.frame_of-requires
+frame_of-requires c =
     let programs = c.args.programs.now in
     let program = c.program-item.result in
     let k = c.loop-program.program-index in
-    ap (λ l. repeats (own_words l)) c.deref.ensures.value ∙ earlier_apart (own_words program.locals.items) (instance_words program.instances.items) (all_at AreNamedApart (map view_routine programs) k (view_routine program) c.requires (routine_at programs k program c.loop-program-test.true c.program-item.is))
-
-pub frame_of-requires-clause-apart : goal.frame_of-requires-clause-apart
-frame_of-requires-clause-apart c =
-    let programs = c.args.programs.now in
-    let program = c.program-item.result in
-    let k = c.loop-program.program-index in
-    later_apart (own_words program.locals.items) (instance_words program.instances.items) (all_at AreNamedApart (map view_routine programs) k (view_routine program) c.requires (routine_at programs k program c.loop-program-test.true c.program-item.is))
+    all_at AreNamedApart (map view_routine programs) k (view_routine program) c.requires (routine_at programs k program c.loop-program-test.true c.program-item.is)
 
 pub loop-program-preserved : goal.loop-program-preserved
-loop-program-preserved c = λ source order same of types none.
+loop-program-preserved c = λ source order used run same of types are_used none.
     let programs = c.args.programs.now in
     let program = c.program-item.result in
     let p = view_routine program in
     let k = c.loop-program.program-index in
     let at = ap (λ ps. slice_get ps k) same ∙ routine_at programs k program c.loop-program-test.true c.program-item.is in
-    begun_more source order k p c.loop-program.frames.items c.push.new.self.items c.args.table.now c.in_ok-frame.frame c.in_ok-frame.field-0-1 (c.loop-program.invariant source order same of types none) at (all_at (DeclaresThere source.blocks) source.programs k p types.in_programs at)
-    (record {
-      seats_are = c.in_ok-frame.ensures.seats;
-      end_is = c.in_ok-frame.ensures.end;
-      few = c.in_ok-frame.ensures.few;
-      starts_are = c.in_ok-frame.ensures.starts source of;
-      body_is = c.in_ok-frame.ensures.body source of;
-    })
-    c.in_ok-push.ensures.items
+    begun_more source order used run are_used k p c.loop-program.frames.items c.push.new.self.items c.args.table.now c.in_ok-frame.frame c.in_ok-frame.field-0-1 (c.loop-program.invariant source order used run same of types are_used none) at
+    (all_at (DeclaresThere source.blocks) source.programs k p types.in_programs at) (c.in_ok-frame.ensures.made source of c.in_ok-frame.ensures.few) c.in_ok-push.ensures.items
+
+pub returns : goal.returns
+returns c = λ source order used run same of types are_used none.
+    let past = c.loop-program-test.false in
+    let most = c.loop-program.auto.program-index-end in
+    let whole : c.loop-program.program-index ≡ length c.args.programs.now = omega (arith, past, most) in
+    subst (λ n. AreBegun source order used run n c.loop-program.frames.items c.args.table.now) whole (c.loop-program.invariant source order used run same of types are_used none)

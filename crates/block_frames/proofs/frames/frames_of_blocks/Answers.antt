@@ -1,33 +1,16 @@
-use Rattle.std.proofs.Common.{◌≡◌, ◌∙◌, ◌<◌, ap, sym, subst, length, map, get_or, set, Some, rules, arith, ◌∷◌, []}
+use Rattle.std.proofs.Common.{◌≡◌, ◌∙◌, ◌<◌, ap, sym, subst, length, map, get_or, set, rules, arith, ◌∷◌, []}
 use Rattle.std.specs.Prelude.{slice_get}
 use Rattle.std.proofs.lemmas.List.{length-map, length-append, length-set}
 use Rattle.std.proofs.lemmas.Option.{slice_get-get_or}
 use Rattle.plant_logic.specs.Source.{view_routine}
-use Rattle.plant_logic.specs.Names.{own_words, instance_words}
 use Rattle.plant_logic.specs.Blocks.{AreBelow, DeclaresThere}
 use Rattle.plant_logic.specs.Layout.{AreNamedApart}
-use Rattle.plant_logic.proofs.Layouts.{all_at, later_apart}
-use Rattle.block_frames.specs.Built.{seats_by, ends_by, first_of, AreBuilt}
-use Rattle.block_frames.proofs.Scopes.{members_long, members_each}
+use Rattle.plant_logic.proofs.Layouts.{all_at}
+use Rattle.block_frames.specs.Frames.{framed}
+use Rattle.block_frames.specs.Built.{IsMade, AreBuilt}
 use Rattle.block_frames.proofs.Built.{routine_at}
-use Rattle.block_frames.proofs.Tables.{built_more, listed}
+use Rattle.block_frames.proofs.Tables.{built_none, built_more, listed}
 use Rattle.block_frames.proofs.frames.frames_of_blocks.Goals as goal
-
-pub offset_bounds-members-number : goal.offset_bounds-members-number
-offset_bounds-members-number c =
-    let blocks = map view_routine c.args.blocks.now in
-    let a = get_or c.args.order.now c.loop-number.number-index 0 in
-    let l = listed blocks c.args.order.now c.requires.below c.loop-number.number-index c.loop-number-test.true in
-    let m = members_long blocks c.args.members.now c.requires.members in
-    let less : a < length c.args.members.now = omega (arith, l, m) in
-    search rules
-
-pub bounds-members-number : goal.bounds-members-number
-bounds-members-number c =
-    let blocks = map view_routine c.args.blocks.now in
-    let l = listed blocks c.args.order.now c.requires.below c.loop-number.number-index c.loop-number-test.true in
-    let m = members_long blocks c.args.members.now c.requires.members in
-    omega (arith, l, m)
 
 pub offset_bounds-blocks-number : goal.offset_bounds-blocks-number
 offset_bounds-blocks-number c =
@@ -43,29 +26,15 @@ bounds-blocks-number c =
     let m = length-map c.args.blocks.now view_routine in
     omega (arith, l, m)
 
-pub frame_of-requires-clause-apart : goal.frame_of-requires-clause-apart
-frame_of-requires-clause-apart c =
+pub frame_of_block-requires : goal.frame_of_block-requires
+frame_of_block-requires c =
     let blocks = c.args.blocks.now in
     let block = c.index-blocks-number.result in
     let a = get_or c.args.order.now c.loop-number.number-index 0 in
     let l = listed (map view_routine blocks) c.args.order.now c.requires.below c.loop-number.number-index c.loop-number-test.true in
     let m = length-map blocks view_routine in
     let less : a < length blocks = omega (arith, l, m) in
-    later_apart (own_words block.locals.items) (instance_words block.instances.items) (all_at AreNamedApart (map view_routine blocks) a (view_routine block) c.requires.apart (routine_at blocks a block less c.index-blocks-number.is))
-
-pub frame_of-requires-clause-own : goal.frame_of-requires-clause-own
-frame_of-requires-clause-own c =
-    let blocks = c.args.blocks.now in
-    let members = c.args.members.now in
-    let block = c.index-blocks-number.result in
-    let v = c.index-members-number.result in
-    let a = get_or c.args.order.now c.loop-number.number-index 0 in
-    let l = listed (map view_routine blocks) c.args.order.now c.requires.below c.loop-number.number-index c.loop-number-test.true in
-    let m = length-map blocks view_routine in
-    let n = members_long (map view_routine blocks) members c.requires.members in
-    let less : a < length blocks = omega (arith, l, m) in
-    let less' : a < length members = omega (arith, l, n) in
-    members_each (map view_routine blocks) members c.requires.members a (view_routine block) v (routine_at blocks a block less c.index-blocks-number.is) (slice_get-get_or members a v less' ∙ ap Some (sym c.index-members-number.is))
+    all_at AreNamedApart (map view_routine blocks) a (view_routine block) c.requires.apart (routine_at blocks a block less c.index-blocks-number.is)
 
 pub index_mut-requires : goal.index_mut-requires
 index_mut-requires c =
@@ -76,11 +45,22 @@ index_mut-requires c =
     let less : a < length c.loop-number.table.items = omega (arith, l, m, long) in
     search rules
 
+pub loop-number-init : goal.loop-number-init
+loop-number-init c =
+    let frames = c.new-frames.ensures.items in
+    let long = c.in_ok-table.ensures in
+    record {
+      many = ap length frames;
+      long = long;
+      built = λ source same of are_used. built_none source c.args.order.now c.args.used.now c.args.run.now _ c.in_ok-table.table.items frames (long ∙ sym (length-map c.args.blocks.now view_routine) ∙ ap length (sym same));
+    }
+
 pub loop-number-preserved : goal.loop-number-preserved
 loop-number-preserved c =
-    let blocks = c.args.blocks.now in
-    let plain = map view_routine blocks in
+    let plain = map view_routine c.args.blocks.now in
     let order = c.args.order.now in
+    let used = c.args.used.now in
+    let run = c.args.run.now in
     let k = c.loop-number.number-index in
     let a = get_or order k 0 in
     let frames = c.loop-number.frames.items in
@@ -90,36 +70,32 @@ loop-number-preserved c =
     let block = c.index-blocks-number.result in
     let r = view_routine block in
     let l = listed plain order c.requires.below k c.loop-number-test.true in
-    let m = length-map blocks view_routine in
-    let less : a < length blocks = omega (arith, l, m) in
-    let there = routine_at blocks a block less c.index-blocks-number.is in
+    let m = length-map c.args.blocks.now view_routine in
+    let less : a < length c.args.blocks.now = omega (arith, l, m) in
+    let there = routine_at c.args.blocks.now a block less c.index-blocks-number.is in
     let pushed = c.in_ok-push.ensures.items in
     let more = ap length pushed in
     let sum = length-append frames (frame ∷ []) in
     let many = c.loop-number.invariant.many in
+    let is_used = c.flagged-is_used.ensures in
+    let is_run = c.flagged-is_run.ensures in
     let place : c.len-place.result ≡ k = let e = c.len-place.ensures in omega (arith, e, many) in
     record {
       many = omega (arith, more, sum, many);
-      long = length-set table a (record { extent = end; place = c.len-place.result }) ∙ c.loop-number.invariant.long;
-      built = λ source same of.
+      long = length-set table a (record { extent = end; place = c.len-place.result; has_starts = frame.has_starts }) ∙ c.loop-number.invariant.long;
+      built = λ source same of are_used.
           let below = subst (λ bs. AreBelow bs order) (sym same) c.requires.below in
-          built_more source order below (λ n p is. c.block_type_has_values.ensures source.blocks order n p below is) (λ n p is. c.block_type_has_clocks.ensures source.blocks order n p below is)
-          k a r frames c.push.new.self.items table (set table a (record { extent = end; place = c.len-place.result })) frame end (c.loop-number.invariant.built source same of)
+          built_more source order used run below are_used (λ n p is. c.block_type_has_values.ensures source.blocks order n p below is) (λ n p is. c.block_type_has_clocks.ensures source.blocks order n p below is)
+          k a r frames c.push.new.self.items table (set table a (record { extent = end; place = c.len-place.result; has_starts = frame.has_starts })) frame end (c.loop-number.invariant.built source same of are_used)
           (slice_get-get_or order k 0 c.loop-number-test.true) (ap (λ bs. slice_get bs a) same ∙ there)
           (λ n declares. subst (λ bs. n < length bs) (sym same) (all_at (DeclaresThere plain) plain a r c.requires.types there n declares))
-          (record {
-            seats_are = c.in_ok-frame.ensures.seats ∙ ap (λ t. seats_by t (first_of r) r.instances) c.deref.ensures.value;
-            end_is = c.in_ok-frame.ensures.end ∙ ap (λ t. ends_by t (first_of r) r.instances) c.deref.ensures.value;
-            few = c.in_ok-frame.ensures.few;
-            starts_are = c.in_ok-frame.ensures.starts source of;
-            body_is = c.in_ok-frame.ensures.body source of;
-          })
-          pushed (ap (λ p. set table a (record { extent = end; place = p })) place);
+          (λ on. subst (λ b. IsMade source table (framed b r) frame end) is_run (subst (λ t. IsMade source t (framed c.flagged-is_run.result r) frame end) c.deref.ensures.value (c.in_ok-frame.ensures.used (is_used ∙ on) source of c.in_ok-frame.ensures.few)))
+          (λ off. c.in_ok-frame.ensures.unused (is_used ∙ off)) pushed (ap (λ p. set table a (record { extent = end; place = p; has_starts = frame.has_starts })) place);
     }
 
 pub returns : goal.returns
-returns c = λ source same of.
+returns c = λ source same of are_used.
     let past = c.loop-number-test.false in
     let most = c.loop-number.auto.number-index-end in
     let whole : c.loop-number.number-index ≡ length c.args.order.now = omega (arith, past, most) in
-    subst (λ n. AreBuilt source c.args.order.now n c.loop-number.frames.items c.loop-number.table.items) whole (c.loop-number.invariant.built source same of)
+    subst (λ n. AreBuilt source c.args.order.now c.args.used.now c.args.run.now n c.loop-number.frames.items c.loop-number.table.items) whole (c.loop-number.invariant.built source same of are_used)

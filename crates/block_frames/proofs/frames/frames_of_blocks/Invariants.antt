@@ -8,5 +8,5 @@ abbrev pub invariant-loop-number : goal.invariant-loop-number
 invariant-loop-number l = record {
   many : length l.frames.items ≡ l.number-index;
   long : length l.table.items ≡ length l.blocks;
-  built : AllBuilt l.globals l.members (map view_routine l.blocks) l.order l.number-index l.frames.items l.table.items;
+  built : AllBuilt l.globals l.members (map view_routine l.blocks) l.order l.used l.run l.number-index l.frames.items l.table.items;
 }
