@@ -1,0 +1,10 @@
+pub mod Small
+pub mod Standing
+pub mod Ranges
+mod Counted
+mod Bases
+mod Numbered
+mod Placed
+mod Found
+mod Started
+mod Walks

@@ -1,0 +1,13 @@
+use Rattle.std.proofs.Common.{◌∙◌, ap}
+use Rattle.std.proofs.lemmas.List.{take_all}
+use Rattle.plant_logic.specs.declared.logic.Variable.{Variable}
+use Rattle.block_frames.proofs.Growing.{names_more}
+use Rattle.plant_walk.specs.Framed.{global_names}
+use Rattle.plant_walk.proofs.names.global_names.Goals as goal
+
+pub loop-global-preserved : goal.loop-global-preserved
+loop-global-preserved c =
+    names_more (λ (x : Variable). x.name) c.args.globals.now c.loop-global.global-index c.global-item.result c.loop-global-test.true c.global-item.is c.loop-global.names c.add.new.self c.in_ok-_is_new._is_new c.requires c.loop-global.invariant (rw c.as_str.ensures at c.in_ok-_is_new.ensures.added) (rw c.as_str.ensures at c.in_ok-_is_new.ensures.names)
+
+pub returns : goal.returns
+returns c = c.loop-global.invariant ∙ ap global_names (take_all c.loop-global.global-index c.args.globals.now c.loop-global-test.false)

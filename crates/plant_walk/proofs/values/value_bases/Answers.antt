@@ -1,0 +1,55 @@
+use Rattle.std.proofs.Common.{◌≡◌, ◌∙◌, ◌<◌, ◌+◌, ◌++◌, ◌∷◌, [], ap, subst, length, map, get_or, arith}
+use Rattle.std.proofs.lemmas.List.{length-map}
+use Rattle.plant_logic.specs.Source.{view_routine, source_of}
+use Rattle.plant_logic.specs.Seats.{program_values_base}
+use Rattle.plant_walk.specs.Bases.{stopped, value_count, numbers_in, AreBases, AreCounted}
+use Rattle.plant_walk.proofs.Bases.{bases_none, bases_more, values_begin, values_next}
+use Rattle.plant_walk.proofs.Counted.{routine_at, program_counted}
+use Rattle.plant_walk.proofs.values.value_bases.Goals as goal
+
+pub loop-program-init : goal.loop-program-init
+loop-program-init c =
+    let source = source_of c.args.logic.now in
+    let is = c.len-at.ensures in
+    let ok = c.args.logic.now.globals.ok in
+    let first = values_begin source in
+    let begins : c.len-at.result ≡ program_values_base source 0 = omega (arith, is, ok.0, first) in
+    record {
+      at_is = begins;
+      so_far = bases_none (program_values_base source) c.push.new.self.items c.len-at.result (c.in_ok-push.ensures.items ∙ ap (λ l. l ++ c.len-at.result ∷ []) c.new-row.ensures.items) begins;
+    }
+
+pub loop-program-preserved : goal.loop-program-preserved
+loop-program-preserved c =
+    let logic = c.args.logic.now in
+    let source = source_of logic in
+    let k = c.loop-program.program-index in
+    let routine = c.program-item.result in
+    let p = view_routine routine in
+    let row = c.in_ok-counts.counts.items in
+    let items = c.deref-program-items.ensures.value in
+    let within : k < length logic.programs.items = let e = ap length items in let less = c.loop-program-test.true in omega (arith, e, less) in
+    let at = routine_at logic.programs.items k routine within (c.program-item.is ∙ ap (λ l. get_or l k routine) items) in
+    let counted = subst (λ bs. AreCounted (map view_routine bs) row) c.deref.ensures.value c.in_ok-counts.ensures in
+    let told = c.in_ok-at.ensures in
+    let count_is = c.value_count.ensures ∙ ap (λ l. stopped (value_count (numbers_in l) p)) c.deref-in-loop-program.ensures.value in
+    let count = program_counted source.blocks row p c.value_count.result counted count_is told.1 in
+    let before = c.loop-program.invariant.at_is in
+    let next = values_next source k p at in
+    let here = told.0 in
+    let now : c.in_ok-at.at ≡ program_values_base source (k + 1) = omega (arith, here, count, before, next) in
+    record {
+      at_is = now;
+      so_far = bases_more (program_values_base source) k c.loop-program.row.items c.push-in-loop-program.new.self.items c.in_ok-at.at c.loop-program.invariant.so_far now c.in_ok-push-2.ensures.items;
+    }
+
+pub returns : goal.returns
+returns c =
+    let logic = c.args.logic.now in
+    let source = source_of logic in
+    let items = ap length c.deref-program-items.ensures.value in
+    let past = c.loop-program-test.false in
+    let end = c.loop-program.auto.program-index-end in
+    let long = length-map logic.programs.items view_routine in
+    let whole : c.loop-program.program-index ≡ length source.programs = omega (arith, items, past, end, long) in
+    subst (λ n. AreBases (program_values_base source) n c.loop-program.row.items) whole c.loop-program.invariant.so_far

@@ -1,0 +1,40 @@
+-- A source made ready to run.
+use Rattle.std.specs.Prelude.{◌≡◌, ◌<◌, ◌^◌, ℕ, List, [], ◌∷◌, map, length}
+use Rattle.plant_logic.specs.declared.logic.Variable.{Variable}
+use Rattle.plant_logic.specs.Source.{Source}
+use Rattle.plant_logic.specs.Blocks.{AreBelow}
+use Rattle.plant_logic.specs.Layout.{ClockAt, all_clocks}
+use Rattle.plant_logic.specs.Seats.{program_values_base, program_clocks_base}
+use Rattle.block_walk.specs.declared.clock.Standard.{Standard}
+use Rattle.block_walk.specs.declared.frame.Frame.{Frame}
+use Rattle.block_frames.specs.Frames.{IsFrames, IsStart}
+use Rattle.block_frames.specs.Stands.{standard_of}
+use Rattle.plant_walk.specs.Sound.{IsSound}
+use Rattle.plant_walk.specs.Bases.{program_paths_base, AreBases}
+
+-- the names of globals as declared, in order
+abbrev pub global_names : List Variable → List (List ℕ)
+global_names globals = map (λ (global : Variable). global.name) globals
+
+-- the standard blocks of all programs, in order
+abbrev pub all_standards : Source → List Standard
+all_standards source = map (λ (c : ClockAt). standard_of c.of) (all_clocks source)
+
+-- a table has the frame of the globals' initial values alone
+pub record HasStart (source : Source) (table : List Frame) : Type 0 where
+  pub start : Frame
+  pub table_is : table ≡ start ∷ []
+  pub is_start : IsStart source start
+
+-- a sound source has its frames, and where the values, the standard blocks and the paths of each program begin; each path number is one of 32 bits
+pub record IsFramed (source : Source) (order : List ℕ) (frames start : List Frame) (names : List (List ℕ)) (standards : List Standard) (values clocks paths : List ℕ) : Type 0 where
+  pub sound : IsSound source
+  pub below : AreBelow source.blocks order
+  pub are_frames : IsFrames source order frames
+  pub has_start : HasStart source start
+  pub names_are : names ≡ global_names source.globals
+  pub standards_are : standards ≡ all_standards source
+  pub values_begin : AreBases (program_values_base source) (length source.programs) values
+  pub clocks_begin : AreBases (program_clocks_base source) (length source.programs) clocks
+  pub paths_begin : AreBases (program_paths_base source) (length source.programs) paths
+  pub paths_fit : program_paths_base source (length source.programs) < 2 ^ 32

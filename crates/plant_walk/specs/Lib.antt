@@ -1,0 +1,4 @@
+pub mod Sound
+pub mod Runs
+pub mod Bases
+pub mod Framed

@@ -1,0 +1,38 @@
+-- Runs over cells, and runs in the worlds that they stand for.
+use Rattle.std.specs.Prelude.{◌≡◌, ◌<◌, ◌+◌, ℕ, [], length, slice_index_or, Result, Ok, Err}
+use Rattle.plant_types.specs.declared.values.Place.{Place}
+use Rattle.st_tree.specs.Meaning.{Spot, Ran, Done, Trapped}
+use Rattle.plant_logic.specs.Source.{Source}
+use Rattle.plant_logic.specs.Worlds.{World}
+use Rattle.plant_logic.specs.Paths.{paths_of}
+use Rattle.block_walk.specs.declared.walker.Stop.{Stop}
+use Rattle.block_walk.specs.Cells.{PlainCells}
+use Rattle.block_frames.specs.Stands.{StandFor}
+use Rattle.plant_walk.specs.declared.walking.Walked.{Walked}
+use Rattle.plant_walk.specs.declared.walking.Walked.TheVariants as walked
+
+-- the spot of a place: the path of its body, and the statement's number
+abbrev pub place_spot : Source → Place → Spot
+place_spot source place = record { path = slice_index_or (paths_of source) place.path []; statement = place.statement }
+
+-- how a walk ends, with the cells that it leaves
+abbrev pub ran : Source → Walked → PlainCells → Ran PlainCells
+ran source walked.Done cells = Done cells
+ran source (walked.Trapped place trap) cells = Trapped cells (place_spot source place) trap
+
+-- how a run of the program whose first path has a number ends, by how the run of its frame ended
+abbrev pub walked_by : ℕ → Result (Unit {0}) Stop → Walked
+walked_by base (Ok _) = walked.Done
+walked_by base (Err stop) = walked.Trapped (record { path = base + stop.path; statement = stop.statement }) stop.trap
+
+-- a trap's place has a path of the source
+abbrev pub IsWithin : Source → Walked → Type 0
+IsWithin source walked.Done = Unit {0}
+IsWithin source (walked.Trapped place trap) = place.path < length (paths_of source)
+
+-- a run over cells ends as a run in a world does, at the same spot and with the same kind of trap, and the cells stand for the world
+abbrev pub Agree : Source → Ran World → Ran PlainCells → Type 0
+Agree source (Done w) (Done cells) = StandFor source cells w
+Agree source (Done w) (Trapped cells spot trap) = ⊥
+Agree source (Trapped w spot trap) (Done cells) = ⊥
+Agree source (Trapped w spot trap) (Trapped cells other kind) = StandFor source cells w × (spot ≡ other) × (trap ≡ kind)

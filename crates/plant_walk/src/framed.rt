@@ -1,0 +1,211 @@
+//! The logic of a plant, made ready to run.
+
+ghost use Rattle.std.specs.Prelude.{◌≡◌, ◌<◌, ◌+◌, ◌^◌, ◌++◌, [], IfErr, IfOk, IfSome, MatchResult, length, map, slice_index_or, string_bytes};
+ghost use Rattle.plant_logic.specs.Source.{source_of, view_routine};
+ghost use Rattle.plant_logic.specs.Names.{find_global};
+ghost use Rattle.plant_logic.specs.Units.{source_in};
+ghost use Rattle.plant_logic.specs.Blocks.{AreBelow};
+ghost use Rattle.plant_logic.specs.Worlds.{World, opening, run_program};
+ghost use Rattle.plant_logic.specs.Paths.{paths_of, path_text};
+ghost use Rattle.plant_limits.specs.Limits.{KeepsLimits, IsLimitFault};
+ghost use Rattle.block_frames.specs.Stands.{StandFor};
+ghost use Rattle.plant_walk.specs.Sound.{IsSound};
+ghost use Rattle.plant_walk.specs.Runs.{Agree, IsWithin, ran, walked_by};
+
+use crate::names::global_names;
+use crate::opening::start_programs;
+use crate::paths::{path_bases, program_of};
+use crate::standards::standards_of;
+use crate::values::value_bases;
+use crate::walking::Walked;
+use block_frames::{
+    frames_agree, frames_begin, frames_have_paths, frames_of, start_of, typed_names_are_known,
+};
+use block_walk::{Cells, Frame, Standard, Stop, push_path, start_frame, walk_frame};
+use plant_limits::{LimitFault, limits};
+use plant_logic::{Logic, Routine, Variable, logic_of, order_is_of_source};
+use plant_types::Place;
+use st_typing::Typed;
+use std::alloc::{AllocError, Global};
+use std::marker::Model;
+use word_index::Names;
+
+/// The source of well-formed units that keeps the limits, with a frame for each program and each block type that is used, and with where
+/// the values, the standard blocks and the paths of each program begin. Contracts see the source.
+#[derive(Drop)]
+pub struct Framed {
+    logic: Logic,
+    order: Vec<usize>,
+    frames: Vec<Frame>,
+    start: Vec<Frame>,
+    names: Names,
+    standards: Vec<Standard>,
+    values: Vec<usize>,
+    clocks: Vec<usize>,
+    paths: Vec<u32>,
+}
+
+impl Model for Framed {
+    ghost use Rattle.plant_logic.specs.Source.{Source, source_of};
+    ghost use Rattle.plant_logic.specs.Code.{source_code};
+
+    ghost Value = { Source };
+
+    ghost coded = { source_code };
+
+    ghost use Rattle.plant_walk.specs.Framed.{IsFramed};
+
+    ghost view = { λ framed. source_of framed.logic };
+
+    ghost invariant = { λ framed. IsFramed (source_of framed.logic) framed.order.items framed.frames.items framed.start.items framed.names framed.standards.items framed.values.items framed.clocks.items framed.paths.items };
+}
+
+/// A sound source made ready to run. Fails if allocation fails.
+fn ready(alloc: Global, logic: Logic, order: Vec<usize>) -> Result<Framed, AllocError>
+    requires sound { IsSound (source_of logic) }
+    requires below { AreBelow (source_of logic).blocks order.items }
+    ensures { IfOk result (λ framed. framed ≡ source_of logic) }
+{
+    let frames = frames_of(alloc, &logic, &order)?;
+    let mut start = Vec::new(alloc);
+    start.push(start_of(alloc, &logic)?)?;
+    let names = global_names(alloc, &logic.globals)?;
+    let standards = standards_of(alloc, &logic, &order, &frames)?;
+    let values = value_bases(alloc, &logic, &order)?;
+    let paths = path_bases(alloc, &logic, &order, &frames)?;
+    Ok(Framed {
+        logic,
+        order,
+        frames,
+        start,
+        names,
+        standards: standards.list,
+        values,
+        clocks: standards.bases,
+        paths,
+    })
+}
+
+/// A source made ready to run, if it keeps the limits; else the first limit that it is past, or `Memory` where an allocation failed.
+fn judged(alloc: Global, logic: Logic, order: Vec<usize>) -> Result<Framed, LimitFault>
+    requires sound { KeepsLimits (source_of logic) → IsSound (source_of logic) }
+    requires below { AreBelow (source_of logic).blocks order.items }
+    ensures made { MatchResult result (λ framed. (framed ≡ source_of logic) × KeepsLimits (source_of logic)) (IsLimitFault (source_of logic)) }
+    ensures sound { IfOk result IsSound }
+{
+    limits(alloc, &logic, &order)?;
+    Ok(ready(alloc, logic, order)?)
+}
+
+/// How a run of the program whose first path has a number ends, by how the run of its frame ended.
+fn walked(base: u32, ended: Result<(), Stop>) -> Walked
+    requires { IfErr ended (λ stop. base + stop.path < 2 ^ 32) }
+    ensures { result ≡ walked_by base ended }
+{
+    match ended {
+        Ok(()) => Walked::Done,
+        Err(stop) => {
+            let place = Place {
+                path: base + stop.path,
+                statement: stop.statement,
+            };
+            Walked::Trapped(place, stop.trap)
+        }
+    }
+}
+
+impl Framed {
+    /// Makes the logic of well-formed units ready to run.
+    ///
+    /// Fails with the first limit that it is past: `Slots`, `Size` or `Cost`; and with `Memory` where an allocation failed.
+    pub fn of(alloc: Global, typed: &Typed<'_>) -> Result<Framed, LimitFault>
+        ensures made { MatchResult result (λ framed. (framed ≡ source_in typed.now) × KeepsLimits (source_in typed.now)) (IsLimitFault (source_in typed.now)) }
+        ensures sound { IfOk result IsSound }
+    {
+        order_is_of_source();
+        let _units = typed.units();
+        let logic = logic_of(alloc, typed)?;
+        let order = Vec::from_slice(alloc, typed.order())?;
+        judged(alloc, logic, order)
+    }
+
+    /// The globals in order of declaration, numbered from 0, with their names as declared.
+    pub fn globals(&self) -> &[Variable]
+        ensures globals { result.now ≡ self.now.globals }
+        ensures sound { IsSound self.now }
+    {
+        self.logic.globals.as_slice()
+    }
+
+    /// The programs in order of text, numbered from 0, with their names as declared.
+    pub fn programs(&self) -> &[Routine]
+        ensures programs { map view_routine result.now ≡ self.now.programs }
+        ensures sound { IsSound self.now }
+    {
+        self.logic.programs.as_slice()
+    }
+
+    /// The number of the global of a name, letter case ignored; `None` if there is none. It takes no memory.
+    pub fn find_global(&self, name: &str) -> Option<usize>
+        ensures number { result ≡ find_global self.now.globals name.now }
+        ensures within { IfSome result (λ number. number < length self.now.globals) }
+    {
+        self.names.find(name)
+    }
+
+    /// The cells before the first scan: each value is FALSE or 0, or the initial value that is written, and no standard block was called.
+    /// Fails if allocation fails.
+    pub fn opening(&self, alloc: Global) -> Result<Cells, AllocError>
+        ensures { IfOk result (λ cells. StandFor self.now cells (opening self.now)) }
+    {
+        frames_begin();
+        typed_names_are_known();
+        let all = self.values[self.logic.programs.len()];
+        let mut cells = Cells::zeros(alloc, all, &self.standards)?;
+        start_frame(&self.start, self.logic.globals.len(), 0, 0, 0, &mut cells);
+        start_programs(
+            &self.logic,
+            &self.order,
+            &self.frames,
+            &self.values,
+            &self.clocks,
+            &mut cells,
+        );
+        Ok(cells)
+    }
+
+    /// Runs the program of a number, as `walk` does.
+    pub(crate) fn run(&self, program: usize, cells: &mut Cells, moment: u64) -> Walked
+        requires there { program < length self.now.programs }
+        ensures ran { (w : World) → StandFor self.now cells.old w → Agree self.now (run_program self.now program moment w) (ran self.now result cells.new) }
+        ensures within { IsWithin self.now result }
+    {
+        frames_agree();
+        frames_have_paths();
+        typed_names_are_known();
+        let ended = walk_frame(
+            &self.frames,
+            self.logic.globals.len(),
+            self.order.len() + program,
+            self.values[program],
+            self.clocks[program],
+            cells,
+            moment,
+        );
+        walked(self.paths[program], ended)
+    }
+
+    /// Adds the text of the path of a number: the names of the program and of the instances below it, as declared, with points between
+    /// them. Fails if allocation fails.
+    pub fn push_path(&self, path: u32, text: &mut String) -> Result<(), AllocError>
+        requires { path < length (paths_of self.now) }
+        ensures { IfOk result (λ _. string_bytes text.new ≡ string_bytes text.old ++ path_text (slice_index_or (paths_of self.now) path [])) }
+    {
+        frames_have_paths();
+        let programs = self.logic.programs.as_slice();
+        let program = program_of(&self.paths, programs.len(), path);
+        text.push_str(programs[program].name.as_str())?;
+        let below = path - self.paths[program];
+        push_path(&self.frames, self.order.len() + program, below, text)
+    }
+}

@@ -1,0 +1,65 @@
+//! Laws of sources that run. These functions do nothing: each has a law as its contract, for the crates above.
+
+ghost use Rattle.std.specs.Prelude.{◌≡◌, ◌≤◌, ℕ, ℤ, List, Some, length, slice_get, true};
+ghost use Rattle.plant_types.specs.Values.{is_in_range};
+ghost use Rattle.st_tree.specs.Ranges.{Leaves};
+ghost use Rattle.plant_logic.specs.declared.logic.Variable.{Variable};
+ghost use Rattle.plant_logic.specs.Source.{Source};
+ghost use Rattle.plant_logic.specs.Names.{find_global};
+ghost use Rattle.plant_logic.specs.Layout.{cell_paths};
+ghost use Rattle.plant_logic.specs.Worlds.{World, assign, opening, path_of, run_program};
+ghost use Rattle.plant_logic.specs.Ranges.{AllInRange};
+ghost use Rattle.block_walk.specs.Cells.{PlainCells, value_at, assigned};
+ghost use Rattle.block_frames.specs.Stands.{StandFor};
+ghost use Rattle.plant_walk.specs.Sound.{IsSound};
+
+/// There are as many cells with values as values of the source: the globals are the first of these.
+pub fn as_many_cells()
+    ensures { (source : Source) (cells : PlainCells) (w : World) → StandFor source cells w → length cells.values ≡ length (cell_paths source) }
+{}
+
+/// The cell of a global's number holds the world's value at the global's path.
+pub fn cell_of_global()
+    ensures { (source : Source) (cells : PlainCells) (w : World) (i : ℕ) (global : Variable) → slice_get source.globals i ≡ Some global → StandFor source cells w → value_at cells i ≡ w.values (path_of global.name) }
+{}
+
+/// Assigning the cell of a global's number stands for assigning a value at the global's path.
+pub fn written_cell()
+    ensures { (source : Source) (cells : PlainCells) (w : World) (i : ℕ) (global : Variable) (n : ℤ) → IsSound source → slice_get source.globals i ≡ Some global → StandFor source cells w → StandFor source (assigned cells i n) (assign w (path_of global.name) n) }
+{}
+
+/// If a name has a number, then the global of that number is at the name's path.
+pub fn found_global()
+    ensures { (globals : List Variable) (name : List ℕ) (i : ℕ) → find_global globals name ≡ Some i → (global : Variable) × (slice_get globals i ≡ Some global) × (path_of global.name ≡ path_of name) }
+{}
+
+/// In a sound source each global is found by its name at its own number.
+pub fn each_found()
+    ensures { (source : Source) (i : ℕ) (global : Variable) → IsSound source → slice_get source.globals i ≡ Some global → find_global source.globals global.name ≡ Some i }
+{}
+
+/// A sound source has at most 65,536 globals and 512 programs.
+pub fn sound_source_is_small()
+    ensures globals { (source : Source) → IsSound source → length source.globals ≤ 65536 }
+    ensures programs { (source : Source) → IsSound source → length source.programs ≤ 512 }
+{}
+
+/// Before the first scan each value is in the range of its variable's kind.
+pub fn opening_world_is_in_range()
+    ensures { (source : Source) → IsSound source → AllInRange source (opening source) }
+{}
+
+/// A run of a program keeps each value in the range of its variable's kind.
+pub fn program_stays_in_range()
+    ensures { (source : Source) (n moment : ℕ) (w : World) → IsSound source → AllInRange source w → Leaves (AllInRange source) (run_program source n moment w) }
+{}
+
+/// Giving a global a value in the range of its kind keeps each value in the range of its variable's kind.
+pub fn assigned_global_stays_in_range()
+    ensures { (source : Source) (w : World) (i : ℕ) (global : Variable) (n : ℤ) → IsSound source → slice_get source.globals i ≡ Some global → is_in_range global.kind n ≡ true → AllInRange source w → AllInRange source (assign w (path_of global.name) n) }
+{}
+
+/// The value of each global is in the range of its kind.
+pub fn global_is_in_range()
+    ensures { (source : Source) (w : World) (i : ℕ) (global : Variable) → AllInRange source w → slice_get source.globals i ≡ Some global → is_in_range global.kind (w.values (path_of global.name)) ≡ true }
+{}

@@ -1,0 +1,26 @@
+//! The logic of a plant, made ready to run, and its runs.
+//!
+//! `Framed::of` judges the limits on slots, size and cost and makes a frame of each program and of each block type that a program uses.
+//! `walk` runs a program over cells as the source is read, statement by statement.
+//!
+//! The cells have the values of the globals, then those of each program in turn with its instances; so have they the standard blocks. A
+//! program has a frame, the numbers of its first value and of its first standard block, and the number of its first path: its own path
+//! has that number, and those of the instances that it calls follow.
+#![tactic(auto)]
+
+mod framed;
+mod laws;
+mod names;
+mod opening;
+mod paths;
+mod standards;
+mod values;
+mod walking;
+
+pub use framed::Framed;
+pub use laws::{
+    as_many_cells, assigned_global_stays_in_range, cell_of_global, each_found, found_global,
+    global_is_in_range, opening_world_is_in_range, program_stays_in_range, sound_source_is_small,
+    written_cell,
+};
+pub use walking::{Walked, walk};

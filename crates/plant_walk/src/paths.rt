@@ -1,0 +1,109 @@
+//! Where the path numbers of each program begin, and which program has a path.
+
+ghost use Rattle.std.specs.Prelude.{◌≡◌, ◌+◌, ◌^◌, ◌≤◌, ◌<◌, get_or, length, IfOk};
+ghost use Rattle.std.specs.List.{sum_by};
+ghost use Rattle.plant_logic.specs.Source.{source_of};
+ghost use Rattle.plant_logic.specs.Blocks.{AreBelow, HasItsTypes};
+ghost use Rattle.block_frames.specs.Frames.{IsFrames};
+ghost use Rattle.plant_walk.specs.Bases.{numbers_in, seat_count, ArePathsCounted, program_paths_base, AreBases};
+
+use block_frames::frames_have_paths;
+use block_walk::{Frame, Seat, SeatOf};
+use plant_logic::Logic;
+use std::alloc::{AllocError, Global};
+
+/// The sum. Fails if it doesn't fit 32 bits.
+fn sum(a: u32, b: u32) -> Result<u32, AllocError>
+    ensures sum { IfOk result (λ n. n ≡ a + b) }
+    ensures fits { IfOk result (λ n. n < 2 ^ 32) }
+{
+    match a.checked_add(b) {
+        Some(n) => Ok(n),
+        None => Err(AllocError),
+    }
+}
+
+/// How many paths an instance adds, by the counts of the frames.
+fn seat_count(counts: &[u32], seat: &Seat) -> u32
+    ensures { result ≡ seat_count (numbers_in counts.now) seat.now }
+{
+    if !seat.is_called {
+        return 0;
+    }
+    match seat.of {
+        SeatOf::Standard(_) => 0,
+        SeatOf::Frame(number) => match counts.get(number) {
+            Some(count) => *count,
+            None => 0,
+        },
+    }
+}
+
+/// How many paths a routine has, its own among them, by the counts of the frames. Fails if the number doesn't fit 32 bits.
+fn routine_count(counts: &[u32], seats: &[Seat]) -> Result<u32, AllocError>
+    ensures { IfOk result (λ n. n ≡ 1 + sum_by (seat_count (numbers_in counts.now)) seats.now) }
+{
+    let mut total = 1;
+    for seat in seats {
+        total = sum(total, seat_count(counts, seat))?;
+    }
+    Ok(total)
+}
+
+/// How many paths each frame has. Fails if allocation fails, or such a number doesn't fit 32 bits.
+fn count_frames(alloc: Global, frames: &[Frame]) -> Result<Vec<u32>, AllocError>
+    ensures { IfOk result (λ counts. ArePathsCounted frames.now (length frames.now) counts.items) }
+{
+    let mut counts = Vec::new(alloc);
+    for frame in frames {
+        let count = routine_count(&counts, &frame.seats)?;
+        counts.push(count)?;
+    }
+    Ok(counts)
+}
+
+/// The number of the first path of each program, and behind them the number of all paths.
+///
+/// Fails if allocation fails, and where all programs together have more than 2^32 - 1 paths: they can't have where the limits are kept.
+pub fn path_bases(
+    alloc: Global,
+    logic: &Logic,
+    order: &[usize],
+    frames: &[Frame],
+) -> Result<Vec<u32>, AllocError>
+    requires frames { IsFrames (source_of logic.now) order.now frames.now }
+    requires below { AreBelow (source_of logic.now).blocks order.now }
+    requires types { HasItsTypes (source_of logic.now) }
+    ensures bases { IfOk result (λ row. AreBases (program_paths_base (source_of logic.now)) (length (source_of logic.now).programs) row.items) }
+    ensures fit { IfOk result (λ _. program_paths_base (source_of logic.now) (length (source_of logic.now).programs) < 2 ^ 32) }
+{
+    frames_have_paths();
+    let counts = count_frames(alloc, frames)?;
+    let mut row = Vec::new(alloc);
+    let mut at = 0;
+    row.push(at)?;
+    let mut place = order.len();
+    for _program in &logic.programs {
+        at = sum(at, counts[place])?;
+        row.push(at)?;
+        place += 1;
+    }
+    Ok(row)
+}
+
+/// The number of the program that has the path of a number, where the bases of so many programs' paths are given, and behind them the
+/// number of all paths.
+pub fn program_of(bases: &[u32], programs: usize, path: u32) -> usize
+    requires long { length bases.now ≡ programs + 1 }
+    requires begins { get_or bases.now 0 0 ≤ path }
+    requires within { path < get_or bases.now programs 0 }
+    ensures there { result < programs }
+    ensures begins { get_or bases.now result 0 ≤ path }
+    ensures ends { path < get_or bases.now (result + 1) 0 }
+{
+    let mut program = 0;
+    while bases[program + 1] <= path {
+        program += 1;
+    }
+    program
+}
