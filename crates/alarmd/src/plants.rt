@@ -3,7 +3,7 @@
 use crate::example::{ALARMS, PLANT, SOURCE, SOURCE_NAME};
 use crate::prints::stopped;
 use command_line::Ended;
-use serving::{Disk, Reading, RunEnd, ServeFault, Writing, admit_from, run, run_from};
+use serving::{Disk, Reading, RunEnd, ServeFault, Writing, check_from, run, run_from};
 use std::io;
 use std::rt::Files;
 use std::sync::Wait;
@@ -20,9 +20,9 @@ fn ended<R: Eprint>(rt: &R, run: Result<RunEnd, ServeFault>) -> Ended {
 /// Tells whether the plant of a plant file's path is accepted.
 pub fn check<R: Files + Print + Eprint + AllocGlobal>(rt: &R, path: &str) -> Ended {
     let mut sink = Writing::new(io::writer(rt));
-    match admit_from(rt.alloc(), &Disk { files: rt }, path, true, &mut sink) {
-        Ok(Some(_)) => Ended::Done,
-        Ok(None) => Ended::Refused,
+    match check_from(rt.alloc(), &Disk { files: rt }, path, &mut sink) {
+        Ok(true) => Ended::Done,
+        Ok(false) => Ended::Refused,
         Err(fault) => stopped(rt, fault),
     }
 }

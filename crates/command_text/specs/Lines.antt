@@ -21,12 +21,6 @@ value_text (value.Bool b) = if b then codes "TRUE" else codes "FALSE"
 value_text (value.Dint n) = signed_decimal n
 value_text (value.Time n) = signed_decimal n
 
--- the text of a path: its names with points between them, the program's first; the list has the innermost name first
-abbrev pub path_text : List (List ℕ) → List ℕ
-path_text [] = []
-path_text (name ∷ []) = name
-path_text (name ∷ outer ∷ path) = path_text (outer ∷ path) ++ 46 ∷ name
-
 -- the word for why a program stopped
 abbrev pub trap_text : Trap → List ℕ
 trap_text trap.Overflow = codes "OVERFLOW"

@@ -7,12 +7,13 @@ use Rattle.std.proofs.lemmas.List.Elements.{All-head, All-tail}
 use Rattle.plant_types.specs.declared.values.Value.{Value}
 use Rattle.plant_types.specs.Values.{is_true, worth, value_of_kind}
 use Rattle.alarm_machine.specs.Alarms.{PlainAlarm}
-use Rattle.block_flatten.specs.declared.logic.Variable.{Variable}
-use Rattle.block_flatten.specs.Source.{Source}
-use Rattle.block_flatten.specs.Sound.{IsSound}
-use Rattle.st_walk.specs.Worlds.{World, value_at, Stands, assign, path_of}
-use Rattle.st_walk.specs.Slots.{cell}
-use Rattle.st_walk.proofs.Standing.{cell_holds, cell_written}
+use Rattle.plant_logic.specs.declared.logic.Variable.{Variable}
+use Rattle.plant_logic.specs.Source.{Source}
+use Rattle.plant_logic.specs.Worlds.{World, assign, path_of}
+use Rattle.block_walk.specs.Cells.{PlainCells, value_at}
+use Rattle.block_frames.specs.Stands.{StandFor}
+use Rattle.plant_walk.specs.Sound.{IsSound}
+use Rattle.plant_walk.proofs.Standing.{cell_holds, cell_written}
 use Rattle.plant_config.specs.declared.rows.AlarmRow.{AlarmRow}
 use Rattle.plant_config.specs.Plants.{PlainPlant, IsAlarmRow, IsBoolGlobal}
 use Rattle.engine.specs.Programs.{global_in, with_input, with_inputs}
@@ -22,16 +23,16 @@ use Rattle.engine.specs.Steps.{with_cell}
 use Rattle.engine.proofs.Images.{has_number}
 
 -- an input that is set in cells and in the world
-input_stands : (source : Source) (cells : List ℤ) (w : World) (input : ℕ × Value) → IsSound source → input.0 < length source.globals → Stands source cells w → Stands source (with_cell cells input) (with_input source.globals w input)
+input_stands : (source : Source) (cells : PlainCells) (w : World) (input : ℕ × Value) → IsSound source → input.0 < length source.globals → StandFor source cells w → StandFor source (with_cell cells input) (with_input source.globals w input)
 input_stands source cells w input sound within stands =
     let set_to : Option Variable → World = λ o. option_map_or (λ global. assign w (path_of global.name) (worth input.1)) o w in
     elim (slice_get_cases source.globals input.0).1 [
-      | inl there ↦ subst (λ o. Stands source (with_cell cells input) (set_to o)) (sym there.2) (cell_written source cells w input.0 there.0 (worth input.1) sound there.2 stands)
+      | inl there ↦ subst (λ o. StandFor source (with_cell cells input) (set_to o)) (sym there.2) (cell_written source cells w input.0 there.0 (worth input.1) sound there.2 stands)
       | inr past ↦ absurd (omega (arith, within, past.0))
     ]
 
 -- an image that is set in cells and in the world
-pub inputs_stand : (source : Source) (image : List (ℕ × Value)) (cells : List ℤ) (w : World) → IsSound source → All (has_number (length source.globals)) image → Stands source cells w → Stands source (fold with_cell cells image) (with_inputs source.globals image w)
+pub inputs_stand : (source : Source) (image : List (ℕ × Value)) (cells : PlainCells) (w : World) → IsSound source → All (has_number (length source.globals)) image → StandFor source cells w → StandFor source (fold with_cell cells image) (with_inputs source.globals image w)
 inputs_stand source [] cells w sound within stands = stands
 inputs_stand source (input ∷ image) cells w sound within stands =
     let P = has_number (length source.globals) in
@@ -42,9 +43,9 @@ abbrev pub SameGlobals : Source → (ℕ → ℤ) → (ℕ → ℤ) → Type 0
 SameGlobals source f g = (n : ℕ) → n < length source.globals → f n ≡ g n
 
 -- the cells of the globals have the globals' values
-pub values_stand : (source : Source) (cells : List ℤ) (w : World) → Stands source cells w → SameGlobals source (cell cells) (global_in source.globals w)
+pub values_stand : (source : Source) (cells : PlainCells) (w : World) → StandFor source cells w → SameGlobals source (value_at cells) (global_in source.globals w)
 values_stand source cells w stands n within =
-    let value : Option Variable → ℤ = λ o. option_map_or (λ global. value_at w (path_of global.name)) o (pos 0) in
+    let value : Option Variable → ℤ = λ o. option_map_or (λ global. w.values (path_of global.name)) o (pos 0) in
     elim (slice_get_cases source.globals n).1 [
       | inl there ↦ cell_holds source cells w n there.0 there.2 stands ∙ sym (ap value there.2)
       | inr past ↦ absurd (omega (arith, within, past.0))

@@ -17,14 +17,16 @@ use Rattle.plant_types.specs.declared.values.Trap.{Trap}
 use Rattle.plant_types.specs.Values.{worth, fitted, is_outside, is_in_range}
 use Rattle.st_tree.specs.Meaning.{Ran, Done, Trapped}
 use Rattle.st_tree.specs.Ranges.{Leaves}
-use Rattle.block_flatten.specs.declared.logic.Variable.{Variable}
-use Rattle.block_flatten.specs.Source.{Source}
-use Rattle.block_flatten.specs.Names.{find_global}
-use Rattle.block_flatten.specs.Scopes.{is_input}
-use Rattle.block_flatten.specs.Sound.{IsSound}
-use Rattle.st_walk.specs.Worlds.{World, assign, opening, path_of, run_program, Stands}
-use Rattle.st_walk.specs.Ranges.{AllInRange}
-use Rattle.st_walk.proofs.Ranges.{run_program_keeps, assigned_global_keeps, opening_in_range}
+use Rattle.st_names.specs.Scopes.{is_input}
+use Rattle.plant_logic.specs.declared.logic.Variable.{Variable}
+use Rattle.plant_logic.specs.Source.{Source}
+use Rattle.plant_logic.specs.Names.{find_global}
+use Rattle.plant_logic.specs.Worlds.{World, assign, opening, path_of, run_program}
+use Rattle.plant_logic.specs.Ranges.{AllInRange}
+use Rattle.block_walk.specs.Cells.{PlainCells}
+use Rattle.block_frames.specs.Stands.{StandFor}
+use Rattle.plant_walk.specs.Sound.{IsSound}
+use Rattle.plant_walk.proofs.Ranges.{run_program_keeps, assigned_global_keeps, opening_in_range}
 use Rattle.journal_core.specs.declared.row.Row.{Row}
 use Rattle.plant_config.specs.Plants.{PlainPlant}
 use Rattle.plant_config.specs.Names.{globals_of}
@@ -130,8 +132,8 @@ programs_in source t n (false ∷ flags) w sound holds =
     after_in source (run_program source n t w) (programs_from source t (n + 1) flags) (run_program_keeps source n t w sound holds) (λ u h. programs_in source t (n + 1) flags u sound h)
 
 -- a scan over cells that stand for a world in range leaves such cells
-pub scan_stands : (source : Source) (old new : List ℤ) (image : List (ℕ × Value)) (t : ℕ) (flags faulted : List Bool) (faults : List (Place × Trap)) → IsSound source → All (FitsGlobal source.globals) image → StandInRange source old
-    → ((w : World) → Stands source (fold with_cell old image) w → ProgramsRan source (programs_from source t 0 flags w) new faulted faults) → StandInRange source new
+pub scan_stands : (source : Source) (old new : PlainCells) (image : List (ℕ × Value)) (t : ℕ) (flags faulted : List Bool) (faults : List (Place × Trap)) → IsSound source → All (FitsGlobal source.globals) image → StandInRange source old
+    → ((w : World) → StandFor source (fold with_cell old image) w → ProgramsRan source (programs_from source t 0 flags w) new faulted faults) → StandInRange source new
 scan_stands source old new image t flags faulted faults sound fits held ran =
     let within = All-weaker (FitsGlobal source.globals) (has_number (length source.globals)) (λ input fit. slice_get_within source.globals input.0 fit.0 fit.1) image fits in
     let w = with_inputs source.globals image held.world in
@@ -163,5 +165,5 @@ engine_stands plant history rows k is = record {
 }
 
 -- and so do those before the first event
-pub opening_stands : (source : Source) (cells : List ℤ) → IsSound source → Stands source cells (opening source) → StandInRange source cells
+pub opening_stands : (source : Source) (cells : PlainCells) → IsSound source → StandFor source cells (opening source) → StandInRange source cells
 opening_stands source cells sound stands = record { world = opening source; stands = stands; in_range = opening_in_range source sound }

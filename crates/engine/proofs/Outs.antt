@@ -6,7 +6,7 @@ use Rattle.std.specs.Ordering.{int_eq}
 use Rattle.plant_types.specs.declared.values.Kind.{Kind}
 use Rattle.plant_types.specs.declared.values.Value.{Value}
 use Rattle.plant_types.specs.Values.{value_of_kind}
-use Rattle.block_flatten.specs.declared.logic.Variable.{Variable}
+use Rattle.plant_logic.specs.declared.logic.Variable.{Variable}
 use Rattle.engine.specs.System.{is_output, outputs_from, outs_from}
 use Rattle.engine.specs.Steps.{output_in, differs}
 use Rattle.engine.proofs.Shown.{kind_of_value}

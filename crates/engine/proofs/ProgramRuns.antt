@@ -1,14 +1,16 @@
 -- The programs of a scan, one after another over cells, are those of the source in the world that the cells stand for.
-use Rattle.std.proofs.Common.{◌≡◌, ℕ, ◌+◌, ◌<◌, ◌≤◌, ℤ, Bool, true, false, List, [], ◌∷◌, ◌++◌, length, take, drop, get_or, map, Some, None, refl, sym, ap, ◌∙◌, subst, arith, add-one, suc}
+use Rattle.std.proofs.Common.{◌≡◌, ℕ, ◌+◌, ◌<◌, ◌≤◌, Bool, true, false, List, [], ◌∷◌, ◌++◌, length, take, drop, get_or, map, Some, None, refl, sym, ap, ◌∙◌, subst, arith, add-one, suc}
 use Rattle.std.specs.Prelude.{slice_set}
 use Rattle.std.proofs.Math.Seq.{drop-cons}
 use Rattle.std.proofs.lemmas.List.{take_more, take_all, drop_all, append-nil, append_assoc, take-set, drop-set-lt, get_or-set_same, length-set, map-append}
 use Rattle.plant_types.specs.declared.values.Place.{Place}
 use Rattle.plant_types.specs.declared.values.Trap.{Trap}
 use Rattle.st_tree.specs.Meaning.{Ran, Done, Trapped, Spot}
-use Rattle.block_flatten.specs.Source.{Source}
-use Rattle.st_walk.specs.Worlds.{World, Stands, run_program}
-use Rattle.st_walk.specs.Runs.{place_spot, Agree}
+use Rattle.plant_logic.specs.Source.{Source}
+use Rattle.plant_logic.specs.Worlds.{World, run_program}
+use Rattle.block_walk.specs.Cells.{PlainCells}
+use Rattle.block_frames.specs.Stands.{StandFor}
+use Rattle.plant_walk.specs.Runs.{place_spot, Agree}
 use Rattle.engine.specs.Programs.{Scanned, with_flag, with_fault, after_run, programs_from}
 use Rattle.engine.specs.Steps.{ProgramsRan, run_by, ended_by}
 
@@ -27,20 +29,20 @@ joined-with_fault : (a : List Bool) (fs : List (Spot × Trap)) (spot : Spot) (tr
 joined-with_fault a fs spot trap r = ap (λ (l : List (Spot × Trap)). record { world = r.world; faulted = a ++ r.faulted; faults = l }) (sym (append_assoc fs ((spot, trap) ∷ []) r.faults))
 
 -- the programs below a number have run, and the cells stand for a world in which the others have to
-pub record Reached (source : Source) (t : ℕ) (whole : Scanned) (i : ℕ) (cells : List ℤ) (flags : List Bool) (faults : List (Place × Trap)) : Type 0 where
+pub record Reached (source : Source) (t : ℕ) (whole : Scanned) (i : ℕ) (cells : PlainCells) (flags : List Bool) (faults : List (Place × Trap)) : Type 0 where
   pub world : World
-  pub stands : Stands source cells world
+  pub stands : StandFor source cells world
   pub so_far : whole ≡ joined (take i flags) (map (located source) faults) (programs_from source t i (drop i flags) world)
 
-pub reached_none : (source : Source) (t : ℕ) (flags : List Bool) (cells : List ℤ) (w : World) → Stands source cells w → Reached source t (programs_from source t 0 flags w) 0 cells flags []
+pub reached_none : (source : Source) (t : ℕ) (flags : List Bool) (cells : PlainCells) (w : World) → StandFor source cells w → Reached source t (programs_from source t 0 flags w) 0 cells flags []
 reached_none source t flags cells w stands = record { world = w; stands = stands; so_far = refl }
 
-pub reached_all : (source : Source) (t : ℕ) (whole : Scanned) (i : ℕ) (cells : List ℤ) (flags : List Bool) (faults : List (Place × Trap)) → length flags ≤ i → Reached source t whole i cells flags faults → ProgramsRan source whole cells flags faults
+pub reached_all : (source : Source) (t : ℕ) (whole : Scanned) (i : ℕ) (cells : PlainCells) (flags : List Bool) (faults : List (Place × Trap)) → length flags ≤ i → Reached source t whole i cells flags faults → ProgramsRan source whole cells flags faults
 reached_all source t whole i cells flags faults over r =
     let rest : programs_from source t i (drop i flags) r.world ≡ record { world = r.world; faulted = []; faults = [] } = ap (λ l. programs_from source t i l r.world) (drop_all i flags over) in
     let is : whole ≡ joined (take i flags) (map (located source) faults) (record { world = r.world; faulted = []; faults = [] }) = r.so_far ∙ ap (joined (take i flags) (map (located source) faults)) rest in
     record {
-      world_stands = subst (λ (s : Scanned). Stands source cells s.world) (sym is) r.stands;
+      world_stands = subst (λ (s : Scanned). StandFor source cells s.world) (sym is) r.stands;
       faulted_is = sym (ap (λ (s : Scanned). s.faulted) is ∙ append-nil (take i flags) ∙ take_all i flags over);
       faults_are = sym (ap (λ (s : Scanned). s.faults) is ∙ append-nil (map (located source) faults));
     }
@@ -50,22 +52,22 @@ flags_from : (flags : List Bool) (i : ℕ) (b : Bool) → i < length flags → g
 flags_from flags i b h is = drop-cons flags i b h ∙ ap (λ x. x ∷ drop (suc i) flags) is ∙ ap (λ k. b ∷ drop k flags) (sym (add-one i))
 
 -- a run that run_ended, and the world in which the others go on
-record RunEnded (source : Source) (ran : Ran World) (cells : List ℤ) (others : World → Scanned) : Type 0 where
+record RunEnded (source : Source) (ran : Ran World) (cells : PlainCells) (others : World → Scanned) : Type 0 where
   pub world : World
-  pub stands : Stands source cells world
+  pub stands : StandFor source cells world
   pub is : after_run ran others ≡ with_flag false (others world)
 
-run_ended : (source : Source) (ran : Ran World) (cells : List ℤ) (others : World → Scanned) → Agree source ran (Done cells) → RunEnded source ran cells others
+run_ended : (source : Source) (ran : Ran World) (cells : PlainCells) (others : World → Scanned) → Agree source ran (Done cells) → RunEnded source ran cells others
 run_ended source (Done w) cells others agree = record { world = w; stands = agree; is = refl }
 run_ended source (Trapped w spot trap) cells others agree = absurd agree
 
 -- a run that trapped
-record RunTrapped (source : Source) (ran : Ran World) (cells : List ℤ) (spot : Spot) (trap : Trap) (others : World → Scanned) : Type 0 where
+record RunTrapped (source : Source) (ran : Ran World) (cells : PlainCells) (spot : Spot) (trap : Trap) (others : World → Scanned) : Type 0 where
   pub world : World
-  pub stands : Stands source cells world
+  pub stands : StandFor source cells world
   pub is : after_run ran others ≡ with_flag true (with_fault spot trap (others world))
 
-run_trapped : (source : Source) (ran : Ran World) (cells : List ℤ) (spot : Spot) (trap : Trap) (others : World → Scanned) → Agree source ran (Trapped cells spot trap) → RunTrapped source ran cells spot trap others
+run_trapped : (source : Source) (ran : Ran World) (cells : PlainCells) (spot : Spot) (trap : Trap) (others : World → Scanned) → Agree source ran (Trapped cells spot trap) → RunTrapped source ran cells spot trap others
 run_trapped source (Done w) cells spot trap others agree = absurd agree
 run_trapped source (Trapped w s k) cells spot trap others agree = record {
   world = w;
@@ -74,8 +76,8 @@ run_trapped source (Trapped w s k) cells spot trap others agree = record {
 }
 
 -- a faulted program was skipped
-reached_skip : (source : Source) (t : ℕ) (whole : Scanned) (i : ℕ) (cells after : List ℤ) (flags : List Bool) (faults : List (Place × Trap)) → i < length flags → get_or flags i true ≡ true
-    → ((w : World) → Stands source cells w → Stands source after w)
+reached_skip : (source : Source) (t : ℕ) (whole : Scanned) (i : ℕ) (cells after : PlainCells) (flags : List Bool) (faults : List (Place × Trap)) → i < length flags → get_or flags i true ≡ true
+    → ((w : World) → StandFor source cells w → StandFor source after w)
     → Reached source t whole i cells flags faults → Reached source t whole (i + 1) after flags faults
 reached_skip source t whole i cells after flags faults h set walks r =
     record {
@@ -89,8 +91,8 @@ reached_skip source t whole i cells after flags faults h set walks r =
     }
 
 -- a program ran to its end
-reached_done : (source : Source) (t : ℕ) (whole : Scanned) (i : ℕ) (cells after : List ℤ) (flags : List Bool) (faults : List (Place × Trap)) → i < length flags → get_or flags i false ≡ false
-    → ((w : World) → Stands source cells w → Agree source (run_program source i t w) (Done after))
+reached_done : (source : Source) (t : ℕ) (whole : Scanned) (i : ℕ) (cells after : PlainCells) (flags : List Bool) (faults : List (Place × Trap)) → i < length flags → get_or flags i false ≡ false
+    → ((w : World) → StandFor source cells w → Agree source (run_program source i t w) (Done after))
     → Reached source t whole i cells flags faults → Reached source t whole (i + 1) after flags faults
 reached_done source t whole i cells after flags faults h unset walks r =
     let others : World → Scanned = programs_from source t (i + 1) (drop (i + 1) flags) in
@@ -107,15 +109,15 @@ reached_done source t whole i cells after flags faults h unset walks r =
     }
 
 -- a program had no fault
-pub reached_next : (source : Source) (t : ℕ) (whole : Scanned) (i : ℕ) (cells after : List ℤ) (flags : List Bool) (faults : List (Place × Trap)) (flag : Bool) → i < length flags → get_or flags i flag ≡ flag
-    → ((w : World) → Stands source cells w → Agree source (run_by flag source i t w) (ended_by source None after))
+pub reached_next : (source : Source) (t : ℕ) (whole : Scanned) (i : ℕ) (cells after : PlainCells) (flags : List Bool) (faults : List (Place × Trap)) (flag : Bool) → i < length flags → get_or flags i flag ≡ flag
+    → ((w : World) → StandFor source cells w → Agree source (run_by flag source i t w) (ended_by source None after))
     → Reached source t whole i cells flags faults → Reached source t whole (i + 1) after flags faults
 reached_next source t whole i cells after flags faults true h set walks r = reached_skip source t whole i cells after flags faults h set walks r
 reached_next source t whole i cells after flags faults false h unset walks r = reached_done source t whole i cells after flags faults h unset walks r
 
 -- a program trapped: it is faulted from then on, and the fault is reported
-trapped : (source : Source) (t : ℕ) (whole : Scanned) (i : ℕ) (cells after : List ℤ) (flags : List Bool) (faults : List (Place × Trap)) (place : Place) (trap : Trap) → i < length flags → get_or flags i false ≡ false
-    → ((w : World) → Stands source cells w → Agree source (run_program source i t w) (Trapped after (place_spot source place) trap))
+trapped : (source : Source) (t : ℕ) (whole : Scanned) (i : ℕ) (cells after : PlainCells) (flags : List Bool) (faults : List (Place × Trap)) (place : Place) (trap : Trap) → i < length flags → get_or flags i false ≡ false
+    → ((w : World) → StandFor source cells w → Agree source (run_program source i t w) (Trapped after (place_spot source place) trap))
     → Reached source t whole i cells flags faults → Reached source t whole (i + 1) after (slice_set flags i true) (faults ++ (place, trap) ∷ [])
 trapped source t whole i cells after flags faults place trap h unset walks r =
     let others : World → Scanned = programs_from source t (i + 1) (drop (i + 1) flags) in
@@ -139,8 +141,8 @@ trapped source t whole i cells after flags faults place trap h unset walks r =
     }
 
 -- a program trapped: it wasn't faulted before
-pub reached_trap : (source : Source) (t : ℕ) (whole : Scanned) (i : ℕ) (cells after : List ℤ) (flags : List Bool) (faults : List (Place × Trap)) (flag : Bool) (fault : Place × Trap) → i < length flags → get_or flags i flag ≡ flag
-    → ((w : World) → Stands source cells w → Agree source (run_by flag source i t w) (ended_by source (Some fault) after))
+pub reached_trap : (source : Source) (t : ℕ) (whole : Scanned) (i : ℕ) (cells after : PlainCells) (flags : List Bool) (faults : List (Place × Trap)) (flag : Bool) (fault : Place × Trap) → i < length flags → get_or flags i flag ≡ flag
+    → ((w : World) → StandFor source cells w → Agree source (run_by flag source i t w) (ended_by source (Some fault) after))
     → Reached source t whole i cells flags faults → Reached source t whole (i + 1) after (slice_set flags i true) (faults ++ fault ∷ [])
 reached_trap source t whole i cells after flags faults true fault h set walks r = absurd (walks r.world r.stands)
 reached_trap source t whole i cells after flags faults false fault h unset walks r = trapped source t whole i cells after flags faults fault.0 fault.1 h unset walks r

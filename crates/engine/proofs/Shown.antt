@@ -1,20 +1,21 @@
 -- The numbers of globals in range, and the outputs that they are shown as.
-use Rattle.std.proofs.Common.{◌≡◌, ℕ, zero, suc, ◌+◌, ℤ, pos, Bool, true, false, List, [], ◌∷◌, ◌++◌, map, All, refl, ap, sym, ◌∙◌, subst, Option, Some, arith}
+use Rattle.std.proofs.Common.{◌≡◌, ℕ, suc, ◌+◌, ℤ, pos, Bool, true, false, List, [], ◌∷◌, All, refl, ap, sym, ◌∙◌, subst, Option, Some, arith}
 use Rattle.std.specs.Prelude.{slice_get, not, if◌then◌else◌}
 use Rattle.std.specs.Ordering.{int_eq}
 use Rattle.std.specs.Option.{option_map_or}
 use Rattle.std.proofs.lemmas.Int.{ints}
-use Rattle.std.proofs.lemmas.List.Elements.{All-nil, All-cons, All-head, All-tail}
+use Rattle.std.proofs.lemmas.List.Elements.{All-nil, All-cons}
 use Rattle.plant_types.specs.declared.values.Kind.{Kind}
 use Rattle.plant_types.specs.declared.values.Kind.TheVariants as kind
 use Rattle.plant_types.specs.declared.values.Value.{Value}
 use Rattle.plant_types.specs.Values.{kind_of, truth, worth, value_of_kind, is_in_range}
-use Rattle.block_flatten.specs.declared.logic.Variable.{Variable}
-use Rattle.block_flatten.specs.Source.{Source}
-use Rattle.st_walk.specs.Worlds.{World, value_at, path_of}
-use Rattle.st_walk.specs.Slots.{cell}
-use Rattle.st_walk.specs.Ranges.{KindAt, global_kind_at, own_kinds, AllInRange}
-use Rattle.st_walk.proofs.Standing.{cell_holds}
+use Rattle.plant_logic.specs.declared.logic.Variable.{Variable}
+use Rattle.plant_logic.specs.Source.{Source}
+use Rattle.plant_logic.specs.Worlds.{World, path_of}
+use Rattle.plant_logic.specs.Ranges.{AllInRange}
+use Rattle.block_walk.specs.Cells.{PlainCells, value_at}
+use Rattle.plant_walk.proofs.Standing.{cell_holds}
+use Rattle.plant_walk.proofs.Ranges.{global_in_range}
 use Rattle.plant_config.specs.Plants.{PlainPlant}
 use Rattle.plant_config.specs.Names.{globals_of}
 use Rattle.engine.specs.Programs.{global_in}
@@ -26,23 +27,14 @@ use Rattle.engine.specs.Steps.{IsShowable, AreShowable, StandInRange}
 abbrev In : Kind → ℤ → Type 0
 In k n = is_in_range k n ≡ true
 
--- a variable's value is in its kind's range
-abbrev Holds : World → KindAt → Type 0
-Holds w v = In v.kind (value_at w v.path)
-
-global_at : (w : World) (globals : List Variable) (rest : List KindAt) (i : ℕ) (g : Variable) → slice_get globals i ≡ Some g → All (Holds w) (map global_kind_at globals ++ rest) → In g.kind (value_at w (path_of g.name))
-global_at w [] rest i g at all = absurd (cc)
-global_at w (x ∷ xs) rest zero g at all = subst (λ (y : Variable). In y.kind (value_at w (path_of y.name))) (let e : x ≡ g = cc in e) (All-head (Holds w) (global_kind_at x) (map global_kind_at xs ++ rest) all)
-global_at w (x ∷ xs) rest (suc i) g at all = global_at w xs rest i g at (All-tail (Holds w) (global_kind_at x) (map global_kind_at xs ++ rest) all)
-
 -- the number of a global that is there
-global_value : (globals : List Variable) (w : World) (i : ℕ) (g : Variable) → slice_get globals i ≡ Some g → global_in globals w i ≡ value_at w (path_of g.name)
-global_value globals w i g at = let value : Option Variable → ℤ = λ o. option_map_or (λ global. value_at w (path_of global.name)) o (pos 0) in ap value at
+global_value : (globals : List Variable) (w : World) (i : ℕ) (g : Variable) → slice_get globals i ≡ Some g → global_in globals w i ≡ w.values (path_of g.name)
+global_value globals w i g at = let value : Option Variable → ℤ = λ o. option_map_or (λ global. w.values (path_of global.name)) o (pos 0) in ap value at
 
 -- the cells of globals hold numbers that can be shown
-pub cells_showable : (source : Source) (cells : List ℤ) → StandInRange source cells → AreShowable source.globals (cell cells)
+pub cells_showable : (source : Source) (cells : PlainCells) → StandInRange source cells → AreShowable source.globals (value_at cells)
 cells_showable source cells held n g at =
-    subst (In g.kind) (sym (cell_holds source cells held.world n g at held.stands)) (global_at held.world source.globals (own_kinds source.programs) n g at held.in_range)
+    subst (In g.kind) (sym (cell_holds source cells held.world n g at held.stands)) (global_in_range source held.world n g held.in_range at)
 
 pub kind_of_value : (k : Kind) (n : ℤ) → kind_of (value_of_kind k n) ≡ k
 kind_of_value kind.Bool n = refl
@@ -84,7 +76,7 @@ module _ (plant : PlainPlant) (w : World) (holds : AllInRange plant.source w) wh
       → All (IsOutputValue plant w) (if b then (n, value_of_kind g.kind (now n)) ∷ rest else rest)
   one_valued true n g rest is at all =
       let value = global_value (globals_of plant) w n g at in
-      let fits = global_at w (globals_of plant) (own_kinds plant.source.programs) n g at holds in
+      let fits = global_in_range plant.source w n g holds at in
       All-cons (IsOutputValue plant w) (n, value_of_kind g.kind (now n)) rest (record {
         global = g;
         global_is = at;

@@ -15,11 +15,13 @@ use Rattle.alarm_bank.specs.Banks.{IsSite}
 use Rattle.alarm_bank.specs.Moves.{put_all, changes_from}
 use Rattle.alarm_bank.proofs.BankLaws.{scan_each_length}
 use Rattle.st_tree.specs.Meaning.{Ran, Done, Trapped}
-use Rattle.block_flatten.specs.declared.logic.Variable.{Variable}
-use Rattle.block_flatten.specs.Source.{PlainProgram, Source}
-use Rattle.block_flatten.specs.Sound.{IsSound}
-use Rattle.st_walk.specs.Worlds.{World, Stands, opening, run_program}
-use Rattle.st_walk.specs.Slots.{cell}
+use Rattle.plant_logic.specs.declared.logic.Variable.{Variable}
+use Rattle.plant_logic.specs.Source.{Source}
+use Rattle.plant_logic.specs.Worlds.{World, opening, run_program}
+use Rattle.plant_logic.specs.Paths.{paths_of, path_text}
+use Rattle.block_walk.specs.Cells.{value_at}
+use Rattle.block_frames.specs.Stands.{StandFor}
+use Rattle.plant_walk.specs.Sound.{IsSound}
 use Rattle.journal_core.specs.declared.row.Row.{Row}
 use Rattle.plant_config.specs.declared.rows.AlarmRow.{AlarmRow}
 use Rattle.plant_config.specs.Plants.{PlainPlant, IsPlant, IsAlarmRow}
@@ -31,7 +33,6 @@ use Rattle.engine.specs.declared.event.EngineFault.{EngineFault}
 use Rattle.engine.specs.declared.event.EngineFault.TheVariants as refusal
 use Rattle.engine.specs.declared.state.Effect.{Effect}
 use Rattle.engine.specs.declared.state.Effect.TheVariants as effect
-use Rattle.st_walk.specs.Runs.{paths_of}
 use Rattle.plant_config.specs.Names.{globals_of, programs_of, body_paths}
 use Rattle.engine.specs.Programs.{Scanned, opening_faulted, after_run, programs_from, with_inputs, global_in, world_after}
 use Rattle.engine.specs.Orders.{order_outcome, alarms_by, faulted_by, reply_by}
@@ -128,10 +129,10 @@ pub kept_faulted : (plant : PlainPlant) (history : List Event) (k : PlainState) 
 kept_faulted plant history k held = ap length held.faulted_is ∙ system_faulted plant history
 
 -- and its outputs are those of its cells
-pub kept_outputs : (plant : PlainPlant) (history : List Event) (k : PlainState) → IsState plant (system plant history) k → k.outputs ≡ outputs_from 0 plant.source.globals (cell k.cells)
+pub kept_outputs : (plant : PlainPlant) (history : List Event) (k : PlainState) → IsState plant (system plant history) k → k.outputs ≡ outputs_from 0 plant.source.globals (value_at k.cells)
 kept_outputs plant history k held =
     let world = (system plant history).world in
-    held.outputs_are ∙ sym (outputs_stand plant.source (cell k.cells) (global_in (globals_of plant) world) (values_stand plant.source k.cells world held.world_stands))
+    held.outputs_are ∙ sym (outputs_stand plant.source (value_at k.cells) (global_in (globals_of plant) world) (values_stand plant.source k.cells world held.world_stands))
 
 -- what the programs leave in cells is what they leave in the system's world
 runs_world : (plant : PlainPlant) (sys : System) (old new : PlainState) (image : List (ℕ × Value)) (t : ℕ) (r : PlainReport) → IsSound plant.source → All (has_number (length plant.source.globals)) image → IsState plant sys old → ScanRan plant old image t new r
@@ -153,8 +154,8 @@ scan_agrees plant sys old new image t r is within held made =
       world_stands = runs.world_stands;
       faulted_is = runs.faulted_is;
       sites_are = made.sites_are ∙ held.sites_are;
-      alarms_are = made.alarms_are ∙ alarms_same plant (cell new.cells) look t plant.alarms old.alarms now is.alarms ∙ ap (alarms_after look t plant.alarms) held.alarms_are;
-      outputs_are = made.outputs_are ∙ outputs_stand plant.source (cell new.cells) look now;
+      alarms_are = made.alarms_are ∙ alarms_same plant (value_at new.cells) look t plant.alarms old.alarms now is.alarms ∙ ap (alarms_after look t plant.alarms) held.alarms_are;
+      outputs_are = made.outputs_are ∙ outputs_stand plant.source (value_at new.cells) look now;
       moment_is = made.moment_is;
       in_range = rw made.moment_is made.in_range;
     }
@@ -186,7 +187,7 @@ outs_within n (global ∷ globals) before now =
 
 -- a path for each body
 as_many_paths : (plant : PlainPlant) → length (paths_of plant.source) ≡ length (body_paths plant)
-as_many_paths plant = length-map plant.source.programs (λ (p : PlainProgram). p.name ∷ []) ∙ sym (length-map plant.source.programs (λ (p : PlainProgram). p.name))
+as_many_paths plant = sym (length-map (paths_of plant.source) path_text)
 
 -- what a scan reports is what its event did
 scan_reports : (plant : PlainPlant) (sys : System) (old new : PlainState) (image : List (ℕ × Value)) (t : ℕ) (r : PlainReport) → IsPlant plant → All (has_number (length plant.source.globals)) image → length old.alarms ≡ length plant.alarms → IsState plant sys old → ScanRan plant old image t new r
@@ -203,8 +204,8 @@ scan_reports plant sys old new image t r is within each held made =
       faults_within = subst (λ n. All (λ f. f.0.path < n) r.faults) (as_many_paths plant) made.faults_within;
       changes_are = made.changes_are ∙ ap (λ a. changes_from 0 a new.alarms) held.alarms_are ∙ ap (changes_from 0 sys.alarms) after.alarms_are;
       changes_within = subst (λ (l : List (ℕ × PlainChange)). All (λ c. c.0 < length plant.alarms) l) (sym made.changes_are) (numbers_more (changes_from 0 old.alarms new.alarms) (0 + length old.alarms) (length plant.alarms) (omega arith) (changes_within 0 old.alarms new.alarms));
-      outs_within = subst (λ (l : List (ℕ × Value)). All (λ o. o.0 < length plant.source.globals) l) (sym made.outs_are) (numbers_more (outs_from 0 plant.source.globals (cell old.cells) (cell new.cells)) (0 + length plant.source.globals) (length plant.source.globals) (omega arith) (outs_within 0 plant.source.globals (cell old.cells) (cell new.cells)));
-      outs_are = made.outs_are ∙ outs_stand plant.source (cell old.cells) (global_in (globals_of plant) sys.world) (cell new.cells) look before now;
+      outs_within = subst (λ (l : List (ℕ × Value)). All (λ o. o.0 < length plant.source.globals) l) (sym made.outs_are) (numbers_more (outs_from 0 plant.source.globals (value_at old.cells) (value_at new.cells)) (0 + length plant.source.globals) (length plant.source.globals) (omega arith) (outs_within 0 plant.source.globals (value_at old.cells) (value_at new.cells)));
+      outs_are = made.outs_are ∙ outs_stand plant.source (value_at old.cells) (global_in (globals_of plant) sys.world) (value_at new.cells) look before now;
     }
 
 -- the event of a scan, by what an engine keeps and how many events there were
@@ -280,7 +281,7 @@ sites_there plant is =
     (All-weaker (IsAlarmRow plant) (λ row. IsSite (length plant.areas) (site row)) (λ row there. record { area = there.area; lowest = there.lowest; highest = there.highest }) plant.alarms is.alarms)
 
 -- before the first event
-pub opening_agrees : (plant : PlainPlant) (k : PlainState) → IsPlant plant → Stands plant.source k.cells (opening plant.source) → k.faulted ≡ opening_faulted (programs_of plant) → k.sites ≡ sites_of plant.alarms → k.alarms ≡ map opening_alarm plant.alarms → k.outputs ≡ outputs_from 0 plant.source.globals (cell k.cells) → k.moment ≡ 0 → IsLawfulHistory plant [] → IsJournal plant [] [] → IsEngine plant [] [] k
+pub opening_agrees : (plant : PlainPlant) (k : PlainState) → IsPlant plant → StandFor plant.source k.cells (opening plant.source) → k.faulted ≡ opening_faulted (programs_of plant) → k.sites ≡ sites_of plant.alarms → k.alarms ≡ map opening_alarm plant.alarms → k.outputs ≡ outputs_from 0 plant.source.globals (value_at k.cells) → k.moment ≡ 0 → IsLawfulHistory plant [] → IsJournal plant [] [] → IsEngine plant [] [] k
 opening_agrees plant k is stands faulted sites alarms outputs moment lawful journal =
     record {
       state_is = subst (λ s. IsState plant s k) (sym (system_none plant)) (record {
@@ -288,7 +289,7 @@ opening_agrees plant k is stands faulted sites alarms outputs moment lawful jour
         faulted_is = faulted;
         sites_are = sites;
         alarms_are = alarms;
-        outputs_are = outputs ∙ outputs_stand plant.source (cell k.cells) (global_in (globals_of plant) (opening plant.source)) (values_stand plant.source k.cells (opening plant.source) stands);
+        outputs_are = outputs ∙ outputs_stand plant.source (value_at k.cells) (global_in (globals_of plant) (opening plant.source)) (values_stand plant.source k.cells (opening plant.source) stands);
         moment_is = moment;
         in_range = rw moment (omega arith);
       });

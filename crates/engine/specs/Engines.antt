@@ -1,10 +1,11 @@
 -- What an engine shows, what a scan reports, and when something made ready fits an engine.
-use Rattle.std.specs.Prelude.{◌≡◌, ℕ, ◌+◌, ◌<◌, ◌≤◌, ℤ, Bool, List, [], ◌∷◌, ◌++◌, length, map, All, Result, Ok, refl}
+use Rattle.std.specs.Prelude.{◌≡◌, ℕ, ◌+◌, ◌<◌, ◌≤◌, Bool, List, [], ◌∷◌, ◌++◌, length, map, All, Result, Ok, refl}
 use Rattle.std.specs.Coded.{Coded, code_by, coded×, coded_list, coded_ℕ}
 use Rattle.plant_types.specs.Pairs.{PlainPair}
 use Rattle.plant_types.specs.declared.values.Value.{Value}
-use Rattle.st_walk.specs.Worlds.{Stands}
-use Rattle.st_walk.specs.Runs.{place_spot}
+use Rattle.block_walk.specs.Cells.{PlainCells}
+use Rattle.block_frames.specs.Stands.{StandFor}
+use Rattle.plant_walk.specs.Runs.{place_spot}
 use Rattle.journal_core.specs.declared.row.Row.{Row}
 use Rattle.alarm_machine.specs.Alarms.{PlainAlarm}
 use Rattle.alarm_bank.specs.declared.rows.Site.{Site}
@@ -42,9 +43,9 @@ engine_code =
     code_by (PlainPlant × (List Event × (ℕ × ℕ))) (coded× plant_code (coded× (coded_list event_row.the_row.coded) (coded× coded_ℕ coded_ℕ)))
     (λ e. (e.plant, (e.history, (e.room, e.row_room)))) (λ p. record { plant = p.0; history = p.1.0; room = p.1.1.0; row_room = p.1.1.1 }) (λ _. refl)
 
--- what an engine keeps beside its plant and its history: the cells of the variables, the faulted programs, the area and priority of each alarm, the alarms, the outputs and the last moment
+-- what an engine keeps beside its plant and its history: the cells of the variables and clocks, the faulted programs, the area and priority of each alarm, the alarms, the outputs and the last moment
 pub record PlainState : Type 0 where
-  pub cells : List ℤ
+  pub cells : PlainCells
   pub faulted : List Bool
   pub sites : List Site
   pub alarms : List PlainAlarm
@@ -53,7 +54,7 @@ pub record PlainState : Type 0 where
 
 -- what an engine keeps is what the system has
 pub record IsState (plant : PlainPlant) (sys : System) (k : PlainState) : Type 0 where
-  pub world_stands : Stands plant.source k.cells sys.world
+  pub world_stands : StandFor plant.source k.cells sys.world
   pub faulted_is : k.faulted ≡ sys.faulted
   pub sites_are : k.sites ≡ sites_of plant.alarms
   pub alarms_are : k.alarms ≡ sys.alarms
@@ -80,7 +81,7 @@ pub record TakesScan (old new : PlainEngine) (pairs : List PlainPair) (t : ℕ) 
 
 -- what a scan does to a state: the cells, the faulted programs and the outputs that it leaves, the alarms that it moves, and its moment
 pub record PlainScanEffect : Type 0 where
-  pub cells : List ℤ
+  pub cells : PlainCells
   pub faulted : List Bool
   pub outputs : List (ℕ × Value)
   pub moved : List (ℕ × PlainAlarm)

@@ -5,9 +5,9 @@ use Rattle.std.specs.Option.{option_map, option_and_then}
 use Rattle.plant_types.specs.Pairs.{PlainPair}
 use Rattle.plant_types.specs.Values.{fitted, is_in_range, worth}
 use Rattle.plant_types.specs.declared.values.Value.{Value}
-use Rattle.block_flatten.specs.declared.logic.Variable.{Variable}
-use Rattle.block_flatten.specs.Names.{find_global}
-use Rattle.block_flatten.specs.Scopes.{is_input}
+use Rattle.st_names.specs.Scopes.{is_input}
+use Rattle.plant_logic.specs.declared.logic.Variable.{Variable}
+use Rattle.plant_logic.specs.Names.{find_global}
 use Rattle.engine.specs.declared.event.EngineFault.{EngineFault}
 use Rattle.engine.specs.declared.event.EngineFault.TheVariants as refusal
 use Rattle.engine.specs.declared.image.Input.{Input}

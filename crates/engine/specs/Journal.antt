@@ -7,8 +7,8 @@ use Rattle.alarm_machine.specs.declared.states.OrderFault.TheVariants as fault
 use Rattle.alarm_machine.specs.Codes.{PlainChange}
 use Rattle.alarm_machine.specs.Alarms.{PlainAlarm}
 use Rattle.st_tree.specs.Meaning.{Spot}
-use Rattle.block_flatten.specs.Source.{Source}
-use Rattle.st_walk.specs.Runs.{place_spot}
+use Rattle.plant_logic.specs.Source.{Source}
+use Rattle.plant_walk.specs.Runs.{place_spot}
 use Rattle.journal_core.specs.declared.row.Entry.{Entry}
 use Rattle.journal_core.specs.declared.row.Entry.TheVariants as entry
 use Rattle.journal_core.specs.declared.row.Row.{Row}

@@ -3,8 +3,8 @@ use Rattle.std.specs.Prelude.{◌≡◌, ℕ, true, List, [], ◌∷◌, Ok, Som
 use Rattle.plant_types.specs.Pairs.{PlainPair}
 use Rattle.plant_types.specs.Values.{kind_of, worth}
 use Rattle.plant_types.specs.declared.values.Value.{Value}
-use Rattle.block_flatten.specs.declared.logic.Variable.{Variable}
-use Rattle.st_walk.specs.Worlds.{World, value_at, path_of}
+use Rattle.plant_logic.specs.declared.logic.Variable.{Variable}
+use Rattle.plant_logic.specs.Worlds.{World, path_of}
 use Rattle.plant_config.specs.Plants.{PlainPlant}
 use Rattle.plant_config.specs.Names.{globals_of}
 use Rattle.engine.specs.declared.event.Event.{Event}
@@ -31,4 +31,4 @@ pub record IsOutputValue (plant : PlainPlant) (w : World) (output : ℕ × Value
   pub global_is : slice_get (globals_of plant) output.0 ≡ Some global
   pub is_output : is_output global.region ≡ true
   pub kind_is : kind_of output.1 ≡ global.kind
-  pub worth_is : worth output.1 ≡ value_at w (path_of global.name)
+  pub worth_is : worth output.1 ≡ w.values (path_of global.name)

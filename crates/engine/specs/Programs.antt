@@ -5,9 +5,9 @@ use Rattle.plant_types.specs.declared.values.Value.{Value}
 use Rattle.plant_types.specs.declared.values.Trap.{Trap}
 use Rattle.plant_types.specs.Values.{worth}
 use Rattle.st_tree.specs.Meaning.{Ran, Done, Trapped, Spot}
-use Rattle.block_flatten.specs.Source.{Source}
-use Rattle.block_flatten.specs.declared.logic.Variable.{Variable}
-use Rattle.st_walk.specs.Worlds.{World, value_at, assign, path_of, run_program}
+use Rattle.plant_logic.specs.Source.{Source}
+use Rattle.plant_logic.specs.declared.logic.Variable.{Variable}
+use Rattle.plant_logic.specs.Worlds.{World, assign, path_of, run_program}
 use Rattle.plant_config.specs.Plants.{PlainPlant}
 use Rattle.plant_config.specs.Names.{globals_of}
 
@@ -23,7 +23,7 @@ opening_faulted programs = map (λ (program : List ℕ). false) programs
 
 -- the value of a global by its number, in a world
 abbrev pub global_in : List Variable → World → ℕ → ℤ
-global_in globals w n = option_map_or (λ global. value_at w (path_of global.name)) (slice_get globals n) (pos 0)
+global_in globals w n = option_map_or (λ global. w.values (path_of global.name)) (slice_get globals n) (pos 0)
 
 -- an input gets its value
 abbrev pub with_input : List Variable → World → ℕ × Value → World

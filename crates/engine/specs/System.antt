@@ -8,8 +8,8 @@ use Rattle.plant_types.specs.declared.values.Trap.{Trap}
 use Rattle.plant_types.specs.declared.values.Region.{Region}
 use Rattle.plant_types.specs.declared.values.Region.TheVariants as region
 use Rattle.st_tree.specs.Meaning.{Spot}
-use Rattle.block_flatten.specs.declared.logic.Variable.{Variable}
-use Rattle.st_walk.specs.Worlds.{World, opening}
+use Rattle.plant_logic.specs.declared.logic.Variable.{Variable}
+use Rattle.plant_logic.specs.Worlds.{World, opening}
 use Rattle.alarm_machine.specs.declared.states.OrderFault.{OrderFault}
 use Rattle.alarm_machine.specs.Codes.{PlainChange}
 use Rattle.alarm_machine.specs.Alarms.{PlainAlarm, new_alarm}
@@ -33,7 +33,7 @@ use Rattle.engine.specs.Programs.{Scanned, opening_faulted, global_in, world_aft
 use Rattle.engine.specs.Image.{image_of}
 use Rattle.engine.specs.Orders.{order_outcome, alarms_by, faulted_by, reply_by}
 
--- the whole state: the variables' values, for each program whether it is faulted, the alarms, the last scan's moment, and how many events there were
+-- the whole state: the variables' values and the calls of standard blocks, for each program whether it is faulted, the alarms, the last scan's moment, and how many events there were
 pub record System : Type 0 where
   pub world : World
   pub faulted : List Bool

@@ -11,14 +11,13 @@ ghost use Rattle.engine.specs.Engines.{state_of, Fits, FitsOrder, IsReport, Take
 
 use crate::event::{EngineFault, Event, MOST_EVENTS, Order, Reply, Report};
 use crate::image::Input;
-use crate::indexed::IndexedPlant;
-use crate::journal::{name_of, push_order, push_scan, row_count};
+use crate::journal::{line_text, push_order, push_scan, row_count};
 use crate::orders::{PreparedOrder, prepared_order};
 use crate::scan::{Prepared, prepared_scan};
 use crate::state::{ScanEffect, State, alarm_state, apply, apply_scan, opening_state};
 use alarm_bank::Summary;
 use alarm_machine::{AlarmState, Verb};
-use journal_core::{Log, row_text};
+use journal_core::Log;
 use plant_config::Plant;
 use plant_types::{Pair, Value};
 use std::alloc::{AllocError, Global};
@@ -27,7 +26,7 @@ use std::marker::Model;
 /// A plant, and what the events so far made of it.
 #[derive(Drop)]
 pub struct Engine {
-    plant: IndexedPlant,
+    plant: Plant,
     history: Vec<Event>,
     log: Log,
     state: State,
@@ -59,7 +58,6 @@ impl Engine {
         ensures { IfOk result (λ e. (e.plant ≡ plant) × (e.history ≡ [])) }
     {
         let state = opening_state(alloc, &plant)?;
-        let plant = IndexedPlant::new(alloc, plant)?;
         let history = Vec::new(alloc);
         let log = Log::new(alloc);
         let inputs = Vec::new(alloc);
@@ -77,7 +75,7 @@ impl Engine {
     pub fn plant(&self) -> &Plant
         ensures { result.now ≡ self.now.plant }
     {
-        self.plant.plant()
+        &self.plant
     }
 
     /// How many events the history has, at most 1,000,000.
@@ -133,8 +131,7 @@ impl Engine {
         ensures { IfOk result (λ text. IsLine self.now.plant self.now.history number (string_bytes text)) }
     {
         let row = &self.log.rows()[(number - 1) as usize];
-        let plant = self.plant.plant();
-        row_text(alloc, plant.epoch(), row, name_of(plant, row.entry))
+        line_text(alloc, &self.plant, row)
     }
 
     /// Makes a scan ready: runs the programs on copies, and allocates all that `commit` needs, room for the rows of the journal too. It
@@ -213,7 +210,7 @@ impl Engine {
         if self.history.len() >= MOST_EVENTS {
             return Err(EngineFault::HistoryFull);
         }
-        let prepared = prepared_order(self.plant.plant(), &self.state, console, order);
+        let prepared = prepared_order(&self.plant, &self.state, console, order);
         self.log.reserve(2)?;
         self.history.reserve(1)?;
         Ok(prepared)

@@ -1,6 +1,6 @@
 //! The image of a scan: inputs by number, with values of their kinds.
 
-ghost use Rattle.std.specs.Prelude.{◌≡◌, ◌<◌, ◌^◌, length, All, IfOk, IfErr, IfSome, OnOk, Ok, Some, None, ◌≤◌, ◌==◌, if◌then◌else◌};
+ghost use Rattle.std.specs.Prelude.{◌≡◌, ◌<◌, length, All, IfOk, IfErr, IfSome, OnOk, Ok, Some, None, ◌≤◌, ◌==◌, if◌then◌else◌};
 ghost use Rattle.std.specs.List.{list_any};
 ghost use Rattle.plant_config.specs.Names.{globals_of};
 ghost use Rattle.engine.specs.Image.{input_of, inputs_of, has_twin, values_of, image_of, IsDue};
@@ -8,8 +8,8 @@ ghost use Rattle.engine.specs.System.{taken_scan};
 ghost use Rattle.engine.specs.declared.event.Event.TheVariants.{Scan};
 
 use crate::event::{EngineFault, MOST_EVENTS};
-use crate::indexed::IndexedPlant;
 use alarm_machine::LAST_MOMENT;
+use plant_config::Plant;
 use plant_types::{Given, Items, Kind, Pair, Region, Value, fitted};
 use std::alloc::{AllocError, Global};
 
@@ -25,18 +25,17 @@ pub struct Input {
 }
 
 /// The input that a pair names, with what is given for it; `None` for a name of no input.
-fn input_of(plant: &IndexedPlant, pair: &Pair) -> Option<Input>
-    requires { length (globals_of plant.now) < 2 ^ 32 }
+fn input_of(plant: &Plant, pair: &Pair) -> Option<Input>
     ensures input { result ≡ input_of (globals_of plant.now) pair.now }
     ensures within { IfSome result (λ p. p.number < length (globals_of plant.now)) }
 {
     let Some(number) = plant.global_number(pair.name.as_str()) else {
         return None;
     };
-    match plant.plant().flat().globals().get(number) {
+    match plant.logic().globals().get(number as usize) {
         Some(global) => match global.region {
             Some(Region::Input) => Some(Input {
-                number: number as u32,
+                number,
                 kind: global.kind,
                 given: pair.given,
             }),
@@ -47,12 +46,7 @@ fn input_of(plant: &IndexedPlant, pair: &Pair) -> Option<Input>
 }
 
 /// Lists the inputs that pairs name, in order, in place of those listed before; false if one names no input. Fails if allocation fails.
-fn list_inputs(
-    plant: &IndexedPlant,
-    pairs: &[Pair],
-    inputs: &mut Vec<Input>,
-) -> Result<bool, AllocError>
-    requires { length (globals_of plant.now) < 2 ^ 32 }
+fn list_inputs(plant: &Plant, pairs: &[Pair], inputs: &mut Vec<Input>) -> Result<bool, AllocError>
     ensures inputs { IfOk result (λ all. inputs_of (globals_of plant.now) pairs.now ≡ (if all then Some inputs.new.items else None)) }
     ensures within { OnOk result (All (λ p. p.number < length (globals_of plant.now)) inputs.new.items) }
 {
@@ -124,18 +118,17 @@ fn has_twin(alloc: Global, globals: usize, inputs: &[Input]) -> Result<bool, All
 #[tactic(auto, unfolding(crate::specs::Image::image_of))]
 fn image_of(
     alloc: Global,
-    plant: &IndexedPlant,
+    plant: &Plant,
     pairs: &[Pair],
     inputs: &mut Vec<Input>,
 ) -> Result<Items<(u32, Value)>, EngineFault>
-    requires { length (globals_of plant.now) < 2 ^ 32 }
     ensures ok { IfOk result (λ image. image_of (globals_of plant.now) pairs.now ≡ Ok image) }
     ensures err { IfErr result (λ e. IsDue e (image_of (globals_of plant.now) pairs.now)) }
 {
     if !list_inputs(plant, pairs, inputs)? {
         return Err(EngineFault::ImageName);
     }
-    let globals = plant.plant().flat().globals().len();
+    let globals = plant.logic().globals().len();
     if has_twin(alloc, globals, inputs.as_slice())? {
         return Err(EngineFault::ImageName);
     }
@@ -149,14 +142,13 @@ fn image_of(
 #[tactic(auto, unfolding(crate::specs::System::taken_scan))]
 pub fn taken_image(
     alloc: Global,
-    plant: &IndexedPlant,
+    plant: &Plant,
     inputs: &mut Vec<Input>,
     last: u64,
     events: usize,
     pairs: &[Pair],
     moment: u64,
 ) -> Result<Items<(u32, Value)>, EngineFault>
-    requires { length (globals_of plant.now) < 2 ^ 32 }
     ensures ok { IfOk result (λ image. taken_scan (globals_of plant.now) last events pairs.now moment ≡ Ok (Scan image moment)) }
     ensures range { OnOk result (moment ≤ LAST_MOMENT) }
     ensures err { IfErr result (λ e. IsDue e (taken_scan (globals_of plant.now) last events pairs.now moment)) }

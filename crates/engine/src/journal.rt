@@ -1,6 +1,9 @@
-//! The rows that an event adds to the journal, and the name that a row bears.
+//! The rows that an event adds to the journal, and the text of a row.
 
-ghost use Rattle.std.specs.Prelude.{◌≡◌, ◌≤◌, ◌+◌, length};
+ghost use Rattle.std.specs.Prelude.{◌≡◌, ◌≤◌, ◌+◌, IfOk, length, string_bytes};
+ghost use Rattle.alarm_machine.specs.declared.limits.TheConstants.{LAST_MOMENT};
+ghost use Rattle.journal_core.specs.Bodies.{row_text};
+ghost use Rattle.journal_core.specs.declared.row.Entry.TheVariants as entry;
 ghost use Rattle.journal_core.specs.Rows.{after_entries, last_moment};
 ghost use Rattle.engine.specs.Orders.{changed_by};
 ghost use Rattle.engine.specs.Journal.{refusal_of, scan_entries, order_entries, IsNamed, HasTarget, target_name, name_of};
@@ -8,8 +11,9 @@ ghost use Rattle.engine.specs.Journal.{refusal_of, scan_entries, order_entries, 
 use crate::event::{Order, Report};
 use crate::state::{Effect, State};
 use alarm_machine::{Alarm, Change, OrderFault, Verb};
-use journal_core::{Entry, Log};
+use journal_core::{Entry, Log, Row, row_text};
 use plant_config::Plant;
+use std::alloc::{AllocError, Global};
 
 /// Why an order is refused, if it is.
 fn refusal_of(done: &Result<Effect, OrderFault>) -> Option<OrderFault>
@@ -90,23 +94,48 @@ fn target_name(plant: &Plant, verb: Verb, number: u32) -> &str
     }
 }
 
-/// The name that a row bears: the path of a fault, the tag of an alarm, the target of an order, `?` where there is none.
-pub fn name_of(plant: &Plant, entry: Entry) -> &str
-    requires { IsNamed plant.now entry }
-    ensures { result.now ≡ name_of plant.now entry }
+/// The name that the row of an order bears: that of its target, `?` where it was refused because there is none.
+fn order_name(
+    plant: &Plant,
+    console: u32,
+    verb: Verb,
+    target: Option<u32>,
+    refused: Option<OrderFault>,
+) -> &str
+    requires { IsNamed plant.now (entry.Order console verb target refused) }
+    ensures { result.now ≡ name_of plant.now (entry.Order console verb target refused) }
 {
-    match entry {
-        Entry::Fault(place, _) => plant.path(place.path),
-        Entry::Alarm(alarm, _) => plant.tag(alarm),
+    match (refused, target) {
+        (Some(OrderFault::UnknownTarget), _) => "?",
+        (_, Some(number)) => target_name(plant, verb, number),
+        (_, None) => "?",
+    }
+}
+
+/// The text of a row, with the name that it bears. Fails if allocation fails.
+pub fn line_text(alloc: Global, plant: &Plant, row: &Row) -> Result<String, AllocError>
+    requires named { IsNamed plant.now row.now.entry }
+    requires range { row.now.moment ≤ LAST_MOMENT }
+    ensures { IfOk result (λ text. string_bytes text ≡ row_text plant.now.epoch row.now (name_of plant.now row.now.entry)) }
+{
+    let epoch = plant.epoch();
+    match row.entry {
+        Entry::Fault(place, _) => {
+            let mut path = String::new(alloc);
+            plant.push_path(place.path, &mut path)?;
+            row_text(alloc, epoch, row, path.as_str())
+        }
+        Entry::Alarm(alarm, _) => row_text(alloc, epoch, row, plant.tag(alarm)),
         Entry::Order {
-            console: _,
+            console,
             verb,
             target,
             refused,
-        } => match (refused, target) {
-            (Some(OrderFault::UnknownTarget), _) => "?",
-            (_, Some(number)) => target_name(plant, verb, number),
-            (_, None) => "?",
-        },
+        } => row_text(
+            alloc,
+            epoch,
+            row,
+            order_name(plant, console, verb, target, refused),
+        ),
     }
 }

@@ -1,7 +1,7 @@
 //! Laws of lawful histories. These functions do nothing: each has a law as its contract, for the crates above.
 
 ghost use Rattle.std.specs.Prelude.{◌≤◌, List, length, All};
-ghost use Rattle.st_walk.specs.Ranges.{AllInRange};
+ghost use Rattle.plant_logic.specs.Ranges.{AllInRange};
 ghost use Rattle.plant_config.specs.Plants.{PlainPlant, IsPlant};
 ghost use Rattle.engine.specs.declared.event.Event.{Event};
 ghost use Rattle.engine.specs.System.{system, outputs_of};

@@ -8,7 +8,6 @@
 mod engine;
 mod event;
 mod image;
-mod indexed;
 mod journal;
 mod laws;
 mod orders;

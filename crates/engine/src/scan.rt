@@ -1,18 +1,17 @@
 //! How a scan is made ready.
 
-ghost use Rattle.std.specs.Prelude.{◌≡◌, ◌<◌, ◌≤◌, ◌^◌, length, All, IfOk, IfErr};
+ghost use Rattle.std.specs.Prelude.{◌≡◌, ◌≤◌, length, All, IfOk, IfErr};
 ghost use Rattle.alarm_machine.specs.declared.limits.TheConstants.{LAST_MOMENT};
 ghost use Rattle.plant_config.specs.Names.{globals_of, programs_of};
-ghost use Rattle.block_flatten.specs.Sound.{IsSound};
+ghost use Rattle.block_walk.specs.Cells.{value_at};
+ghost use Rattle.plant_walk.specs.Sound.{IsSound};
 ghost use Rattle.engine.specs.Image.{IsDue, FitsGlobal};
 ghost use Rattle.engine.specs.System.{taken_scan, outputs_from};
-ghost use Rattle.st_walk.specs.Slots.{cell};
 ghost use Rattle.engine.specs.Engines.{after_effect};
 ghost use Rattle.engine.specs.Steps.{ScanRan, IsPreparedScan, StandInRange};
 
 use crate::event::{EngineFault, Event, Report};
 use crate::image::{Input, taken_image};
-use crate::indexed::IndexedPlant;
 use crate::state::{ScanEffect, State, copied_cells, copied_flags, empty_effect};
 use crate::steps::{changed, renewed, run_programs, set_inputs, step_alarms};
 use plant_config::Plant;
@@ -48,7 +47,7 @@ fn run_scan(
 ) -> Result<(ScanEffect, Report), AllocError>
     requires programs { length old.now.faulted ≡ length (programs_of plant.now) }
     requires alarms { length old.now.alarms ≡ length plant.now.alarms }
-    requires outputs { old.now.outputs ≡ outputs_from 0 (globals_of plant.now) (cell old.now.cells) }
+    requires outputs { old.now.outputs ≡ outputs_from 0 (globals_of plant.now) (value_at old.now.cells) }
     requires range { moment ≤ LAST_MOMENT }
     requires sound { IsSound plant.now.source }
     requires image { All (FitsGlobal (globals_of plant.now)) image.now }
@@ -90,7 +89,7 @@ fn run_scan(
 /// returns why it is refused.
 pub fn prepared_scan(
     alloc: Global,
-    plant: &IndexedPlant,
+    plant: &Plant,
     old: &State,
     spare: &mut Option<ScanEffect>,
     inputs: &mut Vec<Input>,
@@ -100,8 +99,7 @@ pub fn prepared_scan(
 ) -> Result<Prepared, EngineFault>
     requires programs { length old.now.faulted ≡ length (programs_of plant.now) }
     requires alarms { length old.now.alarms ≡ length plant.now.alarms }
-    requires globals { length (globals_of plant.now) < 2 ^ 32 }
-    requires outputs { old.now.outputs ≡ outputs_from 0 (globals_of plant.now) (cell old.now.cells) }
+    requires outputs { old.now.outputs ≡ outputs_from 0 (globals_of plant.now) (value_at old.now.cells) }
     requires sound { IsSound plant.now.source }
     requires values { StandInRange plant.now.source old.now.cells }
     ensures ok { IfOk result (IsPreparedScan plant.now old.now events pairs.now moment) }
@@ -120,7 +118,7 @@ pub fn prepared_scan(
         Some(effect) => effect,
         None => empty_effect(alloc),
     };
-    let (effect, report) = run_scan(alloc, plant.plant(), old, room, image.as_slice(), moment)?;
+    let (effect, report) = run_scan(alloc, plant, old, room, image.as_slice(), moment)?;
     Ok(Prepared {
         event: Event::Scan(image, moment),
         effect,

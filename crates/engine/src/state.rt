@@ -10,9 +10,9 @@ ghost use Rattle.engine.specs.System.{opening_alarm, sites_of};
 use crate::steps::{opening_alarms, opening_sites, outputs};
 use alarm_bank::Bank;
 use alarm_machine::{Alarm, AlarmState, OrderFault};
+use block_walk::Cells;
 use plant_config::Plant;
 use plant_types::Value;
-use st_walk::Cells;
 use std::alloc::{AllocError, Global};
 use std::marker::Model;
 use std::mem::replace;
@@ -20,7 +20,7 @@ use std::mem::replace;
 /// What an engine keeps beside its plant and its history.
 #[derive(Drop)]
 pub struct State {
-    /// The values of the variables, by number.
+    /// The values of the variables, by number, and the clocks of standard blocks.
     pub cells: Cells,
     /// For each program whether it is faulted.
     pub faulted: Vec<bool>,
@@ -41,7 +41,7 @@ impl Model for State {
 /// What a scan does to a state.
 #[derive(Drop)]
 pub struct ScanEffect {
-    /// The values that it leaves of the variables, by number.
+    /// The values that it leaves of the variables, by number, and the clocks of standard blocks.
     pub cells: Cells,
     /// For each program whether it is faulted then.
     pub faulted: Vec<bool>,
@@ -85,9 +85,9 @@ fn opening_bank(alloc: Global, plant: &Plant) -> Result<Bank, AllocError>
 pub fn opening_state(alloc: Global, plant: &Plant) -> Result<State, AllocError>
     ensures { IfOk result (IsEngine plant.now [] []) }
 {
-    let globals = plant.flat().globals();
-    let cells = Cells::opening(alloc, plant.flat())?;
-    let outputs = outputs(alloc, globals, &cells)?;
+    let logic = plant.logic();
+    let cells = logic.opening(alloc)?;
+    let outputs = outputs(alloc, logic.globals(), &cells)?;
     let bank = opening_bank(alloc, plant)?;
     let faulted = vec![in alloc; false; plant.programs() as usize]?;
     Ok(State {
@@ -101,7 +101,7 @@ pub fn opening_state(alloc: Global, plant: &Plant) -> Result<State, AllocError>
 /// What holds nothing, to be written over.
 pub fn empty_effect(alloc: Global) -> ScanEffect {
     ScanEffect {
-        cells: Cells::new(Vec::new(alloc)),
+        cells: Cells::new(Vec::new(alloc), Vec::new(alloc)),
         faulted: Vec::new(alloc),
         outputs: Vec::new(alloc),
         moved: Vec::new(alloc),
@@ -109,11 +109,11 @@ pub fn empty_effect(alloc: Global) -> ScanEffect {
     }
 }
 
-/// A copy of cells, in the room of other cells if these are as many. Fails if allocation fails.
+/// A copy of cells, in the room of other cells if these have as many values and clocks. Fails if allocation fails.
 pub fn copied_cells(alloc: Global, cells: &Cells, room: Cells) -> Result<Cells, AllocError>
     ensures { IfOk result (λ copy. copy ≡ cells.now) }
 {
-    if room.len() != cells.len() {
+    if room.len() != cells.len() || room.clock_count() != cells.clock_count() {
         return cells.copy(alloc);
     }
     let mut copy = room;

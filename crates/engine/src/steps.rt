@@ -3,22 +3,25 @@
 ghost use Rattle.std.specs.Prelude.{◌≡◌, ◌<◌, ◌^◌, length, fold, map, IfOk, IfSome, All, ◌≤◌};
 ghost use Rattle.std.specs.List.{filter};
 ghost use Rattle.alarm_machine.specs.declared.limits.TheConstants.{LONGEST_SHELVE_MS};
-ghost use Rattle.st_walk.specs.Worlds.{World, Stands};
-ghost use Rattle.st_walk.specs.Slots.{cell};
-ghost use Rattle.st_walk.specs.Runs.{paths_of, Agree};
+ghost use Rattle.plant_logic.specs.Worlds.{World};
+ghost use Rattle.plant_logic.specs.Paths.{paths_of};
+ghost use Rattle.block_walk.specs.Cells.{value_at};
+ghost use Rattle.block_frames.specs.Stands.{StandFor};
+ghost use Rattle.plant_walk.specs.Runs.{Agree};
 ghost use Rattle.plant_config.specs.Names.{programs_of};
 ghost use Rattle.engine.specs.Programs.{programs_from};
 ghost use Rattle.engine.specs.System.{opening_alarm, sites_of, alarms_after, is_output, outputs_from};
 ghost use Rattle.alarm_bank.specs.Moves.{put_all, changes_from};
 ghost use Rattle.engine.specs.Steps.{with_cell, run_by, ended_by, ProgramsRan, output_in, differs, IsShowable, AreShowable};
 
-use crate::watched::{Watched, cell};
+use crate::watched::{Watched, value_at};
 use alarm_bank::{Bank, Site};
 use alarm_machine::{Alarm, Change};
-use block_flatten::Variable;
+use block_walk::Cells;
 use plant_config::{AlarmRow, Plant};
+use plant_logic::Variable;
 use plant_types::{Place, Region, Trap, Value};
-use st_walk::{Cells, Walked, walk};
+use plant_walk::{Walked, walk};
 use std::alloc::{AllocError, Global};
 
 /// Gives the inputs of an image their values.
@@ -42,13 +45,13 @@ fn run_program(
     is_faulted: bool,
 ) -> Option<(Place, Trap)>
     requires { program < length (programs_of plant.now) }
-    ensures ran { (w : World) → Stands plant.now.source cells.old w → Agree plant.now.source (run_by is_faulted plant.now.source program moment w) (ended_by plant.now.source result cells.new) }
+    ensures ran { (w : World) → StandFor plant.now.source cells.old w → Agree plant.now.source (run_by is_faulted plant.now.source program moment w) (ended_by plant.now.source result cells.new) }
     ensures within { IfSome result (λ fault. fault.0.path < length (paths_of plant.now.source)) }
 {
     if is_faulted {
         return None;
     }
-    match walk(plant.flat(), program, cells, moment) {
+    match walk(plant.logic(), program, cells, moment) {
         Walked::Done => None,
         Walked::Trapped(place, trap) => Some((place, trap)),
     }
@@ -65,7 +68,7 @@ pub fn run_programs(
     faulted: &mut Vec<bool>,
 ) -> Result<Vec<(Place, Trap)>, AllocError>
     requires { length faulted.old.items ≡ length (programs_of plant.now) }
-    ensures ran { IfOk result (λ faults. (w : World) → Stands plant.now.source cells.old w → ProgramsRan plant.now.source (programs_from plant.now.source moment 0 faulted.old.items w) cells.new faulted.new.items faults.items) }
+    ensures ran { IfOk result (λ faults. (w : World) → StandFor plant.now.source cells.old w → ProgramsRan plant.now.source (programs_from plant.now.source moment 0 faulted.old.items w) cells.new faulted.new.items faults.items) }
     ensures within { IfOk result (λ faults. All (λ f. f.0.path < length (paths_of plant.now.source)) faults.items) }
 {
     let mut faults = Vec::new(alloc);
@@ -117,8 +120,8 @@ pub fn step_alarms(
     room: Vec<(u32, Alarm)>,
 ) -> Result<(Vec<(u32, Alarm)>, Vec<(u32, Change)>), AllocError>
     requires { length bank.now.alarms ≡ length rows.now }
-    ensures alarms { IfOk result (λ r. put_all bank.now.alarms r.0.items ≡ alarms_after (cell cells.now) moment rows.now bank.now.alarms) }
-    ensures changes { IfOk result (λ r. r.1.items ≡ changes_from 0 bank.now.alarms (alarms_after (cell cells.now) moment rows.now bank.now.alarms)) }
+    ensures alarms { IfOk result (λ r. put_all bank.now.alarms r.0.items ≡ alarms_after (value_at cells.now) moment rows.now bank.now.alarms) }
+    ensures changes { IfOk result (λ r. r.1.items ≡ changes_from 0 bank.now.alarms (alarms_after (value_at cells.now) moment rows.now bank.now.alarms)) }
 {
     let signals = Watched { rows, cells };
     let moved = bank.moved(room, &signals, moment)?;
@@ -140,14 +143,14 @@ pub fn outputs(
     cells: &Cells,
 ) -> Result<Vec<(u32, Value)>, AllocError>
     requires few { length globals.now < 2 ^ 32 }
-    requires ranges { AreShowable globals.now (cell cells.now) }
-    ensures { IfOk result (λ outputs. outputs.items ≡ outputs_from 0 globals.now (cell cells.now)) }
+    requires ranges { AreShowable globals.now (value_at cells.now) }
+    ensures { IfOk result (λ outputs. outputs.items ≡ outputs_from 0 globals.now (value_at cells.now)) }
 {
     let mut outputs = Vec::new(alloc);
     for (i, global) in globals.iter().enumerate() {
         if is_output(global.region) {
             let number = i as u32;
-            let value = Value::of_kind(global.kind, cell(cells, number));
+            let value = Value::of_kind(global.kind, value_at(cells, number));
             outputs.push((number, value))?;
         }
     }
@@ -160,13 +163,13 @@ pub fn renewed(
     cells: &Cells,
     room: Vec<(u32, Value)>,
 ) -> Result<Vec<(u32, Value)>, AllocError>
-    requires { All (IsShowable (cell cells.now)) outputs.now }
-    ensures { IfOk result (λ renewed. renewed.items ≡ map (output_in (cell cells.now)) outputs.now) }
+    requires { All (IsShowable (value_at cells.now)) outputs.now }
+    ensures { IfOk result (λ renewed. renewed.items ≡ map (output_in (value_at cells.now)) outputs.now) }
 {
     let mut renewed = room;
     renewed.clear();
     for (global, value) in outputs {
-        let value = Value::of_kind(value.kind(), cell(cells, *global));
+        let value = Value::of_kind(value.kind(), value_at(cells, *global));
         renewed.push((*global, value))?;
     }
     Ok(renewed)
@@ -179,11 +182,11 @@ pub fn changed(
     before: &Cells,
     now: &Cells,
 ) -> Result<Vec<(u32, Value)>, AllocError>
-    ensures { IfOk result (λ changed. changed.items ≡ filter (differs (cell before.now) (cell now.now)) outputs.now) }
+    ensures { IfOk result (λ changed. changed.items ≡ filter (differs (value_at before.now) (value_at now.now)) outputs.now) }
 {
     let mut changed = Vec::new(alloc);
     for (global, value) in outputs {
-        if cell(before, *global) != cell(now, *global) {
+        if value_at(before, *global) != value_at(now, *global) {
             changed.push((*global, *value))?;
         }
     }

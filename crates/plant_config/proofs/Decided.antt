@@ -22,7 +22,9 @@ use Rattle.plant_sources.specs.Sources.{IsSourceFault}
 use Rattle.plant_sources.specs.declared.fault.SourceFault.{SourceFault}
 use Rattle.plant_sources.specs.declared.fault.SourceFault.TheVariants as source_fault
 use Rattle.plant_sources.proofs.Decided as sources
-use Rattle.block_flatten.specs.Units.{globals_of, have_instances}
+use Rattle.plant_logic.specs.Units.{source_in}
+use Rattle.plant_limits.specs.declared.fault.LimitFault.{LimitFault}
+use Rattle.plant_limits.specs.declared.fault.LimitFault.TheVariants as limit_fault
 use Rattle.alarm_db.specs.Databases.{is_among, is_even, is_header, first_wrong, first_twice, tags_of, rows_fault, records_fault, records_of, first_fault, rows_of}
 use Rattle.alarm_db.specs.Rows.{wrong_column, row_of}
 use Rattle.alarm_db.specs.declared.column.Column.{Column}
@@ -36,8 +38,9 @@ use Rattle.plant_config.specs.Alarms.{first_unknown}
 use Rattle.plant_config.specs.Files.{Texts, same_texts}
 use Rattle.plant_config.specs.Limits.{first_limit, is_too_long}
 use Rattle.plant_config.specs.Plants.{PlainPlant}
-use Rattle.plant_config.specs.Stages.{HasFile, HasEpoch, IsLimited, HasUnits, IsWellFormed, HasVariables, HasDatabase, HasAlarms, Accepted, has_too_many_variables, plant_of}
-use Rattle.plant_config.specs.Refusals.{IsOverLimit, IsLimitOf, IsMistyped, IsMistypedIn, HasDatabaseFault, IsRefused}
+use Rattle.plant_config.specs.Stages.{HasFile, HasEpoch, IsLimited, HasUnits, IsWellFormed, IsSized, HasDatabase, HasAlarms, Accepted, plant_of}
+use Rattle.plant_config.specs.Refusals.{IsOverLimit, IsLimitOf, IsMistyped, IsMistypedIn, IsTooLarge, HasDatabaseFault, IsRefused}
+use Rattle.plant_config.proofs.Sizes.{kept_or_past}
 use Rattle.plant_config.proofs.Stops.{source_name, type_refusal}
 
 option_cases : {A : Type 0} (o : Option A) → (o ≡ None) ⊎ ((x : A) × (o ≡ Some x))
@@ -207,12 +210,18 @@ module _ (t : Texts) where
               | inr found ↦ inr (type_refused has found.0 found.1 found.2)
             ]
 
-        has_variables : IsWellFormed t file epoch units → HasVariables t file epoch units ⊎ Stops
+        size_refused : (found : LimitFault) → found ≢ limit_fault.Memory → IsTooLarge t found → Stops
         unfolding IsRefused
-        has_variables has =
-            elim (cases_Bool (has_too_many_variables units)) [
-              | inl so ↦ inr (fault.Limit limit.Slots, record { file = file; epoch = epoch; units = units; well_formed = has; many = so }, λ e. cc e)
-              | inr not_so ↦ inl (record { well_formed = has; few = not_so })
+        size_refused limit_fault.Memory other is = absurd (other refl)
+        size_refused limit_fault.Slots other is = (fault.Limit limit.Slots, is, λ e. cc e)
+        size_refused limit_fault.Size other is = (fault.Limit limit.Size, is, λ e. cc e)
+        size_refused limit_fault.Cost other is = (fault.Limit limit.Cost, is, λ e. cc e)
+
+        sized : IsWellFormed t file epoch units → IsSized t file epoch units ⊎ Stops
+        sized has =
+            elim (kept_or_past (source_in units)) [
+              | inl keeps ↦ inl (record { well_formed = has; keeps = keeps })
+              | inr found ↦ inr (size_refused found.0 found.1 (record { file = file; epoch = epoch; units = units; well_formed = has; past = found.2 }))
             ]
 
         database_refused : (found : DbFault) → HasDatabaseFault t found → Stops
@@ -223,31 +232,26 @@ module _ (t : Texts) where
         database_refused (db_fault.Field row column) is = (fault.Field row column, is, λ e. cc e)
         database_refused (db_fault.Twice row) is = (fault.Twice row, is, λ e. cc e)
 
-        has_database : HasVariables t file epoch units → HasDatabase t file epoch units ⊎ Stops
+        has_database : IsSized t file epoch units → HasDatabase t file epoch units ⊎ Stops
         has_database has =
             elim (option_cases (first_fault t.alarms)) [
-              | inl none ↦ inl (record { variables = has; database = none })
-              | inr found ↦ inr (database_refused found.0 (record { file = file; epoch = epoch; units = units; variables = has; first = found.1 }))
+              | inl none ↦ inl (record { sized = has; database = none })
+              | inr found ↦ inr (database_refused found.0 (record { file = file; epoch = epoch; units = units; sized = has; first = found.1 }))
             ]
 
         has_alarms : HasDatabase t file epoch units → HasAlarms t file epoch units ⊎ Stops
         unfolding IsRefused
         has_alarms has =
-            elim (option_cases (first_unknown file.areas (globals_of units) 1 (rows_of t.alarms))) [
+            elim (option_cases (first_unknown file.areas (source_in units).globals 1 (rows_of t.alarms))) [
               | inl none ↦ inl (record { has_database = has; known = none })
               | inr found ↦ inr (fault.Unknown found.0.0 found.0.1, record { file = file; epoch = epoch; units = units; has_database = has; first = found.1 }, λ e. cc e)
             ]
 
         accepted : HasAlarms t file epoch units → ((plant : PlainPlant) × Accepted t plant) ⊎ Stops
-        unfolding IsRefused
-        accepted has =
-            elim (cases_Bool (have_instances units)) [
-              | inl so ↦ inr (fault.NotYet, record { file = file; epoch = epoch; units = units; has_alarms = has; instances = so }, λ e. cc e)
-              | inr not_so ↦ inl (plant_of t file epoch units, record { file = file; epoch = epoch; units = units; has_alarms = has; runs = not_so; plant_is = refl })
-            ]
+        accepted has = inl (plant_of t file epoch units, record { file = file; epoch = epoch; units = units; has_alarms = has; plant_is = refl })
 
         of_units : HasUnits t file epoch units → ((plant : PlainPlant) × Accepted t plant) ⊎ Stops
-        of_units has = go_on (go_on (go_on (go_on (well_formed has) has_variables) has_database) has_alarms) accepted
+        of_units has = go_on (go_on (go_on (go_on (well_formed has) sized) has_database) has_alarms) accepted
 
       of_epoch : HasEpoch t file epoch → ((plant : PlainPlant) × Accepted t plant) ⊎ Stops
       of_epoch has = go_on (go_on (limited has) has_units) (λ found. of_units found.0 found.1)

@@ -5,5 +5,6 @@ pub mod OneAnswer
 pub mod OneRefusal
 pub mod Programs
 pub mod Refused
+pub mod Sizes
 pub mod SourceNames
 pub mod Stops

@@ -9,11 +9,11 @@ use Rattle.plant_config.specs.Files.{Texts}
 use Rattle.plant_config.specs.Plants.{PlainPlant}
 use Rattle.plant_config.specs.Stages.{HasUnits, HasAlarms, Accepted}
 use Rattle.plant_config.specs.Refusals.{IsRefused}
-use Rattle.plant_config.proofs.Stops.{FromFile, staged, one_file, same_epoch, one_list, no_at_file, no_at_epoch, no_at_limits, no_at_sources, no_at_types, no_at_variables, no_at_database, no_at_alarms, no_at_instances}
+use Rattle.plant_config.proofs.Stops.{FromFile, staged, one_file, same_epoch, one_list, no_at_file, no_at_epoch, no_at_limits, no_at_sources, no_at_types, no_at_size, no_at_database, no_at_alarms}
 
 module _ (t : Texts) where
   units_in : (file : PlainPlantFile) (epoch : ℕ) (units : List PlainUnit) → HasAlarms t file epoch units → HasUnits t file epoch units
-  units_in file epoch units has = has.has_database.variables.well_formed.has_units
+  units_in file epoch units has = has.has_database.sized.well_formed.has_units
 
   pub one_plant : (a b : PlainPlant) → Accepted t a → Accepted t b → a ≡ b
   one_plant a b x y =
@@ -33,11 +33,10 @@ module _ (t : Texts) where
     no_stop f (inr (inl is)) = no_at_epoch t a.file a.epoch own_units.limited.has_epoch f is
     no_stop f (inr (inr (inl is))) = no_at_limits t a.file a.epoch own_units.limited f is
     no_stop f (inr (inr (inr (inl is)))) = no_at_sources t a.file a.epoch a.units own_units f is
-    no_stop f (inr (inr (inr (inr (inl is))))) = no_at_types t a.file a.epoch a.units a.has_alarms.has_database.variables.well_formed f is
-    no_stop f (inr (inr (inr (inr (inr (inl is)))))) = no_at_variables t a.file a.epoch a.units a.has_alarms.has_database.variables f is
+    no_stop f (inr (inr (inr (inr (inl is))))) = no_at_types t a.file a.epoch a.units a.has_alarms.has_database.sized.well_formed f is
+    no_stop f (inr (inr (inr (inr (inr (inl is)))))) = no_at_size t a.file a.epoch a.units a.has_alarms.has_database.sized f is
     no_stop f (inr (inr (inr (inr (inr (inr (inl is))))))) = no_at_database t a.file a.epoch a.units a.has_alarms.has_database f is
-    no_stop f (inr (inr (inr (inr (inr (inr (inr (inl is)))))))) = no_at_alarms t a.file a.epoch a.units a.has_alarms f is
-    no_stop f (inr (inr (inr (inr (inr (inr (inr (inr is)))))))) = no_at_instances t a.file a.epoch a.units a.has_alarms a.runs f is
+    no_stop f (inr (inr (inr (inr (inr (inr (inr is))))))) = no_at_alarms t a.file a.epoch a.units a.has_alarms f is
 
     pub apart : (f : ConfigFault) → IsRefused t f → f ≡ fault.Memory
     apart f is =

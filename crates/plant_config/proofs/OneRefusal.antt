@@ -9,7 +9,8 @@ use Rattle.plant_sources.specs.Sources.{SameFault}
 use Rattle.plant_sources.specs.declared.fault.SourceFault.{SourceFault}
 use Rattle.plant_sources.specs.declared.fault.SourceFault.TheVariants as source_fault
 use Rattle.plant_sources.proofs.Answers.{same_fault}
-use Rattle.block_flatten.specs.Units.{globals_of}
+use Rattle.plant_logic.specs.Units.{source_in}
+use Rattle.plant_limits.specs.Limits.{IsLimitFault}
 use Rattle.alarm_db.specs.Databases.{rows_of}
 use Rattle.alarm_db.specs.declared.column.Column.{Column}
 use Rattle.plant_config.specs.declared.fault.ConfigFault.{ConfigFault}
@@ -19,7 +20,8 @@ use Rattle.plant_config.specs.Alarms.{first_unknown}
 use Rattle.plant_config.specs.Files.{Texts}
 use Rattle.plant_config.specs.Limits.{first_limit}
 use Rattle.plant_config.specs.Refusals.{IsWrongFile, HasOtherSources, IsRefused, unplaced}
-use Rattle.plant_config.proofs.Stops.{not_both, database_refusal, source_refusal, type_refusal, AtFile, AtEpoch, AtLimits, AtSources, AtTypes, AtVariables, AtDatabase, AtAlarms, AtInstances, FromAlarms, FromDatabase, FromVariables, FromTypes, FromSources, FromLimits, FromEpoch, FromFile, staged, one_file, one_list, alarms_right, database_right, variables_right, types_right, units_right, limits_right, epoch_right, file_right, no_at_file, no_at_epoch, no_at_limits, no_at_sources, no_at_types, no_at_variables, no_at_database, no_at_alarms}
+use Rattle.plant_config.proofs.Stops.{not_both, database_refusal, size_refusal, source_refusal, type_refusal, AtFile, AtEpoch, AtLimits, AtSources, AtTypes, AtSize, AtDatabase, AtAlarms, FromDatabase, FromSize, FromTypes, FromSources, FromLimits, FromEpoch, FromFile, staged, one_file, one_list, database_right, size_right, types_right, units_right, limits_right, epoch_right, file_right, no_at_file, no_at_epoch, no_at_limits, no_at_sources, no_at_types, no_at_size, no_at_database}
+use Rattle.plant_config.proofs.Sizes.{one_limit}
 
 -- two refusals are one, apart from the place of a C5
 abbrev Same : ConfigFault → ConfigFault → Type 0
@@ -63,31 +65,33 @@ module _ (t : Texts) where
       let found = typing.one_fault b.units a.found b.found (subst (λ us. IsTypeFault us a.found) units a.is_fault) b.is_fault a.other b.other in
       equal f g (type_refusal t b.units b.found) (a.refusal ∙ rw (units, found) refl) b.refusal
 
+  same_size : (f g : ConfigFault) → AtSize t f → AtSize t g → Same f g
+  same_size f g a b =
+      let units = one_list t a.3.file b.3.file a.3.epoch b.3.epoch a.3.units b.3.units a.3.well_formed.has_units b.3.well_formed.has_units in
+      let found = one_limit (source_in b.3.units) a.0 b.0 a.1 b.1 (subst (λ us. IsLimitFault (source_in us) a.0) units a.3.past) b.3.past in
+      equal f g (size_refusal b.0) (a.2 ∙ ap size_refusal found) b.2
+
   same_database : (f g : ConfigFault) → AtDatabase t f → AtDatabase t g → Same f g
   same_database f g a b = equal f g (database_refusal b.0) (a.1 ∙ ap database_refusal (same_Some a.0 b.0 (sym a.2.first ∙ b.2.first))) b.1
 
   same_unknown : (f g : ConfigFault) → AtAlarms t f → AtAlarms t g → Same f g
   same_unknown f g a b =
-      let a_units = a.3.has_database.variables.well_formed.has_units in
-      let b_units = b.3.has_database.variables.well_formed.has_units in
+      let a_units = a.3.has_database.sized.well_formed.has_units in
+      let b_units = b.3.has_database.sized.well_formed.has_units in
       let file = one_file t a.3.file b.3.file a_units.limited.has_epoch.has_file b_units.limited.has_epoch.has_file in
       let units = one_list t a.3.file b.3.file a.3.epoch b.3.epoch a.3.units b.3.units a_units b_units in
-      let first : first_unknown b.3.file.areas (globals_of b.3.units) 1 (rows_of t.alarms) ≡ Some (a.0, a.1) = rw (← file, ← units) a.3.first in
+      let first : first_unknown b.3.file.areas (source_in b.3.units).globals 1 (rows_of t.alarms) ≡ Some (a.0, a.1) = rw (← file, ← units) a.3.first in
       let found = same_Some (a.0, a.1) (b.0, b.1) (sym first ∙ b.3.first) in
       equal f g (fault.Unknown b.0 b.1) (a.2 ∙ ap (λ (p : ℕ × Column). fault.Unknown p.0 p.1) found) b.2
 
-  from_alarms : (f g : ConfigFault) → FromAlarms t f → FromAlarms t g → Same f g
-  from_alarms = settled Same (AtAlarms t) (AtInstances t) same_unknown (λ f g a b. let p = alarms_right t g b in no_at_alarms t p.0 p.1 p.2 p.3 f a) (λ f g a b. equal f g fault.NotYet a.0 b.0)
-
   from_database : (f g : ConfigFault) → FromDatabase t f → FromDatabase t g → Same f g
-  from_database = settled Same (AtDatabase t) (FromAlarms t) same_database (λ f g a b. let p = database_right t g b in no_at_database t p.0 p.1 p.2 p.3 f a) from_alarms
+  from_database = settled Same (AtDatabase t) (AtAlarms t) same_database (λ f g a b. let p = database_right t g b in no_at_database t p.0 p.1 p.2 p.3 f a) same_unknown
 
-  from_variables : (f g : ConfigFault) → FromVariables t f → FromVariables t g → Same f g
-  from_variables =
-      settled Same (AtVariables t) (FromDatabase t) (λ f g a b. ap unplaced (a.0 ∙ sym b.0)) (λ f g a b. let p = variables_right t g b in no_at_variables t p.0 p.1 p.2 p.3 f a) from_database
+  from_size : (f g : ConfigFault) → FromSize t f → FromSize t g → Same f g
+  from_size = settled Same (AtSize t) (FromDatabase t) same_size (λ f g a b. let p = size_right t g b in no_at_size t p.0 p.1 p.2 p.3 f a) from_database
 
   from_types : (f g : ConfigFault) → FromTypes t f → FromTypes t g → Same f g
-  from_types = settled Same (AtTypes t) (FromVariables t) same_type (λ f g a b. let p = types_right t g b in no_at_types t p.0 p.1 p.2 p.3 f a) from_variables
+  from_types = settled Same (AtTypes t) (FromSize t) same_type (λ f g a b. let p = types_right t g b in no_at_types t p.0 p.1 p.2 p.3 f a) from_size
 
   from_sources : (f g : ConfigFault) → FromSources t f → FromSources t g → Same f g
   from_sources = settled Same (AtSources t) (FromTypes t) same_spelling (λ f g a b. let p = units_right t g b in no_at_sources t p.0 p.1 p.2 p.3 f a) from_types

@@ -1,5 +1,5 @@
 -- The stage at which texts are refused, and what is right up to there.
-use Rattle.std.proofs.Common.{◌≡◌, ◌≢◌, ◌∙◌, ap, sym, subst, refl, ◌⊎◌, ℕ, ◌<◌, ◌*◌, pos, false, List, [], Option, Some, None, inl, inr, arith, slice_index_or}
+use Rattle.std.proofs.Common.{◌≡◌, ◌≢◌, ◌∙◌, ap, sym, subst, refl, ◌⊎◌, ℕ, ◌<◌, ◌*◌, pos, List, [], Option, Some, None, inl, inr, arith, slice_index_or}
 use Rattle.std.proofs.lemmas.Bool.{both_ways}
 use Rattle.std.proofs.lemmas.Option.{same_Some}
 use Rattle.stamps.specs.Stamps.{epoch_bound, epoch_text}
@@ -16,7 +16,10 @@ use Rattle.plant_sources.specs.UnitNames.{unit_name}
 use Rattle.plant_sources.specs.declared.fault.SourceFault.{SourceFault}
 use Rattle.plant_sources.specs.declared.fault.SourceFault.TheVariants as source_fault
 use Rattle.plant_sources.proofs.Answers.{one_list_of_units, apart as source_apart}
-use Rattle.block_flatten.specs.Units.{globals_of, have_instances}
+use Rattle.plant_logic.specs.Units.{source_in}
+use Rattle.plant_limits.specs.Limits.{IsLimitFault}
+use Rattle.plant_limits.specs.declared.fault.LimitFault.{LimitFault}
+use Rattle.plant_limits.specs.declared.fault.LimitFault.TheVariants as limit_fault
 use Rattle.alarm_db.specs.Databases.{first_fault, rows_of}
 use Rattle.alarm_db.specs.declared.column.Column.{Column}
 use Rattle.alarm_db.specs.declared.fault.DbFault.{DbFault}
@@ -28,8 +31,9 @@ use Rattle.plant_config.specs.declared.fault.Limit.TheVariants as limit
 use Rattle.plant_config.specs.Alarms.{first_unknown}
 use Rattle.plant_config.specs.Files.{Texts, same_texts}
 use Rattle.plant_config.specs.Limits.{first_limit}
-use Rattle.plant_config.specs.Stages.{HasFile, HasEpoch, IsLimited, HasUnits, IsWellFormed, HasVariables, HasDatabase, HasAlarms, has_too_many_variables}
-use Rattle.plant_config.specs.Refusals.{IsWrongFile, HasOtherSources, HasNoEpoch, IsOverLimit, IsTooLarge, HasDatabaseFault, NamesUnknown, HasInstances, IsRefused}
+use Rattle.plant_config.specs.Stages.{HasFile, HasEpoch, IsLimited, HasUnits, IsWellFormed, IsSized, HasDatabase, HasAlarms}
+use Rattle.plant_config.specs.Refusals.{IsWrongFile, HasOtherSources, HasNoEpoch, IsOverLimit, IsTooLarge, HasDatabaseFault, NamesUnknown, IsRefused}
+use Rattle.plant_config.proofs.Sizes.{not_past}
 
 -- nothing is and isn't there
 pub not_both : {A : Type 0} (o : Option A) (x : A) → o ≡ Some x → o ≡ None → ⊥
@@ -54,6 +58,13 @@ database_refusal db_fault.Header = fault.Header
 database_refusal db_fault.TooMany = fault.Limit limit.Alarms
 database_refusal (db_fault.Field row column) = fault.Field row column
 database_refusal (db_fault.Twice row) = fault.Twice row
+
+-- the refusal for a limit on slots, size or cost
+abbrev pub size_refusal : LimitFault → ConfigFault
+size_refusal limit_fault.Memory = fault.Memory
+size_refusal limit_fault.Slots = fault.Limit limit.Slots
+size_refusal limit_fault.Size = fault.Limit limit.Size
+size_refusal limit_fault.Cost = fault.Limit limit.Cost
 
 module _ (t : Texts) where
   -- the name of a source by its number
@@ -106,8 +117,8 @@ module _ (t : Texts) where
     pub other : found ≢ type_fault.Memory
     pub refusal : f ≡ type_refusal units found
 
-  abbrev pub AtVariables : ConfigFault → Type 0
-  AtVariables f = (f ≡ fault.Limit limit.Slots) × IsTooLarge t
+  abbrev pub AtSize : ConfigFault → Type 0
+  AtSize f = (found : LimitFault) × (found ≢ limit_fault.Memory) × (f ≡ size_refusal found) × IsTooLarge t found
 
   abbrev pub AtDatabase : ConfigFault → Type 0
   AtDatabase f = (found : DbFault) × (f ≡ database_refusal found) × HasDatabaseFault t found
@@ -115,21 +126,15 @@ module _ (t : Texts) where
   abbrev pub AtAlarms : ConfigFault → Type 0
   AtAlarms f = (row : ℕ) × (column : Column) × (f ≡ fault.Unknown row column) × NamesUnknown t row column
 
-  abbrev pub AtInstances : ConfigFault → Type 0
-  AtInstances f = (f ≡ fault.NotYet) × HasInstances t
-
   -- those of a stage or a later one
-  abbrev pub FromAlarms : ConfigFault → Type 0
-  FromAlarms f = AtAlarms f ⊎ AtInstances f
-
   abbrev pub FromDatabase : ConfigFault → Type 0
-  FromDatabase f = AtDatabase f ⊎ FromAlarms f
+  FromDatabase f = AtDatabase f ⊎ AtAlarms f
 
-  abbrev pub FromVariables : ConfigFault → Type 0
-  FromVariables f = AtVariables f ⊎ FromDatabase f
+  abbrev pub FromSize : ConfigFault → Type 0
+  FromSize f = AtSize f ⊎ FromDatabase f
 
   abbrev pub FromTypes : ConfigFault → Type 0
-  FromTypes f = AtTypes f ⊎ FromVariables f
+  FromTypes f = AtTypes f ⊎ FromSize f
 
   abbrev pub FromSources : ConfigFault → Type 0
   FromSources f = AtSources f ⊎ FromTypes f
@@ -153,6 +158,9 @@ module _ (t : Texts) where
   at_limits : (found : Limit) → IsOverLimit t found → FromFile (fault.Limit found)
   at_limits found is = inr (inr (inl (found, refl, is)))
 
+  at_size : (f : ConfigFault) (found : LimitFault) → found ≢ limit_fault.Memory → f ≡ size_refusal found → IsTooLarge t found → FromFile f
+  at_size f found other refusal is = inr (inr (inr (inr (inr (inl (found, other, refusal, is))))))
+
   at_database : (f : ConfigFault) (found : DbFault) → f ≡ database_refusal found → HasDatabaseFault t found → FromFile f
   at_database f found refusal is = inr (inr (inr (inr (inr (inr (inl (found, refusal, is)))))))
 
@@ -170,7 +178,9 @@ module _ (t : Texts) where
   staged (fault.Limit limit.Turns) is = inr (at_types _ is.file is.epoch is.units is.has_units type_fault.Turns is.is_fault (λ e. cc e) refl)
   staged (fault.Limit limit.BlockDepth) is = inr (at_types _ is.file is.epoch is.units is.has_units type_fault.BlockDepth is.is_fault (λ e. cc e) refl)
   staged (fault.Limit limit.Programs) is = inr (at_types _ is.file is.epoch is.units is.has_units type_fault.Programs is.is_fault (λ e. cc e) refl)
-  staged (fault.Limit limit.Slots) is = inr (inr (inr (inr (inr (inr (inl (refl, is)))))))
+  staged (fault.Limit limit.Slots) is = inr (at_size _ limit_fault.Slots (λ e. cc e) refl is)
+  staged (fault.Limit limit.Size) is = inr (at_size _ limit_fault.Size (λ e. cc e) refl is)
+  staged (fault.Limit limit.Cost) is = inr (at_size _ limit_fault.Cost (λ e. cc e) refl is)
   staged (fault.Limit limit.Alarms) is = inr (at_database _ db_fault.TooMany refl is)
   staged (fault.Spelling name line column) is =
       inr (at_sources _ is.file is.epoch is.limited (source_fault.Spelling is.number line column) is.is_fault (λ e. cc e) (ap (λ name. fault.Spelling name line column) is.name_is))
@@ -183,8 +193,7 @@ module _ (t : Texts) where
   staged fault.Header is = inr (at_database _ db_fault.Header refl is)
   staged (fault.Field row column) is = inr (at_database _ (db_fault.Field row column) refl is)
   staged (fault.Twice row) is = inr (at_database _ (db_fault.Twice row) refl is)
-  staged (fault.Unknown row column) is = inr (inr (inr (inr (inr (inr (inr (inr (inl (row, column, refl, is)))))))))
-  staged fault.NotYet is = inr (inr (inr (inr (inr (inr (inr (inr (inr (refl, is)))))))))
+  staged (fault.Unknown row column) is = inr (inr (inr (inr (inr (inr (inr (inr (row, column, refl, is))))))))
 
   -- what is right is one
   pub one_file : (a b : PlainPlantFile) → HasFile t a → HasFile t b → a ≡ b
@@ -200,20 +209,16 @@ module _ (t : Texts) where
   abbrev Passed : (PlainPlantFile → ℕ → List PlainUnit → Type 0) → Type 0
   Passed P = (file : PlainPlantFile) × (epoch : ℕ) × (units : List PlainUnit) × P file epoch units
 
-  pub alarms_right : (f : ConfigFault) → AtInstances f → Passed (HasAlarms t)
-  alarms_right f is = (is.1.file, is.1.epoch, is.1.units, is.1.has_alarms)
+  pub database_right : (f : ConfigFault) → AtAlarms f → Passed (HasDatabase t)
+  database_right f is = (is.3.file, is.3.epoch, is.3.units, is.3.has_database)
 
-  pub database_right : (f : ConfigFault) → FromAlarms f → Passed (HasDatabase t)
-  database_right f (inl is) = (is.3.file, is.3.epoch, is.3.units, is.3.has_database)
-  database_right f (inr is) = let p = alarms_right f is in (p.0, p.1, p.2, p.3.has_database)
+  pub size_right : (f : ConfigFault) → FromDatabase f → Passed (IsSized t)
+  size_right f (inl is) = (is.2.file, is.2.epoch, is.2.units, is.2.sized)
+  size_right f (inr is) = let p = database_right f is in (p.0, p.1, p.2, p.3.sized)
 
-  pub variables_right : (f : ConfigFault) → FromDatabase f → Passed (HasVariables t)
-  variables_right f (inl is) = (is.2.file, is.2.epoch, is.2.units, is.2.variables)
-  variables_right f (inr is) = let p = database_right f is in (p.0, p.1, p.2, p.3.variables)
-
-  pub types_right : (f : ConfigFault) → FromVariables f → Passed (IsWellFormed t)
-  types_right f (inl is) = (is.1.file, is.1.epoch, is.1.units, is.1.well_formed)
-  types_right f (inr is) = let p = variables_right f is in (p.0, p.1, p.2, p.3.well_formed)
+  pub types_right : (f : ConfigFault) → FromSize f → Passed (IsWellFormed t)
+  types_right f (inl is) = (is.3.file, is.3.epoch, is.3.units, is.3.well_formed)
+  types_right f (inr is) = let p = size_right f is in (p.0, p.1, p.2, p.3.well_formed)
 
   pub units_right : (f : ConfigFault) → FromTypes f → Passed (HasUnits t)
   units_right f (inl is) = (is.file, is.epoch, is.units, is.has_units)
@@ -258,24 +263,19 @@ module _ (t : Texts) where
       let same = one_list is.file file is.epoch epoch is.units units is.has_units has.has_units in
       is.other (typing.apart units is.found has.typed (subst (λ us. IsTypeFault us is.found) same is.is_fault))
 
-  pub no_at_variables : (file : PlainPlantFile) (epoch : ℕ) (units : List PlainUnit) → HasVariables t file epoch units → (f : ConfigFault) → AtVariables f → ⊥
-  no_at_variables file epoch units has f is =
-      let same = one_list is.1.file file is.1.epoch epoch is.1.units units is.1.well_formed.has_units has.well_formed.has_units in
-      both_ways (has_too_many_variables units) has.few (ap has_too_many_variables (sym same) ∙ is.1.many)
+  pub no_at_size : (file : PlainPlantFile) (epoch : ℕ) (units : List PlainUnit) → IsSized t file epoch units → (f : ConfigFault) → AtSize f → ⊥
+  no_at_size file epoch units has f is =
+      let same = one_list is.3.file file is.3.epoch epoch is.3.units units is.3.well_formed.has_units has.well_formed.has_units in
+      is.1 (not_past (source_in units) is.0 has.keeps (subst (λ us. IsLimitFault (source_in us) is.0) same is.3.past))
 
   pub no_at_database : (file : PlainPlantFile) (epoch : ℕ) (units : List PlainUnit) → HasDatabase t file epoch units → (f : ConfigFault) → AtDatabase f → ⊥
   no_at_database file epoch units has f is = not_both (first_fault t.alarms) is.0 is.2.first has.database
 
   pub no_at_alarms : (file : PlainPlantFile) (epoch : ℕ) (units : List PlainUnit) → HasAlarms t file epoch units → (f : ConfigFault) → AtAlarms f → ⊥
   no_at_alarms file epoch units has f is =
-      let own = is.3.has_database.variables.well_formed.has_units in
-      let right = has.has_database.variables.well_formed.has_units in
+      let own = is.3.has_database.sized.well_formed.has_units in
+      let right = has.has_database.sized.well_formed.has_units in
       let same = one_file is.3.file file own.limited.has_epoch.has_file right.limited.has_epoch.has_file in
       let same_units = one_list is.3.file file is.3.epoch epoch is.3.units units own right in
-      let found : first_unknown file.areas (globals_of units) 1 (rows_of t.alarms) ≡ Some (is.0, is.1) = rw (← same, ← same_units) is.3.first in
+      let found : first_unknown file.areas (source_in units).globals 1 (rows_of t.alarms) ≡ Some (is.0, is.1) = rw (← same, ← same_units) is.3.first in
       not_both _ (is.0, is.1) found has.known
-
-  pub no_at_instances : (file : PlainPlantFile) (epoch : ℕ) (units : List PlainUnit) → HasAlarms t file epoch units → have_instances units ≡ false → (f : ConfigFault) → AtInstances f → ⊥
-  no_at_instances file epoch units has runs f is =
-      let same = one_list is.1.file file is.1.epoch epoch is.1.units units is.1.has_alarms.has_database.variables.well_formed.has_units has.has_database.variables.well_formed.has_units in
-      both_ways (have_instances units) runs (ap have_instances (sym same) ∙ is.1.instances)

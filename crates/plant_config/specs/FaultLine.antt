@@ -17,6 +17,8 @@ limit_name limit.Turns = codes "TURNS"
 limit_name limit.BlockDepth = codes "BLOCK_DEPTH"
 limit_name limit.Programs = codes "PROGRAMS"
 limit_name limit.Slots = codes "SLOTS"
+limit_name limit.Size = codes "SIZE"
+limit_name limit.Cost = codes "COST"
 limit_name limit.Alarms = codes "ALARMS"
 
 -- a file, a line and a column, with blanks between them
@@ -27,7 +29,7 @@ place_text file line column = file ++ codes " " ++ decimal line ++ codes " " ++ 
 abbrev pub unit_text : List ℕ → List ℕ → List ℕ
 unit_text file unit = file ++ codes " " ++ unit
 
--- the number of the fault and where it is, or what is over its limit; what doesn't run yet has no number, and Memory no line
+-- the number of the fault and where it is, or what is over its limit; Memory has no line
 abbrev pub config_line : ConfigFault → List ℕ
 config_line fault.Memory = []
 config_line fault.NotToml = codes "CONFIG C1"
@@ -44,4 +46,3 @@ config_line fault.Header = codes "CONFIG C11"
 config_line (fault.Field row column) = codes "CONFIG C12 " ++ decimal row ++ codes " " ++ column_name column
 config_line (fault.Twice row) = codes "CONFIG C13 " ++ decimal row
 config_line (fault.Unknown row column) = codes "CONFIG C14 " ++ decimal row ++ codes " " ++ column_name column
-config_line fault.NotYet = codes "CONFIG NOTYET"

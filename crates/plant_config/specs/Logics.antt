@@ -1,11 +1,10 @@
--- The logic of well-formed units, where it runs.
-use Rattle.std.specs.Prelude.{◌≡◌, true, false, List, Option, Some, None}
+-- The logic of well-formed units.
+use Rattle.std.specs.Prelude.{◌≡◌, List}
 use Rattle.st_parser.specs.Units.{PlainUnit}
-use Rattle.block_flatten.specs.Source.{Source}
-use Rattle.block_flatten.specs.Sound.{IsSound}
-use Rattle.block_flatten.specs.Units.{source_in, have_instances}
+use Rattle.plant_logic.specs.Source.{Source}
+use Rattle.plant_logic.specs.Units.{source_in}
+use Rattle.plant_walk.specs.Sound.{IsSound}
 
--- the source of units that declare no instance, which is sound; none for others
-abbrev pub IsLogic : List PlainUnit → Option Source → Type 0
-IsLogic units None = have_instances units ≡ true
-IsLogic units (Some source) = (have_instances units ≡ false) × (source ≡ source_in units) × IsSound source
+-- the source of units, which is sound
+abbrev pub IsLogic : List PlainUnit → Source → Type 0
+IsLogic units source = (source ≡ source_in units) × IsSound source

@@ -3,8 +3,10 @@ use Rattle.std.specs.Prelude.{ℕ, List, [], map, Option, slice_get, slice_index
 use Rattle.std.specs.Option.{option_map_or}
 use Rattle.std.specs.Str.{bytes_eq}
 use Rattle.plant_types.specs.Words.{same_word}
-use Rattle.block_flatten.specs.declared.logic.Variable.{Variable}
-use Rattle.block_flatten.specs.Source.{PlainProgram}
+use Rattle.plant_logic.specs.declared.logic.Variable.{Variable}
+use Rattle.plant_logic.specs.Source.{PlainRoutine}
+use Rattle.plant_logic.specs.Names.{find_global}
+use Rattle.plant_logic.specs.Paths.{paths_of, path_text}
 use Rattle.plant_config.specs.Plants.{PlainPlant, tags_of}
 
 -- the globals, in order of declaration
@@ -13,11 +15,11 @@ globals_of plant = plant.source.globals
 
 -- the names of the programs, in order
 abbrev pub programs_of : PlainPlant → List (List ℕ)
-programs_of plant = map (λ (p : PlainProgram). p.name) plant.source.programs
+programs_of plant = map (λ (p : PlainRoutine). p.name) plant.source.programs
 
--- the paths of the bodies in which a trap may occur, in order
+-- the paths of the bodies in which a trap may occur, in order: the names of a program and of the instances below it, with points between them
 abbrev pub body_paths : PlainPlant → List (List ℕ)
-body_paths plant = programs_of plant
+body_paths plant = map path_text (paths_of plant.source)
 
 -- the tag of an alarm
 abbrev pub tag_of : PlainPlant → ℕ → List ℕ
@@ -38,6 +40,10 @@ global_of plant global = option_map_or (λ variable. variable.name) (slice_get (
 -- the first alarm with a tag; letter case counts
 abbrev pub alarm_number : PlainPlant → List ℕ → Option ℕ
 alarm_number plant tag = position (bytes_eq tag) (tags_of plant.alarms)
+
+-- the first global with a name; letter case is ignored
+abbrev pub global_number : PlainPlant → List ℕ → Option ℕ
+global_number plant name = find_global (globals_of plant) name
 
 -- the first program with a name; letter case is ignored
 abbrev pub program_number : PlainPlant → List ℕ → Option ℕ

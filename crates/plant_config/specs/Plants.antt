@@ -6,9 +6,9 @@ use Rattle.stamps.specs.Stamps.{epoch_bound}
 use Rattle.plant_file.specs.Lists.{repeats}
 use Rattle.plant_file.specs.PlantFiles.{PlainPlantFile, IsConsole, numbers_clash}
 use Rattle.plant_file.specs.declared.console.Console.{Console}
-use Rattle.block_flatten.specs.declared.logic.Variable.{Variable}
-use Rattle.block_flatten.specs.Source.{Source}
-use Rattle.block_flatten.specs.Sound.{IsSound}
+use Rattle.plant_logic.specs.declared.logic.Variable.{Variable}
+use Rattle.plant_logic.specs.Source.{Source}
+use Rattle.plant_walk.specs.Sound.{IsSound}
 use Rattle.plant_config.specs.declared.rows.AlarmRow.{AlarmRow}
 
 -- its logic, the names of its areas, its consoles and its alarms, in order, and its epoch in seconds after 1970-01-01T00:00:00Z; areas and globals are numbered from 0

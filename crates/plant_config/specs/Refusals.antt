@@ -1,5 +1,5 @@
 -- Why the texts of a plant are refused: the first rule, in their order, that isn't kept.
-use Rattle.std.specs.Prelude.{◌≡◌, ◌≢◌, ◌⊎◌, ⊤, ℕ, ◌<◌, true, false, List, [], Some, None, slice_index_or}
+use Rattle.std.specs.Prelude.{◌≡◌, ◌≢◌, ◌⊎◌, ⊤, ℕ, ◌<◌, false, List, [], Some, None, slice_index_or}
 use Rattle.toml.specs.Data.{Members}
 use Rattle.stamps.specs.Stamps.{epoch_bound, epoch_text}
 use Rattle.st_parser.specs.Units.{PlainUnit}
@@ -13,7 +13,10 @@ use Rattle.plant_sources.specs.Sources.{IsSourceFault}
 use Rattle.plant_sources.specs.UnitNames.{unit_name}
 use Rattle.plant_sources.specs.declared.fault.SourceFault.{SourceFault}
 use Rattle.plant_sources.specs.declared.fault.SourceFault.TheVariants as source_fault
-use Rattle.block_flatten.specs.Units.{globals_of, have_instances}
+use Rattle.plant_logic.specs.Units.{source_in}
+use Rattle.plant_limits.specs.Limits.{IsLimitFault}
+use Rattle.plant_limits.specs.declared.fault.LimitFault.{LimitFault}
+use Rattle.plant_limits.specs.declared.fault.LimitFault.TheVariants as limit_fault
 use Rattle.alarm_db.specs.Databases.{first_fault, rows_of}
 use Rattle.alarm_db.specs.declared.column.Column.{Column}
 use Rattle.alarm_db.specs.declared.fault.DbFault.{DbFault}
@@ -25,7 +28,7 @@ use Rattle.plant_config.specs.declared.fault.Limit.TheVariants as limit
 use Rattle.plant_config.specs.Alarms.{first_unknown}
 use Rattle.plant_config.specs.Files.{Texts, same_texts}
 use Rattle.plant_config.specs.Limits.{first_limit}
-use Rattle.plant_config.specs.Stages.{HasFile, HasEpoch, IsLimited, HasUnits, IsWellFormed, HasVariables, HasDatabase, HasAlarms, has_too_many_variables}
+use Rattle.plant_config.specs.Stages.{HasFile, HasEpoch, IsLimited, HasUnits, IsWellFormed, IsSized, HasDatabase}
 
 -- bytes are a TOML document, and not that of a plant file
 abbrev pub IsWrongFile : List ℕ → Type 0
@@ -76,20 +79,20 @@ pub record IsMistypedIn (t : Texts) (found : UnitPlace → TypeFault) (name unit
   pub name_is : name ≡ slice_index_or t.names place.source []
   pub unit_is : unit ≡ unit_name units place
 
--- there are too many variables
-pub record IsTooLarge (t : Texts) : Type 0 where
+-- the source of the units doesn't keep a limit on slots, size or cost; the first that it is past
+pub record IsTooLarge (t : Texts) (found : LimitFault) : Type 0 where
   pub file : PlainPlantFile
   pub epoch : ℕ
   pub units : List PlainUnit
   pub well_formed : IsWellFormed t file epoch units
-  pub many : has_too_many_variables units ≡ true
+  pub past : IsLimitFault (source_in units) found
 
 -- the alarm database has a fault, and this is its first
 pub record HasDatabaseFault (t : Texts) (found : DbFault) : Type 0 where
   pub file : PlainPlantFile
   pub epoch : ℕ
   pub units : List PlainUnit
-  pub variables : HasVariables t file epoch units
+  pub sized : IsSized t file epoch units
   pub first : first_fault t.alarms ≡ Some found
 
 -- a row of the alarm database names what the plant hasn't, and is the first; the row, and in it the first column
@@ -98,22 +101,16 @@ pub record NamesUnknown (t : Texts) (row : ℕ) (column : Column) : Type 0 where
   pub epoch : ℕ
   pub units : List PlainUnit
   pub has_database : HasDatabase t file epoch units
-  pub first : first_unknown file.areas (globals_of units) 1 (rows_of t.alarms) ≡ Some (row, column)
-
--- all is right, but the globals or a program declare an instance, and these don't run yet
-pub record HasInstances (t : Texts) : Type 0 where
-  pub file : PlainPlantFile
-  pub epoch : ℕ
-  pub units : List PlainUnit
-  pub has_alarms : HasAlarms t file epoch units
-  pub instances : have_instances units ≡ true
+  pub first : first_unknown file.areas (source_in units).globals 1 (rows_of t.alarms) ≡ Some (row, column)
 
 -- why a limit refuses texts
 abbrev pub IsLimitOf : Texts → Limit → Type 0
 IsLimitOf t limit.Turns = IsMistyped t type_fault.Turns
 IsLimitOf t limit.BlockDepth = IsMistyped t type_fault.BlockDepth
 IsLimitOf t limit.Programs = IsMistyped t type_fault.Programs
-IsLimitOf t limit.Slots = IsTooLarge t
+IsLimitOf t limit.Slots = IsTooLarge t limit_fault.Slots
+IsLimitOf t limit.Size = IsTooLarge t limit_fault.Size
+IsLimitOf t limit.Cost = IsTooLarge t limit_fault.Cost
 IsLimitOf t limit.Alarms = HasDatabaseFault t db_fault.TooMany
 IsLimitOf t found = IsOverLimit t found
 
@@ -141,7 +138,6 @@ IsRefused t fault.Header = HasDatabaseFault t db_fault.Header
 IsRefused t (fault.Field row column) = HasDatabaseFault t (db_fault.Field row column)
 IsRefused t (fault.Twice row) = HasDatabaseFault t (db_fault.Twice row)
 IsRefused t (fault.Unknown row column) = NamesUnknown t row column
-IsRefused t fault.NotYet = HasInstances t
 
 -- a refusal without the place of a C5 in its source, for which the rule leaves a choice
 abbrev pub unplaced : ConfigFault → ConfigFault

@@ -5,8 +5,9 @@ ghost use Rattle.plant_config.specs.Alarms.{area_number, is_bool, is_bool_at, bo
 
 use crate::rows::AlarmRow;
 use alarm_db::{Column, DatabaseRow};
-use block_flatten::{Globals, Variable};
+use plant_logic::Variable;
 use plant_types::{Kind, Text};
+use plant_walk::Framed;
 use std::alloc::{AllocError, Global};
 
 /// The number of an area; `None` if the plant hasn't it.
@@ -37,55 +38,51 @@ fn is_bool_at(globals: &[Variable], number: usize) -> bool
 }
 
 /// The number of the BOOL global of a name, letter case ignored; `None` if there is none.
-fn bool_number(globals: &Globals, name: &str) -> Option<usize>
-    ensures number { result ≡ bool_number globals.now name.now }
-    ensures within { IfSome result (λ number. number < length globals.now) }
+fn bool_number(logic: &Framed, name: &str) -> Option<usize>
+    ensures number { result ≡ bool_number logic.now.globals name.now }
+    ensures within { IfSome result (λ number. number < length logic.now.globals) }
 {
-    match globals.find(name) {
-        Some(number) if is_bool_at(globals.as_slice(), number) => Some(number),
+    match logic.find_global(name) {
+        Some(number) if is_bool_at(logic.globals(), number) => Some(number),
         _ => None,
     }
 }
 
 /// Whether there is a name that is no BOOL global's.
-fn is_unknown(globals: &Globals, name: Option<&Text>) -> bool
-    ensures { result ≡ is_unknown globals.now (option_map (λ text. text.now) name.entry) }
+fn is_unknown(logic: &Framed, name: Option<&Text>) -> bool
+    ensures { result ≡ is_unknown logic.now.globals (option_map (λ text. text.now) name.entry) }
 {
     match name {
-        Some(name) => bool_number(globals, name.as_str()).is_none(),
+        Some(name) => bool_number(logic, name.as_str()).is_none(),
         None => false,
     }
 }
 
 /// The first column of a row in which a name stands for nothing; `None` if there is none.
-fn unknown_column(areas: &[Text], globals: &Globals, row: &DatabaseRow) -> Option<Column>
-    ensures { result ≡ unknown_column areas.now globals.now row.now }
+fn unknown_column(areas: &[Text], logic: &Framed, row: &DatabaseRow) -> Option<Column>
+    ensures { result ≡ unknown_column areas.now logic.now.globals row.now }
 {
     if area_number(areas, row.area.as_str()).is_none() {
         return Some(Column::Area);
     }
-    if is_unknown(globals, Some(&row.condition)) {
+    if is_unknown(logic, Some(&row.condition)) {
         return Some(Column::Condition);
     }
-    if is_unknown(globals, row.suppress.as_ref()) {
+    if is_unknown(logic, row.suppress.as_ref()) {
         return Some(Column::Suppress);
     }
     None
 }
 
 /// The first row in which a name stands for nothing, numbered from 1, and in it the first column; `None` if there is none.
-pub fn first_unknown(
-    areas: &[Text],
-    globals: &Globals,
-    rows: &[DatabaseRow],
-) -> Option<(u32, Column)>
+pub fn first_unknown(areas: &[Text], logic: &Framed, rows: &[DatabaseRow]) -> Option<(u32, Column)>
     requires { length rows.now ≤ 20000 }
-    ensures { result ≡ first_unknown areas.now globals.now 1 rows.now }
+    ensures { result ≡ first_unknown areas.now logic.now.globals 1 rows.now }
 {
     let mut number = 0u32;
     for row in rows {
         number += 1;
-        if let Some(column) = unknown_column(areas, globals, row) {
+        if let Some(column) = unknown_column(areas, logic, row) {
             return Some((number, column));
         }
     }
@@ -93,23 +90,23 @@ pub fn first_unknown(
 }
 
 /// The number of the BOOL global of a name, where there is one.
-fn suppress_number(globals: &Globals, name: Option<&Text>) -> Option<u32>
-    requires { length globals.now ≤ 65536 }
-    ensures { result ≡ option_and_then (bool_number globals.now) (option_map (λ text. text.now) name.entry) }
+fn suppress_number(logic: &Framed, name: Option<&Text>) -> Option<u32>
+    requires { length logic.now.globals ≤ 65536 }
+    ensures { result ≡ option_and_then (bool_number logic.now.globals) (option_map (λ text. text.now) name.entry) }
 {
-    let number = bool_number(globals, name?.as_str())?;
+    let number = bool_number(logic, name?.as_str())?;
     Some(number as u32)
 }
 
 /// The alarm of a row, all of whose names are known.
-fn alarm_of(areas: &[Text], globals: &Globals, row: DatabaseRow) -> AlarmRow
+fn alarm_of(areas: &[Text], logic: &Framed, row: DatabaseRow) -> AlarmRow
     requires areas { length areas.now ≤ 64 }
-    requires globals { length globals.now ≤ 65536 }
-    ensures { result ≡ alarm_of areas.now globals.now row }
+    requires globals { length logic.now.globals ≤ 65536 }
+    ensures { result ≡ alarm_of areas.now logic.now.globals row }
 {
     let area = area_number(areas, row.area.as_str()).unwrap_or(0);
-    let condition = bool_number(globals, row.condition.as_str()).unwrap_or(0);
-    let suppress = suppress_number(globals, row.suppress.as_ref());
+    let condition = bool_number(logic, row.condition.as_str()).unwrap_or(0);
+    let suppress = suppress_number(logic, row.suppress.as_ref());
     AlarmRow {
         tag: row.tag,
         area: area as u32,
@@ -126,14 +123,16 @@ fn alarm_of(areas: &[Text], globals: &Globals, row: DatabaseRow) -> AlarmRow
 pub fn alarms_of(
     alloc: Global,
     areas: &[Text],
-    globals: &Globals,
+    logic: &Framed,
     rows: Vec<DatabaseRow>,
 ) -> Result<Vec<AlarmRow>, AllocError>
     requires areas { length areas.now ≤ 64 }
-    requires globals { length globals.now ≤ 65536 }
-    ensures { IfOk result (λ alarms. alarms.items ≡ alarms_of areas.now globals.now rows.items) }
+    requires globals { length logic.now.globals ≤ 65536 }
+    ensures { IfOk result (λ alarms. alarms.items ≡ alarms_of areas.now logic.now.globals rows.items) }
 {
-    rows.into_iter()
-        .map(|row| alarm_of(areas, globals, row))
-        .collect(alloc)
+    let mut alarms = Vec::new(alloc);
+    for row in rows {
+        alarms.push(alarm_of(areas, logic, row))?;
+    }
+    Ok(alarms)
 }

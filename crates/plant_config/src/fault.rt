@@ -27,8 +27,12 @@ pub enum Limit {
     BlockDepth,
     /// More than 512 programs.
     Programs,
-    /// More than 65,536 variables.
+    /// More than 65,536 slots: variables, inputs of standard blocks and standard blocks, in each instance anew.
     Slots,
+    /// Programs that together are larger than 1,000,000.
+    Size,
+    /// A program that costs more than 2,000,000.
+    Cost,
     /// More than 20,000 alarms.
     Alarms,
 }
@@ -95,8 +99,6 @@ pub enum ConfigFault {
         row: u32,
         column: Column,
     },
-    /// The globals or a program declare an instance of a function block, and these don't run yet.
-    NotYet,
 }
 
 impl From<AllocError> for ConfigFault {
@@ -121,6 +123,8 @@ impl Limit {
             Limit::BlockDepth => "BLOCK_DEPTH",
             Limit::Programs => "PROGRAMS",
             Limit::Slots => "SLOTS",
+            Limit::Size => "SIZE",
+            Limit::Cost => "COST",
             Limit::Alarms => "ALARMS",
         }
     }
@@ -158,7 +162,6 @@ impl ConfigFault {
             ConfigFault::Unknown { row, column } => {
                 line_with_column(alloc, "CONFIG C14 ", *row, *column)
             }
-            ConfigFault::NotYet => String::from_str(alloc, "CONFIG NOTYET"),
         }
     }
 }

@@ -1,18 +1,17 @@
 //! The plant, its parts and their names.
 
-ghost use Rattle.std.specs.Prelude.{◌≡◌, ◌<◌, Some, length, map, option_map, position, IfSome, IfOk, IfErr, MatchResult};
+ghost use Rattle.std.specs.Prelude.{◌≡◌, ◌<◌, ◌++◌, Some, length, map, option_map, position, string_bytes, IfSome, IfOk, IfErr, MatchResult};
 ghost use Rattle.plant_types.specs.Words.{same_word};
 ghost use Rattle.plant_file.specs.Read.{plant_file_in};
-ghost use Rattle.block_flatten.specs.declared.logic.Program.{Program};
+ghost use Rattle.plant_logic.specs.declared.logic.Routine.{Routine};
 ghost use Rattle.plant_config.specs.Files.{files_of, texts_of};
 ghost use Rattle.alarm_db.specs.Databases.{rows_of};
-ghost use Rattle.block_flatten.specs.Units.{globals_of as declared_globals};
 ghost use Rattle.plant_config.specs.Logics.{IsLogic};
 ghost use Rattle.plant_config.specs.Plants.{PlainPlant, IsPlant, plant_with, tags_of};
-ghost use Rattle.plant_config.specs.Stages.{Accepted, HasAlarms, HasDatabase, HasEpoch, HasVariables, IsWellFormed};
+ghost use Rattle.plant_config.specs.Stages.{Accepted, HasAlarms, HasDatabase, HasEpoch, IsSized, IsWellFormed};
 ghost use Rattle.plant_config.specs.Refusals.{IsFileFault, IsRefused};
 ghost use Rattle.plant_config.specs.declared.fault.ConfigFault.TheVariants as fault;
-ghost use Rattle.plant_config.specs.Names.{alarm_number, globals_of, program_number, programs_of, program_at, body_paths, body_path, tag_of, area_of, global_of, priority_of};
+ghost use Rattle.plant_config.specs.Names.{alarm_number, globals_of, global_number, program_number, programs_of, program_at, body_paths, body_path, tag_of, area_of, global_of, priority_of};
 
 use crate::alarms::alarms_of;
 use crate::epoch::epoch_of;
@@ -23,9 +22,10 @@ use crate::rows::AlarmRow;
 use crate::running::{check_alarms, database_of, logic_of};
 use crate::spelling::{mistyped, units_of};
 use alarm_db::{AlarmDatabase, Tags};
-use block_flatten::{Flat, Globals, Program};
 use plant_file::{Console, PlantFile};
+use plant_logic::Routine;
 use plant_types::same_word;
+use plant_walk::Framed;
 use st_typing::{Typed, check};
 use stamps::Epoch;
 use std::alloc::{AllocError, Global};
@@ -37,7 +37,7 @@ use std::marker::Model;
 pub struct Plant {
     file: PlantFile,
     epoch: Epoch,
-    flat: Flat,
+    logic: Framed,
     alarms: Vec<AlarmRow>,
     tags: Tags,
 }
@@ -51,21 +51,27 @@ impl Model for Plant {
 
     ghost coded = { plant_code };
 
-    ghost view = { λ p. record { source = p.flat; areas = p.file.areas; consoles = p.file.consoles; alarms = p.alarms.items; epoch = p.epoch } };
+    ghost view = { λ p. record { source = p.logic; areas = p.file.areas; consoles = p.file.consoles; alarms = p.alarms.items; epoch = p.epoch } };
 
-    ghost invariant = { λ p. IsPlant (record { source = p.flat; areas = p.file.areas; consoles = p.file.consoles; alarms = p.alarms.items; epoch = p.epoch }) × (p.tags ≡ tags_of p.alarms.items) };
+    ghost invariant = { λ p. IsPlant (record { source = p.logic; areas = p.file.areas; consoles = p.file.consoles; alarms = p.alarms.items; epoch = p.epoch }) × (p.tags ≡ tags_of p.alarms.items) };
 }
 
 /// A plant of its parts.
-fn assembled(file: PlantFile, epoch: Epoch, flat: Flat, alarms: Vec<AlarmRow>, tags: Tags) -> Plant
-    requires plant { IsPlant (plant_with flat file alarms.items epoch) }
+fn assembled(
+    file: PlantFile,
+    epoch: Epoch,
+    logic: Framed,
+    alarms: Vec<AlarmRow>,
+    tags: Tags,
+) -> Plant
+    requires plant { IsPlant (plant_with logic file alarms.items epoch) }
     requires tags { tags ≡ tags_of alarms.items }
-    ensures { result ≡ plant_with flat file alarms.items epoch }
+    ensures { result ≡ plant_with logic file alarms.items epoch }
 {
     Plant {
         file,
         epoch,
-        flat,
+        logic,
         alarms,
         tags,
     }
@@ -78,48 +84,17 @@ fn made(
     file: PlantFile,
     epoch: Epoch,
     typed: &Typed<'_>,
-    flat: Flat,
-    globals: &Globals,
+    logic: Framed,
     database: AlarmDatabase,
 ) -> Result<Plant, AllocError>
     requires alarms { HasAlarms handed.now file epoch typed.now }
-    requires logic { IsLogic typed.now (Some flat) }
-    requires globals { globals.now ≡ declared_globals typed.now }
+    requires logic { IsLogic typed.now logic }
     requires rows { database ≡ rows_of handed.now.alarms }
     ensures { IfOk result (Accepted handed.now) }
 {
     let (rows, tags) = database.into_parts();
-    let alarms = alarms_of(alloc, file.areas(), globals, rows)?;
-    Ok(assembled(file, epoch, flat, alarms, tags))
-}
-
-/// The plant of texts that are right, or `NotYet` where there is no logic that runs.
-#[tactic(auto, using(crate::proofs::Refused::memory_refused, crate::proofs::Refused::instances_refused))]
-fn finished(
-    alloc: Global,
-    handed: &Handed<'_>,
-    file: PlantFile,
-    epoch: Epoch,
-    typed: &Typed<'_>,
-    flat: Option<Flat>,
-    globals: &Globals,
-    database: AlarmDatabase,
-) -> Result<Plant, ConfigFault>
-    requires alarms { HasAlarms handed.now file epoch typed.now }
-    requires logic { IsLogic typed.now flat }
-    requires globals { globals.now ≡ declared_globals typed.now }
-    requires rows { database ≡ rows_of handed.now.alarms }
-    ensures { MatchResult result (Accepted handed.now) (IsRefused handed.now) }
-{
-    match flat {
-        Some(flat) => {
-            match made(alloc, handed, file, epoch, typed, flat, globals, database) {
-                Ok(plant) => Ok(plant),
-                Err(_) => Err(ConfigFault::Memory),
-            }
-        }
-        None => Err(ConfigFault::NotYet),
-    }
+    let alarms = alarms_of(alloc, file.areas(), &logic, rows)?;
+    Ok(assembled(file, epoch, logic, alarms, tags))
 }
 
 /// The plant of well-formed sources with an alarm database, or why there is none.
@@ -130,22 +105,20 @@ fn with_database(
     file: PlantFile,
     epoch: Epoch,
     typed: &Typed<'_>,
-    flat: Option<Flat>,
+    logic: Framed,
     database: AlarmDatabase,
 ) -> Result<Plant, ConfigFault>
     requires database { HasDatabase handed.now file epoch typed.now }
-    requires logic { IsLogic typed.now flat }
+    requires logic { IsLogic typed.now logic }
     requires rows { database ≡ rows_of handed.now.alarms }
     ensures { MatchResult result (Accepted handed.now) (IsRefused handed.now) }
 {
-    match Globals::of(alloc, typed) {
-        Ok(globals) => {
-            match check_alarms(handed, &file, epoch, typed, &globals, &database) {
-                Ok(()) => finished(alloc, handed, file, epoch, typed, flat, &globals, database),
-                Err(fault) => Err(fault),
-            }
-        }
-        Err(_) => Err(ConfigFault::Memory),
+    match check_alarms(handed, &file, epoch, typed, &logic, &database) {
+        Ok(()) => match made(alloc, handed, file, epoch, typed, logic, database) {
+            Ok(plant) => Ok(plant),
+            Err(_) => Err(ConfigFault::Memory),
+        },
+        Err(fault) => Err(fault),
     }
 }
 
@@ -156,14 +129,14 @@ fn with_logic(
     file: PlantFile,
     epoch: Epoch,
     typed: &Typed<'_>,
-    flat: Option<Flat>,
+    logic: Framed,
 ) -> Result<Plant, ConfigFault>
-    requires variables { HasVariables handed.now file epoch typed.now }
-    requires logic { IsLogic typed.now flat }
+    requires sized { IsSized handed.now file epoch typed.now }
+    requires logic { IsLogic typed.now logic }
     ensures { MatchResult result (Accepted handed.now) (IsRefused handed.now) }
 {
     match database_of(alloc, handed, &file, epoch, typed) {
-        Ok(database) => with_database(alloc, handed, file, epoch, typed, flat, database),
+        Ok(database) => with_database(alloc, handed, file, epoch, typed, logic, database),
         Err(fault) => Err(fault),
     }
 }
@@ -180,7 +153,7 @@ fn plant_of(
     ensures { MatchResult result (Accepted handed.now) (IsRefused handed.now) }
 {
     match logic_of(alloc, handed, &file, epoch, typed) {
-        Ok(flat) => with_logic(alloc, handed, file, epoch, typed, flat),
+        Ok(logic) => with_logic(alloc, handed, file, epoch, typed, logic),
         Err(fault) => Err(fault),
     }
 }
@@ -241,8 +214,8 @@ impl Plant {
     /// Structured Text (IEC 61131-3, this profile). A byte order mark at the start of any of them is skipped.
     ///
     /// Every fault but `Memory` is the first that the texts have, by the order of the refusals: C1, C2, C3; C10 of SOURCES, TEXT, AREAS and
-    /// CONSOLES; C4 or C5 of the first source that has one; C6, C7, C8, C9; C10 of TURNS, BLOCK_DEPTH, PROGRAMS and SLOTS; C11; C10 of ALARMS; C12,
-    /// C13, C14; and last, for what doesn't run yet, `NotYet`. `Memory` comes if allocation fails; where the texts are right, nothing else does.
+    /// CONSOLES; C4 or C5 of the first source that has one; C6, C7, C8, C9; C10 of TURNS, BLOCK_DEPTH, PROGRAMS, SLOTS, SIZE and COST; C11; C10 of
+    /// ALARMS; C12, C13, C14. `Memory` comes if allocation fails; where the texts are right, nothing else does.
     pub fn read(
         alloc: Global,
         plant: &[u8],
@@ -262,11 +235,11 @@ impl Plant {
     }
 
     /// The logic.
-    pub fn flat(&self) -> &Flat
+    pub fn logic(&self) -> &Framed
         ensures source { result.now ≡ self.now.source }
         ensures plant { IsPlant self.now }
     {
-        &self.flat
+        &self.logic
     }
 
     /// The instant of moment 0: a second of the years 1970 to 2399.
@@ -312,7 +285,7 @@ impl Plant {
         ensures count { result ≡ length (programs_of self.now) }
         ensures plant { IsPlant self.now }
     {
-        self.flat.programs().len() as u32
+        self.logic.programs().len() as u32
     }
 
     /// The number of the alarm with a tag; `None` if there is none. Letter case counts.
@@ -323,11 +296,20 @@ impl Plant {
         Some(number as u32)
     }
 
+    /// The number of the global with a name, letter case ignored; `None` if there is none. It takes no memory.
+    pub fn global_number(&self, name: &str) -> Option<u32>
+        ensures number { result ≡ global_number self.now name.now }
+        ensures within { IfSome result (λ number. number < length (globals_of self.now)) }
+    {
+        let number = self.logic.find_global(name)?;
+        Some(number as u32)
+    }
+
     /// The number of the program with a name, letter case ignored; `None` if there is none.
     pub fn program_number(&self, name: &str) -> Option<u32>
         ensures { result ≡ program_number self.now name.now }
     {
-        match program_row(self.flat.programs(), name) {
+        match program_row(self.logic.programs(), name) {
             Some(number) => Some(number as u32),
             None => None,
         }
@@ -362,7 +344,7 @@ impl Plant {
         requires { global < length (globals_of self.now) }
         ensures { result.now ≡ global_of self.now global }
     {
-        self.flat.globals()[global as usize].name.as_str()
+        self.logic.globals()[global as usize].name.as_str()
     }
 
     /// The name of a program, as declared.
@@ -370,21 +352,22 @@ impl Plant {
         requires { program < length (programs_of self.now) }
         ensures { result.now ≡ program_at self.now program }
     {
-        self.flat.programs()[program as usize].name.as_str()
+        self.logic.programs()[program as usize].name.as_str()
     }
 
-    /// The path of the body in which a trap occurred, as a fault prints it: the program's name, as declared.
-    pub fn path(&self, path: u32) -> &str
+    /// Adds the path of the body in which a trap occurred, as a fault prints it: the names of the program and of the instances below it, as
+    /// declared, with points between them. Fails if allocation fails.
+    pub fn push_path(&self, path: u32, text: &mut String) -> Result<(), AllocError>
         requires { path < length (body_paths self.now) }
-        ensures { result.now ≡ body_path self.now path }
+        ensures { IfOk result (λ _. string_bytes text.new ≡ string_bytes text.old ++ body_path self.now path) }
     {
-        self.program(path)
+        self.logic.push_path(path, text)
     }
 }
 
 /// The number of the first program with a name, letter case ignored; `None` if there is none.
-fn program_row(programs: &[Program], name: &str) -> Option<usize>
-    ensures number { result ≡ position (λ (program : Program). same_word program.name name.now) programs.now }
+fn program_row(programs: &[Routine], name: &str) -> Option<usize>
+    ensures number { result ≡ position (λ (program : Routine). same_word program.name name.now) programs.now }
     ensures within { IfSome result (λ number. number < length programs.now) }
 {
     programs.iter().position(|program| same_word(program.name.as_bytes(), name.as_bytes()))

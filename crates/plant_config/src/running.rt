@@ -1,24 +1,24 @@
 //! From well-formed sources to a plant.
 
 ghost use Rattle.std.specs.Prelude.{◌≡◌, ◌≤◌, MatchResult, length};
-ghost use Rattle.block_flatten.specs.Units.{globals_of};
+ghost use Rattle.plant_logic.specs.Units.{source_in};
 ghost use Rattle.alarm_db.specs.Databases.{rows_of};
 ghost use Rattle.plant_config.specs.Logics.{IsLogic};
-ghost use Rattle.plant_config.specs.Stages.{IsWellFormed, HasVariables, HasDatabase, HasAlarms, HasUnits};
+ghost use Rattle.plant_config.specs.Stages.{IsWellFormed, IsSized, HasDatabase, HasAlarms};
 ghost use Rattle.plant_config.specs.Refusals.{IsRefused};
 
 use crate::alarms::first_unknown;
 use crate::fault::{ConfigFault, Limit};
 use crate::files::Handed;
 use alarm_db::{AlarmDatabase, DbFault};
-use block_flatten::{Flat, FlatFault, Globals};
 use plant_file::PlantFile;
+use plant_limits::LimitFault;
+use plant_walk::Framed;
 use st_typing::Typed;
 use stamps::Epoch;
 use std::alloc::Global;
 
-/// The logic of well-formed sources, made ready to run; `None` where the globals or a program declare an instance. Fails for too many variables,
-/// or if allocation fails.
+/// The logic of well-formed sources, made ready to run, or the first limit on slots, size and cost that it is past: C10.
 #[tactic(auto, unfolding(crate::specs::Refusals::IsRefused))]
 pub fn logic_of(
     alloc: Global,
@@ -26,19 +26,20 @@ pub fn logic_of(
     file: &PlantFile,
     epoch: Epoch,
     typed: &Typed<'_>,
-) -> Result<Option<Flat>, ConfigFault>
+) -> Result<Framed, ConfigFault>
     requires { IsWellFormed handed.now file.now epoch typed.now }
-    ensures { MatchResult result (λ flat. HasVariables handed.now file.now epoch typed.now × IsLogic typed.now flat) (IsRefused handed.now) }
+    ensures { MatchResult result (λ logic. IsSized handed.now file.now epoch typed.now × IsLogic typed.now logic) (IsRefused handed.now) }
 {
-    match Flat::of(alloc, typed) {
-        Ok(flat) => Ok(Some(flat)),
-        Err(FlatFault::NotYet) => Ok(None),
-        Err(FlatFault::Slots) => Err(ConfigFault::Limit(Limit::Slots)),
-        Err(FlatFault::Memory) => Err(ConfigFault::Memory),
+    match Framed::of(alloc, typed) {
+        Ok(logic) => Ok(logic),
+        Err(LimitFault::Slots) => Err(ConfigFault::Limit(Limit::Slots)),
+        Err(LimitFault::Size) => Err(ConfigFault::Limit(Limit::Size)),
+        Err(LimitFault::Cost) => Err(ConfigFault::Limit(Limit::Cost)),
+        Err(LimitFault::Memory) => Err(ConfigFault::Memory),
     }
 }
 
-/// The alarm database of a plant with well-formed sources, or its first fault: C11, C10 ALARMS, C12 or C13.
+/// The alarm database of a plant whose sources keep their limits, or its first fault: C11, C10 ALARMS, C12 or C13.
 #[tactic(auto, unfolding(crate::specs::Refusals::IsRefused))]
 pub fn database_of(
     alloc: Global,
@@ -47,7 +48,7 @@ pub fn database_of(
     epoch: Epoch,
     typed: &Typed<'_>,
 ) -> Result<AlarmDatabase, ConfigFault>
-    requires { HasVariables handed.now file.now epoch typed.now }
+    requires { IsSized handed.now file.now epoch typed.now }
     ensures { MatchResult result (λ rows. HasDatabase handed.now file.now epoch typed.now × (rows ≡ rows_of handed.now.alarms)) (IsRefused handed.now) }
 {
     match alarm_db::read(alloc, handed.alarms) {
@@ -67,15 +68,15 @@ pub fn check_alarms(
     file: &PlantFile,
     epoch: Epoch,
     typed: &Typed<'_>,
-    globals: &Globals,
+    logic: &Framed,
     database: &AlarmDatabase,
 ) -> Result<(), ConfigFault>
     requires database { HasDatabase handed.now file.now epoch typed.now }
     requires rows { database.now ≡ rows_of handed.now.alarms }
-    requires globals { globals.now ≡ globals_of typed.now }
+    requires logic { logic.now ≡ source_in typed.now }
     ensures { MatchResult result (λ _. HasAlarms handed.now file.now epoch typed.now) (IsRefused handed.now) }
 {
-    match first_unknown(file.areas(), globals, database.rows()) {
+    match first_unknown(file.areas(), logic, database.rows()) {
         Some((row, column)) => Err(ConfigFault::Unknown { row, column }),
         None => Ok(()),
     }

@@ -2,7 +2,7 @@
 
 use crate::again::again;
 use crate::sessions::whole_sink;
-use serving::{FileFault, Folder, admit_from};
+use serving::{FileFault, Folder, check_from};
 use std::alloc::{AllocError, Global};
 use std::test::Fail;
 
@@ -49,13 +49,7 @@ impl Folder for Shelf {
 /// What is written of the plant in a folder.
 fn told(alloc: Global, has_source: bool) -> Result<Vec<u8>, AllocError> {
     let mut sink = whole_sink(alloc);
-    match admit_from(
-        alloc,
-        &Shelf { has_source },
-        "plant/plant.toml",
-        true,
-        &mut sink,
-    ) {
+    match check_from(alloc, &Shelf { has_source }, "plant/plant.toml", &mut sink) {
         Ok(_) => Ok(sink.bytes),
         Err(_) => Err(AllocError),
     }

@@ -20,6 +20,8 @@ mod example;
 #[cfg(test)]
 mod folders;
 #[cfg(test)]
+mod frames;
+#[cfg(test)]
 mod journals;
 #[cfg(test)]
 mod laws;
@@ -31,3 +33,5 @@ mod sessions;
 mod trees;
 #[cfg(test)]
 mod values;
+#[cfg(test)]
+mod walks;

@@ -1,15 +1,11 @@
-//! What a plant shows by each of its calls (`plant_config`, `block_flatten`, `st_walk`), its refusals' names of limits, and the globals of
-//! its sources before it is made (`plant_sources`, `st_typing`, `block_flatten`).
+//! What a plant shows by each of its calls (`plant_config`), and its refusals' names of limits.
 
 use crate::again::again;
 use crate::example::example;
-use block_flatten::{Flat, Globals};
 use plant_config::{ConfigFault, Limit, Plant};
 use plant_file::Console;
-use plant_sources::units;
 use plant_types::{Kind, Region};
-use st_typing::check;
-use st_walk::Cells;
+use plant_walk::{Framed, Walked, walk};
 use std::alloc::{AllocError, Global};
 use std::test::Fail;
 
@@ -35,13 +31,13 @@ fn region_text(region: Option<Region>) -> &'static str {
 }
 
 /// Appends the globals, and each program's name after its own variables.
-fn push_variables(text: &mut String, flat: &Flat) -> Result<(), AllocError> {
-    for global in flat.globals() {
+fn push_variables(text: &mut String, logic: &Framed) -> Result<(), AllocError> {
+    for global in logic.globals() {
         text.push_str(global.name.as_str())?;
         text.push_str(region_text(global.region))?;
         text.push_str(kind_text(global.kind))?;
     }
-    for program in flat.programs() {
+    for program in logic.programs() {
         for local in &program.locals {
             text.push_str(local.name.as_str())?;
             text.push_str(kind_text(local.kind))?;
@@ -72,8 +68,6 @@ fn push_names(text: &mut String, plant: &Plant) -> Result<(), AllocError> {
     for program in 0..plant.programs() {
         text.push_str(" ")?;
         text.push_str(plant.program(program))?;
-        text.push_str(" ")?;
-        text.push_str(plant.path(program))?;
     }
     Ok(())
 }
@@ -82,7 +76,7 @@ fn push_names(text: &mut String, plant: &Plant) -> Result<(), AllocError> {
 fn described(alloc: Global) -> Result<String, AllocError> {
     let plant = example(alloc, SOURCE)?;
     let mut text = String::new(alloc);
-    push_variables(&mut text, plant.flat())?;
+    push_variables(&mut text, plant.logic())?;
     push_names(&mut text, &plant)?;
     Ok(text)
 }
@@ -90,14 +84,16 @@ fn described(alloc: Global) -> Result<String, AllocError> {
 #[test]
 fn plants_show_their_names(rt: HostRuntime) -> Result<(), Fail> {
     let want =
-        b"Feed %I DINT, b BOOL, C BOOL, x %Q TIME, m %M DINT, y TIME, z DINT, Pump y BOOL, Fill  T1 second north south Feed ratio high Pump Pump Fill Fill";
+        b"Feed %I DINT, b BOOL, C BOOL, x %Q TIME, m %M DINT, y TIME, z DINT, Pump y BOOL, Fill  T1 second north south Feed ratio high Pump Fill";
     assert!(rt; again(|| described(rt.alloc()))?.as_bytes() == want.as_slice());
     Ok(())
 }
 
 /// The numbers that a plant gives for names.
-fn numbers(plant: &Plant) -> [Option<u32>; 7] {
+fn numbers(plant: &Plant) -> [Option<u32>; 9] {
     [
+        plant.global_number("FEED"),
+        plant.global_number("y"),
         plant.alarm_number("T1"),
         plant.alarm_number("t1"),
         plant.program_number("PUMP"),
@@ -116,7 +112,17 @@ fn console(console: &Console) -> (u32, Option<u32>) {
 #[test]
 fn plants_show_their_numbers(rt: HostRuntime) -> Result<(), Fail> {
     let plant = again(|| example(rt.alloc(), SOURCE))?;
-    let want = [Some(0), None, Some(0), Some(1), None, Some(2), Some(1)];
+    let want = [
+        Some(0),
+        None,
+        Some(0),
+        None,
+        Some(0),
+        Some(1),
+        None,
+        Some(2),
+        Some(1),
+    ];
     assert!(rt; numbers(&plant) == want);
     assert!(rt; plant.epoch().seconds() == 1_704_067_200);
     for (shown, want) in plant.consoles().iter().zip([(1, Some(0)), (2, Some(1))]) {
@@ -129,52 +135,32 @@ fn plants_show_their_numbers(rt: HostRuntime) -> Result<(), Fail> {
     Ok(())
 }
 
-/// What the cells of `SOURCE` hold after the last of them was set in a copy, and after the copy was taken over.
-fn copied(alloc: Global) -> Result<(i64, i64), AllocError> {
-    let plant = example(alloc, SOURCE)?;
-    let mut cells = Cells::opening(alloc, plant.flat())?;
-    let mut copy = cells.copy(alloc)?;
-    if copy.len() != 8 || cells.len() != copy.len() || cells.is_empty() {
-        return Ok((-1, -1));
+/// The path at which the first program of a plant stops in its first scan; none where it doesn't stop.
+fn stopped(alloc: Global) -> Result<String, AllocError> {
+    let source =
+        b"VAR_GLOBAL c : BOOL; n : DINT; END_VAR FUNCTION_BLOCK F n := 1 / n; END_FUNCTION_BLOCK PROGRAM Pump VAR Of_It : F; END_VAR Of_it(); END_PROGRAM";
+    let plant = example(alloc, source)?;
+    let mut path = String::new(alloc);
+    let mut cells = plant.logic().opening(alloc)?;
+    if plant.logic().programs().is_empty() {
+        return Ok(path);
     }
-    copy.set(7, 7);
-    let before = cells.get(7);
-    cells.copy_from(&copy);
-    Ok((before, cells.get(7)))
+    if let Walked::Trapped(place, _) = walk(plant.logic(), 0, &mut cells, 0) {
+        plant.push_path(place.path, &mut path)?;
+    }
+    Ok(path)
 }
 
 #[test]
-fn cells_are_copied(rt: HostRuntime) -> Result<(), Fail> {
-    assert!(rt; again(|| copied(rt.alloc()))? == (0, 7));
-    Ok(())
-}
-
-/// How many globals `SOURCE` has, and the numbers of one and of none.
-fn globals(alloc: Global) -> Result<(usize, Option<usize>, Option<usize>), AllocError> {
-    let Ok(units) = units(alloc, &[("p.st", SOURCE)]) else {
-        return Err(AllocError);
-    };
-    let Ok(typed) = check(alloc, &units) else {
-        return Err(AllocError);
-    };
-    let globals = Globals::of(alloc, &typed)?;
-    Ok((
-        globals.as_slice().len(),
-        globals.find("C"),
-        globals.find("y"),
-    ))
-}
-
-#[test]
-fn globals_are_found(rt: HostRuntime) -> Result<(), Fail> {
-    assert!(rt; again(|| globals(rt.alloc()))? == (5, Some(2), None));
+fn a_plant_names_paths(rt: HostRuntime) -> Result<(), Fail> {
+    assert!(rt; again(|| stopped(rt.alloc()))?.as_bytes() == b"Pump.Of_It".as_slice());
     Ok(())
 }
 
 /// The lines of the limits that no small plant passes.
 fn limits(alloc: Global) -> Result<String, AllocError> {
     let mut text = String::new(alloc);
-    for limit in [Limit::Text, Limit::Slots, Limit::Alarms] {
+    for limit in [Limit::Text, Limit::Alarms] {
         let line = ConfigFault::Limit(limit).line(alloc)?;
         text.push_str(line.as_str())?;
         text.push_str(" ")?;
@@ -184,7 +170,7 @@ fn limits(alloc: Global) -> Result<String, AllocError> {
 
 #[test]
 fn limits_have_lines(rt: HostRuntime) -> Result<(), Fail> {
-    let want = b"CONFIG C10 TEXT CONFIG C10 SLOTS CONFIG C10 ALARMS ";
+    let want = b"CONFIG C10 TEXT CONFIG C10 ALARMS ";
     assert!(rt; again(|| limits(rt.alloc()))?.as_bytes() == want.as_slice());
     Ok(())
 }

@@ -7,9 +7,10 @@ use Rattle.std.proofs.lemmas.List.Quantifiers.{position-Some}
 use Rattle.plant_types.specs.declared.values.Place.{Place}
 use Rattle.plant_types.specs.declared.values.Trap.{Trap}
 use Rattle.serving.specs.Answers.{spots_of}
-use Rattle.command_text.specs.Lines.{path_text}
-use Rattle.block_flatten.specs.Source.{PlainProgram, Source}
-use Rattle.st_walk.specs.Runs.{place_spot}
+use Rattle.plant_logic.specs.Source.{Source}
+use Rattle.plant_logic.specs.Worlds.{Path}
+use Rattle.plant_logic.specs.Paths.{paths_of, path_text}
+use Rattle.plant_walk.specs.Runs.{place_spot}
 use Rattle.plant_config.specs.declared.rows.AlarmRow.{AlarmRow}
 use Rattle.plant_config.specs.Plants.{PlainPlant, tags_of}
 use Rattle.plant_config.specs.Names.{alarm_number, body_path}
@@ -23,16 +24,17 @@ not_text false bytes e n = refl
 pub is_utf8-none : (bytes : List ℕ) → (IsUtf8 bytes → ⊥) → is_utf8 bytes ≡ false
 is_utf8-none bytes n = not_text (is_utf8 bytes) bytes refl n
 
--- as many spots as places
+-- the text of the path of a number
+path_of_number : (paths : List Path) (n : ℕ) → slice_index_or (map path_text paths) n [] ≡ path_text (slice_index_or paths n [])
+path_of_number [] n = refl
+path_of_number (path ∷ paths) zero = refl
+path_of_number (path ∷ paths) (suc n) = path_of_number paths n
+
 -- the path of a body, as it is printed, is that of its number
-body_text : (programs : List PlainProgram) (n : ℕ) → slice_index_or (map (λ (p : PlainProgram). p.name) programs) n [] ≡ path_text (slice_index_or (map (λ (p : PlainProgram). p.name ∷ []) programs) n [])
-body_text [] n = refl
-body_text (p ∷ ps) zero = refl
-body_text (p ∷ ps) (suc n) = body_text ps n
-
 pub path_is : (plant : PlainPlant) (place : Place) → body_path plant place.path ≡ path_text (place_spot plant.source place).path
-path_is plant place = body_text plant.source.programs place.path
+path_is plant place = path_of_number (paths_of plant.source) place.path
 
+-- as many spots as places
 pub spots_length : (source : Source) (faults : List (Place × Trap)) → length (spots_of source faults) ≡ length faults
 spots_length source [] = refl
 spots_length source (f ∷ faults) = ap suc (spots_length source faults)

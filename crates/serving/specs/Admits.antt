@@ -1,5 +1,5 @@
 -- What the program says of a plant.
-use Rattle.std.specs.Prelude.{◌≡◌, ◌≢◌, ◌⊎◌, ⊤, ℕ, Bool, if◌then◌else◌, List, [], ◌++◌, length, codes, Option, Some, None, Ok, Err}
+use Rattle.std.specs.Prelude.{◌≡◌, ◌≢◌, ◌⊎◌, ⊤, ℕ, Bool, true, if◌then◌else◌, List, [], ◌++◌, length, codes, Option, Some, None, is_some, Ok, Err}
 use Rattle.std.specs.Fmt.{decimal}
 use Rattle.std.specs.declared.result.Result.{Result}
 use Rattle.std.specs.Io.KnownBytes.{Appends}
@@ -62,3 +62,8 @@ IsTold verdict w₀ w₁ (Ok answer) = (line : List ℕ) × verdict answer line 
 IsTold verdict w₀ w₁ (Err fault.Memory) = Appends w₀ w₁ []
 IsTold verdict w₀ w₁ (Err fault.Read) = ⊥
 IsTold verdict w₀ w₁ (Err fault.Write) = (answer : Option PlainPlant) × (line : List ℕ) × verdict answer line × IsBegun w₀ w₁ line
+
+-- the same of the files of a plant where the plant isn't kept: whether there is one
+abbrev pub IsChecked : Finds → List ℕ → Option (List ℕ) → Option (List ℕ) → Result Bool ServeFault → Type 0
+IsChecked finds path w₀ w₁ (Ok accepted) = (answer : Option PlainPlant) × (accepted ≡ is_some answer) × IsTold (IsFilesVerdict finds path true) w₀ w₁ (Ok answer)
+IsChecked finds path w₀ w₁ (Err fault) = IsTold (IsFilesVerdict finds path true) w₀ w₁ (Err fault)

@@ -6,8 +6,9 @@ use Rattle.plant_types.specs.declared.values.Value.{Value}
 use Rattle.plant_types.specs.declared.values.Place.{Place}
 use Rattle.plant_types.specs.declared.values.Trap.{Trap}
 use Rattle.st_tree.specs.Meaning.{Spot}
-use Rattle.block_flatten.specs.Source.{Source}
-use Rattle.st_walk.specs.Runs.{place_spot}
+use Rattle.plant_logic.specs.Source.{Source}
+use Rattle.plant_logic.specs.Paths.{path_text}
+use Rattle.plant_walk.specs.Runs.{place_spot}
 use Rattle.alarm_machine.specs.Codes.{PlainChange}
 use Rattle.alarm_machine.specs.declared.states.Verb.{Verb}
 use Rattle.plant_config.specs.Plants.{PlainPlant}
@@ -22,7 +23,7 @@ use Rattle.engine.specs.Orders.{is_restart}
 use Rattle.engine.specs.System.{System, system, step, scan_event, order_event, reply_to, faults_of, changes_of, outs_of}
 use Rattle.command_text.specs.Commands.{PlainCommand, Nothing, Unknown, Scan, Order, Listing, Journal, command_of}
 use Rattle.serving.specs.Listings.{list_text, journal_text}
-use Rattle.command_text.specs.Lines.{path_text, fault_line, alarm_line, out_line, done_line, reply_line, refused_line}
+use Rattle.command_text.specs.Lines.{fault_line, alarm_line, out_line, done_line, reply_line, refused_line}
 
 -- the number of what a text names: for a restart the program of this name, in any letter case; for every other order the alarm of this tag
 abbrev pub named_by : PlainPlant → Verb → List ℕ → Option ℕ

@@ -5,6 +5,7 @@ use Rattle.std.specs.List.{flat_map}
 use Rattle.std.specs.Option.{option_map}
 use Rattle.std.specs.Io.KnownBytes.{Appends}
 use Rattle.stamps.specs.Stamps.{stamp}
+use Rattle.plant_logic.specs.Paths.{path_text}
 use Rattle.journal_core.specs.Bodies.{fault_body, alarm_body, order_body}
 use Rattle.alarm_machine.specs.declared.states.AlarmState.{AlarmState}
 use Rattle.alarm_machine.specs.declared.states.Code.{Code}
@@ -15,7 +16,7 @@ use Rattle.alarm_machine.specs.declared.states.Verb.{Verb}
 use Rattle.alarm_machine.specs.Codes.{code_of, same_code}
 use Rattle.alarm_bank.specs.declared.rows.Counted.{Counted}
 use Rattle.alarm_bank.specs.Counts.{count_of}
-use Rattle.command_text.specs.Lines.{path_text, state_line, count_line, row_line, end_line}
+use Rattle.command_text.specs.Lines.{state_line, count_line, row_line, end_line}
 use Rattle.plant_config.specs.Plants.{PlainPlant}
 use Rattle.plant_config.specs.Names.{tag_of, area_of, priority_of}
 use Rattle.engine.specs.declared.event.Event.{Event}

@@ -1,8 +1,8 @@
-ghost use Rattle.std.specs.Prelude.{◌≡◌, ◌++◌, ◌⊎◌, ◌<◌, ◌^◌, ◌+◌, OnOk, OnErr, IfOk, IfSome, All, length, false};
-ghost use Rattle.command_text.specs.Lines.{path_text};
+ghost use Rattle.std.specs.Prelude.{◌≡◌, ◌++◌, ◌⊎◌, ◌<◌, ◌^◌, ◌+◌, OnOk, OnErr, IfOk, IfSome, All, length, false, string_bytes};
 ghost use Rattle.engine.specs.Engines.{state_of};
 ghost use Rattle.plant_config.specs.Names.{alarm_number, tag_of, globals_of, global_of, body_paths};
-ghost use Rattle.st_walk.specs.Runs.{place_spot};
+ghost use Rattle.plant_logic.specs.Paths.{path_text};
+ghost use Rattle.plant_walk.specs.Runs.{place_spot};
 ghost use Rattle.engine.specs.Orders.{is_restart};
 ghost use Rattle.engine.specs.System.{system, scan_event, order_event};
 ghost use Rattle.serving.specs.Answers.{spots_of, named_by, target_of, tag_for, order_for, order_answer, fault_lines, alarm_lines, out_lines, report_text, order_text, fault_number, event_text, scan_text, event_added, after_line, line_answer};
@@ -48,16 +48,20 @@ fn push_alarms(
     Ok(())
 }
 
-/// Returns the path of a place: the names that lead to it, with points between them.
-fn path_text<'a>(plant: &'a Plant, place: &Place) -> &'a str
+/// The path of a place: the names that lead to it, with points between them. Fails if allocation fails.
+#[tactic(auto, using(crate::proofs::AnswerLaws::path_is))]
+fn path_text(alloc: Global, plant: &Plant, place: &Place) -> Result<String, AllocError>
     requires { place.now.path < length (body_paths plant.now) }
-    ensures { result.now ≡ path_text (place_spot plant.now.source place.now).path }
+    ensures { IfOk result (λ path. string_bytes path ≡ path_text (place_spot plant.now.source place.now).path) }
 {
-    plant.path(place.path)
+    let mut path = String::new(alloc);
+    plant.push_path(place.path, &mut path)?;
+    Ok(path)
 }
 
 /// Appends a FAULT line for each program that stopped.
 fn push_faults(
+    alloc: Global,
     text: &mut Vec<u8>,
     plant: &Plant,
     moment: u64,
@@ -67,13 +71,8 @@ fn push_faults(
     ensures { OnOk result (text.new.items ≡ text.old.items ++ fault_lines moment (spots_of plant.now.source faults.now)) }
 {
     for (place, trap) in faults {
-        push_fault(
-            text,
-            moment,
-            path_text(plant, place),
-            place.statement,
-            *trap,
-        )?;
+        let path = path_text(alloc, plant, place)?;
+        push_fault(text, moment, path.as_str(), place.statement, *trap)?;
     }
     Ok(())
 }
@@ -96,7 +95,12 @@ fn push_outs(
 
 /// Appends the answer to a scan that was taken: its faults, its alarms, its outputs, and how many lines these are.
 #[tactic(auto, using(crate::proofs::AnswerLaws::spots_length), unfolding(crate::specs::Answers::report_text))]
-fn push_report(text: &mut Vec<u8>, plant: &Plant, report: &Report) -> Result<(), AllocError>
+fn push_report(
+    alloc: Global,
+    text: &mut Vec<u8>,
+    plant: &Plant,
+    report: &Report,
+) -> Result<(), AllocError>
     requires faults { All (λ f. f.0.path < length (body_paths plant.now)) report.now.faults }
     requires changes { All (λ c. c.0 < length plant.now.alarms) report.now.changes }
     requires outs { All (λ o. o.0 < length (globals_of plant.now)) report.now.outs }
@@ -105,7 +109,7 @@ fn push_report(text: &mut Vec<u8>, plant: &Plant, report: &Report) -> Result<(),
     let faults = report.faults.as_slice();
     let changes = report.changes.as_slice();
     let outs = report.outs.as_slice();
-    push_faults(text, plant, report.moment, faults)?;
+    push_faults(alloc, text, plant, report.moment, faults)?;
     push_alarms(text, plant, report.moment, changes)?;
     push_outs(text, plant, report.moment, outs)?;
     let lines = faults.len() as u64 + changes.len() as u64 + outs.len() as u64;
@@ -140,7 +144,7 @@ fn answer_scan(
     ensures err { OnErr result ((engine.new.history ≡ engine.old.history) ⊎ (engine.new.history ≡ engine.old.history ++ event_added (scan_event engine.old.plant (state_of engine.old) pairs.now moment))) }
 {
     match engine.scan(alloc, pairs, moment) {
-        Ok(report) => push_report(text, engine.plant(), &report),
+        Ok(report) => push_report(alloc, text, engine.plant(), &report),
         Err(EngineFault::Memory) => Err(AllocError),
         Err(fault) => push_refused(text, fault_number(fault)),
     }

@@ -25,4 +25,4 @@ pub use runs::{RunEnd, run, run_from};
 pub use session::{Session, Step, put_all, serve};
 pub use streams::{Failed, Feed, Reading, Sink, Writing};
 pub use texts::{FetchFault, Fetched, SourceText, fetch};
-pub use verdict::{admit, admit_from};
+pub use verdict::{admit, admit_from, check_from};

@@ -3,7 +3,7 @@
 ghost use Rattle.std.specs.Prelude.{◌≡◌, ◌≢◌, [], if◌then◌else◌, map, string_bytes, false, IfOk};
 ghost use Rattle.plant_config.specs.declared.fault.ConfigFault.TheVariants as config_fault;
 ghost use Rattle.plant_config.specs.Files.{texts_of};
-ghost use Rattle.serving.specs.Admits.{accepted_line, refusal_line, missing_line, fetch_line, HasLine, IsVerdict, IsFilesVerdict, IsTold};
+ghost use Rattle.serving.specs.Admits.{accepted_line, refusal_line, missing_line, fetch_line, HasLine, IsVerdict, IsFilesVerdict, IsTold, IsChecked};
 ghost use Rattle.serving.specs.Faults.{is_write};
 ghost use Rattle.serving.specs.declared.texts.FetchFault.TheVariants as fetch_fault;
 
@@ -196,5 +196,25 @@ pub fn admit_from<F: Folder, S: Sink>(
     match files_verdict(alloc, folder, path, accepted) {
         Ok((plant, line)) => told(sink, plant, line.as_str()),
         Err(_) => Err(ServeFault::Memory),
+    }
+}
+
+/// Tells whether a plant is accepted, from its files: it writes what `admit_from` writes, the line for an accepted plant too, and keeps no
+/// plant.
+///
+/// Returns `Memory` only where an allocation failed, and then nothing is written; and `Write` only where the sink failed in this call.
+pub fn check_from<F: Folder, S: Sink>(
+    alloc: Global,
+    folder: &F,
+    path: &str,
+    sink: &mut S,
+) -> Result<bool, ServeFault>
+    requires { S.broken sink.old ≡ false }
+    ensures told { IsChecked (F.finds folder.now) path.now (S.written sink.old) (S.written sink.new) result }
+    ensures write { S.broken sink.new ≡ is_write result }
+{
+    match admit_from(alloc, folder, path, true, sink) {
+        Ok(plant) => Ok(plant.is_some()),
+        Err(fault) => Err(fault),
     }
 }

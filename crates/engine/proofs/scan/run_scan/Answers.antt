@@ -1,6 +1,8 @@
-use Rattle.std.proofs.Common.{◌≡◌, rules}
-use Rattle.st_walk.specs.Slots.{cell}
+use Rattle.std.proofs.Common.{◌≡◌, ◌∙◌, ap, map, rules}
+use Rattle.block_walk.specs.Cells.{value_at}
 use Rattle.engine.specs.System.{outputs_from, outs_from}
+use Rattle.engine.specs.Engines.{PlainState}
+use Rattle.engine.specs.Steps.{output_in}
 use Rattle.engine.proofs.InRange.{scan_stands}
 use Rattle.engine.proofs.Shown.{cells_showable, outputs_showable}
 use Rattle.engine.proofs.Outs.{outputs_renewed, outs_differ}
@@ -9,9 +11,10 @@ use Rattle.engine.proofs.scan.run_scan.Goals as goal
 pub returns : goal.returns
 returns c =
     let globals = c.args.plant.now.source.globals in
-    let before = cell c.args.old.now.cells in
-    let now = cell c.run_programs.new.cells in
-    let outputs : c.in_ok-outputs.outputs.items ≡ outputs_from 0 globals now = outputs_renewed globals before now c.args.old.now.outputs c.in_ok-outputs.outputs.items c.requires.outputs (search rules) in
+    let before = value_at c.args.old.now.cells in
+    let now = value_at c.run_programs.new.cells in
+    let made = c.in_ok-outputs.ensures ∙ ap (map (output_in now)) (c.as_slice-2.ensures.value ∙ ap (λ (k : PlainState). k.outputs) c.old.view_is) in
+    let outputs : c.in_ok-outputs.outputs.items ≡ outputs_from 0 globals now = outputs_renewed globals before now c.args.old.now.outputs c.in_ok-outputs.outputs.items c.requires.outputs made in
     let outs : c.in_ok-outs.outs.items ≡ outs_from 0 globals before now = outs_differ globals before now c.in_ok-outputs.outputs.items c.in_ok-outs.outs.items outputs (search rules) in
     record {
       programs = search rules;
@@ -29,7 +32,7 @@ returns c =
 pub renewed-requires : goal.renewed-requires
 renewed-requires c =
     let source = c.args.plant.now.source in
-    let now = cell c.run_programs.new.cells in
+    let now = value_at c.run_programs.new.cells in
     let held = scan_stands source c.args.old.now.cells c.run_programs.new.cells c.args.image.now c.args.moment c.args.old.now.faulted c.run_programs.new.faulted.items c.in_ok-faults.faults.items c.requires.sound c.requires.image c.requires.values (search rules) in
-    let showable = outputs_showable source.globals (cell c.args.old.now.cells) now c.args.old.now.outputs (cells_showable source c.run_programs.new.cells held) c.requires.outputs in
+    let showable = outputs_showable source.globals (value_at c.args.old.now.cells) now c.args.old.now.outputs (cells_showable source c.run_programs.new.cells held) c.requires.outputs in
     rw c.as_slice-2.ensures.value (rw (← c.old.view_is) at showable)

@@ -1,7 +1,8 @@
 use Rattle.std.proofs.Common.{◌∙◌, ap, subst}
 use Rattle.alarm_bank.specs.Banks.{PlainBank}
-use Rattle.block_flatten.specs.Source.{Source}
-use Rattle.st_walk.specs.Worlds.{Stands, opening}
+use Rattle.plant_logic.specs.Source.{Source}
+use Rattle.plant_logic.specs.Worlds.{opening}
+use Rattle.block_frames.specs.Stands.{StandFor}
 use Rattle.engine.proofs.InRange.{opening_stands}
 use Rattle.engine.proofs.Journals.{journal_empty}
 use Rattle.engine.proofs.Lawful.{lawful_none}
@@ -11,10 +12,10 @@ use Rattle.engine.proofs.state.opening_state.Goals as goal
 
 pub returns : goal.returns
 returns c =
-    let globals = c.globals-globals.ensures.globals ∙ ap (λ s. s.globals) c.flat.ensures.source in
+    let globals = c.globals.ensures.globals ∙ ap (λ s. s.globals) c.logic-logic.ensures.source in
     opening_agrees _ _
-    c.flat.ensures.plant
-    (subst (λ (s : Source). Stands s c.in_ok-cells.cells (opening s)) c.flat-2.ensures.source c.in_ok-cells.ensures)
+    c.logic-logic.ensures.plant
+    (subst (λ (s : Source). StandFor s c.in_ok-cells.cells (opening s)) c.logic-logic.ensures.source c.in_ok-cells.ensures)
     (opening_flags _ _ _ c.programs.ensures.count (c.in_ok-faulted.ensures.items_if_clones_equal (λ y same. same)))
     (ap (λ (b : PlainBank). b.sites) c.in_ok-bank.ensures)
     (ap (λ (b : PlainBank). b.alarms) c.in_ok-bank.ensures)
@@ -25,6 +26,6 @@ returns c =
 
 pub outputs-requires-clause-ranges : goal.outputs-requires-clause-ranges
 outputs-requires-clause-ranges c =
-    let globals = c.globals-globals.ensures.globals ∙ ap (λ s. s.globals) c.flat.ensures.source in
-    let stands = subst (λ (s : Source). Stands s c.in_ok-cells.cells (opening s)) c.flat-2.ensures.source c.in_ok-cells.ensures in
-    rw globals (cells_showable c.args.plant.now.source c.in_ok-cells.cells (opening_stands c.args.plant.now.source c.in_ok-cells.cells c.flat.ensures.plant.sound stands))
+    let globals = c.globals.ensures.globals ∙ ap (λ s. s.globals) c.logic-logic.ensures.source in
+    let stands = subst (λ (s : Source). StandFor s c.in_ok-cells.cells (opening s)) c.logic-logic.ensures.source c.in_ok-cells.ensures in
+    rw globals (cells_showable c.args.plant.now.source c.in_ok-cells.cells (opening_stands c.args.plant.now.source c.in_ok-cells.cells c.logic-logic.ensures.plant.sound stands))

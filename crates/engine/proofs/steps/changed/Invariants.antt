@@ -1,8 +1,8 @@
 use Rattle.std.proofs.Common.{◌≡◌, ◌++◌, drop}
 use Rattle.std.specs.List.{filter}
-use Rattle.st_walk.specs.Slots.{cell}
+use Rattle.block_walk.specs.Cells.{value_at}
 use Rattle.engine.specs.Steps.{differs}
 use Rattle.engine.proofs.steps.changed.Given as goal
 
 abbrev pub invariant-loop-global : goal.invariant-loop-global
-invariant-loop-global l = l.changed.items ++ filter (differs (cell l.before) (cell l.now)) (drop l.global-index l.outputs) ≡ filter (differs (cell l.before) (cell l.now)) l.outputs
+invariant-loop-global l = l.changed.items ++ filter (differs (value_at l.before) (value_at l.now)) (drop l.global-index l.outputs) ≡ filter (differs (value_at l.before) (value_at l.now)) l.outputs

@@ -4,7 +4,8 @@ use Rattle.std.proofs.lemmas.List.{length-set}
 use Rattle.std.proofs.lemmas.List.Elements.{All-push}
 use Rattle.plant_types.specs.declared.values.Place.{Place}
 use Rattle.plant_types.specs.declared.values.Trap.{Trap}
-use Rattle.st_walk.specs.Runs.{Agree, paths_of}
+use Rattle.plant_logic.specs.Paths.{paths_of}
+use Rattle.plant_walk.specs.Runs.{Agree}
 use Rattle.engine.specs.Steps.{run_by, ended_by}
 use Rattle.engine.proofs.ProgramRuns.{reached_next, reached_trap}
 use Rattle.engine.proofs.steps.run_programs.Goals.{in-Some+in_ok-push, in_default}

@@ -1,6 +1,7 @@
 use Rattle.std.proofs.Common.{◌≡◌, ◌<◌, length, All}
-use Rattle.st_walk.specs.Worlds.{World, Stands}
-use Rattle.st_walk.specs.Runs.{paths_of}
+use Rattle.plant_logic.specs.Worlds.{World}
+use Rattle.plant_logic.specs.Paths.{paths_of}
+use Rattle.block_frames.specs.Stands.{StandFor}
 use Rattle.plant_config.specs.Names.{programs_of}
 use Rattle.engine.specs.Programs.{programs_from}
 use Rattle.engine.proofs.ProgramRuns.{Reached}
@@ -11,5 +12,5 @@ invariant-loop-program l = record {
   few : l.program-end ≡ length (programs_of l.plant);
   same : length l.faulted.items ≡ l.program-end;
   within : All (λ f. f.0.path < length (paths_of l.plant.source)) l.faults.items;
-  reached : (w : World) → Stands l.plant.source l.fn.cells w → Reached l.plant.source l.moment (programs_from l.plant.source l.moment 0 l.fn.faulted.items w) l.program l.cells l.faulted.items l.faults.items;
+  reached : (w : World) → StandFor l.plant.source l.fn.cells w → Reached l.plant.source l.moment (programs_from l.plant.source l.moment 0 l.fn.faulted.items w) l.program l.cells l.faulted.items l.faults.items;
 }

@@ -3,9 +3,7 @@ use Rattle.std.proofs.lemmas.Result.{IfOk-weaker}
 use Rattle.std.proofs.lemmas.Option.{slice_get_read}
 use Rattle.std.proofs.lemmas.List.Elements.{All-get_or}
 use Rattle.journal_core.specs.declared.row.Row.{Row}
-use Rattle.journal_core.specs.Bodies.{row_text}
-use Rattle.plant_config.specs.Plants.{PlainPlant}
-use Rattle.engine.specs.Journal.{IsNamed, name_of}
+use Rattle.engine.specs.Journal.{IsNamed}
 use Rattle.engine.proofs.Journals.{as_many_rows, row_at}
 use Rattle.engine.proofs.engine.Engine.line.Goals as goal
 
@@ -24,6 +22,4 @@ returns c =
     let at = slice_get_read rows (length rows) k row refl within is in
     let Named : Row → Type 0 = λ r. IsNamed plant r.entry in
     let named = subst Named (sym is) (All-get_or Named rows k row within journal.named) in
-    let name = c.name_of.ensures ∙ ap (λ (p : PlainPlant). name_of p row.entry) c.plant-plant.ensures in
-    let epoch = c.epoch.ensures ∙ ap (λ (p : PlainPlant). p.epoch) c.plant-plant.ensures in
-    rw (← c.self.view_is) (IfOk-weaker c.row_text.result _ _ (λ text e. record { row = row; row_is = row_at plant history rows k row journal at; named = named; text_is = e ∙ ap (λ s. row_text s row c.name_of.result.now) epoch ∙ ap (row_text plant.epoch row) name }) c.row_text.ensures)
+    rw (← c.self.view_is) (IfOk-weaker c.line_text.result _ _ (λ text e. record { row = row; row_is = row_at plant history rows k row journal at; named = named; text_is = e }) c.line_text.ensures)

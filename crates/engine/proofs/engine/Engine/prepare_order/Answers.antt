@@ -1,5 +1,4 @@
-use Rattle.std.proofs.Common.{◌≡◌, length, rules, arith, ap, sym, ◌∙◌}
-use Rattle.plant_config.specs.Plants.{PlainPlant}
+use Rattle.std.proofs.Common.{◌≡◌, length, rules, arith}
 use Rattle.engine.specs.System.{system}
 use Rattle.engine.specs.Engines.{IsState}
 use Rattle.engine.proofs.Systems.{kept_alarms, order_fits, order_event_ready, order_event_full}
@@ -12,12 +11,12 @@ returns-then-len-ge-MOST_EVENTS-clause-err c =
 
 pub prepared_order-prepared-requires-clause-alarms : goal.prepared_order-prepared-requires-clause-alarms
 prepared_order-prepared-requires-clause-alarms c =
-    kept_alarms c.self.inside.plant c.self.inside.history.items c.self.inside.state c.self.invariant.state_is ∙ ap (λ (plant : PlainPlant). length plant.alarms) (sym c.plant.ensures)
+    kept_alarms c.self.inside.plant c.self.inside.history.items c.self.inside.state c.self.invariant.state_is
 
 pub returns-clause-ok : goal.returns-clause-ok
 returns-clause-ok c =
     let len : c.len.result ≡ length c.self.inside.history.items = search rules in
-    let made = rw c.plant.ensures at c.prepared_order-prepared.ensures in
+    let made = c.prepared_order-prepared.ensures in
     let held : IsState c.self.inside.plant (system c.self.inside.plant c.reserve-2.new.self.items) c.self.inside.state = rw c.in_ok-reserve-2.ensures.items c.self.invariant.state_is in (
       order_fits _ c.self.inside.state c.args.console c.args.order c.prepared_order-prepared.result held made (rw c.in_ok-reserve-2.ensures.items (omega (arith, len))) (omega (arith, c.in_ok-reserve-2.ensures.ok)) (omega (arith, c.in_ok-reserve.ensures.ok)),
       rw (← c.self.view_is) (order_event_ready c.self.inside.plant c.self.inside.history.items c.args.console c.args.order c.prepared_order-prepared.result (omega (arith, len)) made.console_is made.order_is),

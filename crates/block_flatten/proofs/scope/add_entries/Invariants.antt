@@ -1,6 +1,0 @@
-use Rattle.std.proofs.Common.{◌≡◌, ◌++◌, take, map}
-use Rattle.block_flatten.specs.Scopes.{own_entry}
-use Rattle.block_flatten.proofs.scope.add_entries.Given as goal
-
-abbrev pub invariant-loop-local : goal.invariant-loop-local
-invariant-loop-local l = l.entries.items ≡ l.fn.entries.items ++ map own_entry (take l.local-index l.locals)

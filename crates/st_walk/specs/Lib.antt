@@ -1,4 +1,0 @@
-pub mod Slots
-pub mod Worlds
-pub mod Runs
-pub mod Ranges
