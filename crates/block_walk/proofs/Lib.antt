@@ -1,5 +1,5 @@
 pub mod Clocks
-mod Ranks
+pub mod Ranks
 pub mod Firsts
 pub mod Numbers
 pub mod Moved

@@ -1,5 +1,4 @@
-//! Runs the bodies of programs and function blocks over cells, where an instance of a block is a place in the cells. The server doesn't use
-//! it yet.
+//! Runs the bodies of programs and function blocks over cells, where an instance of a block is a place in the cells.
 //!
 //! Each routine, a program or a block type, has one body over numbers, in a frame; no body is made for an instance. The frames stand in a
 //! table in which each calls those before it alone. An instance is a seat in the frame of its routine: where its values and its clock lie,
