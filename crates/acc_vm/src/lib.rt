@@ -1,0 +1,9 @@
+//! A machine that runs the code of a program: instructions on an accumulator, a stack of whole numbers and cells.
+//!
+//! What an instruction does is `act` of `specs/Machine.antt`; a run goes on until the end or a trap, or until its fuel is used up. What is kept
+//! of code, and when it is sound, is in `specs/Codes.antt`: sound code ends from any cells within the fuel of its cost, and is never stuck.
+#![tactic(auto)]
+
+mod instr;
+
+pub use instr::{Instr, Place};
