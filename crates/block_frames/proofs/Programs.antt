@@ -22,7 +22,7 @@ use Rattle.block_walk.proofs.Growing.{marked_more, counted_more}
 use Rattle.block_frames.specs.declared.seats.Extent.{Extent}
 use Rattle.block_frames.specs.declared.seats.Callee.{Callee}
 use Rattle.block_frames.specs.Reached.{flagged, AreReached}
-use Rattle.block_frames.specs.Frames.{AreSeats, IsFrame, framed, IsFrames, IsStart}
+use Rattle.block_frames.specs.Frames.{AreSeats, IsFrame, framed, IsBlank, IsFrames, IsStart}
 use Rattle.block_frames.specs.Numbers.{numbers}
 use Rattle.block_frames.specs.Built.{IsKnown, IsMade, AreBuilt, AreBegun}
 use Rattle.block_frames.proofs.Flags.{declared_asks}
@@ -33,6 +33,7 @@ begun_none source order used run frames table below built = record {
   many = (let many = built.many in omega (arith, many));
   known = λ n less on. built.known n (subst (λ l. Among l n) (sym (take_all (length order) order (omega arith))) (below.whole n less)) on;
   of_blocks = built.of_blocks;
+  of_others = built.of_others;
   of_programs = λ j p f less. absurd (omega (arith, less));
   in_turn = built.in_turn;
   marked = built.marked;
@@ -50,6 +51,13 @@ module _ (source : Source) (order : List ℕ) (used run : List Bool) (are_used :
       let within = slice_get_within order j n listed in
       let less : j < length frames = omega (arith, many, within) in
       begun.of_blocks j n r f listed there (sym (front frames (frame ∷ []) j less) ∙ found) on
+
+  of_others_on : (j n : ℕ) (f : Frame) → slice_get order j ≡ Some n → slice_get (frames ++ frame ∷ []) j ≡ Some f → flagged used n ≡ false → IsBlank f
+  of_others_on j n f listed found off =
+      let many = begun.many in
+      let within = slice_get_within order j n listed in
+      let less : j < length frames = omega (arith, many, within) in
+      begun.of_others j n f listed (sym (front frames (frame ∷ []) j less) ∙ found) off
 
   of_programs_on : (j : ℕ) (q : PlainRoutine) (f : Frame) → j < k + 1 → slice_get source.programs j ≡ Some q → slice_get (frames ++ frame ∷ []) (length order + j) ≡ Some f → IsFrame source order q f
   of_programs_on j q f less there found =
@@ -75,6 +83,7 @@ module _ (source : Source) (order : List ℕ) (used run : List Bool) (are_used :
         many = (let many = begun.many in let sum = length-append frames (frame ∷ []) in omega (arith, many, sum));
         known = λ n less on. known_more source.blocks order frames frame table n (begun.known n less on);
         of_blocks = of_blocks_on;
+        of_others = of_others_on;
         of_programs = of_programs_on;
         in_turn = in_turn_more frames frame begun.in_turn (made_in_turn source order frames table p frame end made knows);
         marked = marked_more frames frame begun.marked (made_marked source order frames table p frame end made knows);
@@ -91,6 +100,7 @@ begun_all source order used run frames table are_used are_run begun = record {
   are_run = are_run;
   whole = begun.many;
   of_blocks = λ k n r f. begun.of_blocks k n r f;
+  of_others = λ k n f. begun.of_others k n f;
   of_programs = λ k p f at there. begun.of_programs k p f (slice_get_within source.programs k p at) at there;
   in_turn = begun.in_turn;
   marked = begun.marked;

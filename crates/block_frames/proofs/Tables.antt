@@ -38,8 +38,8 @@ use Rattle.block_frames.specs.declared.seats.Extent.{Extent}
 use Rattle.block_frames.specs.declared.seats.Callee.{Callee}
 use Rattle.block_frames.specs.Numbers.{numbers}
 use Rattle.block_frames.specs.Reached.{flagged, AreReached}
-use Rattle.block_frames.specs.Frames.{place_in, seated, AreSeats, IsFrame, framed}
-use Rattle.block_frames.specs.Built.{extent, plus, extent_called, extent_by, seated_by, starts_by, any_starts, seats_by, ends_by, first_of, IsKnown, IsMade, IsBlank, AreBuilt}
+use Rattle.block_frames.specs.Frames.{place_in, seated, AreSeats, IsFrame, framed, IsBlank}
+use Rattle.block_frames.specs.Built.{extent, plus, extent_called, extent_by, seated_by, starts_by, any_starts, seats_by, ends_by, first_of, IsKnown, IsMade, AreBuilt}
 use Rattle.block_frames.proofs.Flags.{declared_asks, get_or_is}
 
 -- frames behind others change nothing for these
@@ -418,6 +418,22 @@ module _ (source : Source) (order : List ℕ) (used run : List Bool) (below : Ar
               (subst (λ x. IsFrame source order (framed (flagged run a) x) f) p_is (subst (IsFrame source order (framed (flagged run a) r)) f_is (its_frame (ap (flagged used) number ∙ on)))))
         ]
 
+    of_others_on : (j n : ℕ) (f : Frame) → slice_get order j ≡ Some n → slice_get (frames ++ frame ∷ []) j ≡ Some f → flagged used n ≡ false → IsBlank f
+    of_others_on j n f listed found off =
+        let many = built.many in
+        let sum = length-append frames (frame ∷ []) in
+        let within = slice_get_within (frames ++ frame ∷ []) j f found in
+        elim (cases_Bool (nat_lt j (length frames))) [
+          | inl less ↦ (let small : j < length frames = grind (arith, nat_tests) in built.of_others j n f listed (sym (front frames (frame ∷ []) j small) ∙ found) off)
+          | inr past ↦ (
+              let last : j ≡ length frames = grind (arith, nat_tests, within, sum) in
+              let same_frame : Some frame ≡ Some f = sym (at_end frames frame) ∙ ap (slice_get (frames ++ frame ∷ [])) (sym last) ∙ found in
+              let same_number : Some a ≡ Some n = sym at ∙ ap (slice_get order) (sym (last ∙ many)) ∙ listed in
+              let number : a ≡ n = cc in
+              let f_is : frame ≡ f = cc in
+              subst IsBlank f_is (unused (ap (flagged used) number ∙ off)))
+        ]
+
     in_turn_on : InTurn (frame_paths frames (length frames)) frame.seats.items
     in_turn_on =
         elim (cases_Bool (flagged used a)) [
@@ -446,6 +462,7 @@ module _ (source : Source) (order : List ℕ) (used run : List Bool) (below : Ar
           long = length-set table a entry ∙ built.long;
           known = known_on;
           of_blocks = of_blocks_on;
+          of_others = of_others_on;
           in_turn = in_turn_more frames frame built.in_turn in_turn_on;
           marked = marked_more frames frame built.marked marked_on;
           counted = counted_more frames frame built.counted counted_on;
@@ -456,7 +473,7 @@ module _ (source : Source) (order : List ℕ) (used run : List Bool) (below : Ar
 pub built_none : (source : Source) (order : List ℕ) (used run : List Bool) (frames : List Frame) (table : List Callee) → frames ≡ [] → length table ≡ length source.blocks → AreBuilt source order used run 0 frames table
 built_none source order used run frames table none long =
     subst (λ fs. AreBuilt source order used run 0 fs table) (sym none)
-    (record { many = refl; long = long; known = λ n here on. absurd (nowhere order n here); of_blocks = λ j n r f listed there found on. absurd (cc); in_turn = λ k f at. absurd (cc); marked = λ k f at. absurd (cc); counted = λ k f at. absurd (cc) })
+    (record { many = refl; long = long; known = λ n here on. absurd (nowhere order n here); of_blocks = λ j n r f listed there found on. absurd (cc); of_others = λ j n f listed found off. absurd (cc); in_turn = λ k f at. absurd (cc); marked = λ k f at. absurd (cc); counted = λ k f at. absurd (cc) })
   where
     nowhere : (xs : List ℕ) (n : ℕ) → Among (take 0 xs) n → ⊥
     nowhere [] n here = elim here [ ]

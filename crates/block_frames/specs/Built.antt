@@ -26,7 +26,7 @@ use Rattle.block_frames.specs.declared.seats.Callee.{Callee}
 use Rattle.block_frames.specs.declared.names.Variables.{Variables}
 use Rattle.block_frames.specs.Numbers.{numbers}
 use Rattle.block_frames.specs.Reached.{flagged, AreReached}
-use Rattle.block_frames.specs.Frames.{place_in, IsFrame, framed}
+use Rattle.block_frames.specs.Frames.{place_in, IsFrame, framed, IsBlank}
 use Rattle.block_frames.specs.Scoped.{AreVariables, AreMembers, global_names, global_kinds}
 
 abbrev pub extent : (values clocks paths : ℕ) → Extent
@@ -105,6 +105,7 @@ pub record AreBuilt (source : Source) (order : List ℕ) (used run : List Bool) 
   pub long : length table ≡ length source.blocks
   pub known : (n : ℕ) → Among (take k order) n → flagged used n ≡ true → IsKnown source.blocks order frames table n
   pub of_blocks : (j n : ℕ) (r : PlainRoutine) (frame : Frame) → slice_get order j ≡ Some n → slice_get source.blocks n ≡ Some r → slice_get frames j ≡ Some frame → flagged used n ≡ true → IsFrame source order (framed (flagged run n) r) frame
+  pub of_others : (j n : ℕ) (frame : Frame) → slice_get order j ≡ Some n → slice_get frames j ≡ Some frame → flagged used n ≡ false → IsBlank frame
   pub in_turn : AreInTurn frames
   pub marked : StartsAreMarked frames
   pub counted : ClocksAreCounted frames
@@ -118,13 +119,6 @@ pub record IsMade (source : Source) (table : List Callee) (r : PlainRoutine) (fr
   pub body_is : view_body frame.body.items ≡ mapped_body (numbers source r) (meant_in source r r.body)
   pub marked : frame.has_starts ≡ (not (length frame.starts.items == 0) || any_starts table r.instances)
   pub counted : frame.clocks ≡ end.clocks
-
--- a frame has nothing
-pub record IsBlank (frame : Frame) : Type 0 where
-  pub seats_are : frame.seats.items ≡ []
-  pub starts_are : frame.starts.items ≡ []
-  pub marked : frame.has_starts ≡ false
-  pub counted : frame.clocks ≡ 0
 
 -- the same for each source with these names and kinds, where the path numbers are of 32 bits
 abbrev pub AllMade : Variables → List Variables → List Callee → PlainRoutine → Frame → Extent → Type 0
@@ -140,6 +134,7 @@ pub record AreBegun (source : Source) (order : List ℕ) (used run : List Bool) 
   pub many : length frames ≡ length order + k
   pub known : (n : ℕ) → n < length source.blocks → flagged used n ≡ true → IsKnown source.blocks order frames table n
   pub of_blocks : (j n : ℕ) (r : PlainRoutine) (frame : Frame) → slice_get order j ≡ Some n → slice_get source.blocks n ≡ Some r → slice_get frames j ≡ Some frame → flagged used n ≡ true → IsFrame source order (framed (flagged run n) r) frame
+  pub of_others : (j n : ℕ) (frame : Frame) → slice_get order j ≡ Some n → slice_get frames j ≡ Some frame → flagged used n ≡ false → IsBlank frame
   pub of_programs : (j : ℕ) (p : PlainRoutine) (frame : Frame) → j < k → slice_get source.programs j ≡ Some p → slice_get frames (length order + j) ≡ Some frame → IsFrame source order p frame
   pub in_turn : AreInTurn frames
   pub marked : StartsAreMarked frames

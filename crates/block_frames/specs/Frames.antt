@@ -61,8 +61,16 @@ abbrev pub framed : (is_run : Bool) → PlainRoutine → PlainRoutine
 framed true r = r
 framed false r = record { name = r.name; locals = r.locals; instances = r.instances; starts = r.starts; body = done }
 
+-- a frame has nothing
+pub record IsBlank (frame : Frame) : Type 0 where
+  pub seats_are : frame.seats.items ≡ []
+  pub starts_are : frame.starts.items ≡ []
+  pub body_is : frame.body.items ≡ []
+  pub marked : frame.has_starts ≡ false
+  pub counted : frame.clocks ≡ 0
+
 -- a table has a frame for each block type in an order, and then one for each program, and the instances of each have their path numbers in turn, and each is marked with what it has;
--- the frame of a block type is of use if programs have instances of it, directly or through other block types, and has the body if they come to call it
+-- the frame of a block type is of use if programs have instances of it, directly or through other block types, and has the body if they come to call it; else it has nothing
 pub record IsFrames (source : Source) (order : List ℕ) (frames : List Frame) : Type 0 where
   pub used : List Bool
   pub run : List Bool
@@ -70,6 +78,7 @@ pub record IsFrames (source : Source) (order : List ℕ) (frames : List Frame) :
   pub are_run : AreReached true source run
   pub whole : length frames ≡ length order + length source.programs
   pub of_blocks : (k n : ℕ) (r : PlainRoutine) (frame : Frame) → slice_get order k ≡ Some n → slice_get source.blocks n ≡ Some r → slice_get frames k ≡ Some frame → flagged used n ≡ true → IsFrame source order (framed (flagged run n) r) frame
+  pub of_others : (k n : ℕ) (frame : Frame) → slice_get order k ≡ Some n → slice_get frames k ≡ Some frame → flagged used n ≡ false → IsBlank frame
   pub of_programs : (k : ℕ) (p : PlainRoutine) (frame : Frame) → slice_get source.programs k ≡ Some p → slice_get frames (length order + k) ≡ Some frame → IsFrame source order p frame
   pub in_turn : AreInTurn frames
   pub marked : StartsAreMarked frames

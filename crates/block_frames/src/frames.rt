@@ -7,8 +7,8 @@ ghost use Rattle.plant_logic.specs.Source.{view_routine, source_of};
 ghost use Rattle.plant_logic.specs.Blocks.{AreBelow, DeclaresThere, HasItsTypes};
 ghost use Rattle.plant_logic.specs.Layout.{AreNamedApart, IsDistinctlyNamed};
 ghost use Rattle.block_frames.specs.Scoped.{AreMembers, IsNumberedIn};
-ghost use Rattle.block_frames.specs.Frames.{framed, IsFrames, IsStart};
-ghost use Rattle.block_frames.specs.Built.{AllMade, IsBlank, AllBuilt, AllBegun};
+ghost use Rattle.block_frames.specs.Frames.{framed, IsBlank, IsFrames, IsStart};
+ghost use Rattle.block_frames.specs.Built.{AllMade, AllBuilt, AllBegun};
 
 use crate::called::called_in;
 use crate::names::{Variables, global_variables, instances_of, own_variables};
