@@ -5,5 +5,7 @@
 #![tactic(auto)]
 
 mod instr;
+mod step;
+mod words;
 
 pub use instr::{Instr, Place};
