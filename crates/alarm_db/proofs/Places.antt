@@ -1,8 +1,8 @@
 -- The place of the first item that passes a test, and whether there is one.
-use Rattle.std.proofs.Common.{◌≡◌, Bool, List, [], ◌∷◌, map, refl, inl, inr}
+use Rattle.std.proofs.Common.{◌≡◌, ap, ◌∙◌, Bool, List, [], ◌∷◌, map, refl, inl, inr}
 use Rattle.std.proofs.lemmas.List.{length-map, map-append}
 use Rattle.std.specs.Prelude.{not}
-use Rattle.std.specs.List.{list_any, position, prefix_len}
+use Rattle.std.specs.List.{list_any, position, prefix_len, AllZip}
 use Rattle.std.proofs.lemmas.Bool.{cases_Bool}
 use Rattle.indexmap.specs.IndexSet.{insert_key}
 
@@ -24,3 +24,10 @@ insert-map eq f xs x =
       | inl so ↦ rw (any-map (eq (f x)) f xs, so) refl
       | inr not_so ↦ rw (any-map (eq (f x)) f xs, not_so) (map-append f xs (x ∷ []))
     ]
+
+-- two lists whose texts have the same bytes, place by place
+pub same_mapped : {X Y : Type 0} (f : X → Y) (xs ys : List X) → AllZip (λ x y. f y ≡ f x) xs ys → map f ys ≡ map f xs
+same_mapped f [] [] same = refl
+same_mapped f [] (y ∷ ys) same = absurd same
+same_mapped f (x ∷ xs) [] same = absurd same
+same_mapped f (x ∷ xs) (y ∷ ys) same = ap (λ b. b ∷ map f ys) same.0 ∙ ap (λ bs. f x ∷ bs) (same_mapped f xs ys same.1)

@@ -54,4 +54,14 @@ impl Tags {
         let key = String::from_str(alloc, tag)?;
         Ok(self.tags.insert(key)?)
     }
+
+    /// The same tags, each with its number. Fails if allocation fails.
+    #[tactic(auto, using(crate::proofs::Places::same_mapped))]
+    pub fn copy(&self) -> Result<Tags, AllocError>
+        ensures { IfOk result (λ copy. copy ≡ self.now) }
+    {
+        Ok(Tags {
+            tags: self.tags.clone()?,
+        })
+    }
 }

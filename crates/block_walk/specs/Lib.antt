@@ -6,3 +6,4 @@ pub mod Apart
 pub mod Starts
 pub mod Standards
 pub mod Paths
+pub mod Plain

@@ -18,6 +18,7 @@
 
 mod cells;
 mod clock;
+mod copy;
 mod frame;
 mod laws;
 mod paths;
@@ -28,6 +29,7 @@ mod walker;
 
 pub use cells::Cells;
 pub use clock::{Clock, Standard, Timer};
+pub use copy::copy_frames;
 pub use frame::{Base, Frame, Seat, SeatOf};
 pub use laws::{called_clock, frame_runs_its_body, seats_lie_apart};
 pub use paths::push_path;

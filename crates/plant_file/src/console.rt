@@ -20,6 +20,19 @@ pub struct Console {
     pub areas: Items<u32>,
 }
 
+impl Console {
+    /// The same console. Fails if allocation fails.
+    pub(crate) fn copy(&self, alloc: Global) -> Result<Console, AllocError>
+        ensures { IfOk result (λ copy. copy ≡ self.now) }
+    {
+        let areas = Vec::from_slice(alloc, self.areas.as_slice())?;
+        Ok(Console {
+            number: self.number,
+            areas: Items::from_vec(areas),
+        })
+    }
+}
+
 /// A number that a console may have; `None` if it isn't from 1 to 999999999.
 fn console_number(number: i64) -> Option<u32>
     ensures { result ≡ console_number number }
@@ -139,4 +152,15 @@ pub fn consoles_in(
         return Ok(None);
     }
     Ok(Some(consoles))
+}
+
+/// The same consoles in the same order. Fails if allocation fails.
+pub fn copy_consoles(alloc: Global, consoles: &[Console]) -> Result<Items<Console>, AllocError>
+    ensures { IfOk result (λ copies. copies ≡ consoles.now) }
+{
+    let mut copies = Vec::new(alloc);
+    for console in consoles {
+        copies.push(console.copy(alloc)?)?;
+    }
+    Ok(Items::from_vec(copies))
 }

@@ -1,10 +1,12 @@
 //! A plant file, and what it says.
 
-ghost use Rattle.std.specs.Prelude.{◌≡◌};
+ghost use Rattle.std.specs.Prelude.{◌≡◌, IfOk};
 ghost use Rattle.plant_file.specs.PlantFiles.{IsPlantFile};
 
-use crate::console::Console;
+use crate::console::{Console, copy_consoles};
+use crate::texts::copy_texts;
 use plant_types::{Items, Text};
+use std::alloc::{AllocError, Global};
 use std::marker::Model;
 
 /// What a plant file says. Its lists keep the order of the file.
@@ -74,5 +76,19 @@ impl PlantFile {
         ensures file { IsPlantFile self.now }
     {
         self.consoles.as_slice()
+    }
+
+    /// The same plant file. Fails if allocation fails.
+    pub fn copy(&self, alloc: Global) -> Result<PlantFile, AllocError>
+        ensures { IfOk result (λ copy. copy ≡ self.now) }
+    {
+        Ok(PlantFile {
+            name: self.name.copy(alloc)?,
+            epoch: self.epoch.copy(alloc)?,
+            areas: copy_texts(alloc, self.areas.as_slice())?,
+            sources: copy_texts(alloc, self.sources.as_slice())?,
+            alarms: self.alarms.copy(alloc)?,
+            consoles: copy_consoles(alloc, self.consoles.as_slice())?,
+        })
     }
 }

@@ -8,7 +8,7 @@ ghost use Rattle.plant_file.specs.Lists.{repeats, passing};
 ghost use Rattle.plant_file.specs.PlantFiles.{texts};
 
 use indexmap::IndexSet;
-use plant_types::Text;
+use plant_types::{Items, Text};
 use std::alloc::{AllocError, Global};
 use std::marker::Model;
 use toml::Value;
@@ -99,4 +99,15 @@ pub fn copied(alloc: Global, texts: &[String]) -> Result<Vec<Text>, AllocError>
         copies.push(Text::from_str(alloc, text.as_str())?)?;
     }
     Ok(copies)
+}
+
+/// The same texts in the same order. Fails if allocation fails.
+pub fn copy_texts(alloc: Global, texts: &[Text]) -> Result<Items<Text>, AllocError>
+    ensures { IfOk result (λ copies. copies ≡ texts.now) }
+{
+    let mut copies = Vec::new(alloc);
+    for text in texts {
+        copies.push(text.copy(alloc)?)?;
+    }
+    Ok(Items::from_vec(copies))
 }

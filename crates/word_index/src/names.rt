@@ -85,4 +85,13 @@ impl Names {
         let (_, added) = self.words.insert_full(word)?;
         Ok(added)
     }
+
+    /// The same names, each with its number. Fails if allocation fails.
+    pub fn copy(&self) -> Result<Names, AllocError>
+        ensures { IfOk result (λ copy. copy ≡ self.now) }
+    {
+        Ok(Names {
+            words: self.words.clone()?,
+        })
+    }
 }

@@ -5,7 +5,7 @@ ghost use Rattle.plant_types.specs.Words.{same_word};
 ghost use Rattle.word_index.specs.Words.{letters_hash};
 
 use plant_types::same_word;
-use std::alloc::Global;
+use std::alloc::{AllocError, Global};
 use std::borrow::CowStr;
 use std::hash::{Hash, Hasher};
 use std::marker::Model;
@@ -54,6 +54,16 @@ fn hash_letters<H: Hasher>(word: &[u8], state: &mut H)
 {
     for byte in word {
         state.write_u8(byte.to_ascii_lowercase());
+    }
+}
+
+impl<'a> Clone for Word<'a> {
+    ghost is_clone = { λ word copy. copy ≡ word };
+
+    fn clone(&self) -> Result<Word<'a>, AllocError> {
+        Ok(Word {
+            text: self.text.clone()?,
+        })
     }
 }
 
