@@ -4,8 +4,11 @@
 //! of code, and when it is sound, is in `specs/Codes.antt`: sound code ends from any cells within the fuel of its cost, and is never stuck.
 #![tactic(auto)]
 
+mod code;
 mod instr;
+mod run;
 mod step;
 mod words;
 
+pub use code::Code;
 pub use instr::{Instr, Place};
