@@ -20,3 +20,4 @@ mod Typed
 mod Shown
 mod Initials
 pub mod Known
+mod Copied
