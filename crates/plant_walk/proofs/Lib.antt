@@ -8,3 +8,4 @@ mod Placed
 mod Found
 mod Started
 mod Walks
+pub mod Steady
