@@ -1,7 +1,6 @@
 -- Each FOR in the frames of well-formed units has constant bounds, which are DINTs, and a constant step.
-use Rattle.std.proofs.Common.{◌≡◌, ◌∙◌, ◌<◌, ◌+◌, ◌-◌, ap, sym, subst, refl, ℕ, zero, suc, ℤ, pos, Bool, true, false, List, [], ◌∷◌, length, map, nat_lt, Option, Some, None, slice_get, inl, inr, arith}
-use Rattle.std.specs.Prelude.{◌&&◌, not, unwrap_or, option_map, option_and_then, Ok, Err}
-use Rattle.std.specs.Ordering.{int_eq}
+use Rattle.std.proofs.Common.{◌≡◌, ◌∙◌, ◌<◌, ◌+◌, ◌-◌, ap, sym, subst, refl, ℕ, zero, suc, ℤ, pos, Bool, true, false, List, [], ◌∷◌, length, nat_lt, Option, Some, None, slice_get, inl, inr, arith}
+use Rattle.std.specs.Prelude.{◌&&◌, unwrap_or, option_map, option_and_then, Ok, Err}
 use Rattle.std.proofs.lemmas.Bool.{and_parts, cases_Bool}
 use Rattle.std.proofs.lemmas.Bool.Decides.{nat_tests}
 use Rattle.std.proofs.lemmas.Option.{slice_get_within}
@@ -12,14 +11,13 @@ use Rattle.st_tree.specs.declared.tree.Unary.{Unary}
 use Rattle.st_tree.specs.declared.tree.Unary.TheVariants.{Not, Negate, NegateTime}
 use Rattle.st_tree.specs.declared.tree.Binary.{Binary}
 use Rattle.st_tree.specs.declared.tree.Binary.TheVariants.{And, Xor, Or, Equal, Unequal, Less, Greater, AtMost, AtLeast, Add, AddTime, Subtract, SubtractTime, Multiply, Divide, Mod}
-use Rattle.st_tree.specs.declared.controls.Span.{Span}
 use Rattle.st_tree.specs.Plain.{PlainExpr, literal, read, output_of, unary, binary}
 use Rattle.st_tree.specs.Plain.{PlainStmt, empty, assign, call, choose, select, repeat, PlainBody, done, next, Branches, no_branch, branch, Choices, no_choice, choice}
 use Rattle.st_tree.specs.View.{view_body}
 use Rattle.st_tree.specs.Operators.{Outcome, eval_unary, eval_binary}
 use Rattle.st_tree.specs.Meaning.{then_one, then_two}
 use Rattle.st_tree.specs.Constants.{constant_of}
-use Rattle.st_tree.specs.Kinds.{same_kind, unary_kind, binary_kind, unary_result, binary_result, kind_of_expr, kind_in, is_kind, resolved_unary, resolved_binary, resolved_expr, resolved_stmt, resolved_body, resolved_branches, resolved_choices}
+use Rattle.st_tree.specs.Kinds.{unary_kind, binary_kind, unary_result, binary_result, kind_of_expr, kind_in, is_kind, resolved_unary, resolved_binary, resolved_expr, resolved_stmt, resolved_body, resolved_branches, resolved_choices}
 use Rattle.st_tree.specs.Numbers.{numbered_stmt, numbered, numbered_branches, numbered_choices, count_stmt, count_body, count_branches, count_choices}
 use Rattle.st_tree.specs.Mapping.{mapped_expr, mapped_option, mapped_stmt, mapped_body, mapped_branches, mapped_choices}
 use Rattle.st_tree.specs.Every.{every, every_inside, every_branch, every_choice}
