@@ -1,0 +1,9 @@
+use Rattle.std.proofs.Common.{◌≡◌, ◌+◌, ℕ, List, length, drop}
+use Rattle.block_walk.specs.Frames.{Path, seats_paths}
+use Rattle.code_sizes.specs.Counts.{paths_at}
+use Rattle.code_sizes.proofs.paths.routine_paths.Given as goal
+
+-- what is counted, and what is left to count, is all
+abbrev pub invariant-loop-seat : goal.invariant-loop-seat
+invariant-loop-seat l =
+    (paths : ℕ → List Path) → ((k : ℕ) → length (paths k) ≡ paths_at l.table k) → l.total + length (seats_paths paths (drop l.seat-index l.seats)) ≡ 1 + length (seats_paths paths l.seats)

@@ -1,0 +1,43 @@
+-- What a table of counts tells of each frame.
+use Rattle.std.specs.Prelude.{◌≡◌, ℕ, List, length, slice_get}
+use Rattle.std.specs.Option.{option_map_or}
+use Rattle.block_walk.specs.declared.frame.Frame.{Frame}
+use Rattle.block_walk.specs.Frames.{Path, routine_paths, frame_paths}
+use Rattle.code_sizes.specs.declared.counts.Count.{Count}
+use Rattle.code_sizes.specs.declared.counts.FrameCounts.{FrameCounts}
+use Rattle.code_sizes.specs.Sizes.{routine_lines, routine_words, routine_cost, frame_lines, frame_words, frame_cost}
+
+-- the instructions of the frame of a number, by a table; 0 past its end
+abbrev pub lines_at : List Count → ℕ → ℕ
+lines_at table k = option_map_or (λ (c : Count). c.lines) (slice_get table k) 0
+
+-- its words of stack
+abbrev pub words_at : List Count → ℕ → ℕ
+words_at table k = option_map_or (λ (c : Count). c.words) (slice_get table k) 0
+
+-- its cost
+abbrev pub cost_at : List Count → ℕ → ℕ
+cost_at table k = option_map_or (λ (c : Count). c.cost) (slice_get table k) 0
+
+-- its paths
+abbrev pub paths_at : List Count → ℕ → ℕ
+paths_at table k = option_map_or (λ (c : Count). c.paths) (slice_get table k) 0
+
+-- a count is a frame's, by the counts of the frames before it
+pub record IsCountOf (table : List Count) (frame : Frame) (count : Count) : Type 0 where
+  pub lines : count.lines ≡ routine_lines (lines_at table) frame
+  pub words : count.words ≡ routine_words (words_at table) frame
+  pub cost : count.cost ≡ routine_cost (cost_at table) frame
+  pub paths : (paths : ℕ → List Path) → ((k : ℕ) → length (paths k) ≡ paths_at table k) → count.paths ≡ length (routine_paths paths frame.seats.items)
+
+-- a table has the counts of so many first frames, and of no other
+pub record AreFirst (frames : List Frame) (n : ℕ) (table : List Count) : Type 0 where
+  pub many : length table ≡ n
+  pub lines : (k : ℕ) → frame_lines frames n k ≡ lines_at table k
+  pub words : (k : ℕ) → frame_words frames n k ≡ words_at table k
+  pub cost : (k : ℕ) → frame_cost frames n k ≡ cost_at table k
+  pub paths : (k : ℕ) → length (frame_paths frames n k) ≡ paths_at table k
+
+-- counts are those of all frames
+abbrev pub AreCounts : List Frame → FrameCounts → Type 0
+AreCounts frames counts = AreFirst frames (length frames) counts.frames.items
