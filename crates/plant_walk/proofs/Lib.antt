@@ -9,3 +9,4 @@ mod Found
 mod Started
 mod Walks
 pub mod Steady
+mod Copied

@@ -19,9 +19,10 @@ use crate::standards::standards_of;
 use crate::values::value_bases;
 use crate::walking::Walked;
 use block_frames::{
-    frames_agree, frames_begin, frames_have_paths, frames_of, start_of, typed_names_are_known,
+    copied_frames_are_frames, frames_agree, frames_begin, frames_have_paths, frames_of, start_of,
+    typed_names_are_known,
 };
-use block_walk::{Cells, Frame, Standard, Stop, push_path, start_frame, walk_frame};
+use block_walk::{Cells, Frame, Standard, Stop, copy_frames, push_path, start_frame, walk_frame};
 use plant_limits::{LimitFault, limits};
 use plant_logic::{Logic, Routine, Variable, logic_of, order_is_of_source};
 use plant_types::Place;
@@ -127,6 +128,24 @@ impl Framed {
         let logic = logic_of(alloc, typed)?;
         let order = Vec::from_slice(alloc, typed.order())?;
         judged(alloc, logic, order)
+    }
+
+    /// The same logic. Fails if allocation fails.
+    pub fn copy(&self, alloc: Global) -> Result<Framed, AllocError>
+        ensures { IfOk result (λ copy. copy ≡ self.now) }
+    {
+        copied_frames_are_frames();
+        Ok(Framed {
+            logic: self.logic.copy(alloc)?,
+            order: Vec::from_slice(alloc, &self.order)?,
+            frames: copy_frames(alloc, &self.frames)?,
+            start: copy_frames(alloc, &self.start)?,
+            names: self.names.copy()?,
+            standards: Vec::from_slice(alloc, &self.standards)?,
+            values: Vec::from_slice(alloc, &self.values)?,
+            clocks: Vec::from_slice(alloc, &self.clocks)?,
+            paths: Vec::from_slice(alloc, &self.paths)?,
+        })
     }
 
     /// The globals in order of declaration, numbered from 0, with their names as declared.
