@@ -1,3 +1,4 @@
 pub mod Parts
 pub mod Lengths
 pub mod Steps
+pub mod Exprs
