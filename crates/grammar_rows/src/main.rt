@@ -8,6 +8,7 @@
 //! - `tokens` prints each token on a line of its own, with the numbers of its first byte and of the byte after it;
 //! - `count` prints how many tokens there are;
 //! - `tree` prints the tree of a source;
+//! - `folded` prints the tree of a source with the constants of its bodies folded;
 //! - `accepted` prints `ACCEPTED` where a source has a tree.
 //!
 //! `NO TOKEN 2 5` is printed where no token goes on at line 2 and byte 5 of the line, and `NO TREE 7` where no source goes on with

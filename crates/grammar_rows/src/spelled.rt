@@ -1,6 +1,7 @@
 //! What a text spells.
 
 use crate::tree::show_unit;
+use const_fold::fold_body;
 use st_lexer::{LexFault, Token, lex};
 use st_parser::{ParseFault, Unit, parse};
 use std::alloc::{AllocError, Global};
@@ -11,6 +12,7 @@ pub enum Wanted {
     Tokens,
     Count,
     Tree,
+    Folded,
     Accepted,
 }
 
@@ -27,6 +29,14 @@ fn push_count(alloc: Global, out: &mut String, tokens: &[Token]) -> Result<(), A
     let count = tokens.len();
     let line = format!(in alloc; "{count}\n")?;
     out.push_str(line.as_str())
+}
+
+/// Puts the body with its constants folded in the place of each body.
+fn fold_bodies(alloc: Global, unit: &mut Unit) -> Result<(), AllocError> {
+    for pou in unit.pous.iter_mut() {
+        pou.body = fold_body(alloc, &pou.body)?;
+    }
+    Ok(())
 }
 
 fn push_unit(
@@ -51,7 +61,12 @@ fn push_tree(
     tokens: &[Token],
 ) -> Result<(), AllocError> {
     match parse(alloc, text, tokens) {
-        Ok(unit) => push_unit(alloc, out, wanted, &unit),
+        Ok(mut unit) => {
+            if let Wanted::Folded = wanted {
+                fold_bodies(alloc, &mut unit)?;
+            }
+            push_unit(alloc, out, wanted, &unit)
+        }
         Err(ParseFault::At { token }) => {
             let line = format!(in alloc; "NO TREE {token}\n")?;
             out.push_str(line.as_str())
@@ -78,6 +93,8 @@ pub fn push_spelled(
     match wanted {
         Wanted::Tokens => push_tokens(alloc, out, tokens.as_slice()),
         Wanted::Count => push_count(alloc, out, tokens.as_slice()),
-        Wanted::Tree | Wanted::Accepted => push_tree(alloc, out, wanted, text, tokens.as_slice()),
+        Wanted::Tree | Wanted::Folded | Wanted::Accepted => {
+            push_tree(alloc, out, wanted, text, tokens.as_slice())
+        }
     }
 }

@@ -20,6 +20,7 @@ fn wanted_by(word: &str) -> Option<Wanted> {
         "tokens" => Some(Wanted::Tokens),
         "count" => Some(Wanted::Count),
         "tree" => Some(Wanted::Tree),
+        "folded" => Some(Wanted::Folded),
         "accepted" => Some(Wanted::Accepted),
         _ => None,
     }
