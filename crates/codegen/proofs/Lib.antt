@@ -5,3 +5,4 @@ pub mod Exprs
 pub mod Longer
 pub mod Loops
 pub mod Bodies
+pub mod Statements
