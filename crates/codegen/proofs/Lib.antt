@@ -6,3 +6,5 @@ pub mod Longer
 pub mod Loops
 pub mod Bodies
 pub mod Statements
+pub mod Frames
+pub mod Runs
