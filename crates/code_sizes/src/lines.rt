@@ -23,7 +23,7 @@ fn binary_lines(right: &Expr<usize>, left: u32, lines: u32) -> Result<u32, Alloc
     }
 }
 
-/// The instructions of an expression.
+/// The instructions of an expression. Refused from 2^32 on.
 pub fn expr_lines(expr: &Expr<usize>) -> Result<u32, AllocError>
     ensures { IfOk result (λ n. n ≡ sizes.expr_lines (view_expr expr.now)) }
 {
@@ -48,8 +48,8 @@ fn put_lines(seats: &[Seat], instance: usize) -> u32
     }
 }
 
-/// The instructions that take the inputs of a call.
-fn inputs_lines(
+/// The instructions that take the inputs of a call. Refused from 2^32 on.
+pub fn inputs_lines(
     seats: &[Seat],
     instance: usize,
     arguments: &[Argument<usize>],

@@ -8,3 +8,4 @@ pub mod Bodies
 pub mod Statements
 pub mod Frames
 pub mod Runs
+pub mod Emitting

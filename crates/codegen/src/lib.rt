@@ -2,4 +2,15 @@
 //!
 //! The code of a frame is `specs/Codes.antt`. It names absolute slots of values and clocks, so that a routine is laid out anew for each instance
 //! that is called. The law of the compiler is `RunsFrame` there: the machine runs the code to the end that the frame comes to.
+//!
+//! Code is emitted in order, line by line: each line is an instruction and its place. Where a jump leads is known beforehand by the counts of
+//! code_sizes, so that no line is written twice. The counts of the frames are found once for all programs of a table. A slot, a clock, a path
+//! or a line whose number is 2^32 or more is answered as refused memory.
 #![tactic(auto)]
+
+mod arguments;
+mod emission;
+mod expressions;
+mod lines;
+mod numbers;
+mod scope;

@@ -1,0 +1,173 @@
+use Rattle.std.proofs.Common.{◌≡◌, ◌∙◌, ap, sym, subst, arith, ℕ, ◌+◌, ◌<◌, ◌++◌, ◌∷◌, List, [], length, take, drop}
+use Rattle.std.specs.Prelude.{IfOk}
+use denote.Param.Weighed.{most}
+use Rattle.st_tree.specs.declared.tree.Stmt.{size-Stmt}
+use Rattle.st_tree.specs.declared.tree.Branch.{size-Branch}
+use Rattle.st_tree.specs.declared.tree.Choice.{size-Choice}
+use Rattle.st_tree.specs.View.{view_expr, view_stmt, view_body, view_branch, view_branches, view_choice, view_choices}
+use Rattle.st_tree.proofs.Depth.{size-If, size-Case, size-For}
+use Rattle.st_tree.proofs.Views.{view_stmt-Case, view_branch_is, view_choice_is}
+use Rattle.block_walk.proofs.Ranks.{frame_at, frame_less}
+use Rattle.block_walk.specs.Walks.{slot_of}
+use Rattle.acc_vm.specs.declared.instr.Instr.TheVariants as instr
+use Rattle.code_sizes.specs.Sizes.{expr_lines, body_lines}
+use Rattle.code_sizes.specs.Counts.{lines_at}
+use Rattle.codegen.specs.Codes as codes
+use Rattle.codegen.specs.Codes.{Line, place_of}
+use Rattle.codegen.specs.Emission as code
+use Rattle.codegen.specs.Emission.{coders, branches_long, choices_long}
+use Rattle.codegen.proofs.Emitting.{nothing, one_after, seat_at, no_seat, laid_before, frame_coded, frame_uncoded, branches_at, choices_at, no_branches, no_choices, branch_on, choice_on, choice_passed, entered_none, entered_frame, entered_standard, case_done, view_assigned}
+use Rattle.codegen.proofs.emission.+code.Goals as goal
+use Rattle.codegen.proofs.emission.+code.Goals.{emit_choices-then-labels-gt0+in_ok-count+in_ok-add+in_ok-body+in_ok-inside+in_ok-add-2+in_ok-next+in_ok-emit_choice, emit_choices-else-labels-gt0}
+
+pub emit_branches-loop-branch-preserved : goal.emit_branches-loop-branch-preserved
+emit_branches-loop-branch-preserved t c = λ last n ends.
+    let s = c.args.scope.now in
+    let b = c.branch-item.result in
+    let within : c.loop-branch.branch-index < length c.args.branches.now = omega arith in
+    let is = branches_at c.args.branches.now c.loop-branch.branch-index b within c.branch-item.is in
+    let kept = c.loop-branch.invariant last n ends in
+    let tested : c.in_ok-expr_lines.field-0 ≡ expr_lines (view_branch b).0 = c.in_ok-expr_lines.ensures ∙ ap (λ p. expr_lines p.0) (sym (view_branch_is b)) in
+    let inside : c.in_ok-inside.inside ≡ body_lines s.seats.now (lines_at s.table.now) (view_branch b).1 =
+    c.in_ok-inside.ensures ∙ ap (λ x. body_lines s.seats.now (lines_at s.table.now) (view_body x)) c.deref.ensures.value ∙ ap (λ p. body_lines s.seats.now (lines_at s.table.now) p.1) (sym (view_branch_is b)) in
+    branch_on s c.args.place last n c.loop-branch.at c.in_ok-body.body c.in_ok-next.next c.args.end c.loop-branch.out.items c.emit_branch.new.out.items _ (view_branch b).0 (view_branch b).1 (view_branches (drop (c.loop-branch.branch-index + 1) c.args.branches.now))
+    (omega (arith, c.in_ok-body.ensures, c.in_ok-add.ensures)) (omega (arith, c.in_ok-next.ensures, c.in_ok-add-2.ensures))
+    (sym (ap (λ z. c.loop-branch.at + branches_long s z n) is) ∙ kept.0) (sym (ap (λ z. c.loop-branch.out.items ++ code.branches_code s c.args.place z last n c.loop-branch.at) is) ∙ kept.1)
+    c.in_ok-emit_branch.ensures
+
+pub emit_branches-returns : goal.emit_branches-returns
+emit_branches-returns t c = λ last n ends.
+    let s = c.args.scope.now in
+    let none = no_branches c.args.branches.now c.loop-branch.branch-index (omega arith) in
+    let kept = c.loop-branch.invariant last n ends in
+    sym (ap (λ z. c.loop-branch.out.items ++ code.branches_code s c.args.place z last n c.loop-branch.at) none) ∙ kept.1
+
+pub emit_choices-loop-choice-preserved : goal.emit_choices-loop-choice-preserved
+emit_choices-loop-choice-preserved t c =
+    λ last n ends.
+    let s = c.args.scope.now in
+    let x = c.choice-item.result in
+    let within : c.loop-choice.choice-index < length c.args.choices.now = omega arith in
+    let is = choices_at c.args.choices.now c.loop-choice.choice-index x within c.choice-item.is in
+    let kept = c.loop-choice.invariant last n ends in
+    let rest = view_choices (drop (c.loop-choice.choice-index + 1) c.args.choices.now) in
+    let far = sym (ap (λ z. c.loop-choice.at + choices_long s z n) is) ∙ kept.0 in
+    let before = sym (ap (λ z. c.loop-choice.out.items ++ code.choices_code s c.args.place z last n c.loop-choice.at) is) ∙ kept.1 in
+    let many : length (view_choice x).0 ≡ length x.labels.items = ap (λ p. length p.0) (view_choice_is x) in
+    elim c.if-labels-gt0.branch [
+      | emit_choices-then-labels-gt0+in_ok-count+in_ok-add+in_ok-body+in_ok-inside+in_ok-add-2+in_ok-next+in_ok-emit_choice w ↦ (
+          let inside : w.in_ok-inside.inside ≡ body_lines s.seats.now (lines_at s.table.now) (view_choice x).1 =
+          w.in_ok-inside.ensures ∙ ap (λ b. body_lines s.seats.now (lines_at s.table.now) (view_body b)) w.deref.ensures.value ∙ ap (λ p. body_lines s.seats.now (lines_at s.table.now) p.1) (sym (view_choice_is x)) in
+          rw (w.at-is, w.out-is)
+          (choice_on s c.args.place last n c.loop-choice.at w.in_ok-body.body w.in_ok-next.next c.args.end c.loop-choice.out.items w.emit_choice.new.out.items _ (view_choice x).0 (view_choice x).1 rest
+          (omega arith) (omega (arith, w.in_ok-body.ensures, w.in_ok-add.ensures, w.in_ok-count.ensures)) (omega (arith, w.in_ok-next.ensures, w.in_ok-add-2.ensures)) far before w.in_ok-emit_choice.ensures))
+      | emit_choices-else-labels-gt0 w ↦ (
+          rw (w.at-is, w.out-is) (choice_passed s c.args.place last n c.loop-choice.at c.args.end c.loop-choice.out.items _ (view_choice x).0 (view_choice x).1 rest (omega arith) far before))
+    ]
+
+pub emit_choices-returns : goal.emit_choices-returns
+emit_choices-returns t c = λ last n ends.
+    let s = c.args.scope.now in
+    let none = no_choices c.args.choices.now c.loop-choice.choice-index (omega arith) in
+    let kept = c.loop-choice.invariant last n ends in
+    sym (ap (λ z. c.loop-choice.out.items ++ code.choices_code s c.args.place z last n c.loop-choice.at) none) ∙ kept.1
+
+pub emit_enter-returns-then-not-seat : goal.emit_enter-returns-then-not-seat
+emit_enter-returns-then-not-seat t c =
+    let at = seat_at c.args.scope.now.seats.now c.args.instance c.in-Some.seat.now (sym c.in-Some.ensures.lookup.0) c.in-Some.ensures.lookup.1 in
+    nothing c.args.out.now.items _ (entered_none c.args.scope.now c.args.place c.args.instance c.in-Some.seat.now c.args.pc at c.in-Frame.k c.in-Frame.is c.if-not-seat.true)
+
+pub emit_enter-returns-in-Standard : goal.emit_enter-returns-in-Standard
+emit_enter-returns-in-Standard t c =
+    let at = seat_at c.args.scope.now.seats.now c.args.instance c.in-Some.seat.now (sym c.in-Some.ensures.lookup.0) c.in-Some.ensures.lookup.1 in
+    subst (λ z. IfOk c.emit_standard.result (λ x. c.emit_standard.new.out.items ≡ c.args.out.now.items ++ z)) (entered_standard c.args.scope.now c.args.place c.args.instance c.in-Some.seat.now c.args.pc at c.in-Standard.of c.in-Standard.is) c.emit_standard.ensures
+
+pub emit_enter-returns-in_ok-path-in-Frame : goal.emit_enter-returns-in_ok-path-in-Frame
+emit_enter-returns-in_ok-path-in-Frame t c =
+    let at = seat_at c.args.scope.now.seats.now c.args.instance c.in-Some.seat.now (sym c.in-Some.ensures.lookup.0) c.in-Some.ensures.lookup.1 in
+    let is =
+    entered_frame c.args.scope.now c.args.place c.args.instance c.in-Some.seat.now c.args.pc at c.in-Frame.k c.in_ok-base-in-Frame.base c.in_ok-path-in-Frame.path c.in-Frame.is c.if-not-seat.false c.in_ok-base-in-Frame.ensures c.in_ok-path-in-Frame.ensures in
+    subst (λ z. IfOk c.emit_frame.result (λ x. c.emit_frame.new.out.items ≡ c.args.out.now.items ++ z)) is c.emit_frame.ensures
+
+pub emit_enter-returns-in-None : goal.emit_enter-returns-in-None
+emit_enter-returns-in-None t c =
+    let none = no_seat c.args.scope.now.seats.now c.args.instance (sym c.in-None.ensures.lookup.0) in
+    nothing c.args.out.now.items _ (ap (λ o. code.enter_code c.args.scope.now c.args.place o c.args.pc) none)
+
+pub emit_frame-emit_body-requires : goal.emit_frame-emit_body-requires
+emit_frame-emit_body-requires t c =
+    let inside : c.args.k < length c.args.frames.now = let w = c.requires.within in omega arith in
+    let less = frame_less c.args.frames.now c.args.limit c.args.k c.index-frames-k.result c.deref-then-k-limit.result.now c.if-k-limit.true inside c.index-frames-k.is c.deref-then-k-limit.ensures.value in
+    (omega (arith, less), laid_before c.args.frames.now c.args.limit c.args.k c.args.table.now c.if-k-limit.true c.requires)
+
+pub emit_frame-returns-then-k-limit : goal.emit_frame-returns-then-k-limit
+emit_frame-returns-then-k-limit t c =
+    let inside : c.args.k < length c.args.frames.now = let w = c.requires.within in omega arith in
+    let at = frame_at c.args.frames.now c.args.k c.index-frames-k.result inside c.index-frames-k.is in
+    let coded = frame_coded c.args.frames.now c.args.limit c.args.k c.args.table.now c.if-k-limit.true c.requires c.args.globals c.index-frames-k.result c.args.base c.args.path c.args.pc at in
+    let same =
+    (λ i. codes.body_code c.args.globals (c.deref.ensures.value i) (lines_at (take c.args.k c.args.table.now)) (coders c.args.globals c.args.frames.now c.args.k) c.args.base c.args.path (view_body (c.deref-then-k-limit.ensures.value i)) c.args.pc) ∙ coded in
+    subst (λ z. IfOk c.emit_body.result (λ x. c.emit_body.new.out.items ≡ c.args.out.now.items ++ z)) same c.emit_body.ensures
+
+pub emit_frame-returns-else-k-limit : goal.emit_frame-returns-else-k-limit
+emit_frame-returns-else-k-limit t c = nothing c.args.out.now.items _ (frame_uncoded c.args.frames.now c.args.limit c.args.k c.args.globals c.args.base c.args.path c.args.pc (omega arith))
+
+pub emit_stmt-emit_branches-requires : goal.emit_stmt-emit_branches-requires
+emit_stmt-emit_branches-requires t c =
+    let size = ap (size-Stmt ℕ) c.in-If.is ∙ size-If c.in-If.statement c.in-If.branches c.in-If.last in
+    let same = ap (most (size-Branch ℕ)) c.deref-in-If-3.ensures.value in
+    (omega (arith, size, same), c.requires)
+
+pub emit_stmt-emit_body-requires : goal.emit_stmt-emit_body-requires
+emit_stmt-emit_body-requires t c =
+    let size = ap (size-Stmt ℕ) c.in-If.is ∙ size-If c.in-If.statement c.in-If.branches c.in-If.last in
+    let same = ap (most (size-Stmt ℕ)) c.deref-in-If-4.ensures.value in
+    (omega (arith, size, same), c.requires)
+
+pub emit_stmt-emit_choices-requires : goal.emit_stmt-emit_choices-requires
+emit_stmt-emit_choices-requires t c =
+    let size = ap (size-Stmt ℕ) c.in-Case.is ∙ size-Case c.in-Case.statement c.in-Case.selector c.in-Case.choices c.in-Case.last in
+    let same = ap (most (size-Choice ℕ)) c.deref-in-Case-3.ensures.value in
+    (omega (arith, size, same), c.requires)
+
+pub emit_stmt-emit_body-requires-in-Case : goal.emit_stmt-emit_body-requires-in-Case
+emit_stmt-emit_body-requires-in-Case t c =
+    let size = ap (size-Stmt ℕ) c.in-Case.is ∙ size-Case c.in-Case.statement c.in-Case.selector c.in-Case.choices c.in-Case.last in
+    let same = ap (most (size-Stmt ℕ)) c.deref-in-Case-4.ensures.value in
+    (omega (arith, size, same), c.requires)
+
+pub emit_stmt-emit_loop-requires : goal.emit_stmt-emit_loop-requires
+emit_stmt-emit_loop-requires t c =
+    let size = ap (size-Stmt ℕ) c.in-For.is ∙ size-For c.in-For.number c.in-For.variable c.in-For.from c.in-For.to c.in-For.by c.in-For.body in
+    let same = ap (most (size-Stmt ℕ)) c.deref-in-Some.ensures.value in
+    (omega (arith, size, same), c.requires)
+
+pub emit_stmt-returns-in_ok-emit_expr-in-Assign : goal.emit_stmt-returns-in_ok-emit_expr-in-Assign
+emit_stmt-returns-in_ok-emit_expr-in-Assign t c =
+    let s = c.args.scope.now in
+    let place = place_of s.path c.in-Assign.statement in
+    let viewed = ap view_stmt c.in-Assign.is ∙ view_assigned c.in-Assign.statement c.in-Assign.variable c.in-Assign.expr in
+    let line : c.in_ok-slot-in-Assign.slot ≡ slot_of s.globals s.base c.in-Assign.variable = c.in_ok-slot-in-Assign.ensures in
+    let is = one_after c.args.out.now.items c.emit_expr.new.out.items (code.expr_code s place (view_expr c.in-Assign.expr)) ((instr.Store c.in_ok-slot-in-Assign.slot, place) ∷ []) c.in_ok-emit_expr-in-Assign.ensures
+    ∙ ap (λ n. c.args.out.now.items ++ (code.expr_code s place (view_expr c.in-Assign.expr) ++ (instr.Store n, place) ∷ [])) line ∙ ap (λ p. c.args.out.now.items ++ code.stmt_code s p c.args.pc) (sym viewed) in
+    subst (λ z. IfOk c.emit.result (λ x. c.emit.new.out.items ≡ z)) is c.emit.ensures
+
+pub emit_stmt-returns-in_ok-at-in-Case : goal.emit_stmt-returns-in_ok-at-in-Case
+emit_stmt-returns-in_ok-at-in-Case t c =
+    let s = c.args.scope.now in
+    let place = place_of s.path c.in-Case.statement in
+    let viewed = ap view_stmt c.in-Case.is ∙ view_stmt-Case c.in-Case.statement c.in-Case.selector c.in-Case.choices c.in-Case.last in
+    let e = view_expr c.in-Case.selector in
+    let choices = view_choices c.in-Case.choices.items in
+    let last = view_body c.in-Case.last.items in
+    let first : c.in_ok-first-in-Case.first ≡ c.args.pc + expr_lines e = omega (arith, c.in_ok-first-in-Case.ensures, c.in_ok-expr_lines-in-Case.ensures) in
+    let otherwise = c.in_ok-otherwise-in-Case.ensures ∙ ap (λ b. body_lines s.seats.now (lines_at s.table.now) (view_body b)) c.deref-in-Case.ensures.value in
+    let lines = c.in_ok-lines-in-Case.ensures ∙ (λ i. choices_long s (view_choices (c.deref-in-Case-2.ensures.value i)) (otherwise i)) in
+    let emitted = subst (λ xs. (l : ℕ → List Line) (n : ℕ) → c.in_ok-first-in-Case.first + choices_long s (view_choices xs) n ≡ c.in_ok-end-in-Case.end
+    → c.emit_choices.new.out.items ++ l c.in_ok-at-in-Case.at ≡ c.emit_expr-in-Case.new.out.items ++ code.choices_code s place (view_choices xs) l n c.in_ok-first-in-Case.first) c.deref-in-Case-3.ensures.value c.in_ok-at-in-Case.ensures in
+    let is =
+    ap (λ b. c.emit_choices.new.out.items ++ code.body_code s (view_body b) c.in_ok-at-in-Case.at) c.deref-in-Case-4.ensures.value
+    ∙ case_done s place e choices last c.args.pc c.in_ok-first-in-Case.first c.in_ok-at-in-Case.at c.in_ok-end-in-Case.end c.args.out.now.items c.emit_expr-in-Case.new.out.items c.emit_choices.new.out.items
+    c.in_ok-emit_expr-in-Case.ensures first (omega (arith, c.in_ok-end-in-Case.ensures, lines)) emitted
+    ∙ ap (λ p. c.args.out.now.items ++ code.stmt_code s p c.args.pc) (sym viewed) in
+    subst (λ z. IfOk c.emit_body-in-Case.result (λ x. c.emit_body-in-Case.new.out.items ≡ z)) is c.emit_body-in-Case.ensures

@@ -1,0 +1,74 @@
+-- What the emission of a routine's code knows, and what it appends.
+use Rattle.std.specs.Prelude.{◌≡◌, ◌≤◌, ℕ, List, [], ◌∷◌, ◌++◌, length, Option}
+use Rattle.st_tree.specs.declared.tree.Binary.{Binary}
+use Rattle.st_tree.specs.Plain.{PlainExpr, literal, read, output_of, unary, binary, PlainArgument, PlainStmt, PlainBody, Branches, Choices}
+use Rattle.st_tree.specs.Meaning.{literal_worth}
+use Rattle.block_walk.specs.declared.frame.Seat.{Seat}
+use Rattle.block_walk.specs.declared.frame.Base.{Base}
+use Rattle.block_walk.specs.declared.frame.Frame.{Frame}
+use Rattle.block_walk.specs.Walks.{slot_of}
+use Rattle.acc_vm.specs.declared.instr.Instr.TheVariants as instr
+use Rattle.acc_vm.specs.declared.instr.Place.{Place}
+use Rattle.code_sizes.specs.declared.counts.Count.{Count}
+use Rattle.code_sizes.specs.Sizes.{frame_lines, branches_lines, choices_lines}
+use Rattle.code_sizes.specs.Counts.{lines_at}
+use Rattle.codegen.specs.declared.scope.Scope.{Scope}
+use Rattle.codegen.specs.Codes as codes
+use Rattle.codegen.specs.Codes.{Line, Coder, frame_part}
+
+-- a table has the lines of so many first frames
+pub record AreLines (frames : List Frame) (limit : ℕ) (table : List Count) : Type 0 where
+  pub within : limit ≤ length frames
+  pub long : length table ≡ limit
+  pub lines : (k : ℕ) → frame_lines frames limit k ≡ lines_at table k
+
+-- so does the table of a scope
+abbrev pub IsLaid : Scope → Type 0
+IsLaid scope = AreLines scope.frames.now scope.limit scope.table.now
+
+-- the code of each of so many first frames
+abbrev pub coders : ℕ → List Frame → ℕ → ℕ → Coder
+coders globals frames limit k = (frame_part globals frames limit k).code
+
+-- what stands behind the left operand of an operator, by its right operand and the lines of this
+abbrev pub operator_code : (globals : ℕ) → Base → Place → Binary → PlainExpr ℕ → (right : List Line) → List Line
+operator_code globals base place op (literal n) right = (instr.BinaryLiteral op (literal_worth n), place) ∷ []
+operator_code globals base place op (read v) right = (instr.BinarySlot op (slot_of globals base v), place) ∷ []
+operator_code globals base place op (output_of instance name) right = (instr.Push, place) ∷ (right ++ (instr.Binary op, place) ∷ [])
+operator_code globals base place op (unary other a) right = (instr.Push, place) ∷ (right ++ (instr.Binary op, place) ∷ [])
+operator_code globals base place op (binary other a b) right = (instr.Push, place) ∷ (right ++ (instr.Binary op, place) ∷ [])
+
+-- the code of the parts of a routine in a scope
+abbrev pub expr_code : Scope → Place → PlainExpr ℕ → List Line
+expr_code s = codes.expr_code s.globals s.seats.now (lines_at s.table.now) (coders s.globals s.frames.now s.limit) s.base s.path
+
+abbrev pub inputs_code : Scope → Place → Option Seat → List (PlainArgument ℕ) → List Line
+inputs_code s = codes.inputs_code s.globals s.seats.now (lines_at s.table.now) (coders s.globals s.frames.now s.limit) s.base s.path
+
+abbrev pub outputs_code : Scope → Place → Option Seat → List (PlainArgument ℕ) → List Line
+outputs_code s = codes.outputs_code s.globals s.seats.now (lines_at s.table.now) (coders s.globals s.frames.now s.limit) s.base s.path
+
+abbrev pub enter_code : Scope → Place → Option Seat → ℕ → List Line
+enter_code s = codes.enter_code s.globals s.seats.now (lines_at s.table.now) (coders s.globals s.frames.now s.limit) s.base s.path
+
+abbrev pub call_code : Scope → Place → Option Seat → List (PlainArgument ℕ) → ℕ → List Line
+call_code s = codes.call_code s.globals s.seats.now (lines_at s.table.now) (coders s.globals s.frames.now s.limit) s.base s.path
+
+abbrev pub stmt_code : Scope → PlainStmt ℕ → ℕ → List Line
+stmt_code s = codes.stmt_code s.globals s.seats.now (lines_at s.table.now) (coders s.globals s.frames.now s.limit) s.base s.path
+
+abbrev pub body_code : Scope → PlainBody ℕ → ℕ → List Line
+body_code s = codes.body_code s.globals s.seats.now (lines_at s.table.now) (coders s.globals s.frames.now s.limit) s.base s.path
+
+abbrev pub branches_code : Scope → Place → Branches ℕ → (ℕ → List Line) → ℕ → ℕ → List Line
+branches_code s = codes.branches_code s.globals s.seats.now (lines_at s.table.now) (coders s.globals s.frames.now s.limit) s.base s.path
+
+abbrev pub choices_code : Scope → Place → Choices ℕ → (ℕ → List Line) → ℕ → ℕ → List Line
+choices_code s = codes.choices_code s.globals s.seats.now (lines_at s.table.now) (coders s.globals s.frames.now s.limit) s.base s.path
+
+-- how many lines branches and choices are, with so many behind them
+abbrev pub branches_long : Scope → Branches ℕ → ℕ → ℕ
+branches_long s = branches_lines s.seats.now (lines_at s.table.now)
+
+abbrev pub choices_long : Scope → Choices ℕ → ℕ → ℕ
+choices_long s = choices_lines s.seats.now (lines_at s.table.now)

@@ -1,0 +1,340 @@
+//! Emits statements, and the bodies of the frames that they call.
+
+ghost use Rattle.std.specs.Prelude.{◌≡◌, ◌+◌, ◌++◌, ◌∷◌, [], ℕ, List, map, Some, slice_get, IfOk};
+ghost use Rattle.st_tree.specs.View.{view_argument, view_stmt, view_body, view_branch, view_branches, view_choice, view_choices};
+ghost use Rattle.acc_vm.specs.declared.instr.Instr.TheVariants.{Jump, JumpUnless};
+ghost use Rattle.codegen.specs.Codes.{Line, labels_code, for_code};
+ghost use Rattle.codegen.specs.Emission as code;
+ghost use Rattle.codegen.specs.Emission.{AreLines, IsLaid, coders, branches_long, choices_long};
+
+use crate::arguments::{emit_inputs, emit_outputs, emit_standard};
+use crate::expressions::emit_expr;
+use crate::lines::{emit, emit_labels};
+use crate::numbers::{add, base_of, count, left_of, slot_of};
+use crate::scope::Scope;
+use acc_vm::{Instr, Place};
+use block_walk::{Base, Frame, SeatOf};
+use code_sizes::{
+    Count, body_lines, branches_lines, choices_lines, constant_span, expr_lines, inputs_lines,
+    stmt_lines,
+};
+use st_tree::{Argument, Branch, Choice, Span, Stmt, count_turns};
+use std::alloc::AllocError;
+
+/// Appends the code of the frame of a number among so many first ones, at a base and a path, from a line's number on.
+#[cycle(code)]
+pub(crate) fn emit_frame(
+    frames: &[Frame],
+    table: &[Count],
+    limit: usize,
+    k: usize,
+    globals: usize,
+    base: Base,
+    path: u32,
+    pc: u32,
+    out: &mut Vec<(Instr, Place)>,
+) -> Result<(), AllocError>
+    requires { AreLines frames.now limit table.now }
+    ensures { IfOk result (λ _. out.new.items ≡ out.old.items ++ coders globals frames.now limit k base path pc) }
+{
+    if k < limit {
+        let frame = &frames[k];
+        let scope = Scope {
+            frames,
+            table: &table[..k],
+            limit: k,
+            seats: &frame.seats,
+            globals,
+            base,
+            path,
+        };
+        emit_body(&scope, out, &frame.body, pc)
+    } else {
+        Ok(())
+    }
+}
+
+/// Appends a body.
+#[cycle(code)]
+fn emit_body(
+    scope: &Scope<'_>,
+    out: &mut Vec<(Instr, Place)>,
+    body: &[Stmt<usize>],
+    pc: u32,
+) -> Result<(), AllocError>
+    requires { IsLaid scope.now }
+    ensures { IfOk result (λ _. out.new.items ≡ out.old.items ++ code.body_code scope.now (view_body body.now) pc) }
+{
+    let mut at = pc;
+    for stmt in body {
+        emit_stmt(scope, out, stmt, at)?;
+        at = add(at, stmt_lines(scope.table, scope.seats, stmt)?)?;
+    }
+    Ok(())
+}
+
+/// Appends a statement.
+#[cycle(code)]
+fn emit_stmt(
+    scope: &Scope<'_>,
+    out: &mut Vec<(Instr, Place)>,
+    stmt: &Stmt<usize>,
+    pc: u32,
+) -> Result<(), AllocError>
+    requires { IsLaid scope.now }
+    ensures { IfOk result (λ _. out.new.items ≡ out.old.items ++ code.stmt_code scope.now (view_stmt stmt.now) pc) }
+{
+    match stmt {
+        Stmt::Empty(_) => Ok(()),
+        Stmt::Assign(statement, variable, expr) => {
+            let place = Place {
+                path: scope.path,
+                statement: *statement,
+            };
+            let slot = slot_of(scope.globals, scope.base, *variable)?;
+            emit_expr(scope, out, place, expr)?;
+            emit(out, Instr::Store(slot), place)
+        }
+        Stmt::Call(statement, instance, arguments) => {
+            let place = Place {
+                path: scope.path,
+                statement: *statement,
+            };
+            emit_call(scope, out, place, *instance, arguments, pc)
+        }
+        Stmt::If(statement, branches, last) => {
+            let place = Place {
+                path: scope.path,
+                statement: *statement,
+            };
+            let otherwise = body_lines(scope.table, scope.seats, last)?;
+            let lines = branches_lines(scope.table, scope.seats, branches, otherwise)?;
+            let end = add(pc, lines)?;
+            let at = emit_branches(scope, out, place, branches, pc, end)?;
+            emit_body(scope, out, last, at)
+        }
+        Stmt::Case(statement, selector, choices, last) => {
+            let place = Place {
+                path: scope.path,
+                statement: *statement,
+            };
+            emit_expr(scope, out, place, selector)?;
+            let first = add(pc, expr_lines(selector)?)?;
+            let otherwise = body_lines(scope.table, scope.seats, last)?;
+            let lines = choices_lines(scope.table, scope.seats, choices, otherwise)?;
+            let end = add(first, lines)?;
+            let at = emit_choices(scope, out, place, choices, first, end)?;
+            emit_body(scope, out, last, at)
+        }
+        Stmt::For {
+            number,
+            variable,
+            from,
+            to,
+            by,
+            body,
+        } => {
+            let place = Place {
+                path: scope.path,
+                statement: *number,
+            };
+            let slot = slot_of(scope.globals, scope.base, *variable)?;
+            match constant_span(from, to, by) {
+                Some(span) => emit_loop(scope, out, place, slot, span, body, pc),
+                None => Ok(()),
+            }
+        }
+    }
+}
+
+/// Appends a call: its inputs, what the instance is of, and its outputs.
+#[cycle(code)]
+fn emit_call(
+    scope: &Scope<'_>,
+    out: &mut Vec<(Instr, Place)>,
+    place: Place,
+    instance: usize,
+    arguments: &[Argument<usize>],
+    pc: u32,
+) -> Result<(), AllocError>
+    requires { IsLaid scope.now }
+    ensures { IfOk result (λ _. out.new.items ≡ out.old.items ++ code.call_code scope.now place (slice_get scope.now.seats.now instance) (map view_argument arguments.now) pc) }
+{
+    emit_inputs(scope, out, place, instance, arguments)?;
+    let at = add(pc, inputs_lines(scope.seats, instance, arguments)?)?;
+    emit_enter(scope, out, place, instance, at)?;
+    emit_outputs(scope, out, place, instance, arguments)
+}
+
+/// Appends what an instance is of: the call of a standard block's clock, or the code of a frame at the instance's base.
+#[cycle(code)]
+fn emit_enter(
+    scope: &Scope<'_>,
+    out: &mut Vec<(Instr, Place)>,
+    place: Place,
+    instance: usize,
+    pc: u32,
+) -> Result<(), AllocError>
+    requires { IsLaid scope.now }
+    ensures { IfOk result (λ _. out.new.items ≡ out.old.items ++ code.enter_code scope.now place (slice_get scope.now.seats.now instance) pc) }
+{
+    match scope.seats.get(instance) {
+        Some(seat) => match seat.of {
+            SeatOf::Standard(of) => emit_standard(scope, out, place, seat, of),
+            SeatOf::Frame(k) => {
+                if !seat.is_called {
+                    return Ok(());
+                }
+                let base = base_of(scope.base, seat)?;
+                let path = add(scope.path, seat.paths)?;
+                emit_frame(
+                    scope.frames,
+                    scope.table,
+                    scope.limit,
+                    k,
+                    scope.globals,
+                    base,
+                    path,
+                    pc,
+                    out,
+                )
+            }
+        },
+        None => Ok(()),
+    }
+}
+
+/// Appends the branches of an IF, whose end is at a line. Returns the line at which what is done where none is taken begins.
+#[cycle(code)]
+fn emit_branches(
+    scope: &Scope<'_>,
+    out: &mut Vec<(Instr, Place)>,
+    place: Place,
+    branches: &[Branch<usize>],
+    pc: u32,
+    end: u32,
+) -> Result<u32, AllocError>
+    requires { IsLaid scope.now }
+    ensures { IfOk result (λ at. (last : ℕ → List Line) (n : ℕ) → pc + branches_long scope.now (view_branches branches.now) n ≡ end
+        → out.new.items ++ last at ≡ out.old.items ++ code.branches_code scope.now place (view_branches branches.now) last n pc) }
+{
+    let mut at = pc;
+    for branch in branches {
+        let body = add(add(at, expr_lines(&branch.test)?)?, 1)?;
+        let inside = body_lines(scope.table, scope.seats, &branch.body)?;
+        let next = add(add(body, inside)?, 1)?;
+        emit_branch(scope, out, place, branch, body, next, end)?;
+        at = next;
+    }
+    Ok(at)
+}
+
+/// Appends a branch of an IF, by the lines at which its body, the next branch and the end of the IF are.
+#[cycle(code)]
+fn emit_branch(
+    scope: &Scope<'_>,
+    out: &mut Vec<(Instr, Place)>,
+    place: Place,
+    branch: &Branch<usize>,
+    body: u32,
+    next: u32,
+    end: u32,
+) -> Result<(), AllocError>
+    requires { IsLaid scope.now }
+    ensures { IfOk result (λ _. out.new.items ≡ out.old.items ++ (code.expr_code scope.now place (view_branch branch.now).0 ++ ((JumpUnless next, place) ∷ (code.body_code scope.now (view_branch branch.now).1 body ++ (Jump end, place) ∷ [])))) }
+{
+    emit_expr(scope, out, place, &branch.test)?;
+    emit(out, Instr::JumpUnless(next), place)?;
+    emit_body(scope, out, &branch.body, body)?;
+    emit(out, Instr::Jump(end), place)
+}
+
+/// Appends the choices of a CASE, whose end is at a line. Returns the line at which what is done where none fits begins. A choice without a
+/// label has no line.
+#[cycle(code)]
+fn emit_choices(
+    scope: &Scope<'_>,
+    out: &mut Vec<(Instr, Place)>,
+    place: Place,
+    choices: &[Choice<usize>],
+    pc: u32,
+    end: u32,
+) -> Result<u32, AllocError>
+    requires { IsLaid scope.now }
+    ensures { IfOk result (λ at. (last : ℕ → List Line) (n : ℕ) → pc + choices_long scope.now (view_choices choices.now) n ≡ end
+        → out.new.items ++ last at ≡ out.old.items ++ code.choices_code scope.now place (view_choices choices.now) last n pc) }
+{
+    let mut at = pc;
+    for choice in choices {
+        let labels = choice.labels.len();
+        if labels > 0 {
+            let body = add(add(at, count(labels)?)?, 1)?;
+            let inside = body_lines(scope.table, scope.seats, &choice.body)?;
+            let next = add(add(body, inside)?, 1)?;
+            emit_choice(scope, out, place, choice, body, next, end)?;
+            at = next;
+        }
+    }
+    Ok(at)
+}
+
+/// Appends a choice of a CASE, by the lines at which its body, the next choice and the end of the CASE are.
+#[cycle(code)]
+fn emit_choice(
+    scope: &Scope<'_>,
+    out: &mut Vec<(Instr, Place)>,
+    place: Place,
+    choice: &Choice<usize>,
+    body: u32,
+    next: u32,
+    end: u32,
+) -> Result<(), AllocError>
+    requires { IsLaid scope.now }
+    ensures { IfOk result (λ _. out.new.items ≡ out.old.items ++ (labels_code place (view_choice choice.now).0 body ++ ((Jump next, place) ∷ (code.body_code scope.now (view_choice choice.now).1 body ++ (Jump end, place) ∷ [])))) }
+{
+    emit_labels(out, place, &choice.labels, body)?;
+    emit(out, Instr::Jump(next), place)?;
+    emit_body(scope, out, &choice.body, body)?;
+    emit(out, Instr::Jump(end), place)
+}
+
+/// Appends a FOR of a span; nothing if it has no turn.
+#[cycle(code)]
+fn emit_loop(
+    scope: &Scope<'_>,
+    out: &mut Vec<(Instr, Place)>,
+    place: Place,
+    slot: u32,
+    span: Span,
+    body: &[Stmt<usize>],
+    pc: u32,
+) -> Result<(), AllocError>
+    requires { IsLaid scope.now }
+    ensures { IfOk result (λ _. out.new.items ≡ out.old.items ++ for_code place slot (Some span) (code.body_code scope.now (view_body body.now)) pc) }
+{
+    let turns = count_turns(span);
+    if turns == 0 {
+        return Ok(());
+    }
+    let left = left_of(turns - 1)?;
+    let first = add(pc, 1)?;
+    emit(
+        out,
+        Instr::Begin {
+            slot,
+            first: span.from,
+            left,
+        },
+        place,
+    )?;
+    emit_body(scope, out, body, first)?;
+    emit(
+        out,
+        Instr::Turn {
+            slot,
+            step: span.step,
+            to: first,
+        },
+        place,
+    )
+}

@@ -1,0 +1,69 @@
+//! Emits expressions.
+
+ghost use Rattle.std.specs.Prelude.{◌≡◌, ◌++◌, IfOk};
+ghost use Rattle.st_tree.specs.View.{view_expr};
+ghost use Rattle.codegen.specs.Emission as code;
+ghost use Rattle.codegen.specs.Emission.{operator_code};
+
+use crate::lines::emit;
+use crate::numbers::{output_instr, slot_of};
+use crate::scope::Scope;
+use acc_vm::{Instr, Place};
+use st_tree::{Binary, Expr};
+use std::alloc::AllocError;
+
+/// Appends the lines of an expression, which leave its value in the accumulator.
+#[cycle(expr)]
+pub(crate) fn emit_expr(
+    scope: &Scope<'_>,
+    out: &mut Vec<(Instr, Place)>,
+    place: Place,
+    expr: &Expr<usize>,
+) -> Result<(), AllocError>
+    ensures { IfOk result (λ _. out.new.items ≡ out.old.items ++ code.expr_code scope.now place (view_expr expr.now)) }
+{
+    match expr {
+        Expr::Literal(literal) => emit(out, Instr::Literal(literal.worth()), place),
+        Expr::Read(variable) => {
+            let slot = slot_of(scope.globals, scope.base, *variable)?;
+            emit(out, Instr::Load(slot), place)
+        }
+        Expr::Output(instance, name) => {
+            let load = output_instr(scope.seats, *instance, scope.base, *name)?;
+            emit(out, load, place)
+        }
+        Expr::Unary(op, a) => {
+            emit_expr(scope, out, place, a)?;
+            emit(out, Instr::Unary(*op), place)
+        }
+        Expr::Binary(op, a, b) => {
+            emit_expr(scope, out, place, a)?;
+            emit_operator(scope, out, place, *op, b)
+        }
+    }
+}
+
+/// Appends the lines of an operator behind those of its left operand.
+#[cycle(expr)]
+fn emit_operator(
+    scope: &Scope<'_>,
+    out: &mut Vec<(Instr, Place)>,
+    place: Place,
+    op: Binary,
+    right: &Expr<usize>,
+) -> Result<(), AllocError>
+    ensures { IfOk result (λ _. out.new.items ≡ out.old.items ++ operator_code scope.now.globals scope.now.base place op (view_expr right.now) (code.expr_code scope.now place (view_expr right.now))) }
+{
+    match right {
+        Expr::Literal(literal) => emit(out, Instr::BinaryLiteral(op, literal.worth()), place),
+        Expr::Read(variable) => {
+            let slot = slot_of(scope.globals, scope.base, *variable)?;
+            emit(out, Instr::BinarySlot(op, slot), place)
+        }
+        Expr::Output(_, _) | Expr::Unary(_, _) | Expr::Binary(_, _, _) => {
+            emit(out, Instr::Push, place)?;
+            emit_expr(scope, out, place, right)?;
+            emit(out, Instr::Binary(op), place)
+        }
+    }
+}
