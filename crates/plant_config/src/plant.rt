@@ -18,7 +18,7 @@ use crate::epoch::epoch_of;
 use crate::fault::ConfigFault;
 use crate::files::{Files, Handed, file_of, files_of, listed};
 use crate::limits::check_limits;
-use crate::rows::AlarmRow;
+use crate::rows::{AlarmRow, copy_rows};
 use crate::running::{check_alarms, database_of, logic_of};
 use crate::spelling::{mistyped, units_of};
 use alarm_db::{AlarmDatabase, Tags};
@@ -232,6 +232,19 @@ impl Plant {
             alarms,
         };
         accepted(alloc, &handed)
+    }
+
+    /// The same plant. Fails if allocation fails.
+    pub fn copy(&self, alloc: Global) -> Result<Plant, AllocError>
+        ensures { IfOk result (λ copy. copy ≡ self.now) }
+    {
+        Ok(Plant {
+            file: self.file.copy(alloc)?,
+            epoch: self.epoch,
+            logic: self.logic.copy(alloc)?,
+            alarms: copy_rows(alloc, &self.alarms)?,
+            tags: self.tags.copy()?,
+        })
     }
 
     /// The logic.

@@ -1,6 +1,9 @@
 //! Alarms, as they are configured.
 
+ghost use Rattle.std.specs.Prelude.{◌≡◌, IfOk};
+
 use plant_types::Text;
+use std::alloc::{AllocError, Global};
 
 /// An alarm of a plant. Areas and globals are named by their numbers, from 0 in the order of their declaration.
 #[derive(Drop)]
@@ -21,4 +24,33 @@ pub struct AlarmRow {
     pub max_shelve_ms: u64,
     /// What it says to an operator.
     pub text: Text,
+}
+
+impl AlarmRow {
+    /// The same alarm. Fails if allocation fails.
+    fn copy(&self, alloc: Global) -> Result<AlarmRow, AllocError>
+        ensures { IfOk result (λ copy. copy ≡ self.now) }
+    {
+        Ok(AlarmRow {
+            tag: self.tag.copy(alloc)?,
+            area: self.area,
+            priority: self.priority,
+            condition: self.condition,
+            suppress: self.suppress,
+            latching: self.latching,
+            max_shelve_ms: self.max_shelve_ms,
+            text: self.text.copy(alloc)?,
+        })
+    }
+}
+
+/// The same alarms in the same order. Fails if allocation fails.
+pub fn copy_rows(alloc: Global, rows: &[AlarmRow]) -> Result<Vec<AlarmRow>, AllocError>
+    ensures { IfOk result (λ copies. copies.items ≡ rows.now) }
+{
+    let mut copies = Vec::new(alloc);
+    for row in rows {
+        copies.push(row.copy(alloc)?)?;
+    }
+    Ok(copies)
 }
