@@ -1,5 +1,5 @@
 -- The turns of a FOR.
-use Rattle.std.proofs.Common.{◌≡◌, ℕ, ℤ, zero, suc, pos, negsuc, ◌+◌, ◌*◌, ◌≤◌, ◌<ℤ◌, ◌≤ℤ◌, ◌+ℤ◌, ◌-ℤ◌, Bool, true, false, not, ◌||◌, List, [], ◌∷◌, length, Option, Some, None, refl, sym, ap, ◌∙◌, subst, arith, if◌then◌else◌}
+use Rattle.std.proofs.Common.{◌≡◌, ℕ, ℤ, zero, suc, pos, negsuc, ◌+◌, ◌*◌, ◌≤◌, ◌≤ℤ◌, ◌+ℤ◌, ◌-ℤ◌, Bool, true, false, not, ◌||◌, List, [], ◌∷◌, length, Option, Some, None, refl, sym, ap, ◌∙◌, arith, if◌then◌else◌}
 use Rattle.std.specs.Prelude.{int_lt, nat_abs, Ok, Err, Result, option_map, option_and_then}
 use Rattle.std.proofs.lemmas.Bool.{lt-ltb}
 use Rattle.std.proofs.lemmas.Int.{ints}
@@ -10,11 +10,11 @@ use Rattle.plant_types.specs.declared.values.Trap.{Trap}
 use Rattle.st_tree.specs.declared.controls.Span.{Span}
 use Rattle.st_tree.specs.Plain.{PlainExpr, literal, read, output_of, unary, binary}
 use Rattle.st_tree.specs.Operators.{Outcome, eval_unary, eval_binary}
-use Rattle.st_tree.specs.Meaning.{Space, literal_worth, then_one, then_two, outcome, step_of}
-use Rattle.st_tree.specs.Controls.{values_from, control_values, count_in, up, down, span_of}
+use Rattle.st_tree.specs.Meaning.{Space, then_one, then_two, outcome, step_of}
+use Rattle.st_tree.specs.Controls.{values_from, control_values, count_in, span_of}
 use Rattle.st_tree.specs.Constants.{constant_of}
 use Rattle.block_walk.specs.Cells.{PlainCells, assigned}
-use Rattle.acc_vm.specs.Machine.{Run, Stuck, Next, turn}
+use Rattle.acc_vm.specs.Machine.{Stuck, Next, turn}
 use Rattle.code_sizes.specs.Sizes.{number_of, constant_number, step_number, span_from, constant_span}
 
 -- the end of a turn that isn't the last
