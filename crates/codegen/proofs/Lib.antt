@@ -9,3 +9,6 @@ pub mod Statements
 pub mod Frames
 pub mod Runs
 pub mod Emitting
+pub mod Ends
+pub mod Places
+pub mod Sound
