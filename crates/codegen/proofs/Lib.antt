@@ -12,3 +12,4 @@ pub mod Emitting
 pub mod Ends
 pub mod Places
 pub mod Sound
+pub mod Made

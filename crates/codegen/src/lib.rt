@@ -12,5 +12,9 @@ mod arguments;
 mod emission;
 mod expressions;
 mod lines;
+mod named;
 mod numbers;
+mod program;
 mod scope;
+
+pub use program::{compile, compile_counted};
