@@ -13,3 +13,4 @@ pub mod Ends
 pub mod Places
 pub mod Sound
 pub mod Made
+pub mod Sizes
