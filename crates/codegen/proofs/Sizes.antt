@@ -1,5 +1,5 @@
 -- Code is no longer than three times the size of its frame.
-use Rattle.std.proofs.Common.{◌≡◌, ℕ, zero, suc, ◌+◌, ◌*◌, ◌<◌, ◌≤◌, max, Bool, true, false, List, [], ◌∷◌, length, Option, Some, None, refl, sym, ap, subst, arith, inl, inr, if◌then◌else◌}
+use Rattle.std.proofs.Common.{◌≡◌, ℕ, zero, suc, ◌+◌, ◌*◌, ◌<◌, ◌≤◌, Bool, true, false, List, [], ◌∷◌, length, Option, Some, None, refl, arith, inl, inr, if◌then◌else◌}
 use Rattle.std.specs.Prelude.{slice_get}
 use Rattle.std.specs.Option.{option_map_or}
 use Rattle.std.proofs.lemmas.Bool.{cases_lt}
@@ -13,7 +13,7 @@ use Rattle.block_walk.specs.declared.frame.SeatOf.TheVariants as seat_of
 use Rattle.block_walk.specs.declared.frame.Seat.{Seat}
 use Rattle.block_walk.specs.declared.frame.Frame.{Frame}
 use Rattle.block_walk.proofs.Firsts.{first_past}
-use Rattle.code_sizes.specs.Sizes.{expr_lines, binary_lines, put_lines, inputs_lines, outputs_lines, for_lines, choice_lines, entered, entered_by, seat_cost, called_cost, frame_turns, stmt_lines, body_lines, branches_lines, choices_lines, frame_lines, frame_size, routine_lines, routine_size}
+use Rattle.code_sizes.specs.Sizes.{expr_lines, binary_lines, put_lines, inputs_lines, outputs_lines, for_lines, choice_lines, entered, entered_by, seat_cost, called_cost, frame_turns, stmt_lines, body_lines, branches_lines, choices_lines, frame_lines, frame_size, routine_lines}
 use Rattle.codegen.proofs.Parts.{lines_is, size_is}
 use Rattle.codegen.proofs.Frames.{first_none}
 

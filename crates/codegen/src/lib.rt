@@ -11,10 +11,12 @@
 mod arguments;
 mod emission;
 mod expressions;
+mod laws;
 mod lines;
 mod named;
 mod numbers;
 mod program;
 mod scope;
 
+pub use laws::frame_code_is_as_long;
 pub use program::{compile, compile_counted};
