@@ -1,5 +1,6 @@
 -- What a commit leaves in the journal.
 use Rattle.std.proofs.Common.{◌≡◌, ℕ, ◌+◌, ◌≤◌, List, [], ◌∷◌, ◌++◌, length, All, ap, sym, ◌∙◌, subst, arith}
+use Rattle.std.proofs.lemmas.List.{length-map}
 use Rattle.std.specs.declared.result.Result.{Result}
 use Rattle.alarm_machine.specs.declared.states.OrderFault.{OrderFault}
 use Rattle.alarm_machine.specs.Alarms.{PlainAlarm}
@@ -10,10 +11,15 @@ use Rattle.engine.specs.declared.event.Event.{Event}
 use Rattle.engine.specs.declared.event.Event.TheVariants as event
 use Rattle.engine.specs.declared.event.Order.{Order}
 use Rattle.engine.specs.declared.state.Effect.{Effect}
+use Rattle.alarm_machine.specs.Codes.{PlainChange}
+use Rattle.alarm_bank.specs.Moves.{changes_from}
+use Rattle.journal_core.specs.Rows.{change_entry}
 use Rattle.engine.specs.System.{System, step, ordered}
 use Rattle.engine.specs.Lawful.{IsTaken}
 use Rattle.engine.specs.Reports.{PlainReport}
-use Rattle.engine.specs.Journal.{IsJournal, scan_entries, order_entries}
+use Rattle.engine.specs.Journal.{IsJournal, OrderBy, ChangeOf, refusal_of, one_or_none, change_entries, added_entries, scan_entries, order_entries}
+use Rattle.engine.specs.Orders.{alarms_by, changed_by}
+use Rattle.engine.proofs.OrderRows.{order_changes}
 use Rattle.engine.specs.Engines.{PlainEngine, PlainState, PlainPrepared, PlainPreparedOrder, Fits, FitsOrder, IsState, IsReport, state_of}
 use Rattle.engine.proofs.Images.{taken_when}
 use Rattle.engine.proofs.Systems.{system_next}
@@ -73,8 +79,22 @@ scan_room moment log r there =
     let many = length-scan_entries r in
     omega (arith, there, left, many)
 
-pub order_room : (moment : ℕ) (log : PlainLog) (console : ℕ) (order : Order) (done : Result Effect OrderFault) (alarms : List PlainAlarm) → log.room ≤ (after_entries moment log (order_entries console order done alarms)).room + 2
-order_room moment log console order done alarms =
-    let left = room_after moment log (order_entries console order done alarms) in
-    let few = few_order_entries console order done alarms in
-    omega (arith, left, few)
+-- as many entries as an order adds by names
+order_many : (console : ℕ) (order : Order) (done : Result Effect OrderFault) (alarms : List PlainAlarm)
+    → length (order_entries console order done alarms) ≡ length (OrderBy console order (refusal_of done) ∷ change_entries (changes_from 0 alarms (alarms_by done alarms)))
+order_many console order done alarms =
+    let ours = length-map (one_or_none (changed_by done alarms)) change_entry in
+    let theirs = length-map (changes_from 0 alarms (alarms_by done alarms)) (λ (c : ℕ × PlainChange). ChangeOf c.0 c.1) in
+    let same = ap length (order_changes done alarms) in
+    omega (arith, ours, theirs, same)
+
+pub order_room : (e : PlainEngine) (p : PlainPreparedOrder) (k : PlainState) (log : PlainLog) → IsState e.plant (state_of e) k → FitsOrder e p → 2 ≤ log.room
+    → (after_entries k.moment log (order_entries p.console p.order p.done k.alarms)).room + length (added_entries e.plant (state_of e) (event.Order p.console p.order)) ≡ log.room
+order_room e p k log held fits there =
+    let sys = state_of e in
+    let done = ordered e.plant sys p.console p.order in
+    let left = room_after k.moment log (order_entries p.console p.order p.done k.alarms) in
+    let few = few_order_entries p.console p.order p.done k.alarms in
+    let same : length (order_entries p.console p.order p.done k.alarms) ≡ length (order_entries p.console p.order done sys.alarms) = λ i. length (order_entries p.console p.order (fits.done_is i) (held.alarms_are i)) in
+    let many : length (order_entries p.console p.order done sys.alarms) ≡ length (added_entries e.plant sys (event.Order p.console p.order)) = order_many p.console p.order done sys.alarms in
+    omega (arith, left, few, same, many, there)

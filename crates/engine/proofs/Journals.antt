@@ -27,8 +27,8 @@ use Rattle.engine.specs.Orders.{changed_by}
 use Rattle.engine.specs.Reports.{PlainReport}
 use Rattle.engine.specs.Engines.{IsReport}
 use Rattle.alarm_bank.specs.Moves.{changes_from}
-use Rattle.engine.specs.System.{System, system, opening_system, step, ordered}
-use Rattle.engine.proofs.Systems.{system_alarms, system_faulted, changes_within, numbers_more}
+use Rattle.engine.specs.System.{System, system, opening_system, step, after_event, ordered}
+use Rattle.engine.proofs.Systems.{system_keeps_its_plant, system_alarms, system_faulted, changes_within, numbers_more}
 use Rattle.engine.proofs.OrderRows.{order_changes, order_named}
 use Rattle.engine.specs.Journal.{NamedEntry, FaultAt, ChangeOf, named_entry, named_row, fault_entries, change_entries, added_entries, OrderBy, refusal_of, one_or_none, scan_entries, order_entries, rows_from, added_rows, journal_from, journal_of, IsNamed, IsJournal}
 
@@ -36,28 +36,29 @@ length-rows_from : (n moment : ℕ) (entries : List NamedEntry) → length (rows
 length-rows_from n moment [] = refl
 length-rows_from n moment (entry ∷ entries) = ap suc (length-rows_from (n + 1) moment entries)
 
-journal_more : (plant : PlainPlant) (n : ℕ) (sys : System) (history : List Event) (e : Event)
-    → journal_from plant n sys (history ++ e ∷ []) ≡ journal_from plant n sys history ++ added_rows plant (n + length (journal_from plant n sys history)) (fold (step plant) sys history) e
-journal_more plant n sys [] e = append-nil (added_rows plant n sys e) ∙ ap (λ m. added_rows plant m sys e) (let h : n ≡ n + 0 = omega arith in h)
-journal_more plant n sys (d ∷ history) e =
-    let rows = added_rows plant n sys d in
-    let m = n + length (added_entries plant sys d) in
-    let later = journal_from plant m (step plant sys d) history in
-    let last = fold (step plant) (step plant sys d) history in
-    let long = length-rows_from n (step plant sys d).moment (added_entries plant sys d) in
+journal_more : (n : ℕ) (sys : System) (history : List Event) (e : Event)
+    → journal_from n sys (history ++ e ∷ []) ≡ journal_from n sys history ++ added_rows (fold after_event sys history).plant (n + length (journal_from n sys history)) (fold after_event sys history) e
+journal_more n sys [] e = append-nil (added_rows sys.plant n sys e) ∙ ap (λ m. added_rows sys.plant m sys e) (let h : n ≡ n + 0 = omega arith in h)
+journal_more n sys (d ∷ history) e =
+    let rows = added_rows sys.plant n sys d in
+    let m = n + length (added_entries sys.plant sys d) in
+    let later = journal_from m (after_event sys d) history in
+    let last = fold after_event (after_event sys d) history in
+    let long = length-rows_from n (after_event sys d).moment (added_entries sys.plant sys d) in
     let both = length-append rows later in
     let same : m + length later ≡ n + length (rows ++ later) = omega (arith, long, both) in
-    ap (λ l. rows ++ l) (journal_more plant m (step plant sys d) history e)
-    ∙ ap (λ k. rows ++ (later ++ added_rows plant k last e)) same
-    ∙ sym (append_assoc rows later (added_rows plant (n + length (rows ++ later)) last e))
+    ap (λ l. rows ++ l) (journal_more m (after_event sys d) history e)
+    ∙ ap (λ k. rows ++ (later ++ added_rows last.plant k last e)) same
+    ∙ sym (append_assoc rows later (added_rows last.plant (n + length (rows ++ later)) last e))
 
 -- one more event adds its rows
 pub journal_next : (plant : PlainPlant) (history : List Event) (e : Event) → journal_of plant (history ++ e ∷ []) ≡ journal_of plant history ++ added_rows plant (length (journal_of plant history) + 1) (system plant history) e
 unfolding journal_of system
 journal_next plant history e =
-    let rows = journal_from plant 1 (opening_system plant) history in
+    let rows = journal_from 1 (opening_system plant) history in
+    let now = fold after_event (opening_system plant) history in
     let same : 1 + length rows ≡ length rows + 1 = omega arith in
-    journal_more plant 1 (opening_system plant) history e ∙ ap (λ k. rows ++ added_rows plant k (fold (step plant) (opening_system plant) history) e) same
+    journal_more 1 (opening_system plant) history e ∙ (λ i. rows ++ added_rows (system_keeps_its_plant plant history i) (same i) now e)
 
 pub journal_none : (plant : PlainPlant) → journal_of plant [] ≡ []
 unfolding journal_of

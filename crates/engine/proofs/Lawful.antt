@@ -1,5 +1,5 @@
 -- Histories whose events were each taken.
-use Rattle.std.proofs.Common.{◌≡◌, ℕ, ◌<◌, ◌≤◌, Bool, true, false, List, [], ◌∷◌, ◌++◌, length, fold, refl, arith, Ok, Err, if◌then◌else◌}
+use Rattle.std.proofs.Common.{◌≡◌, ℕ, ◌<◌, ◌≤◌, Bool, true, false, List, [], ◌∷◌, ◌++◌, length, fold, refl, sym, ◌∙◌, subst, arith, Ok, Err, if◌then◌else◌}
 use Rattle.std.specs.Prelude.{nat_le}
 use Rattle.std.proofs.lemmas.Bool.Decides.{nat_tests}
 use Rattle.alarm_machine.specs.declared.limits.TheConstants.{LAST_MOMENT}
@@ -11,19 +11,20 @@ use Rattle.engine.specs.declared.event.Event.TheVariants as event
 use Rattle.engine.specs.declared.event.Order.{Order}
 use Rattle.engine.specs.declared.event.EngineFault.{EngineFault}
 use Rattle.engine.specs.declared.event.EngineFault.TheVariants as refusal
-use Rattle.engine.specs.System.{System, system, opening_system, step, order_event}
+use Rattle.engine.specs.System.{System, system, opening_system, step, after_event, order_event}
 use Rattle.engine.specs.Lawful.{IsTaken, AreTaken, IsLawfulHistory}
 use Rattle.engine.proofs.Images.{taken_when}
-use Rattle.engine.proofs.Systems.{system_events}
+use Rattle.engine.proofs.Systems.{step_holds, system_keeps_its_plant, system_events}
 
-taken_next : (plant : PlainPlant) (s : System) (history : List Event) (e : Event) → AreTaken plant s history → IsTaken plant (fold (step plant) s history) e → AreTaken plant s (history ++ e ∷ [])
-taken_next plant s [] e lawful taken = (taken, tt)
-taken_next plant s (d ∷ history) e lawful taken = (lawful.0, taken_next plant (step plant s d) history e lawful.1 taken)
+taken_next : (s : System) (history : List Event) (e : Event) → AreTaken s history → IsTaken (fold after_event s history).plant (fold after_event s history) e → AreTaken s (history ++ e ∷ [])
+taken_next s [] e lawful taken = (taken, tt)
+taken_next s (d ∷ history) e lawful taken = (lawful.0, taken_next (after_event s d) history e lawful.1 taken)
 
 -- one more event that was taken
 pub lawful_next : (plant : PlainPlant) (history : List Event) (e : Event) → IsLawfulHistory plant history → IsTaken plant (system plant history) e → IsLawfulHistory plant (history ++ e ∷ [])
 unfolding IsLawfulHistory system
-lawful_next plant history e lawful taken = taken_next plant (opening_system plant) history e lawful taken
+lawful_next plant history e lawful taken =
+    taken_next (opening_system plant) history e lawful (subst (λ (p : PlainPlant). IsTaken p (fold after_event (opening_system plant) history) e) (sym (system_keeps_its_plant plant history)) taken)
 
 pub lawful_none : (plant : PlainPlant) → IsLawfulHistory plant []
 unfolding IsLawfulHistory
@@ -31,13 +32,15 @@ lawful_none plant = tt
 
 -- what the opening system has and each event that is taken keeps, the system of every lawful history has
 module _ (plant : PlainPlant) (P : System → Type 0) (keeps : (s : System) (e : Event) → IsTaken plant s e → P s → P (step plant s e)) where
-  kept_from : (s : System) (history : List Event) → P s → AreTaken plant s history → P (fold (step plant) s history)
-  kept_from s [] p lawful = p
-  kept_from s (e ∷ history) p lawful = kept_from (step plant s e) history (keeps s e lawful.0 p) lawful.1
+  kept_from : (s : System) (history : List Event) → s.plant ≡ plant → P s → AreTaken s history → P (fold after_event s history)
+  kept_from s [] is p lawful = p
+  kept_from s (e ∷ history) is p lawful =
+      kept_from (after_event s e) history (step_holds s.plant s e ∙ is)
+      (subst (λ (x : PlainPlant). P (step x s e)) (sym is) (keeps s e (subst (λ (x : PlainPlant). IsTaken x s e) is lawful.0) p)) lawful.1
 
   pub lawful_keeps : (history : List Event) → P (opening_system plant) → IsLawfulHistory plant history → P (system plant history)
   unfolding IsLawfulHistory system
-  lawful_keeps history p lawful = kept_from (opening_system plant) history p lawful
+  lawful_keeps history p lawful = kept_from (opening_system plant) history refl p lawful
 
 -- an order that isn't refused finds room in the history
 not_full : {A : Type 0} (n : ℕ) (b : Bool) (e : EngineFault) (a : A) → nat_le MOST_EVENTS n ≡ b → (if b then Err e else Ok a) ≡ Ok a → n < MOST_EVENTS

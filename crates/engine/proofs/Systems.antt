@@ -36,7 +36,7 @@ use Rattle.engine.specs.declared.state.Effect.TheVariants as effect
 use Rattle.plant_config.specs.Names.{globals_of, programs_of, body_paths}
 use Rattle.engine.specs.Programs.{Scanned, opening_faulted, after_run, programs_from, with_inputs, global_in, world_after}
 use Rattle.engine.specs.Orders.{order_outcome, alarms_by, faulted_by, reply_by}
-use Rattle.engine.specs.System.{System, system, step, taken_scan, scan_event, order_event, opening_system, opening_alarm, scanned_by, after_scan_event, ordered, conditions, suppressions, alarms_after, sites_of, outputs_from, out_at, outs_from}
+use Rattle.engine.specs.System.{System, system, step, after_event, taken_scan, scan_event, order_event, opening_system, opening_alarm, scanned_by, after_scan_event, ordered, conditions, suppressions, alarms_after, sites_of, outputs_from, out_at, outs_from}
 use Rattle.engine.specs.Journal.{IsJournal}
 use Rattle.engine.specs.Lawful.{IsTaken, IsLawfulHistory}
 use Rattle.engine.specs.Reports.{PlainReport}
@@ -45,9 +45,24 @@ use Rattle.engine.specs.Steps.{ProgramsRan, ScanRan, IsPreparedScan, IsPreparedO
 use Rattle.engine.proofs.CellWorlds.{inputs_stand, values_stand, alarms_same, outputs_stand, outs_stand}
 use Rattle.engine.proofs.Images.{has_number, taken_within}
 
+pub step_holds : (plant : PlainPlant) (s : System) (e : Event) → (step plant s e).plant ≡ s.plant
+step_holds plant s (event.Scan image t) = refl
+step_holds plant s (event.Order console order) = refl
+
+plant_from : (s : System) (history : List Event) → (fold after_event s history).plant ≡ s.plant
+plant_from s [] = refl
+plant_from s (e ∷ history) = plant_from (after_event s e) history ∙ step_holds s.plant s e
+
+-- a system keeps the plant that it began with
+pub system_keeps_its_plant : (plant : PlainPlant) (history : List Event) → (system plant history).plant ≡ plant
+unfolding system
+system_keeps_its_plant plant history = plant_from (opening_system plant) history
+
 pub system_next : (plant : PlainPlant) (history : List Event) (e : Event) → system plant (history ++ e ∷ []) ≡ step plant (system plant history) e
 unfolding system
-system_next plant history e = fold-append (step plant) (opening_system plant) history (e ∷ [])
+system_next plant history e =
+    let now = fold after_event (opening_system plant) history in
+    fold-append after_event (opening_system plant) history (e ∷ []) ∙ ap (λ p. step p now e) (plant_from (opening_system plant) history)
 
 pub system_none : (plant : PlainPlant) → system plant [] ≡ opening_system plant
 unfolding system
@@ -55,13 +70,13 @@ system_none plant = refl
 
 -- what the opening system has and each step keeps, every system has
 module _ (plant : PlainPlant) (P : System → Type 0) (keeps : (s : System) (e : Event) → P s → P (step plant s e)) where
-  kept_from : (s : System) (history : List Event) → P s → P (fold (step plant) s history)
-  kept_from s [] p = p
-  kept_from s (e ∷ history) p = kept_from (step plant s e) history (keeps s e p)
+  kept_from : (s : System) (history : List Event) → s.plant ≡ plant → P s → P (fold after_event s history)
+  kept_from s [] is p = p
+  kept_from s (e ∷ history) is p = kept_from (after_event s e) history (step_holds s.plant s e ∙ is) (subst (λ (x : PlainPlant). P (step x s e)) (sym is) (keeps s e p))
 
   pub system_keeps : (history : List Event) → P (opening_system plant) → P (system plant history)
   unfolding system
-  system_keeps history p = kept_from (opening_system plant) history p
+  system_keeps history p = kept_from (opening_system plant) history refl p
 
 length-alarms_after : (now : ℕ → ℤ) (t : ℕ) (rows : List AlarmRow) (alarms : List PlainAlarm) → length alarms ≡ length rows → length (alarms_after now t rows alarms) ≡ length rows
 length-alarms_after now t rows alarms h =
@@ -110,15 +125,15 @@ system_faulted plant history =
     ])
     history (length-map (programs_of plant) (λ (program : List ℕ). false))
 
-events_from : (plant : PlainPlant) (s : System) (history : List Event) → (fold (step plant) s history).events ≡ s.events + length history
-events_from plant s [] = omega arith
-events_from plant s (event.Scan image t ∷ history) = let h = events_from plant (step plant s (event.Scan image t)) history in omega (arith, h)
-events_from plant s (event.Order console order ∷ history) = let h = events_from plant (step plant s (event.Order console order)) history in omega (arith, h)
+events_from : (s : System) (history : List Event) → (fold after_event s history).events ≡ s.events + length history
+events_from s [] = omega arith
+events_from s (event.Scan image t ∷ history) = let h = events_from (after_event s (event.Scan image t)) history in omega (arith, h)
+events_from s (event.Order console order ∷ history) = let h = events_from (after_event s (event.Order console order)) history in omega (arith, h)
 
 -- as many events as the history has
 pub system_events : (plant : PlainPlant) (history : List Event) → (system plant history).events ≡ length history
 unfolding system
-system_events plant history = events_from plant (opening_system plant) history ∙ zero-add (length history)
+system_events plant history = events_from (opening_system plant) history ∙ zero-add (length history)
 
 -- an engine has an alarm for each row of the database
 pub kept_alarms : (plant : PlainPlant) (history : List Event) (k : PlainState) → IsState plant (system plant history) k → length k.alarms ≡ length plant.alarms

@@ -22,7 +22,7 @@ use Rattle.engine.specs.declared.event.Order.{Order}
 use Rattle.engine.specs.declared.state.Effect.{Effect}
 use Rattle.engine.specs.Reports.{PlainReport}
 use Rattle.engine.specs.Orders.{is_restart, changed_by}
-use Rattle.engine.specs.System.{System, opening_system, step, ordered, faults_of, changes_of}
+use Rattle.engine.specs.System.{System, opening_system, step, after_event, ordered, faults_of, changes_of}
 
 -- what a row tells, by names: a program's fault at a spot, the change of an alarm's code, or an order of a console and why it was refused, if it was
 pub data NamedEntry : Type 0 where
@@ -87,13 +87,13 @@ abbrev pub added_rows : PlainPlant → ℕ → System → Event → List NamedRo
 added_rows plant n sys e = rows_from n (step plant sys e).moment (added_entries plant sys e)
 
 -- the rows that events add from a state on, numbered from a number on
-abbrev pub journal_from : PlainPlant → ℕ → System → List Event → List NamedRow
-journal_from plant n sys [] = []
-journal_from plant n sys (e ∷ events) = added_rows plant n sys e ++ journal_from plant (n + length (added_entries plant sys e)) (step plant sys e) events
+abbrev pub journal_from : ℕ → System → List Event → List NamedRow
+journal_from n sys [] = []
+journal_from n sys (e ∷ events) = added_rows sys.plant n sys e ++ journal_from (n + length (added_entries sys.plant sys e)) (after_event sys e) events
 
 -- the journal of a history: the rows of all its events, numbered from 1
 unfoldable pub journal_of : PlainPlant → List Event → List NamedRow
-journal_of plant history = journal_from plant 1 (opening_system plant) history
+journal_of plant history = journal_from 1 (opening_system plant) history
 
 -- the target of an order is there: a program for a restart, else an alarm
 abbrev pub HasTarget : PlainPlant → Verb → ℕ → Type 0

@@ -9,7 +9,7 @@ use Rattle.plant_config.specs.Plants.{PlainPlant}
 use Rattle.plant_config.specs.Names.{globals_of}
 use Rattle.engine.specs.declared.event.Event.{Event}
 use Rattle.engine.specs.declared.event.Event.TheVariants as event
-use Rattle.engine.specs.System.{System, opening_system, step, scan_event, order_event, is_output}
+use Rattle.engine.specs.System.{System, opening_system, after_event, scan_event, order_event, is_output}
 
 -- an event was taken in a state: a scan is the one that some pairs give at its moment, an order is one that isn't refused there
 abbrev pub IsTaken : PlainPlant → System → Event → Type 0
@@ -17,13 +17,13 @@ IsTaken plant sys (event.Scan image t) = (pairs : List PlainPair) × (scan_event
 IsTaken plant sys (event.Order console order) = order_event sys console order ≡ Ok (event.Order console order)
 
 -- from a state on, each event was taken in the state that those before it left
-abbrev pub AreTaken : PlainPlant → System → List Event → Type 0
-AreTaken plant sys [] = Unit {0}
-AreTaken plant sys (e ∷ events) = IsTaken plant sys e × AreTaken plant (step plant sys e) events
+abbrev pub AreTaken : System → List Event → Type 0
+AreTaken sys [] = Unit {0}
+AreTaken sys (e ∷ events) = IsTaken sys.plant sys e × AreTaken (after_event sys e) events
 
 -- a lawful history: each event was taken, the first one before any event
 unfoldable pub IsLawfulHistory : PlainPlant → List Event → Type 0
-IsLawfulHistory plant history = AreTaken plant (opening_system plant) history
+IsLawfulHistory plant history = AreTaken (opening_system plant) history
 
 -- an output is the value of an output global: of that global's kind, and worth the number that the world has for it
 pub record IsOutputValue (plant : PlainPlant) (w : World) (output : ℕ × Value) : Type 0 where

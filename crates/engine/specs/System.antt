@@ -1,4 +1,4 @@
--- The system: a fold of the events over the plant.
+-- The system: it holds its plant, and each event is a step from system to system.
 use Rattle.std.specs.Prelude.{ℕ, ◌+◌, ℤ, nat_lt, nat_le, Bool, true, false, if◌then◌else◌, List, [], ◌∷◌, map, fold, Option, Some, None, Result, Ok, Err}
 use Rattle.std.specs.Ordering.{int_eq}
 use Rattle.plant_types.specs.Pairs.{PlainPair}
@@ -33,8 +33,9 @@ use Rattle.engine.specs.Programs.{Scanned, opening_faulted, global_in, world_aft
 use Rattle.engine.specs.Image.{image_of}
 use Rattle.engine.specs.Orders.{order_outcome, alarms_by, faulted_by, reply_by}
 
--- the whole state: the variables' values and the calls of standard blocks, for each program whether it is faulted, the alarms, the last scan's moment, and how many events there were
+-- the whole state: the plant, the variables' values and the calls of standard blocks, for each program whether it is faulted, the alarms, the last scan's moment, and how many events there were
 pub record System : Type 0 where
+  pub plant : PlainPlant
   pub world : World
   pub faulted : List Bool
   pub alarms : List PlainAlarm
@@ -48,6 +49,7 @@ opening_alarm row = new_alarm row.latching row.max_shelve_ms
 -- before the first event
 abbrev pub opening_system : PlainPlant → System
 opening_system plant = record {
+  plant = plant;
   world = opening plant.source;
   faulted = opening_faulted (programs_of plant);
   alarms = map opening_alarm plant.alarms;
@@ -80,7 +82,7 @@ scanned_by plant sys image t = world_after plant image t sys.faulted sys.world
 abbrev pub after_scan_event : PlainPlant → System → List (ℕ × Value) → ℕ → System
 after_scan_event plant sys image t =
     let logic = scanned_by plant sys image t in
-    record { world = logic.world; faulted = logic.faulted; alarms = alarms_after (global_in (globals_of plant) logic.world) t plant.alarms sys.alarms; moment = t; events = sys.events + 1 }
+    record sys { world = logic.world; faulted = logic.faulted; alarms = alarms_after (global_in (globals_of plant) logic.world) t plant.alarms sys.alarms; moment = t; events = sys.events + 1 }
 
 -- what an order does in a state, or why it is refused
 abbrev pub ordered : PlainPlant → System → ℕ → Order → Result Effect OrderFault
@@ -92,14 +94,18 @@ after_order_event plant sys console order =
     let done = ordered plant sys console order in
     record sys { faulted = faulted_by done sys.faulted; alarms = alarms_by done sys.alarms; events = sys.events + 1 }
 
--- one event is one step
+-- what an event makes of a state by a plant
 abbrev pub step : PlainPlant → System → Event → System
 step plant sys (event.Scan image t) = after_scan_event plant sys image t
 step plant sys (event.Order console order) = after_order_event plant sys console order
 
--- what the events make of the plant
+-- one event is one step, by the plant that the system holds
+abbrev pub after_event : System → Event → System
+after_event sys e = step sys.plant sys e
+
+-- what the events make of the system that begins with a plant
 unfoldable pub system : PlainPlant → List Event → System
-system plant events = fold (step plant) (opening_system plant) events
+system plant events = fold after_event (opening_system plant) events
 
 -- the event that a scan is, or its refusal: E2 above the last moment of all, E1 before the last scan's, E3 and E4 by the image, E6 where the history is full
 unfoldable pub taken_scan : List Variable → ℕ → ℕ → List PlainPair → ℕ → Result Event EngineFault

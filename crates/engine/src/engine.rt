@@ -6,7 +6,7 @@ ghost use Rattle.engine.specs.Image.{IsDue};
 ghost use Rattle.engine.specs.Orders.{restart_of};
 ghost use Rattle.engine.specs.System.{scan_event, order_event, reply_to, outputs_of, summary_of};
 ghost use Rattle.engine.specs.Lawful.{IsLawfulHistory};
-ghost use Rattle.engine.specs.Journal.{IsJournal, IsLine, journal_of};
+ghost use Rattle.engine.specs.Journal.{IsJournal, IsLine, added_entries, journal_of};
 ghost use Rattle.engine.specs.Engines.{state_of, Fits, FitsOrder, IsReport, TakesScan};
 
 use crate::event::{EngineFault, Event, MOST_EVENTS, Order, Reply, Report};
@@ -224,7 +224,7 @@ impl Engine {
         ensures plant { self.new.plant ≡ self.old.plant }
         ensures history { self.new.history ≡ self.old.history ++ Event.Order prepared.console prepared.order ∷ [] }
         ensures room { self.new.room + 1 ≡ self.old.room }
-        ensures row_room { self.old.row_room ≤ self.new.row_room + 2 }
+        ensures row_room { self.new.row_room + length (added_entries self.old.plant (state_of self.old) (Event.Order prepared.console prepared.order)) ≡ self.old.row_room }
         ensures reply { result ≡ reply_to self.old.plant (state_of self.old) prepared.console prepared.order }
     {
         let PreparedOrder {
@@ -251,6 +251,7 @@ impl Engine {
         ensures err { IfErr result (λ e. IsDue e (scan_event self.old.plant (state_of self.old) pairs.now moment)) }
         ensures kept { OnErr result (self.new.history ≡ self.old.history) }
         ensures room { OnErr result (self.old.room ≤ self.new.room) }
+        ensures row_room { OnErr result (self.old.row_room ≤ self.new.row_room) }
     {
         let prepared = self.prepare(alloc, pairs, moment)?;
         Ok(self.commit(prepared))
@@ -265,6 +266,7 @@ impl Engine {
         ensures err { IfErr result (λ e. IsDue e (order_event (state_of self.old) console order)) }
         ensures kept { OnErr result (self.new.history ≡ self.old.history) }
         ensures room { OnErr result (self.old.room ≤ self.new.room) }
+        ensures row_room { OnErr result (self.old.row_room ≤ self.new.row_room) }
     {
         let prepared = self.prepare_order(alloc, console, order)?;
         Ok(self.commit_order(prepared))
@@ -288,6 +290,7 @@ impl Engine {
         ensures err { IfErr result (λ e. IsDue e (order_event (state_of self.old) console (restart_of program))) }
         ensures kept { OnErr result (self.new.history ≡ self.old.history) }
         ensures room { OnErr result (self.old.room ≤ self.new.room) }
+        ensures row_room { OnErr result (self.old.row_room ≤ self.new.row_room) }
     {
         let verb = Verb::Restart;
         let target = program;

@@ -1,11 +1,16 @@
 //! Laws of lawful histories. These functions do nothing: each has a law as its contract, for the crates above.
 
-ghost use Rattle.std.specs.Prelude.{◌≤◌, List, length, All};
+ghost use Rattle.std.specs.Prelude.{◌≡◌, ◌≤◌, List, length, All};
 ghost use Rattle.plant_logic.specs.Ranges.{AllInRange};
 ghost use Rattle.plant_config.specs.Plants.{PlainPlant, IsPlant};
 ghost use Rattle.engine.specs.declared.event.Event.{Event};
 ghost use Rattle.engine.specs.System.{system, outputs_of};
 ghost use Rattle.engine.specs.Lawful.{IsLawfulHistory, IsOutputValue};
+
+/// The system holds its plant, and no event changes it: after each history it is the plant with which the system began.
+pub fn system_keeps_its_plant()
+    ensures { (plant : PlainPlant) (history : List Event) → (system plant history).plant ≡ plant }
+{}
 
 /// After each lawful history the value of each variable is in the range of its kind.
 pub fn lawful_history_stays_in_range()

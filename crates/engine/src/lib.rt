@@ -20,6 +20,7 @@ pub use engine::Engine;
 pub use event::{EngineFault, Event, Order, Reply, Report};
 pub use laws::{
     lawful_history_is_short, lawful_history_stays_in_range, outputs_are_worth_their_numbers,
+    system_keeps_its_plant,
 };
 pub use orders::PreparedOrder;
 pub use scan::Prepared;

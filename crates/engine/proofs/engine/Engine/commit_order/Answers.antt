@@ -1,4 +1,10 @@
-use Rattle.engine.proofs.Commits.{order_committed, order_until}
+use Rattle.std.proofs.Common.{◌≡◌, ◌+◌, ℕ, ap, subst, length, arith}
+use Rattle.journal_core.specs.Rows.{PlainLog}
+use Rattle.engine.specs.declared.event.Event.TheVariants as event
+use Rattle.engine.specs.System.{system}
+use Rattle.engine.specs.Journal.{added_entries}
+use Rattle.engine.specs.Engines.{PlainEngine, PlainPreparedOrder, state_of}
+use Rattle.engine.proofs.Commits.{order_committed, order_until, order_room}
 use Rattle.engine.proofs.Journals.{last_below}
 use Rattle.engine.proofs.Lawful.{lawful_next}
 use Rattle.engine.proofs.Systems.{order_agrees}
@@ -16,3 +22,13 @@ pub push_order-requires-clause-room : goal.push_order-requires-clause-room
 push_order-requires-clause-room c =
     let fits = rw (← c.self.view_is, ← c.prepared.view_is) at c.requires in
     fits.row_room
+
+pub returns-clause-row_room : goal.returns-clause-row_room
+returns-clause-row_room c =
+    let fits = rw (← c.self.view_is, ← c.prepared.view_is) at c.requires in
+    let own = c.self.inside in
+    let left = order_room _ _ _ own.log c.self.invariant.state_is fits fits.row_room in
+    let now = ap (λ (log : PlainLog). log.room) c.push_order.ensures in
+    let added : PlainPreparedOrder → ℕ = λ p. length (added_entries own.plant (system own.plant own.history.items) (event.Order p.console p.order)) in
+    subst (λ (e : PlainEngine). c.push_order.new.log.room + length (added_entries e.plant (state_of e) (event.Order c.args.prepared.console c.args.prepared.order)) ≡ e.row_room) c.self.view_is
+    (subst (λ (p : PlainPreparedOrder). c.push_order.new.log.room + added p ≡ own.log.room) c.prepared.view_is (omega (arith, left, now)))
