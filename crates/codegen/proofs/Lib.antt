@@ -14,3 +14,4 @@ pub mod Places
 pub mod Sound
 pub mod Made
 pub mod Sizes
+mod Examples
