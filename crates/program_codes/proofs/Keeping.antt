@@ -1,0 +1,42 @@
+-- What folding, and copying, keep of frames.
+use Rattle.std.proofs.Common.{◌≡◌, refl, ℕ, ◌≤◌, arith}
+use Rattle.st_tree.specs.Plain.{PlainBody}
+use Rattle.st_tree.specs.View.{view_body}
+use Rattle.st_tree.specs.Costs.{body_cost}
+use Rattle.st_tree.specs.Meaning.{Space, run_all}
+use Rattle.block_walk.specs.declared.frame.Frame.{Frame}
+use Rattle.block_walk.specs.Cells.{PlainCells}
+use Rattle.block_walk.specs.Plain.{PlainFrame, view_frame}
+use Rattle.code_sizes.specs.Sizes.{frame_turns}
+use Rattle.const_fold.specs.Folding.{folded_body}
+use Rattle.program_codes.specs.Folded.{folded_frame}
+use Rattle.program_codes.proofs.Bodies.{KeepsConstants, body_steady}
+use Rattle.program_codes.proofs.Kept.{IsKept}
+
+-- the plain frame of a frame, folded
+abbrev pub folded_view : Frame → PlainFrame
+folded_view f = folded_frame (view_frame f)
+
+-- a folded body does what the body does
+abbrev pub DoesSame : Type 0
+DoesSame = (space : Space ℕ PlainCells) (body : PlainBody ℕ) (w : PlainCells) → run_all space (folded_body body) w ≡ run_all space body w
+
+-- a folded body costs no more than the body
+abbrev pub CostsLess : Type 0
+CostsLess = (called : ℕ → ℕ) (body : PlainBody ℕ) → body_cost frame_turns called (folded_body body) ≤ body_cost frame_turns called body
+
+pub folding_keeps : DoesSame → KeepsConstants → CostsLess → IsKept folded_view
+folding_keeps same constants less = record {
+  seats = λ f. refl;
+  runs = λ space f w. same space (view_body f.body.items) w;
+  steady = λ f h. body_steady constants (view_body f.body.items) h;
+  costs = λ called f. less called (view_body f.body.items);
+}
+
+pub copying_keeps : IsKept view_frame
+copying_keeps = record {
+  seats = λ f. refl;
+  runs = λ space f w. refl;
+  steady = λ f h. h;
+  costs = λ called f. omega arith;
+}

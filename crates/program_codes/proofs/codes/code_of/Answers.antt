@@ -1,0 +1,17 @@
+use Rattle.std.proofs.Common.{ap, arith}
+use Rattle.acc_vm.specs.Codes.{PlainCode}
+use Rattle.program_codes.proofs.codes.code_of.Goals as goal
+
+pub returns : goal.returns
+returns c =
+    let made = c.in_ok-code.ensures in
+    let cost = ap (λ (k : PlainCode). k.cost) made.is in
+    let stack = c.stack.ensures in
+    record {
+      runs = made.runs;
+      paths = ap (λ (k : PlainCode). k.paths) made.is;
+      values = made.values;
+      clocks = made.clocks;
+      stack = omega arith;
+      cost = omega (arith, cost);
+    }

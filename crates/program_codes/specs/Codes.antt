@@ -1,0 +1,35 @@
+-- The codes of the programs of a table of frames.
+use Rattle.std.specs.Prelude.{◌≡◌, ◌≤◌, ◌+◌, ℕ, List, length, get_or, Some, slice_get}
+use Rattle.block_walk.specs.declared.frame.Base.{Base}
+use Rattle.block_walk.specs.declared.frame.Frame.{Frame}
+use Rattle.block_walk.specs.Frames.{frame_paths}
+use Rattle.code_sizes.specs.Sizes.{frame_cost}
+use Rattle.acc_vm.specs.Codes.{PlainCode}
+use Rattle.codegen.specs.Codes.{RunsFrame}
+
+-- how many words of stack there are for a run. Statements nest at most 64 deep, expressions 128 and blocks 16: a FOR takes two words and each operator at most one, so no accepted source needs more than 17 * 2 * 64 + 128 words
+abbrev pub stack_words : ℕ
+stack_words = 8192
+
+-- code is that of the frame of a number as a program, at a base, in cells of so many values and clocks: it runs as the frame does, has the frame's paths, names nothing that isn't there, finds room on the stack, and costs no more than the frame
+pub record IsCodeOf (frames : List Frame) (globals first : ℕ) (base : Base) (all_values all_clocks : ℕ) (code : PlainCode) : Type 0 where
+  pub runs : RunsFrame frames globals first base code
+  pub paths : code.paths ≡ length (frame_paths frames (length frames) first)
+  pub values : code.values ≤ all_values
+  pub clocks : code.clocks ≤ all_clocks
+  pub stack : code.stack ≤ stack_words
+  pub cost : code.cost ≤ frame_cost frames (length frames) first
+
+-- where a program begins, by the rows of where the values and the clocks of each begin
+abbrev pub base_in : (values clocks : List ℕ) → (n : ℕ) → Base
+base_in values clocks n = record { values = get_or values n 0; clocks = get_or clocks n 0 }
+
+-- each of the codes is that of its program: the programs are the frames from one on
+abbrev pub EachIsCode : (frames : List Frame) → (globals first : ℕ) → (values clocks : List ℕ) → (all_values all_clocks : ℕ) → List PlainCode → Type 0
+EachIsCode frames globals first values clocks all_values all_clocks codes =
+    (n : ℕ) (code : PlainCode) → slice_get codes n ≡ Some code → IsCodeOf frames globals (first + n) (base_in values clocks n) all_values all_clocks code
+
+-- codes are those of the programs, of which the rows tell where each begins, and behind them where the last one ends
+pub record AreCodes (frames : List Frame) (globals first : ℕ) (values clocks : List ℕ) (all_values all_clocks : ℕ) (codes : List PlainCode) : Type 0 where
+  pub long : length codes + 1 ≡ length values
+  pub each : EachIsCode frames globals first values clocks all_values all_clocks codes

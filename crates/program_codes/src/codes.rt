@@ -1,0 +1,102 @@
+//! Makes the codes of programs.
+
+ghost use Rattle.std.specs.Prelude.{◌≡◌, ◌+◌, ◌<◌, ◌≤◌, get_or, length, IfOk};
+ghost use Rattle.block_walk.specs.Frames.{AreInTurn};
+ghost use Rattle.code_sizes.specs.Counts.{AreCounts};
+ghost use Rattle.codegen.specs.Codes.{AreSteady};
+ghost use Rattle.program_codes.specs.Folded.{AreFolded};
+ghost use Rattle.program_codes.specs.Codes.{IsCodeOf, AreCodes};
+
+use crate::folding::fold_frames;
+use crate::running::STACK_WORDS;
+use acc_vm::Code;
+use block_walk::{Cells, Frame};
+use code_sizes::{FrameCounts, count_frames};
+use codegen::compile_counted;
+use const_fold::{folded_body_costs_at_most, folded_body_does_same, folded_constants_are_literals};
+use std::alloc::{AllocError, Global};
+
+/// The code of a program, by the folded frames of a table. Fails as `codes_of` does.
+fn code_of(
+    alloc: Global,
+    folded: &[Frame],
+    counts: &FrameCounts,
+    globals: usize,
+    first: usize,
+    values: usize,
+    clocks: usize,
+    all_values: usize,
+    all_clocks: usize,
+) -> Result<Code, AllocError>
+    requires there { first < length folded.now }
+    requires counted { AreCounts folded.now counts.now }
+    requires in_turn { AreInTurn folded.now }
+    requires steady { AreSteady folded.now }
+    ensures { IfOk result (IsCodeOf folded.now globals first (record { values = values; clocks = clocks }) all_values all_clocks) }
+{
+    let code = compile_counted(
+        alloc, folded, counts, globals, first, values, clocks, all_values, all_clocks,
+    )?;
+    if code.stack() > STACK_WORDS {
+        return Err(AllocError);
+    }
+    Ok(code)
+}
+
+/// The codes of the programs of a table, which are its frames from a number on, in their order. The rows have the numbers at which the values
+/// and the clocks of each program begin, and behind them where those of the last one end; the cells have so many of each in all.
+///
+/// Takes time linear in the frames and the codes. Fails if allocation fails; and if a code can't be numbered in 32 bits, names a value or a
+/// clock that the cells don't have, or needs more words than a stack has, which is answered as refused memory too: no accepted source has such
+/// a program.
+pub fn codes_of(
+    alloc: Global,
+    frames: &[Frame],
+    globals: usize,
+    first: usize,
+    values: &[usize],
+    clocks: &[usize],
+    all_values: usize,
+    all_clocks: usize,
+) -> Result<Vec<Code>, AllocError>
+    requires in_turn { AreInTurn frames.now }
+    requires steady { AreSteady frames.now }
+    requires values { length frames.now + 1 ≡ first + length values.now }
+    requires clocks { length clocks.now ≡ length values.now }
+    requires there { first ≤ length frames.now }
+    ensures { IfOk result (λ codes. AreCodes frames.now globals first values.now clocks.now all_values all_clocks codes.items) }
+{
+    folded_body_does_same::<usize, Cells>();
+    folded_constants_are_literals::<usize>();
+    folded_body_costs_at_most::<usize>();
+    let folded = fold_frames(alloc, frames)?;
+    let counts = count_frames(alloc, &folded)?;
+    let programs = values.len() - 1;
+    let mut codes = Vec::with_capacity(alloc, programs)?;
+    for n in 0..programs {
+        let code = code_of(
+            alloc,
+            &folded,
+            &counts,
+            globals,
+            first + n,
+            values[n],
+            clocks[n],
+            all_values,
+            all_clocks,
+        )?;
+        codes.push(code)?;
+    }
+    Ok(codes)
+}
+
+/// The same codes in the same order. Fails if allocation fails.
+pub fn copy_codes(alloc: Global, codes: &[Code]) -> Result<Vec<Code>, AllocError>
+    ensures { IfOk result (λ copies. copies.items ≡ codes.now) }
+{
+    let mut copies = Vec::with_capacity(alloc, codes.len())?;
+    for code in codes {
+        copies.push(code.copy(alloc)?)?;
+    }
+    Ok(copies)
+}

@@ -1,0 +1,16 @@
+//! The codes of the programs of a table of frames, and their runs.
+//!
+//! Codes are made once, when a plant is read: the constants of all bodies are folded, the frames are counted, and each program is compiled. The
+//! folded frames are not kept. What is known of a code speaks of the frames as they were given: it runs as its frame does (`specs/Codes.antt`).
+//!
+//! Runs share one stack of a fixed size, which is enough for each code that is made.
+#![tactic(auto)]
+
+mod codes;
+mod folding;
+mod laws;
+mod running;
+
+pub use codes::{codes_of, copy_codes};
+pub use laws::copied_frames_have_codes;
+pub use running::{Stack, run_code, run_code_counted};

@@ -1,0 +1,73 @@
+//! Runs codes, with one memory for the stack of all runs.
+
+ghost use Rattle.std.specs.Prelude.{◌≡◌, ◌≤◌, ◌<◌, ◌+◌, ◌*◌, ◌-◌, ℕ, List, length, IfOk, IfErr};
+ghost use Rattle.block_walk.specs.Frames.{Path};
+ghost use Rattle.block_walk.specs.Walks.{ended};
+ghost use Rattle.acc_vm.specs.Machine.{Over};
+ghost use Rattle.acc_vm.specs.Codes.{SameShape, run_of};
+ghost use Rattle.program_codes.specs.Codes.{stack_words};
+
+use acc_vm::Code;
+use block_walk::{Cells, Stop};
+use std::alloc::{AllocError, Global};
+use std::marker::Model;
+
+/// How many words of stack there are for a run.
+pub(crate) const STACK_WORDS: usize = 8_192;
+
+/// Memory for the stack of runs, one after another: 8,192 words. What a run leaves in it doesn't matter. Contracts see how many words it has.
+#[derive(Drop)]
+pub struct Stack {
+    words: Vec<i64>,
+}
+
+impl Model for Stack {
+    ghost use Rattle.std.specs.Prelude.{◌≡◌, ℕ, length};
+    ghost use Rattle.program_codes.specs.Codes.{stack_words};
+
+    ghost Value = { ℕ };
+
+    ghost view = { λ stack. length stack.words.items };
+
+    ghost invariant = { λ stack. length stack.words.items ≡ stack_words };
+}
+
+impl Stack {
+    /// A stack for runs. Fails if allocation fails.
+    pub fn new(alloc: Global) -> Result<Stack, AllocError>
+        ensures { IfOk result (λ stack. stack ≡ stack_words) }
+    {
+        let words = vec![in alloc; 0; STACK_WORDS]?;
+        Ok(Stack { words })
+    }
+}
+
+/// Runs code over cells at a moment, as `Code::run` does. It allocates nothing.
+pub fn run_code(code: &Code, stack: &mut Stack, cells: &mut Cells, moment: u64) -> Result<(), Stop>
+    requires values { code.now.values ≤ length cells.old.values }
+    requires clocks { code.now.clocks ≤ length cells.old.clocks }
+    requires room { code.now.stack ≤ stack_words }
+    ensures ran { (names : List Path) → (left : ℕ) × (run_of moment names code.now cells.old ≡ Over (ended names result cells.new) left) }
+    ensures path { IfErr result (λ stop. stop.path < code.now.paths) }
+    ensures shape { SameShape cells.new cells.old }
+{
+    code.run(stack.words.as_mut_slice(), cells, moment)
+}
+
+/// Runs code as `run_code` does, and tells how many instructions it did.
+pub fn run_code_counted(
+    code: &Code,
+    stack: &mut Stack,
+    cells: &mut Cells,
+    moment: u64,
+) -> (Result<(), Stop>, u128)
+    requires values { code.now.values ≤ length cells.old.values }
+    requires clocks { code.now.clocks ≤ length cells.old.clocks }
+    requires room { code.now.stack ≤ stack_words }
+    ensures ran { (names : List Path) → run_of moment names code.now cells.old ≡ Over (ended names result.0 cells.new) (4 * code.now.cost + 4 - result.1) }
+    ensures count { result.1 ≤ 4 * code.now.cost + 4 }
+    ensures path { IfErr result.0 (λ stop. stop.path < code.now.paths) }
+    ensures shape { SameShape cells.new cells.old }
+{
+    code.run_counted(stack.words.as_mut_slice(), cells, moment)
+}
