@@ -8,5 +8,6 @@ mod Placed
 mod Found
 mod Started
 mod Walks
+mod Coded
 pub mod Steady
 mod Copied

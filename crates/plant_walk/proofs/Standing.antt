@@ -8,16 +8,24 @@ use Rattle.plant_logic.specs.declared.logic.Variable.{Variable}
 use Rattle.plant_logic.specs.Source.{Source}
 use Rattle.plant_logic.specs.Names.{global_words, find_global}
 use Rattle.plant_logic.specs.Worlds.{World, assign, path_of}
-use Rattle.plant_logic.specs.Layout.{global_values, program_values, cell_paths}
+use Rattle.plant_logic.specs.Layout.{global_values, program_values, cell_paths, all_clocks}
 use Rattle.plant_logic.proofs.Seats.{word_at}
+use Rattle.block_walk.specs.declared.clock.Clock.{Clock}
 use Rattle.block_walk.specs.Cells.{PlainCells, value_at, assigned}
-use Rattle.block_frames.specs.Stands.{StandFor}
+use Rattle.block_frames.specs.Stands.{clock_in, StandFor}
 use Rattle.block_frames.proofs.Cells.{value_held, value_put}
 use Rattle.plant_walk.specs.Sound.{IsSound}
+use Rattle.plant_walk.specs.Runs.{HasCells}
 use Rattle.plant_walk.proofs.Small.{sound_named}
 
 pub as_many : (source : Source) (cells : PlainCells) (w : World) → StandFor source cells w → length cells.values ≡ length (cell_paths source)
 as_many source cells w stands = ap length stands.values_are ∙ length-map (cell_paths source) w.values
+
+pub are_there : (source : Source) (cells : PlainCells) (w : World) → StandFor source cells w → HasCells source cells
+are_there source cells w stands = record {
+  values = as_many source cells w stands;
+  clocks = ap (λ (l : List Clock). length l) stands.clocks_are ∙ length-map (all_clocks source) (clock_in w);
+}
 
 at_front : {A : Type 0} (xs ys : List A) (i : ℕ) (a : A) → slice_get xs i ≡ Some a → slice_get (xs ++ ys) i ≡ Some a
 at_front [] ys i a at = absurd (cc)

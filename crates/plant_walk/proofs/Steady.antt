@@ -45,7 +45,7 @@ use Rattle.block_frames.specs.Reached.{flagged}
 use Rattle.code_sizes.specs.Sizes.{number_of, constant_number, step_number, span_from, constant_span}
 use Rattle.codegen.specs.Codes.{IsSteady, SteadyStmt, SteadyBody, SteadyBranches, SteadyChoices, AreSteady}
 
-abbrev Name : Type 0
+abbrev pub Name : Type 0
 Name = List ℕ
 
 -- an element that a list is long enough for
@@ -73,7 +73,7 @@ module _ (k l : Name → Kind) (o p : Name → Name → Kind) where
       let right = other z refl in
       ((λ i. option_and_then (λ y. option_map (λ z. then_two y z (eval_binary (resolved_binary op (sym both.1 i)))) (right i)) (both.0 i)) ∙ is, ap (binary_result op) both.1)
 
-  constant_alike : (e : PlainExpr Name) (x : Outcome) → constant_of (resolved_expr k o e) ≡ Some x → (constant_of (resolved_expr l p e) ≡ Some x) × (kind_in k o e ≡ kind_in l p e)
+  pub constant_alike : (e : PlainExpr Name) (x : Outcome) → constant_of (resolved_expr k o e) ≡ Some x → (constant_of (resolved_expr l p e) ≡ Some x) × (kind_in k o e ≡ kind_in l p e)
   constant_alike (literal n) x is = (is, refl)
   constant_alike (read v) x is = absurd (cc)
   constant_alike (output_of instance name) x is = absurd (cc)
@@ -84,7 +84,7 @@ module _ (k l : Name → Kind) (o p : Name → Name → Kind) where
 
 -- ---- numbers in the place of names change no constant
 module _ (source : Source) (r : PlainRoutine) where
-  constant_mapped : (e : PlainExpr Name) → constant_of (mapped_expr (numbers source r) e) ≡ constant_of e
+  pub constant_mapped : (e : PlainExpr Name) → constant_of (mapped_expr (numbers source r) e) ≡ constant_of e
   constant_mapped (literal n) = refl
   constant_mapped (read v) = refl
   constant_mapped (output_of instance name) = refl

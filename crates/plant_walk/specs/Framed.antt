@@ -3,12 +3,14 @@ use Rattle.std.specs.Prelude.{◌≡◌, ◌<◌, ◌^◌, ℕ, List, [], ◌∷
 use Rattle.plant_logic.specs.declared.logic.Variable.{Variable}
 use Rattle.plant_logic.specs.Source.{Source}
 use Rattle.plant_logic.specs.Blocks.{AreBelow}
-use Rattle.plant_logic.specs.Layout.{ClockAt, all_clocks}
+use Rattle.plant_logic.specs.Layout.{ClockAt, cell_paths, all_clocks}
 use Rattle.plant_logic.specs.Seats.{program_values_base, program_clocks_base}
 use Rattle.block_walk.specs.declared.clock.Standard.{Standard}
 use Rattle.block_walk.specs.declared.frame.Frame.{Frame}
 use Rattle.block_frames.specs.Frames.{IsFrames, IsStart}
 use Rattle.block_frames.specs.Stands.{standard_of}
+use Rattle.acc_vm.specs.Codes.{PlainCode}
+use Rattle.program_codes.specs.Codes.{AreCodes}
 use Rattle.plant_walk.specs.Sound.{IsSound}
 use Rattle.plant_walk.specs.Bases.{program_paths_base, AreBases}
 
@@ -26,8 +28,8 @@ pub record HasStart (source : Source) (table : List Frame) : Type 0 where
   pub table_is : table ≡ start ∷ []
   pub is_start : IsStart source start
 
--- a sound source has its frames, and where the values, the standard blocks and the paths of each program begin; each path number is one of 32 bits
-pub record IsFramed (source : Source) (order : List ℕ) (frames start : List Frame) (names : List (List ℕ)) (standards : List Standard) (values clocks paths : List ℕ) : Type 0 where
+-- a sound source has its frames, and where the values, the standard blocks and the paths of each program begin; each path number is one of 32 bits; and it has the code of each program
+pub record IsFramed (source : Source) (order : List ℕ) (frames start : List Frame) (names : List (List ℕ)) (standards : List Standard) (values clocks paths : List ℕ) (codes : List PlainCode) : Type 0 where
   pub sound : IsSound source
   pub below : AreBelow source.blocks order
   pub are_frames : IsFrames source order frames
@@ -38,3 +40,4 @@ pub record IsFramed (source : Source) (order : List ℕ) (frames start : List Fr
   pub clocks_begin : AreBases (program_clocks_base source) (length source.programs) clocks
   pub paths_begin : AreBases (program_paths_base source) (length source.programs) paths
   pub paths_fit : program_paths_base source (length source.programs) < 2 ^ 32
+  pub codes_are : AreCodes frames (length source.globals) (length order) values clocks (length (cell_paths source)) (length (all_clocks source)) codes

@@ -4,6 +4,7 @@ use Rattle.plant_types.specs.declared.values.Place.{Place}
 use Rattle.st_tree.specs.Meaning.{Spot, Ran, Done, Trapped}
 use Rattle.plant_logic.specs.Source.{Source}
 use Rattle.plant_logic.specs.Worlds.{World}
+use Rattle.plant_logic.specs.Layout.{cell_paths, all_clocks}
 use Rattle.plant_logic.specs.Paths.{paths_of}
 use Rattle.block_walk.specs.declared.walker.Stop.{Stop}
 use Rattle.block_walk.specs.Cells.{PlainCells}
@@ -36,3 +37,8 @@ Agree source (Done w) (Done cells) = StandFor source cells w
 Agree source (Done w) (Trapped cells spot trap) = ⊥
 Agree source (Trapped w spot trap) (Done cells) = ⊥
 Agree source (Trapped w spot trap) (Trapped cells other kind) = StandFor source cells w × (spot ≡ other) × (trap ≡ kind)
+
+-- cells have a value for each variable of a source, and a clock for each of its standard blocks
+pub record HasCells (source : Source) (cells : PlainCells) : Type 0 where
+  pub values : length cells.values ≡ length (cell_paths source)
+  pub clocks : length cells.clocks ≡ length (all_clocks source)

@@ -10,7 +10,7 @@ ghost use Rattle.plant_logic.specs.Paths.{paths_of, path_text};
 ghost use Rattle.plant_limits.specs.Limits.{KeepsLimits, IsLimitFault};
 ghost use Rattle.block_frames.specs.Stands.{StandFor};
 ghost use Rattle.plant_walk.specs.Sound.{IsSound};
-ghost use Rattle.plant_walk.specs.Runs.{Agree, IsWithin, ran, walked_by};
+ghost use Rattle.plant_walk.specs.Runs.{Agree, HasCells, IsWithin, ran, walked_by};
 
 use crate::names::global_names;
 use crate::opening::start_programs;
@@ -18,6 +18,7 @@ use crate::paths::{path_bases, program_of};
 use crate::standards::standards_of;
 use crate::values::value_bases;
 use crate::walking::Walked;
+use acc_vm::Code;
 use block_frames::{
     copied_frames_are_frames, frames_agree, frames_begin, frames_have_paths, frames_of, start_of,
     typed_names_are_known,
@@ -26,13 +27,14 @@ use block_walk::{Cells, Frame, Standard, Stop, copy_frames, push_path, start_fra
 use plant_limits::{LimitFault, limits};
 use plant_logic::{Logic, Routine, Variable, logic_of, order_is_of_source};
 use plant_types::Place;
+use program_codes::{Stack, codes_of, copied_frames_have_codes, copy_codes, run_code_counted};
 use st_typing::Typed;
 use std::alloc::{AllocError, Global};
 use std::marker::Model;
 use word_index::Names;
 
-/// The source of well-formed units that keeps the limits, with a frame for each program and each block type that is used, and with where
-/// the values, the standard blocks and the paths of each program begin. Contracts see the source.
+/// The source of well-formed units that keeps the limits, with a frame for each program and each block type that is used, with where the
+/// values, the standard blocks and the paths of each program begin, and with the code of each program. Contracts see the source.
 #[derive(Drop)]
 pub struct Framed {
     logic: Logic,
@@ -44,6 +46,7 @@ pub struct Framed {
     values: Vec<usize>,
     clocks: Vec<usize>,
     paths: Vec<u32>,
+    codes: Vec<Code>,
 }
 
 impl Model for Framed {
@@ -58,7 +61,7 @@ impl Model for Framed {
 
     ghost view = { λ framed. source_of framed.logic };
 
-    ghost invariant = { λ framed. IsFramed (source_of framed.logic) framed.order.items framed.frames.items framed.start.items framed.names framed.standards.items framed.values.items framed.clocks.items framed.paths.items };
+    ghost invariant = { λ framed. IsFramed (source_of framed.logic) framed.order.items framed.frames.items framed.start.items framed.names framed.standards.items framed.values.items framed.clocks.items framed.paths.items framed.codes.items };
 }
 
 /// A sound source made ready to run. Fails if allocation fails.
@@ -74,6 +77,16 @@ fn ready(alloc: Global, logic: Logic, order: Vec<usize>) -> Result<Framed, Alloc
     let standards = standards_of(alloc, &logic, &order, &frames)?;
     let values = value_bases(alloc, &logic, &order)?;
     let paths = path_bases(alloc, &logic, &order, &frames)?;
+    let codes = codes_of(
+        alloc,
+        &frames,
+        logic.globals.len(),
+        order.len(),
+        &values,
+        &standards.bases,
+        values[logic.programs.len()],
+        standards.list.len(),
+    )?;
     Ok(Framed {
         logic,
         order,
@@ -84,6 +97,7 @@ fn ready(alloc: Global, logic: Logic, order: Vec<usize>) -> Result<Framed, Alloc
         values,
         clocks: standards.bases,
         paths,
+        codes,
     })
 }
 
@@ -135,6 +149,7 @@ impl Framed {
         ensures { IfOk result (λ copy. copy ≡ self.now) }
     {
         copied_frames_are_frames();
+        copied_frames_have_codes();
         Ok(Framed {
             logic: self.logic.copy(alloc)?,
             order: Vec::from_slice(alloc, &self.order)?,
@@ -145,6 +160,7 @@ impl Framed {
             values: Vec::from_slice(alloc, &self.values)?,
             clocks: Vec::from_slice(alloc, &self.clocks)?,
             paths: Vec::from_slice(alloc, &self.paths)?,
+            codes: copy_codes(alloc, &self.codes)?,
         })
     }
 
@@ -193,8 +209,8 @@ impl Framed {
         Ok(cells)
     }
 
-    /// Runs the program of a number, as `walk` does.
-    pub(crate) fn run(&self, program: usize, cells: &mut Cells, moment: u64) -> Walked
+    /// Walks the program of a number, as `walk` does.
+    pub(crate) fn walk(&self, program: usize, cells: &mut Cells, moment: u64) -> Walked
         requires there { program < length self.now.programs }
         ensures ran { (w : World) → StandFor self.now cells.old w → Agree self.now (run_program self.now program moment w) (ran self.now result cells.new) }
         ensures within { IsWithin self.now result }
@@ -212,6 +228,27 @@ impl Framed {
             moment,
         );
         walked(self.paths[program], ended)
+    }
+
+    /// Runs the code of the program of a number, as `run_counted` does.
+    pub(crate) fn run_counted(
+        &self,
+        program: usize,
+        stack: &mut Stack,
+        cells: &mut Cells,
+        moment: u64,
+    ) -> (Walked, u128)
+        requires there { program < length self.now.programs }
+        requires cells { HasCells self.now cells.old }
+        ensures ran { (w : World) → StandFor self.now cells.old w → Agree self.now (run_program self.now program moment w) (ran self.now result.0 cells.new) }
+        ensures within { IsWithin self.now result.0 }
+        ensures shape { HasCells self.now cells.new }
+    {
+        frames_agree();
+        frames_have_paths();
+        typed_names_are_known();
+        let (ended, count) = run_code_counted(&self.codes[program], stack, cells, moment);
+        (walked(self.paths[program], ended), count)
     }
 
     /// Adds the text of the path of a number: the names of the program and of the instances below it, as declared, with points between

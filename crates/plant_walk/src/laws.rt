@@ -12,10 +12,16 @@ ghost use Rattle.plant_logic.specs.Ranges.{AllInRange};
 ghost use Rattle.block_walk.specs.Cells.{PlainCells, value_at, assigned};
 ghost use Rattle.block_frames.specs.Stands.{StandFor};
 ghost use Rattle.plant_walk.specs.Sound.{IsSound};
+ghost use Rattle.plant_walk.specs.Runs.{HasCells};
 
 /// There are as many cells with values as values of the source: the globals are the first of these.
 pub fn as_many_cells()
     ensures { (source : Source) (cells : PlainCells) (w : World) → StandFor source cells w → length cells.values ≡ length (cell_paths source) }
+{}
+
+/// Cells that stand for a world have a value for each variable of the source, and a clock for each of its standard blocks.
+pub fn standing_cells_are_there()
+    ensures { (source : Source) (cells : PlainCells) (w : World) → StandFor source cells w → HasCells source cells }
 {}
 
 /// The cell of a global's number holds the world's value at the global's path.

@@ -1,7 +1,8 @@
 //! The logic of a plant, made ready to run, and its runs.
 //!
 //! `Framed::of` judges the limits on slots, size and cost and makes a frame of each program and of each block type that a program uses.
-//! `walk` runs a program over cells as the source is read, statement by statement.
+//! `run` runs the code of a program over cells; `walk` runs the program as the source is read, statement by statement. Both end as the
+//! source does, and leave the same cells.
 //!
 //! The cells have the values of the globals, then those of each program in turn with its instances; so have they the standard blocks. A
 //! program has a frame, the numbers of its first value and of its first standard block, and the number of its first path: its own path
@@ -21,6 +22,7 @@ pub use framed::Framed;
 pub use laws::{
     as_many_cells, assigned_global_stays_in_range, cell_of_global, each_found, found_global,
     global_is_in_range, opening_world_is_in_range, program_stays_in_range, sound_source_is_small,
-    written_cell,
+    standing_cells_are_there, written_cell,
 };
-pub use walking::{Walked, walk};
+pub use program_codes::Stack;
+pub use walking::{Walked, run, run_counted, walk};

@@ -1,15 +1,16 @@
-//! Runs programs over cells.
+//! Runs programs over cells: by their codes, or as the source is read.
 
 ghost use Rattle.std.specs.Prelude.{◌<◌, length};
 ghost use Rattle.plant_logic.specs.Worlds.{World, run_program};
 ghost use Rattle.block_frames.specs.Stands.{StandFor};
-ghost use Rattle.plant_walk.specs.Runs.{ran, IsWithin, Agree};
+ghost use Rattle.plant_walk.specs.Runs.{ran, IsWithin, HasCells, Agree};
 
 use crate::framed::Framed;
 use block_walk::Cells;
 use plant_types::{Place, Trap};
+use program_codes::Stack;
 
-/// How a walk ends.
+/// How a run of a program ends.
 #[derive(Clone, Copy, Debug, PartialEq, Eq, Drop)]
 pub enum Walked {
     /// After the last statement.
@@ -25,5 +26,41 @@ pub fn walk(framed: &Framed, program: u32, cells: &mut Cells, moment: u64) -> Wa
     ensures ran { (w : World) → StandFor framed.now cells.old w → Agree framed.now (run_program framed.now program moment w) (ran framed.now result cells.new) }
     ensures within { IsWithin framed.now result }
 {
-    framed.run(program as usize, cells, moment)
+    framed.walk(program as usize, cells, moment)
+}
+
+/// Runs the code of the program of a number, from 0, over the cells. It ends as `walk` does, and leaves the cells as `walk` does. The stack is
+/// memory for the run. It allocates nothing.
+pub fn run(
+    framed: &Framed,
+    program: u32,
+    stack: &mut Stack,
+    cells: &mut Cells,
+    moment: u64,
+) -> Walked
+    requires there { program < length framed.now.programs }
+    requires cells { HasCells framed.now cells.old }
+    ensures ran { (w : World) → StandFor framed.now cells.old w → Agree framed.now (run_program framed.now program moment w) (ran framed.now result cells.new) }
+    ensures within { IsWithin framed.now result }
+    ensures shape { HasCells framed.now cells.new }
+{
+    let (walked, _) = framed.run_counted(program as usize, stack, cells, moment);
+    walked
+}
+
+/// Runs the code of a program as `run` does, and tells how many instructions it did.
+pub fn run_counted(
+    framed: &Framed,
+    program: u32,
+    stack: &mut Stack,
+    cells: &mut Cells,
+    moment: u64,
+) -> (Walked, u128)
+    requires there { program < length framed.now.programs }
+    requires cells { HasCells framed.now cells.old }
+    ensures ran { (w : World) → StandFor framed.now cells.old w → Agree framed.now (run_program framed.now program moment w) (ran framed.now result.0 cells.new) }
+    ensures within { IsWithin framed.now result.0 }
+    ensures shape { HasCells framed.now cells.new }
+{
+    framed.run_counted(program as usize, stack, cells, moment)
 }

@@ -1,0 +1,146 @@
+use Rattle.std.proofs.Common.{◌≡◌, ◌∙◌, ◌<◌, ◌≤◌, ◌+◌, sym, subst, refl, length, get_or, Some, arith}
+use Rattle.std.specs.Prelude.{slice_get}
+use Rattle.std.proofs.lemmas.List.{get_or_default}
+use Rattle.std.proofs.lemmas.Option.{slice_get_read}
+use Rattle.plant_logic.specs.Source.{Source, source_of}
+use Rattle.plant_logic.specs.Layout.{cell_paths, all_clocks}
+use Rattle.plant_logic.specs.Worlds.{run_program}
+use Rattle.plant_logic.specs.Seats.{program_values_base, program_clocks_base}
+use Rattle.block_frames.specs.Numbers.{HasAllNames}
+use Rattle.block_frames.specs.Stands.{StandFor}
+use Rattle.program_codes.specs.Codes.{base_in}
+use Rattle.plant_walk.specs.Bases.{program_paths_base}
+use Rattle.plant_walk.specs.Runs.{Agree, HasCells, IsWithin, ran}
+use Rattle.plant_walk.proofs.Small.{sound_named, sound_types}
+use Rattle.plant_walk.proofs.Walks.{the_program, is_there, fits_in, within_is, ran_is}
+use Rattle.plant_walk.proofs.Coded.{path_inside, ends_as_frame, shape_kept}
+use Rattle.plant_walk.proofs.framed.Framed.run_counted.Goals as goal
+
+pub run_code_counted-ended-requires-clause-values : goal.run_code_counted-ended-requires-clause-values
+run_code_counted-ended-requires-clause-values c =
+    let inside = c.self.inside in
+    let source = source_of inside.logic in
+    let are = c.self.invariant in
+    let n = c.args.program in
+    let there : n < length source.programs = subst (λ (s : Source). n < length s.programs) (sym c.self.view_is) c.requires.there in
+    let long = are.codes_are.long in
+    let rows = are.values_begin.long in
+    let code = c.index.result.now in
+    let at : slice_get inside.codes.items n ≡ Some code = slice_get_read inside.codes.items (length inside.codes.items) n code refl (omega (arith, there, long, rows)) c.index.ensures in
+    let is = are.codes_are.each n code at in
+    let has : HasCells source c.args.cells.now = subst (λ (s : Source). HasCells s c.args.cells.now) (sym c.self.view_is) c.requires.cells in
+    let own = is.values in
+    let all = has.values in
+    omega (arith, own, all)
+
+pub run_code_counted-ended-requires-clause-clocks : goal.run_code_counted-ended-requires-clause-clocks
+run_code_counted-ended-requires-clause-clocks c =
+    let inside = c.self.inside in
+    let source = source_of inside.logic in
+    let are = c.self.invariant in
+    let n = c.args.program in
+    let there : n < length source.programs = subst (λ (s : Source). n < length s.programs) (sym c.self.view_is) c.requires.there in
+    let long = are.codes_are.long in
+    let rows = are.values_begin.long in
+    let code = c.index.result.now in
+    let at : slice_get inside.codes.items n ≡ Some code = slice_get_read inside.codes.items (length inside.codes.items) n code refl (omega (arith, there, long, rows)) c.index.ensures in
+    let is = are.codes_are.each n code at in
+    let has : HasCells source c.args.cells.now = subst (λ (s : Source). HasCells s c.args.cells.now) (sym c.self.view_is) c.requires.cells in
+    let own = is.clocks in
+    let all = has.clocks in
+    omega (arith, own, all)
+
+pub run_code_counted-ended-requires-clause-room : goal.run_code_counted-ended-requires-clause-room
+run_code_counted-ended-requires-clause-room c =
+    let inside = c.self.inside in
+    let source = source_of inside.logic in
+    let are = c.self.invariant in
+    let n = c.args.program in
+    let there : n < length source.programs = subst (λ (s : Source). n < length s.programs) (sym c.self.view_is) c.requires.there in
+    let long = are.codes_are.long in
+    let rows = are.values_begin.long in
+    let code = c.index.result.now in
+    let at : slice_get inside.codes.items n ≡ Some code = slice_get_read inside.codes.items (length inside.codes.items) n code refl (omega (arith, there, long, rows)) c.index.ensures in
+    (are.codes_are.each n code at).stack
+
+pub returns-clause-ran : goal.returns-clause-ran
+returns-clause-ran c w stands =
+    let inside = c.self.inside in
+    let source = source_of inside.logic in
+    let are = c.self.invariant in
+    let frames = inside.frames.items in
+    let order = inside.order.items in
+    let n = c.args.program in
+    let there : n < length source.programs = subst (λ (s : Source). n < length s.programs) (sym c.self.view_is) c.requires.there in
+    let most : n ≤ length source.programs = omega (arith, there) in
+    let long = are.codes_are.long in
+    let rows = are.values_begin.long in
+    let code = c.index.result.now in
+    let at : slice_get inside.codes.items n ≡ Some code = slice_get_read inside.codes.items (length inside.codes.items) n code refl (omega (arith, there, long, rows)) c.index.ensures in
+    let is = are.codes_are.each n code at in
+    let ended = c.run_code_counted-ended.result.0 in
+    let new = c.run_code_counted-ended.new.cells in
+    let types = sound_types source are.sound in
+    let p = the_program source n in
+    let have_paths = c.frames_have_paths.ensures source order frames are.are_frames are.below types n p (is_there source n there) in
+    let paths_long = are.paths_begin.long in
+    let base_is : c.index-2.result.now ≡ program_paths_base source n = c.index-2.ensures ∙ get_or_default inside.paths.items n c.index-2.result.now 0 (omega (arith, there, paths_long)) ∙ are.paths_begin.each n most in
+    let values_are : get_or inside.values.items n 0 ≡ program_values_base source n = are.values_begin.each n most in
+    let clocks_are : get_or inside.clocks.items n 0 ≡ program_clocks_base source n = are.clocks_begin.each n most in
+    let names : HasAllNames source = subst HasAllNames (sym are.sound.are_theirs) (c.typed_names_are_known.ensures are.sound.units are.sound.typed) in
+    let here : StandFor source c.args.cells.now w = subst (λ (s : Source). StandFor s c.args.cells.now w) (sym c.self.view_is) stands in
+    let agree = c.frames_agree.ensures source order frames are.are_frames are.below types (sound_named source are.sound) names c.args.moment n p (is_there source n there) w c.args.cells.now here in
+    let placed = path_inside frames (length source.globals) (length order + n) (base_in inside.values.items inside.clocks.items n) (length (cell_paths source)) (length (all_clocks source)) code is ended c.run_code_counted-ended.ensures.path in
+    let as_frame = ends_as_frame frames (length source.globals) (length order + n) (base_in inside.values.items inside.clocks.items n) (length (cell_paths source)) (length (all_clocks source)) code is ended c.run_code_counted-ended.ensures.path c.args.moment c.args.cells.now new
+    (λ l. (_, c.run_code_counted-ended.ensures.ran l)) in
+    let whole = ran_is source order frames n there have_paths frames (length order + n) refl refl ended placed c.args.moment (length source.globals) (get_or inside.values.items n 0) (get_or inside.clocks.items n 0) c.index-2.result.now
+    c.args.cells.now new (run_program source n c.args.moment w) refl values_are clocks_are base_is as_frame agree
+    in
+    subst (λ (s : Source). Agree s (run_program s n c.args.moment w) (ran s c.walked.result new)) c.self.view_is
+    (subst (λ r. Agree source (run_program source n c.args.moment w) (ran source r new)) (sym c.walked.ensures) whole)
+
+pub returns-clause-within : goal.returns-clause-within
+returns-clause-within c =
+    let inside = c.self.inside in
+    let source = source_of inside.logic in
+    let are = c.self.invariant in
+    let frames = inside.frames.items in
+    let order = inside.order.items in
+    let n = c.args.program in
+    let there : n < length source.programs = subst (λ (s : Source). n < length s.programs) (sym c.self.view_is) c.requires.there in
+    let most : n ≤ length source.programs = omega (arith, there) in
+    let long = are.codes_are.long in
+    let rows = are.values_begin.long in
+    let code = c.index.result.now in
+    let at : slice_get inside.codes.items n ≡ Some code = slice_get_read inside.codes.items (length inside.codes.items) n code refl (omega (arith, there, long, rows)) c.index.ensures in
+    let is = are.codes_are.each n code at in
+    let have_paths = c.frames_have_paths.ensures source order frames are.are_frames are.below (sound_types source are.sound) n (the_program source n) (is_there source n there) in
+    let paths_long = are.paths_begin.long in
+    let base_is : c.index-2.result.now ≡ program_paths_base source n = c.index-2.ensures ∙ get_or_default inside.paths.items n c.index-2.result.now 0 (omega (arith, there, paths_long)) ∙ are.paths_begin.each n most in
+    let placed = path_inside frames (length source.globals) (length order + n) (base_in inside.values.items inside.clocks.items n) (length (cell_paths source)) (length (all_clocks source)) code is c.run_code_counted-ended.result.0 c.run_code_counted-ended.ensures.path in
+    let whole = within_is source order frames n there have_paths frames (length order + n) refl refl c.run_code_counted-ended.result.0 placed c.index-2.result.now base_is in
+    subst (λ (s : Source). IsWithin s c.walked.result) c.self.view_is (subst (IsWithin source) (sym c.walked.ensures) whole)
+
+pub returns-clause-shape : goal.returns-clause-shape
+returns-clause-shape c = shape_kept c.args.self.now c.args.cells.now c.run_code_counted-ended.new.cells c.run_code_counted-ended.ensures.shape c.requires.cells
+
+pub walked-requires : goal.walked-requires
+walked-requires c =
+    let inside = c.self.inside in
+    let source = source_of inside.logic in
+    let are = c.self.invariant in
+    let frames = inside.frames.items in
+    let order = inside.order.items in
+    let n = c.args.program in
+    let there : n < length source.programs = subst (λ (s : Source). n < length s.programs) (sym c.self.view_is) c.requires.there in
+    let most : n ≤ length source.programs = omega (arith, there) in
+    let long = are.codes_are.long in
+    let rows = are.values_begin.long in
+    let code = c.index.result.now in
+    let at : slice_get inside.codes.items n ≡ Some code = slice_get_read inside.codes.items (length inside.codes.items) n code refl (omega (arith, there, long, rows)) c.index.ensures in
+    let is = are.codes_are.each n code at in
+    let have_paths = c.frames_have_paths.ensures source order frames are.are_frames are.below (sound_types source are.sound) n (the_program source n) (is_there source n there) in
+    let paths_long = are.paths_begin.long in
+    let base_is : c.index-2.result.now ≡ program_paths_base source n = c.index-2.ensures ∙ get_or_default inside.paths.items n c.index-2.result.now 0 (omega (arith, there, paths_long)) ∙ are.paths_begin.each n most in
+    let placed = path_inside frames (length source.globals) (length order + n) (base_in inside.values.items inside.clocks.items n) (length (cell_paths source)) (length (all_clocks source)) code is c.run_code_counted-ended.result.0 c.run_code_counted-ended.ensures.path in
+    fits_in source order frames n there have_paths frames (length order + n) refl refl c.run_code_counted-ended.result.0 placed c.index-2.result.now 4294967296 base_is are.paths_fit
