@@ -1,1 +1,3 @@
 mod Tables
+mod Stopping
+mod Alike

@@ -9,7 +9,9 @@ use Rattle.block_walk.specs.declared.frame.Frame.{Frame}
 use Rattle.block_walk.specs.Frames.{Path, of_frame, of_first, routine_paths, frame_paths}
 use Rattle.code_sizes.specs.declared.counts.Count.{Count}
 use Rattle.code_sizes.specs.Sizes.{routine_lines, routine_words, routine_cost, frame_lines, frame_words, frame_cost}
-use Rattle.code_sizes.specs.Counts.{lines_at, words_at, cost_at, paths_at, IsCountOf, AreFirst}
+use Rattle.code_sizes.specs.Counts.{capped, lines_at, words_at, cost_at, paths_at, IsCountOf, AreFirst}
+use Rattle.code_sizes.proofs.Stopping.{Same}
+use Rattle.code_sizes.proofs.Alike.{routine_alike}
 
 front : {A : Type 0} (xs ys : List A) (n : ℕ) → n < length xs → slice_get (xs ++ ys) n ≡ slice_get xs n
 front [] ys n h = absurd (omega arith)
@@ -56,9 +58,13 @@ module _ (frames : List Frame) (table : List Count) (frame : Frame) (count : Cou
   unfolding frame_words
   words_more = first_more (λ n. n) 0 routine_words (λ (c : Count). c.words) frames table frame count there before.words (is.words ∙ ap (λ f. routine_words f frame) (λ i k. sym (before.words k) i))
 
-  cost_more : (k : ℕ) → frame_cost frames (suc (length table)) k ≡ cost_at (table ++ count ∷ []) k
+  -- the costs of the frames before, as far as they are counted
+  cost_before : (k : ℕ) → Same 4294967295 (cost_at table k) (frame_cost frames (length table) k)
+  cost_before k = let e = before.cost k in omega arith
+
+  cost_more : (k : ℕ) → capped (frame_cost frames (suc (length table)) k) ≡ cost_at (table ++ count ∷ []) k
   unfolding frame_cost
-  cost_more = first_more (λ n. n) 0 routine_cost (λ (c : Count). c.cost) frames table frame count there before.cost (is.cost ∙ ap (λ f. routine_cost f frame) (λ i k. sym (before.cost k) i))
+  cost_more = first_more capped 0 routine_cost (λ (c : Count). c.cost) frames table frame count there before.cost (is.cost ∙ routine_alike 4294967295 (cost_at table) (frame_cost frames (length table)) cost_before frame)
 
   paths_more : (k : ℕ) → length (frame_paths frames (suc (length table)) k) ≡ paths_at (table ++ count ∷ []) k
   unfolding frame_paths

@@ -1,11 +1,15 @@
 -- What a table of counts tells of each frame.
-use Rattle.std.specs.Prelude.{◌≡◌, ℕ, List, length, slice_get}
+use Rattle.std.specs.Prelude.{◌≡◌, ℕ, min, List, length, slice_get}
 use Rattle.std.specs.Option.{option_map_or}
 use Rattle.block_walk.specs.declared.frame.Frame.{Frame}
 use Rattle.block_walk.specs.Frames.{Path, routine_paths, frame_paths}
 use Rattle.code_sizes.specs.declared.counts.Count.{Count}
 use Rattle.code_sizes.specs.declared.counts.FrameCounts.{FrameCounts}
 use Rattle.code_sizes.specs.Sizes.{routine_lines, routine_words, routine_cost, frame_lines, frame_words, frame_cost}
+
+-- a cost is counted up to 2^32 - 1: what stands in a FOR of no turn costs nothing there, so a frame that such a FOR alone calls may cost any number
+abbrev pub capped : ℕ → ℕ
+capped n = min n 4294967295
 
 -- the instructions of the frame of a number, by a table; 0 past its end
 abbrev pub lines_at : List Count → ℕ → ℕ
@@ -15,7 +19,7 @@ lines_at table k = option_map_or (λ (c : Count). c.lines) (slice_get table k) 0
 abbrev pub words_at : List Count → ℕ → ℕ
 words_at table k = option_map_or (λ (c : Count). c.words) (slice_get table k) 0
 
--- its cost
+-- its cost, as far as it is counted
 abbrev pub cost_at : List Count → ℕ → ℕ
 cost_at table k = option_map_or (λ (c : Count). c.cost) (slice_get table k) 0
 
@@ -27,7 +31,7 @@ paths_at table k = option_map_or (λ (c : Count). c.paths) (slice_get table k) 0
 pub record IsCountOf (table : List Count) (frame : Frame) (count : Count) : Type 0 where
   pub lines : count.lines ≡ routine_lines (lines_at table) frame
   pub words : count.words ≡ routine_words (words_at table) frame
-  pub cost : count.cost ≡ routine_cost (cost_at table) frame
+  pub cost : count.cost ≡ capped (routine_cost (cost_at table) frame)
   pub paths : (paths : ℕ → List Path) → ((k : ℕ) → length (paths k) ≡ paths_at table k) → count.paths ≡ length (routine_paths paths frame.seats.items)
 
 -- a table has the counts of so many first frames, and of no other
@@ -35,7 +39,7 @@ pub record AreFirst (frames : List Frame) (n : ℕ) (table : List Count) : Type 
   pub many : length table ≡ n
   pub lines : (k : ℕ) → frame_lines frames n k ≡ lines_at table k
   pub words : (k : ℕ) → frame_words frames n k ≡ words_at table k
-  pub cost : (k : ℕ) → frame_cost frames n k ≡ cost_at table k
+  pub cost : (k : ℕ) → capped (frame_cost frames n k) ≡ cost_at table k
   pub paths : (k : ℕ) → length (frame_paths frames n k) ≡ paths_at table k
 
 -- counts are those of all frames

@@ -1,6 +1,6 @@
 //! Sums of counts, refused from 2^32 on.
 
-ghost use Rattle.std.specs.Prelude.{◌≡◌, ◌+◌, ◌*◌, IfOk};
+ghost use Rattle.std.specs.Prelude.{◌≡◌, ◌+◌, IfOk};
 
 use std::alloc::AllocError;
 
@@ -10,16 +10,6 @@ pub(crate) fn add(a: u32, b: u32) -> Result<u32, AllocError>
 {
     match a.checked_add(b) {
         Some(n) => Ok(n),
-        None => Err(AllocError),
-    }
-}
-
-/// The product of a number and a count; refused if it is 2^32 or more.
-pub(crate) fn multiply(a: u128, b: u32) -> Result<u32, AllocError>
-    ensures { IfOk result (λ n. n ≡ a * b) }
-{
-    match a.checked_mul(u128::from(b)) {
-        Some(n) => narrow(n),
         None => Err(AllocError),
     }
 }

@@ -10,7 +10,8 @@ use crate::words::body_words;
 use block_walk::Frame;
 use std::alloc::{AllocError, Global};
 
-/// What a frame becomes as code: how many instructions, words of stack and paths it has, and what a run of it costs.
+/// What a frame becomes as code: how many instructions, words of stack and paths it has, and what a run of it costs. A cost of 2^32 - 1 stands
+/// for each cost from there on.
 #[derive(Clone, Copy, Debug, PartialEq, Eq, Drop)]
 pub struct Count {
     pub lines: u32,
@@ -31,7 +32,7 @@ fn count_frame(table: &[Count], frame: &Frame) -> Result<Count, AllocError>
 {
     let lines = body_lines(table, &frame.seats, &frame.body)?;
     let words = body_words(table, &frame.seats, &frame.body)?;
-    let cost = body_cost(table, &frame.seats, &frame.body)?;
+    let cost = body_cost(table, &frame.seats, &frame.body);
     let paths = routine_paths(table, &frame.seats)?;
     Ok(Count {
         lines,
@@ -42,7 +43,8 @@ fn count_frame(table: &[Count], frame: &Frame) -> Result<Count, AllocError>
 }
 
 /// Counts each frame of a table, once and for all that are made code. Takes time linear in the bodies of the frames. Fails if allocation fails,
-/// and if a count of a frame is 2^32 or more.
+/// and if a frame has 2^32 or more instructions, words of stack or paths. No cost is refused: a frame may cost more than any program does
+/// that calls it, where the calls stand in a FOR of no turn.
 pub fn count_frames(alloc: Global, frames: &[Frame]) -> Result<FrameCounts, AllocError>
     ensures { IfOk result (λ counts. AreCounts frames.now counts) }
 {
