@@ -9,5 +9,7 @@ mod Found
 mod Started
 mod Walks
 mod Coded
+mod Weighed
+mod Costs
 pub mod Steady
 mod Copied

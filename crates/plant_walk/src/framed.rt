@@ -1,12 +1,13 @@
 //! The logic of a plant, made ready to run.
 
-ghost use Rattle.std.specs.Prelude.{◌≡◌, ◌<◌, ◌+◌, ◌^◌, ◌++◌, [], IfErr, IfOk, IfSome, MatchResult, length, map, slice_index_or, string_bytes};
+ghost use Rattle.std.specs.Prelude.{◌≡◌, ◌<◌, ◌≤◌, ◌+◌, ◌*◌, ◌^◌, ◌++◌, [], IfErr, IfOk, IfSome, MatchResult, get_or, length, map, slice_index_or, string_bytes};
 ghost use Rattle.plant_logic.specs.Source.{source_of, view_routine};
 ghost use Rattle.plant_logic.specs.Names.{find_global};
 ghost use Rattle.plant_logic.specs.Units.{source_in};
 ghost use Rattle.plant_logic.specs.Blocks.{AreBelow};
 ghost use Rattle.plant_logic.specs.Worlds.{World, opening, run_program};
 ghost use Rattle.plant_logic.specs.Paths.{paths_of, path_text};
+ghost use Rattle.plant_limits.specs.Counts.{program_costs};
 ghost use Rattle.plant_limits.specs.Limits.{KeepsLimits, IsLimitFault};
 ghost use Rattle.block_frames.specs.Stands.{StandFor};
 ghost use Rattle.plant_walk.specs.Sound.{IsSound};
@@ -24,7 +25,7 @@ use block_frames::{
     typed_names_are_known,
 };
 use block_walk::{Cells, Frame, Standard, Stop, copy_frames, push_path, start_frame, walk_frame};
-use plant_limits::{LimitFault, limits};
+use plant_limits::{LimitFault, block_type_counts, limits};
 use plant_logic::{Logic, Routine, Variable, logic_of, order_is_of_source};
 use plant_types::Place;
 use program_codes::{Stack, codes_of, copied_frames_have_codes, copy_codes, run_code_counted};
@@ -243,7 +244,9 @@ impl Framed {
         ensures ran { (w : World) → StandFor self.now cells.old w → Agree self.now (run_program self.now program moment w) (ran self.now result.0 cells.new) }
         ensures within { IsWithin self.now result.0 }
         ensures shape { HasCells self.now cells.new }
+        ensures count { result.1 ≤ 4 * get_or (program_costs self.now) program 0 + 4 }
     {
+        block_type_counts();
         frames_agree();
         frames_have_paths();
         typed_names_are_known();

@@ -1,6 +1,7 @@
 //! Runs programs over cells: by their codes, or as the source is read.
 
-ghost use Rattle.std.specs.Prelude.{◌<◌, length};
+ghost use Rattle.std.specs.Prelude.{◌<◌, ◌≤◌, ◌+◌, ◌*◌, get_or, length};
+ghost use Rattle.plant_limits.specs.Counts.{program_costs};
 ghost use Rattle.plant_logic.specs.Worlds.{World, run_program};
 ghost use Rattle.block_frames.specs.Stands.{StandFor};
 ghost use Rattle.plant_walk.specs.Runs.{ran, IsWithin, HasCells, Agree};
@@ -48,7 +49,8 @@ pub fn run(
     walked
 }
 
-/// Runs the code of a program as `run` does, and tells how many instructions it did.
+/// Runs the code of a program as `run` does, and tells how many instructions it did: at most four for each unit of what the program costs by
+/// the rule of the limit on a scan's steps, and four.
 pub fn run_counted(
     framed: &Framed,
     program: u32,
@@ -61,6 +63,7 @@ pub fn run_counted(
     ensures ran { (w : World) → StandFor framed.now cells.old w → Agree framed.now (run_program framed.now program moment w) (ran framed.now result.0 cells.new) }
     ensures within { IsWithin framed.now result.0 }
     ensures shape { HasCells framed.now cells.new }
+    ensures count { result.1 ≤ 4 * get_or (program_costs framed.now) program 0 + 4 }
 {
     framed.run_counted(program as usize, stack, cells, moment)
 }

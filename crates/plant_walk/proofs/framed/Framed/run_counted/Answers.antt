@@ -1,4 +1,4 @@
-use Rattle.std.proofs.Common.{◌≡◌, ◌∙◌, ◌<◌, ◌≤◌, ◌+◌, sym, subst, refl, length, get_or, Some, arith}
+use Rattle.std.proofs.Common.{◌*◌, ◌≡◌, ◌∙◌, ◌<◌, ◌≤◌, ◌+◌, sym, subst, refl, length, get_or, Some, arith}
 use Rattle.std.specs.Prelude.{slice_get}
 use Rattle.std.proofs.lemmas.List.{get_or_default}
 use Rattle.std.proofs.lemmas.Option.{slice_get_read}
@@ -13,6 +13,8 @@ use Rattle.plant_walk.specs.Bases.{program_paths_base}
 use Rattle.plant_walk.specs.Runs.{Agree, HasCells, IsWithin, ran}
 use Rattle.plant_walk.proofs.Small.{sound_named, sound_types}
 use Rattle.plant_walk.proofs.Walks.{the_program, is_there, fits_in, within_is, ran_is}
+use Rattle.plant_limits.specs.Counts.{program_costs}
+use Rattle.plant_walk.proofs.Costs.{cost_listed}
 use Rattle.plant_walk.proofs.Coded.{path_inside, ends_as_frame, shape_kept}
 use Rattle.plant_walk.proofs.framed.Framed.run_counted.Goals as goal
 
@@ -144,3 +146,23 @@ walked-requires c =
     let base_is : c.index-2.result.now ≡ program_paths_base source n = c.index-2.ensures ∙ get_or_default inside.paths.items n c.index-2.result.now 0 (omega (arith, there, paths_long)) ∙ are.paths_begin.each n most in
     let placed = path_inside frames (length source.globals) (length order + n) (base_in inside.values.items inside.clocks.items n) (length (cell_paths source)) (length (all_clocks source)) code is c.run_code_counted-ended.result.0 c.run_code_counted-ended.ensures.path in
     fits_in source order frames n there have_paths frames (length order + n) refl refl c.run_code_counted-ended.result.0 placed c.index-2.result.now 4294967296 base_is are.paths_fit
+
+pub returns-clause-count : goal.returns-clause-count
+returns-clause-count c =
+    let inside = c.self.inside in
+    let source = source_of inside.logic in
+    let are = c.self.invariant in
+    let frames = inside.frames.items in
+    let order = inside.order.items in
+    let n = c.args.program in
+    let there : n < length source.programs = subst (λ (s : Source). n < length s.programs) (sym c.self.view_is) c.requires.there in
+    let long = are.codes_are.long in
+    let rows = are.values_begin.long in
+    let code = c.index.result.now in
+    let at : slice_get inside.codes.items n ≡ Some code = slice_get_read inside.codes.items (length inside.codes.items) n code refl (omega (arith, there, long, rows)) c.index.ensures in
+    let names : HasAllNames source = subst HasAllNames (sym are.sound.are_theirs) (c.typed_names_are_known.ensures are.sound.units are.sound.typed) in
+    let most = cost_listed source order frames are.are_frames are.below (sound_types source are.sound) names (c.block_type_counts.ensures.cost source.blocks order) n (the_program source n) (is_there source n there) in
+    let own = (are.codes_are.each n code at).cost in
+    let done = c.run_code_counted-ended.ensures.count in
+    let all : c.run_code_counted-ended.result.1 ≤ 4 * get_or (program_costs source) n 0 + 4 = omega (arith, most, own, done) in
+    subst (λ (s : Source). c.run_code_counted-ended.result.1 ≤ 4 * get_or (program_costs s) n 0 + 4) c.self.view_is all
