@@ -26,7 +26,7 @@ use plant_walk::{
     global_is_in_range, opening_world_is_in_range, program_stays_in_range, sound_source_is_small,
     written_cell,
 };
-use serving::lines_end_in_lf;
+use serving::requests_end_in_lf;
 use st_lexer::{one_answer, one_cut, some_answer, word_spelling};
 use st_parser::one_unit;
 use st_tree::{constant_of_is_value_of, control_values_count_to_bound, kind_of_expr_is_kind_in};
@@ -64,7 +64,7 @@ fn laws_of_plants_can_be_called() {
     one_plant();
     one_refusal();
     accepted_or_refused();
-    lines_end_in_lf();
+    requests_end_in_lf();
 }
 
 #[test]

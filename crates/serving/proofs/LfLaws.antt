@@ -3,7 +3,7 @@ use Rattle.std.proofs.Common.{◌≡◌, ℕ, suc, Bool, true, false, List, [], 
 use Rattle.std.proofs.lemmas.List.{take-append-drop, drop_more, drop-drop, get_or-take, length-take}
 use Rattle.std.proofs.lemmas.Bool.Decides.{nat_tests}
 use Rattle.memchr.specs.Find.{Nowhere, Passes, is_byte}
-use Rattle.serving.specs.Input.{is_lf, has_lf}
+use Rattle.serving.specs.Requests.{is_lf, has_lf}
 
 other : (v : Bool) → (v ≡ true → ⊥) → v ≡ false
 other true n = absurd (n refl)

@@ -1,4 +1,4 @@
-pub mod InputLaws
+pub mod RequestLaws
 pub mod LfLaws
 pub mod SessionLaws
 pub mod HeldLaws

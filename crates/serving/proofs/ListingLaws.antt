@@ -18,7 +18,7 @@ use Rattle.command_text.specs.Lines.{row_line}
 use Rattle.plant_config.specs.Plants.{PlainPlant}
 use Rattle.engine.specs.declared.event.Event.{Event}
 use Rattle.engine.specs.Journal.{named_entry, named_row, name_of, journal_of, IsLine}
-use Rattle.serving.specs.Listings.{HasListed, HasRow, text_of, lines_below, entry_text, target_text, named_line}
+use Rattle.serving.specs.Listings.{HasListed, HasRow, text_of, entry_text, target_text, named_line}
 use Rattle.serving.proofs.AnswerLaws.{path_is}
 
 -- no lines
@@ -31,10 +31,6 @@ listed_more old mid new n m xs ys p q = record {
   text_is = q.text_is ∙ ap (λ (t : List ℕ). t ++ text_of ys) p.text_is ∙ append_assoc old (text_of xs) (text_of ys) ∙ ap (λ (t : List ℕ). old ++ t) (sym (flat_map-append (λ (line : List ℕ). line) xs ys));
   count_is = ap (λ (k : ℕ). k + m) p.count_is ∙ ap (λ (k : ℕ). length xs + k) q.count_is ∙ sym (length-append xs ys);
 }
-
--- the lines of one number more
-pub listed_below : (f : ℕ → List (List ℕ)) (i : ℕ) (old mid new : List ℕ) (n m : ℕ) → HasListed old mid n (lines_below f i) → HasListed mid new m (f i) → HasListed old new (n + m) (lines_below f (suc i))
-listed_below f i old mid new n m p q = listed_more old mid new n m (lines_below f i) (f i) p q
 
 flat_take : {X : Type 0} (f : X → List (List ℕ)) (xs : List X) (i : ℕ) (x : X) → i < length xs → x ≡ slice_index_or xs i x → flat_map f (take i xs) ++ f x ≡ flat_map f (take (suc i) xs)
 flat_take f xs i x within is =

@@ -47,10 +47,10 @@ module _ (verdict : Option PlainPlant → List ℕ → Type 0) (quiet : IsQuiet 
         subst (verdict (Some plant)) bare told.1,
         record {
           input = s.input;
-          lines = s.lines;
+          requests = s.requests;
           history = s.history;
           read = s.read;
           are_read = s.are_read;
-          stopped = stopped-more plant [] s.lines [] [] s.history w₀ w w₁ (record { history_is = refl; wrote = subst (Appends w₀ w) bare told.2 }) s.stopped;
+          stopped = stopped-more plant [] s.requests [] [] s.history w₀ w w₁ (record { history_is = refl; wrote = subst (Appends w₀ w) bare told.2 }) s.stopped;
         },
       )

@@ -1,4 +1,4 @@
--- What the server answers to a line, and which events the line adds to the history.
+-- What the server answers to a request, and which events the request adds to the history.
 use Rattle.std.specs.Prelude.{ℕ, ◌+◌, if◌then◌else◌, List, [], ◌∷◌, ◌++◌, length, map, fold, Option, Some, None, Result, Ok, Err, codes}
 use Rattle.std.specs.List.{flat_map}
 use Rattle.std.specs.Str.{is_utf8}
@@ -21,7 +21,8 @@ use Rattle.engine.specs.declared.event.Reply.{Reply}
 use Rattle.engine.specs.declared.event.Reply.TheVariants as reply
 use Rattle.engine.specs.Orders.{is_restart}
 use Rattle.engine.specs.System.{System, system, step, scan_event, order_event, reply_to, faults_of, changes_of, outs_of}
-use Rattle.command_text.specs.Commands.{PlainCommand, Nothing, Unknown, Scan, Order, Listing, Journal, command_of}
+use Rattle.command_text.specs.Commands.{PlainCommand, Nothing, Unknown, Scan, Order, Listing, Journal}
+use Rattle.serving.specs.Requests.{Request, asked_by}
 use Rattle.serving.specs.Listings.{list_text, journal_text}
 use Rattle.command_text.specs.Lines.{fault_line, alarm_line, out_line, done_line, reply_line, refused_line}
 
@@ -127,21 +128,21 @@ command_answer plant history sys (Order verb console word) = order_answer plant 
 command_answer plant history sys Listing = list_text plant sys
 command_answer plant history sys Journal = journal_text plant history
 
--- ---- lines, one after another
+-- the history after a command
+unfoldable pub after_command : PlainPlant → List Event → PlainCommand → List Event
+after_command plant history command = history ++ command_events plant (system plant history) command
 
--- the history after a line
-unfoldable pub after_line : PlainPlant → List Event → List ℕ → List Event
-after_line plant history line = history ++ command_events plant (system plant history) (command_of line)
+-- the answer to a command after a history
+unfoldable pub answer_after : PlainPlant → List Event → PlainCommand → List ℕ
+answer_after plant history command = command_answer plant history (system plant history) command
 
--- the answer to a line
-unfoldable pub line_answer : PlainPlant → List Event → List ℕ → List ℕ
-line_answer plant history line = command_answer plant history (system plant history) (command_of line)
+-- ---- requests, one after another
 
--- the history after lines
-abbrev pub after_lines : PlainPlant → List Event → List (List ℕ) → List Event
-after_lines plant history lines = fold (after_line plant) history lines
+-- the history after requests
+abbrev pub after_requests : PlainPlant → List Event → List Request → List Event
+after_requests plant history requests = fold (λ h request. after_command plant h (asked_by request)) history requests
 
--- the answers to lines, one after another
-abbrev pub answers : PlainPlant → List Event → List (List ℕ) → List ℕ
+-- the answers to requests, one after another
+abbrev pub answers : PlainPlant → List Event → List Request → List ℕ
 answers plant history [] = []
-answers plant history (line ∷ lines) = line_answer plant history line ++ answers plant (after_line plant history line) lines
+answers plant history (request ∷ requests) = answer_after plant history (asked_by request) ++ answers plant (after_command plant history (asked_by request)) requests

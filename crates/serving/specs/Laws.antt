@@ -1,7 +1,7 @@
--- Laws of lines.
+-- Laws of requests.
 use Rattle.std.specs.Prelude.{◌≡◌, ℕ, false, List, ◌∷◌, ◌++◌}
-use Rattle.serving.specs.Input.{has_lf, without_cr, last_line, lines_of}
+use Rattle.serving.specs.Requests.{has_lf, ended_by, last_request, requests_of}
 
--- bytes without LF and then an LF are one line, and what follows are the others; bytes without LF are a last line, if there are any
-abbrev pub LinesEndInLf : Type 0
-LinesEndInLf = (line rest : List ℕ) → has_lf line ≡ false → (lines_of (line ++ 10 ∷ rest) ≡ without_cr line ∷ lines_of rest) × (lines_of line ≡ last_line line)
+-- bytes without LF and then an LF are one request, and what follows are the others; bytes without LF are the last request, if there are any
+abbrev pub RequestsEndInLf : Type 0
+RequestsEndInLf = (line rest : List ℕ) → has_lf line ≡ false → (requests_of (line ++ 10 ∷ rest) ≡ ended_by line ∷ requests_of rest) × (requests_of line ≡ last_request line)

@@ -1,4 +1,4 @@
-pub mod Input
+pub mod Requests
 pub mod Listings
 pub mod Answers
 pub mod Session

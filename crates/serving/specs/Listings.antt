@@ -22,6 +22,8 @@ use Rattle.plant_config.specs.Names.{tag_of, area_of, priority_of}
 use Rattle.engine.specs.declared.event.Event.{Event}
 use Rattle.engine.specs.Journal.{NamedEntry, NamedRow, FaultAt, ChangeOf, OrderBy, target_name, journal_of}
 use Rattle.engine.specs.System.{System, summary_of}
+use Rattle.serving.specs.declared.spilling.Half.{Half}
+use Rattle.serving.specs.declared.spilling.Half.TheVariants as half
 
 -- lines, one after another
 abbrev pub text_of : List (List ℕ) → List ℕ
@@ -80,6 +82,20 @@ count_lines plant counted = lines_below (area_lines plant counted) (length plant
 unfoldable pub list_text : PlainPlant → System → List ℕ
 list_text plant sys = ended (state_lines plant sys ++ count_lines plant (summary_of plant sys))
 
+-- how many numbers a half of the list has lines for: those of the alarms, or of the areas
+abbrev pub half_total : PlainPlant → Half → ℕ
+half_total plant half.States = length plant.alarms
+half_total plant half.Counts = length plant.areas
+
+-- the lines that a half of the list has for a number
+abbrev pub half_lines_of : PlainPlant → System → Half → ℕ → List (List ℕ)
+half_lines_of plant sys half.States = state_lines_of plant sys
+half_lines_of plant sys half.Counts = area_lines plant (summary_of plant sys)
+
+-- the lines of a half of the list
+abbrev pub half_lines : PlainPlant → System → Half → List (List ℕ)
+half_lines plant sys half = lines_below (half_lines_of plant sys half) (half_total plant half)
+
 -- ---- the journal
 
 -- the target of an order as a row has it: its name as declared, `?` where it was refused because there is none
@@ -122,3 +138,8 @@ pub record HasRow (plant : PlainPlant) (history : List Event) (number : ℕ) (ol
 -- of a text the front is written, and the rest is held
 abbrev pub IsPassed : (w₀ w₁ : Option (List ℕ)) → (text held : List ℕ) → Type 0
 IsPassed w₀ w₁ text held = (sent : List ℕ) × (text ≡ sent ++ held) × Appends w₀ w₁ sent
+
+-- lines came after what was held; of both the front is written and the rest is held, and this is how many lines they are
+pub record HasPassed (w₀ w₁ : Option (List ℕ)) (old new : List ℕ) (count : ℕ) (lines : List (List ℕ)) : Type 0 where
+  pub passed : IsPassed w₀ w₁ (old ++ text_of lines) new
+  pub count_is : count ≡ length lines

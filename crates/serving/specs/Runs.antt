@@ -7,6 +7,7 @@ use Rattle.plant_config.specs.Plants.{PlainPlant}
 use Rattle.serving.specs.declared.fault.ServeFault.{ServeFault}
 use Rattle.serving.specs.declared.runs.RunEnd.{RunEnd}
 use Rattle.serving.specs.declared.runs.RunEnd.TheVariants as run_end
+use Rattle.serving.specs.Requests.{Request}
 use Rattle.serving.specs.Session.{AreRead, Stopped, out_text}
 use Rattle.serving.specs.Admits.{IsTold}
 
@@ -17,14 +18,14 @@ pub record IsServed (plant : PlainPlant) (r₀ r₁ w₀ w₁ : Option (List ℕ
   pub at_end : IsAtEnd r₁
   pub wrote : Appends w₀ w₁ (out_text plant input)
 
--- the session of the plant stopped within the lines that were read
+-- the session of the plant stopped within the requests that were read
 pub record IsStopped (plant : PlainPlant) (r₀ r₁ w₀ w₁ : Option (List ℕ)) : Type 0 where
   pub input : List ℕ
-  pub lines : List (List ℕ)
+  pub requests : List Request
   pub history : List Event
   pub read : Consumes r₀ r₁ input
-  pub are_read : AreRead r₁ input lines
-  pub stopped : Stopped plant lines [] history w₀ w₁
+  pub are_read : AreRead r₁ input requests
+  pub stopped : Stopped plant requests [] history w₀ w₁
 
 -- what a run did, by the verdict on the plant: it served the plant; or nothing was read, and what was written is the line of the refusal; or it failed, before the session or within it
 abbrev pub IsRun : (Option PlainPlant → List ℕ → Type 0) → (r₀ r₁ w₀ w₁ : Option (List ℕ)) → Result RunEnd ServeFault → Type 0

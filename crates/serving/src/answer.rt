@@ -5,10 +5,10 @@ ghost use Rattle.plant_logic.specs.Paths.{path_text};
 ghost use Rattle.plant_walk.specs.Runs.{place_spot};
 ghost use Rattle.engine.specs.Orders.{is_restart};
 ghost use Rattle.engine.specs.System.{system, scan_event, order_event};
-ghost use Rattle.serving.specs.Answers.{spots_of, named_by, target_of, tag_for, order_for, order_answer, fault_lines, alarm_lines, out_lines, report_text, order_text, fault_number, event_text, scan_text, event_added, after_line, line_answer};
-ghost use Rattle.serving.specs.Listings.{journal_text};
+ghost use Rattle.serving.specs.Answers.{spots_of, named_by, target_of, tag_for, order_for, order_answer, fault_lines, alarm_lines, out_lines, report_text, order_text, fault_number, event_text, scan_text, event_added, after_command, answer_after};
+ghost use Rattle.serving.specs.Listings.{list_text, journal_text};
+ghost use Rattle.command_text.specs.Commands.{command_of};
 
-use crate::listings::push_list;
 use alarm_machine::{Change, Verb};
 use command_text::{
     Command, Pool, push_alarm, push_done, push_fault, push_out, push_refused, push_reply,
@@ -229,13 +229,15 @@ fn answer_order(
 pub(crate) enum Said {
     /// All of it stands in the text.
     Text,
+    /// It is the list of alarms, and isn't in the text.
+    List,
     /// It is the journal, and isn't in the text.
     Journal,
 }
 
-/// Does what a line asks for, with the pool as room for its pairs, and appends its answer; the journal's is left to the caller, who
-/// writes it as it is made. It fails where an allocation failed: before the line took effect or after it.
-#[tactic(auto, unfolding(crate::specs::Answers::after_line, crate::specs::Answers::line_answer))]
+/// Does what a line asks for, with the pool as room for its pairs, and appends its answer; the list and the journal are left to the
+/// caller, who writes them as they are made. It fails where an allocation failed: before the line took effect or after it.
+#[tactic(auto, unfolding(crate::specs::Answers::after_command, crate::specs::Answers::answer_after))]
 pub(crate) fn answer_line(
     alloc: Global,
     engine: &mut Engine,
@@ -244,11 +246,13 @@ pub(crate) fn answer_line(
     line: &[u8],
 ) -> Result<Said, AllocError>
     ensures plant { engine.new.plant ≡ engine.old.plant }
-    ensures history { OnOk result (engine.new.history ≡ after_line engine.old.plant engine.old.history line.now) }
-    ensures text { IfOk result (λ said. said ≡ Said.Text → text.new.items ≡ text.old.items ++ line_answer engine.old.plant engine.old.history line.now) }
-    ensures journal { IfOk result (λ said. said ≡ Said.Journal → line_answer engine.old.plant engine.old.history line.now ≡ journal_text engine.old.plant engine.old.history) }
-    ensures kept { IfOk result (λ said. said ≡ Said.Journal → engine.new.history ≡ engine.old.history) }
-    ensures err { OnErr result ((engine.new.history ≡ engine.old.history) ⊎ (engine.new.history ≡ after_line engine.old.plant engine.old.history line.now)) }
+    ensures history { OnOk result (engine.new.history ≡ after_command engine.old.plant engine.old.history (command_of line.now)) }
+    ensures text { IfOk result (λ said. said ≡ Said.Text → text.new.items ≡ text.old.items ++ answer_after engine.old.plant engine.old.history (command_of line.now)) }
+    ensures list { IfOk result (λ said. said ≡ Said.List → answer_after engine.old.plant engine.old.history (command_of line.now) ≡ list_text engine.old.plant (state_of engine.old)) }
+    ensures list_kept { IfOk result (λ said. said ≡ Said.List → engine.new.history ≡ engine.old.history) }
+    ensures journal { IfOk result (λ said. said ≡ Said.Journal → answer_after engine.old.plant engine.old.history (command_of line.now) ≡ journal_text engine.old.plant engine.old.history) }
+    ensures journal_kept { IfOk result (λ said. said ≡ Said.Journal → engine.new.history ≡ engine.old.history) }
+    ensures err { OnErr result ((engine.new.history ≡ engine.old.history) ⊎ (engine.new.history ≡ after_command engine.old.plant engine.old.history (command_of line.now))) }
 {
     match read_command(alloc, pool, line)? {
         Command::Nothing => {}
@@ -257,7 +261,7 @@ pub(crate) fn answer_line(
         Command::Order(verb, console, word) => {
             answer_order(alloc, engine, text, verb, console, word)?;
         }
-        Command::List => push_list(text, engine)?,
+        Command::List => return Ok(Said::List),
         Command::Journal => return Ok(Said::Journal),
     }
     Ok(Said::Text)

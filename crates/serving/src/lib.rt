@@ -1,18 +1,18 @@
-//! The server of a plant: it reads commands, one on each line, and answers each before it looks at the next.
+//! The server of a plant: it reads requests, each a line, and answers each before it looks at the next.
 //!
-//! What it writes for an input is a definition on bytes (`out_text`), and `serve` is proved to write exactly that, for every feed and
-//! every sink; `Session::step` is one read of it. `admit` and `admit_from` read a plant, from its texts and from its files, and write what
+//! What it writes for an input is a definition on bytes (`out_text`): how they become requests, and what is answered to each. `serve` is
+//! proved to write exactly that, for every feed and every sink; `Session::step` is one read of it. `admit` and `admit_from` read a plant, from its texts and from its files, and write what
 //! there is to say of it. `run` and `run_from` go from there to the end of the input.
 #![tactic(auto)]
 
 mod answer;
 mod fault;
 mod folder;
-mod journal;
 mod laws;
 mod listings;
 mod runs;
 mod session;
+mod spilling;
 mod streams;
 mod texts;
 mod verdict;
@@ -20,7 +20,7 @@ mod verdict;
 pub use answer::fault_number;
 pub use fault::ServeFault;
 pub use folder::{Disk, FileFault, Folder};
-pub use laws::lines_end_in_lf;
+pub use laws::requests_end_in_lf;
 pub use runs::{RunEnd, run, run_from};
 pub use session::{Session, Step, put_all, serve};
 pub use streams::{Failed, Feed, Reading, Sink, Writing};

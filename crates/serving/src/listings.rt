@@ -1,23 +1,22 @@
-//! The answer to `list`, and the lines of the journal.
+//! The lines of the list of alarms and of the journal.
 
-ghost use Rattle.std.specs.Prelude.{◌≡◌, ◌++◌, ◌<◌, ◌≤◌, ◌^◌, length, OnOk, IfOk};
+ghost use Rattle.std.specs.Prelude.{◌≡◌, ◌++◌, ◌<◌, ◌≤◌, length, OnOk, IfOk};
 ghost use Rattle.std.specs.List.{flat_map};
 ghost use Rattle.alarm_bank.specs.declared.rows.Counted.{Counted};
 ghost use Rattle.engine.specs.Engines.{state_of};
-ghost use Rattle.engine.specs.System.{summary_of};
 ghost use Rattle.engine.specs.Journal.{journal_of};
-ghost use Rattle.serving.specs.Listings.{state_lines_of, state_lines, code_lines, priority_lines, area_lines, count_lines, list_text, HasListed, HasRow};
+ghost use Rattle.serving.specs.Listings.{state_lines_of, code_lines, priority_lines, area_lines, HasListed, HasRow};
 
 use alarm_bank::Summary;
 use alarm_machine::Code;
-use command_text::{push_count, push_end, push_row, push_state};
+use command_text::{push_count, push_row, push_state};
 use engine::Engine;
 use plant_config::Plant;
 use std::alloc::{AllocError, Global};
 
 /// Appends the STATE line of an alarm, none where it is normal, and returns how many lines that is.
 #[tactic(auto, unfolding(crate::specs::Listings::state_lines_of))]
-fn push_shown(text: &mut Vec<u8>, engine: &Engine, alarm: u32) -> Result<u64, AllocError>
+pub(crate) fn push_shown(text: &mut Vec<u8>, engine: &Engine, alarm: u32) -> Result<u64, AllocError>
     requires { alarm < length engine.now.plant.alarms }
     ensures listed { IfOk result (λ n. HasListed text.old.items text.new.items n (state_lines_of engine.now.plant (state_of engine.now) alarm)) }
     ensures few { IfOk result (λ n. n ≤ 1) }
@@ -29,19 +28,6 @@ fn push_shown(text: &mut Vec<u8>, engine: &Engine, alarm: u32) -> Result<u64, Al
     }
     push_state(text, plant.tag(alarm), code, plant.priority(alarm))?;
     Ok(1)
-}
-
-/// Appends a STATE line for each alarm that isn't normal, and returns how many there are.
-#[tactic(auto, using(crate::proofs::ListingLaws::listed_none, crate::proofs::ListingLaws::listed_below))]
-fn push_states(text: &mut Vec<u8>, engine: &Engine) -> Result<u64, AllocError>
-    ensures listed { IfOk result (λ n. HasListed text.old.items text.new.items n (state_lines engine.now.plant (state_of engine.now))) }
-    ensures few { IfOk result (λ n. n < 2 ^ 32) }
-{
-    let mut lines: u64 = 0;
-    for alarm in 0..engine.plant().alarms() {
-        lines += push_shown(text, engine, alarm)?;
-    }
-    Ok(lines)
 }
 
 /// Appends the COUNT line of an area, a priority and a code, none where the count is 0, and returns how many lines that is.
@@ -138,7 +124,7 @@ fn push_priorities(
 
 /// Appends the COUNT lines of an area, and returns how many there are.
 #[tactic(auto, unfolding(crate::specs::Listings::area_lines))]
-fn push_area(
+pub(crate) fn push_area(
     text: &mut Vec<u8>,
     plant: &Plant,
     summary: &Summary,
@@ -149,29 +135,6 @@ fn push_area(
     ensures few { IfOk result (λ n. n ≤ 36) }
 {
     push_priorities(text, plant, summary, area, &[1, 2, 3, 4])
-}
-
-/// Appends a COUNT line for each count above 0, and returns how many there are.
-#[tactic(auto, using(crate::proofs::ListingLaws::listed_none, crate::proofs::ListingLaws::listed_below))]
-fn push_counts(text: &mut Vec<u8>, plant: &Plant, summary: &Summary) -> Result<u64, AllocError>
-    ensures listed { IfOk result (λ n. HasListed text.old.items text.new.items n (count_lines plant.now summary.now)) }
-    ensures few { IfOk result (λ n. n < 2 ^ 40) }
-{
-    let mut lines: u64 = 0;
-    for area in 0..plant.areas() {
-        lines += push_area(text, plant, summary, area)?;
-    }
-    Ok(lines)
-}
-
-/// Appends the answer to `list`. Fails if allocation fails.
-#[tactic(auto, unfolding(crate::specs::Listings::list_text), using(crate::proofs::ListingLaws::listed_more))]
-pub(crate) fn push_list(text: &mut Vec<u8>, engine: &Engine) -> Result<(), AllocError>
-    ensures { OnOk result (text.new.items ≡ text.old.items ++ list_text engine.now.plant (state_of engine.now)) }
-{
-    let states = push_states(text, engine)?;
-    let counts = push_counts(text, engine.plant(), engine.summary())?;
-    push_end(text, states + counts)
 }
 
 /// How many rows the journal has.

@@ -1,13 +1,13 @@
 ghost use Rattle.std.specs.Prelude.{◌≡◌, ◌≤◌, ◌++◌, [], ◌∷◌, ◌||◌, is_err, vec_len, IfOk, IfErr, OnOk, OnErr, IsErrOf, MatchOption, IfSome, List, ℕ, length, take, false, ◌<◌};
 ghost use Rattle.std.specs.Io.KnownBytes.{Appends, Consumes, ReadConsumes, IsAtEnd};
 ghost use Rattle.command_text.specs.Commands.{command_of};
-ghost use Rattle.serving.specs.Input.{has_lf, without_cr, after_last_lf, ended_lines, last_line, lines_of};
+ghost use Rattle.serving.specs.Requests.{Request, asked_by, has_lf, without_cr, ended_by, last_request, ended_from, begun_from, ended_requests, requests_of};
 ghost use Rattle.serving.specs.Faults.{is_read, is_write};
-ghost use Rattle.serving.specs.Session.{Answered, Stopped, Serves, Continues, IsHeld, AreRead, Goes, Ends, Stops, out_text};
+ghost use Rattle.serving.specs.Session.{Answered, Stopped, Serves, Continues, IsHeld, HasGone, AreRead, Goes, Ends, Stops, out_text};
 
 use crate::answer::{Said, answer_line};
 use crate::fault::ServeFault;
-use crate::journal::write_journal;
+use crate::spilling::{write_journal, write_list};
 use crate::streams::{Failed, Feed, Sink};
 use command_text::Pool;
 use engine::Engine;
@@ -19,7 +19,7 @@ use std::sync::Wait;
 /// How many bytes are asked of the feed at once.
 const PIECE: usize = 65_536;
 
-/// How many bytes of a line are held at most: those of the longest line, one that shows that it is too long, and a CR.
+/// How many bytes of a request are held at most: those of the longest line, one that shows that it is too long, and a CR.
 const HELD: usize = 1_048_578;
 
 /// Writes all of a text. Fails only if a write fails.
@@ -51,12 +51,13 @@ fn answer<S: Sink>(
     line: &[u8],
 ) -> Result<(), ServeFault>
     ensures continues { Continues result engine.old engine.new (S.broken sink.old) (S.broken sink.new) }
-    ensures serves { (whole : List ℕ) → command_of whole ≡ command_of line.now
-        → Serves result (whole ∷ []) engine.old engine.new (S.written sink.old) (S.written sink.new) }
+    ensures serves { (request : Request) → asked_by request ≡ command_of line.now
+        → Serves result (request ∷ []) engine.old engine.new (S.written sink.old) (S.written sink.new) }
 {
     text.clear();
     match answer_line(alloc, engine, pool, text, line)? {
         Said::Text => put_all(sink, text.as_slice()),
+        Said::List => write_list(engine, sink, text),
         Said::Journal => write_journal(alloc, engine, sink, text),
     }
 }
@@ -99,8 +100,8 @@ fn hold(held: &mut Vec<u8>, bytes: &[u8]) -> Result<(), AllocError>
     held.extend_from_slice(kept)
 }
 
-/// What is kept between two pieces of an input: the bytes of a line that hasn't ended yet, and room for an answer and for the pairs of a
-/// line.
+/// What is kept between two pieces of an input: the bytes of a request that hasn't ended yet, and room for an answer and for the pairs of
+/// a scan.
 #[derive(Drop)]
 struct Lines {
     alloc: Global,
@@ -110,18 +111,17 @@ struct Lines {
 }
 
 impl Lines {
-    /// Takes the bytes of the input up to an LF, and answers the line that ends there.
+    /// Takes the bytes of the input up to an LF, and answers the request that ends there.
     fn take_line<S: Sink>(
         &mut self,
         engine: &mut Engine,
         sink: &mut S,
         line: &[u8],
     ) -> Result<(), ServeFault>
-        requires { has_lf line.now ≡ false }
         ensures continues { Continues result engine.old engine.new (S.broken sink.old) (S.broken sink.new) }
         ensures held { OnOk result (self.new.held.items ≡ []) }
-        ensures serves { (raw : List ℕ) → IsHeld raw self.old.held.items
-            → Serves result (ended_lines (raw ++ (line.now ++ 10 ∷ []))) engine.old engine.new (S.written sink.old) (S.written sink.new) }
+        ensures serves { (begun : List ℕ) → IsHeld begun self.old.held.items
+            → Serves result (ended_by (begun ++ line.now) ∷ []) engine.old engine.new (S.written sink.old) (S.written sink.new) }
     {
         if self.held.is_empty() {
             return answer(
@@ -147,7 +147,7 @@ impl Lines {
         Ok(())
     }
 
-    /// Takes a piece of the input: answers the lines that end in it, and holds what follows the last of them.
+    /// Takes a piece of the input: answers the requests that end in it, and holds what follows the last of them.
     fn take_piece<S: Sink>(
         &mut self,
         engine: &mut Engine,
@@ -155,9 +155,10 @@ impl Lines {
         piece: &[u8],
     ) -> Result<(), ServeFault>
         ensures continues { Continues result engine.old engine.new (S.broken sink.old) (S.broken sink.new) }
-        ensures held { OnOk result ((raw : List ℕ) → IsHeld raw self.old.held.items → IsHeld (after_last_lf (raw ++ piece.now)) self.new.held.items) }
-        ensures serves { (raw : List ℕ) → IsHeld raw self.old.held.items
-            → Serves result (ended_lines (raw ++ piece.now)) engine.old engine.new (S.written sink.old) (S.written sink.new) }
+        ensures ok { OnOk result ((begun : List ℕ) → IsHeld begun self.old.held.items
+            → HasGone engine.old.plant begun piece.now self.new.held.items engine.old.history engine.new.history (S.written sink.old) (S.written sink.new)) }
+        ensures err { OnErr result ((begun : List ℕ) → IsHeld begun self.old.held.items
+            → Stopped engine.old.plant (ended_from begun piece.now) engine.old.history engine.new.history (S.written sink.old) (S.written sink.new)) }
     {
         let mut rest = piece;
         while let Some((line, after)) = split_at_lf(rest) {
@@ -168,12 +169,12 @@ impl Lines {
         Ok(())
     }
 
-    /// Answers the last line of the input, which has no LF; there is none if nothing is held.
+    /// Answers the last request of the input, which has no LF; there is none if nothing is held.
     fn take_end<S: Sink>(&mut self, engine: &mut Engine, sink: &mut S) -> Result<(), ServeFault>
         ensures continues { Continues result engine.old engine.new (S.broken sink.old) (S.broken sink.new) }
         ensures held { OnOk result (self.new.held.items ≡ []) }
-        ensures serves { (raw : List ℕ) → IsHeld raw self.old.held.items
-            → Serves result (last_line raw) engine.old engine.new (S.written sink.old) (S.written sink.new) }
+        ensures serves { (begun : List ℕ) → IsHeld begun self.old.held.items
+            → Serves result (last_request begun) engine.old engine.new (S.written sink.old) (S.written sink.new) }
     {
         if self.held.is_empty() {
             return Ok(());
@@ -211,13 +212,13 @@ pub(crate) fn fill<F: Feed>(feed: &mut F, piece: &mut Vec<u8>) -> Result<usize, 
 /// How a step of a session went.
 #[derive(Clone, Copy, Debug, PartialEq, Eq, Drop)]
 pub enum Step {
-    /// Bytes were read, and the lines that ended in them were answered.
+    /// Bytes were read, and the requests that ended in them were answered.
     More,
-    /// The input has ended, and its last line was answered.
+    /// The input has ended, and its last request was answered.
     Ended,
 }
 
-/// A session with an engine: what it has read of a line that hasn't ended yet. Contracts see these bytes.
+/// A session with an engine: what it has read of a request that hasn't ended yet. Contracts see these bytes.
 #[derive(Drop)]
 pub struct Session {
     lines: Lines,
@@ -250,11 +251,11 @@ impl Session {
         Ok(Session { lines, piece })
     }
 
-    /// Reads once, and answers each line that ends in what was read before the next takes effect; at the end of the input it answers the
-    /// last line. Whenever a step has returned `Ok`, what was written is exactly the text for all lines that have ended so far.
+    /// Reads once, and answers each request that ends in what was read before the next takes effect; at the end of the input it answers
+    /// the last one. Whenever a step has returned `Ok`, what was written is exactly the text for all requests that have ended so far.
     ///
     /// Returns `Memory` only where an allocation failed, and `Read` and `Write` only where the feed or the sink failed in this call. After
-    /// an error a beginning of the lines took effect, and the session is of no more use. It waits where its feed waits.
+    /// an error a beginning of the requests took effect, and the session is of no more use. It waits where its feed waits.
     pub fn step<F: Feed, S: Sink>(
         &mut self,
         engine: &mut Engine,
@@ -287,7 +288,8 @@ impl Session {
     }
 }
 
-/// Answers the lines of a feed until its end. Each answer is written before the next line takes effect and before more is read.
+/// Answers the requests of a feed until its end, step by step. Each answer is written before the next request takes effect and before more
+/// is read.
 ///
 /// Returns `Memory` only where an allocation failed, and `Read` and `Write` only where the feed or the sink failed in this call.
 ///
@@ -305,20 +307,20 @@ pub fn serve<H: Wait, F: Feed, S: Sink>(
     requires sink { S.broken sink.old ≡ false }
     ensures plant { engine.new.plant ≡ engine.old.plant }
 
-    // All was read, each line took effect in turn, and their answers were written and nothing else.
+    // All was read, each request took effect in turn, and their answers were written and nothing else.
     ensures ok { OnOk result ((input : List ℕ) × Consumes (F.remaining feed.old) (F.remaining feed.new) input × IsAtEnd (F.remaining feed.new)
-        × Answered engine.old.plant (lines_of input) engine.old.history engine.new.history (S.written sink.old) (S.written sink.new)) }
+        × Answered engine.old.plant (requests_of input) engine.old.history engine.new.history (S.written sink.old) (S.written sink.new)) }
 
     // Before the first event: what was written is the text that belongs to the plant and to the bytes of the feed.
     ensures text { OnOk result (engine.old.history ≡ [] → IfSome (F.remaining feed.old) (λ bytes. Appends (S.written sink.old) (S.written sink.new) (out_text engine.old.plant bytes))) }
 
-    // A beginning of the lines took effect, and all their answers were written but for a part of the last one's.
-    ensures err { OnErr result ((input : List ℕ) × (lines : List (List ℕ)) × Consumes (F.remaining feed.old) (F.remaining feed.new) input × AreRead (F.remaining feed.new) input lines
-        × Stopped engine.old.plant lines engine.old.history engine.new.history (S.written sink.old) (S.written sink.new)) }
+    // A beginning of the requests took effect, and all their answers were written but for a part of the last one's.
+    ensures err { OnErr result ((input : List ℕ) × (requests : List Request) × Consumes (F.remaining feed.old) (F.remaining feed.new) input × AreRead (F.remaining feed.new) input requests
+        × Stopped engine.old.plant requests engine.old.history engine.new.history (S.written sink.old) (S.written sink.new)) }
 
-    // Where a read fails, just the lines that had ended took effect, and all their answers were written.
+    // Where a read fails, just the requests that had ended took effect, and all their answers were written.
     ensures cut { IsErrOf result ServeFault.Read → (input : List ℕ) × Consumes (F.remaining feed.old) (F.remaining feed.new) input
-        × Answered engine.old.plant (ended_lines input) engine.old.history engine.new.history (S.written sink.old) (S.written sink.new) }
+        × Answered engine.old.plant (ended_requests input) engine.old.history engine.new.history (S.written sink.old) (S.written sink.new) }
     ensures read { F.broken feed.new ≡ is_read result }
     ensures write { S.broken sink.new ≡ is_write result }
 {

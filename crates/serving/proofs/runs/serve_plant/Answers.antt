@@ -12,7 +12,7 @@ returns-in-Ok-clause-ok g c =
 pub returns-in-Ok-clause-err : goal.returns-in-Ok-clause-err
 returns-in-Ok-clause-err g c =
     let cut = rw (c.in-Ok.ensures.0, c.in-Ok.ensures.1) at c.serve.ensures.err in
-    on_err_weaker c.serve.result (λ a. record { input = a.0; lines = a.1; history = c.serve.new.engine.history; read = a.2; are_read = a.3; stopped = a.4 }) cut
+    on_err_weaker c.serve.result (λ a. record { input = a.0; requests = a.1; history = c.serve.new.engine.history; read = a.2; are_read = a.3; stopped = a.4 }) cut
 
 pub returns-in-Err-clause-err : goal.returns-in-Err-clause-err
-returns-in-Err-clause-err g c = record { input = []; lines = []; history = []; read = Consumes-nil _; are_read = inl refl; stopped = stopped-none _ _ _ _ _ refl }
+returns-in-Err-clause-err g c = record { input = []; requests = []; history = []; read = Consumes-nil _; are_read = inl refl; stopped = stopped-none _ _ _ _ _ refl }

@@ -1,5 +1,5 @@
 use Rattle.std.proofs.Common.{arith, ◌∙◌}
-use Rattle.serving.proofs.InputLaws.{without_cr-cr, without_cr-other}
+use Rattle.serving.proofs.RequestLaws.{without_cr-cr, without_cr-other}
 use Rattle.serving.proofs.session.without_cr.Goals as goal
 use Rattle.serving.proofs.session.without_cr.Goals.{else-n-gt0-via-then-n-gt0+else-line-n-eq13, else-n-gt0-via-else-n-gt0}
 

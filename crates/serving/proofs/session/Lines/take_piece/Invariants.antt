@@ -1,13 +1,12 @@
 use Rattle.std.proofs.Common.{◌≡◌, ◌++◌, List, ℕ, length}
-use Rattle.serving.specs.Session.{IsHeld}
-use Rattle.serving.specs.Session.{HasTaken}
+use Rattle.serving.specs.Session.{IsHeld, HasGone}
 use Rattle.serving.proofs.session.Lines.take_piece.Given as goal
 
 -- the front of the piece was taken, and the rest is left
 abbrev pub invariant-loop-line : goal.invariant-loop-line
 invariant-loop-line g l = record {
-  so_far : (front : List ℕ) × (l.piece ≡ front ++ l.rest) × ((raw : List ℕ) → IsHeld raw l.fn.self.held.items
-      → HasTaken l.fn.engine.plant (raw ++ front) l.self.held.items l.fn.engine.history l.engine.history (g.S.Sink.written l.fn.sink) (g.S.Sink.written l.sink));
+  so_far : (front : List ℕ) × (l.piece ≡ front ++ l.rest) × ((begun : List ℕ) → IsHeld begun l.fn.self.held.items
+      → HasGone l.fn.engine.plant begun front l.self.held.items l.fn.engine.history l.engine.history (g.S.Sink.written l.fn.sink) (g.S.Sink.written l.sink));
   plant : l.engine.plant ≡ l.fn.engine.plant;
   sink : g.S.Sink.broken l.sink ≡ g.S.Sink.broken l.fn.sink;
 }

@@ -1,15 +1,15 @@
 use Rattle.std.proofs.Common.{◌++◌, [], refl, take, arith, inl, inr, length, ◌<◌, append-nil}
 use Rattle.std.proofs.KnownBytes.{Consumes-nil, Consumes-kept}
 use Rattle.std.proofs.lemmas.Result.{err_from_is_err_and}
-use Rattle.serving.specs.Input.{after_last_lf, ended_lines, lines_of}
+use Rattle.serving.specs.Requests.{begun_request, ended_requests, requests_of}
 use Rattle.serving.proofs.SessionLaws.{consumed_nothing}
-use Rattle.serving.proofs.HeldLaws.{taken-piece, stopped-stays, stopped-input, answered-end, stopped-end}
+use Rattle.serving.proofs.HeldLaws.{gone-more, gone-stopped, stopped-stays, answered-end, stopped-end}
 use Rattle.serving.proofs.session.Session.step.Goals as goal
 
 -- nothing was read
 pub returns-in_default-clause-err : goal.returns-in_default-clause-err
 returns-in_default-clause-err g c =
-    ([], Consumes-kept _ _ _ [] (Consumes-nil _) c.in_default.ensures.bytes, λ input h w before. (ended_lines (input ++ []), inl refl, stopped-stays _ input [] h _ w _ before.answered))
+    ([], Consumes-kept _ _ _ [] (Consumes-nil _) c.in_default.ensures.bytes, λ input h w before. (ended_requests (input ++ []), inl refl, stopped-stays _ [] input _ [] h _ w _ before))
 
 pub returns-in_default-clause-cut : goal.returns-in_default-clause-cut
 returns-in_default-clause-cut g c = λ e. (Consumes-kept _ _ _ [] (Consumes-nil _) c.in_default.ensures.bytes, refl, refl)
@@ -23,9 +23,9 @@ returns-in_err-take_end-clause-err g c =
       [],
       consumed_nothing _ _ _ [] c.fill.new.piece.items c.in-Ok.n c.if-n-eq0.true (Consumes-nil _) c.in-Ok.ensures.bytes.0,
       λ input h w before. (
-        lines_of (input ++ []),
+        requests_of (input ++ []),
         inr (c.in-Ok.ensures.bytes.1 c.if-n-eq0.true there, refl),
-        rw (append-nil input) (stopped-end _ _ input _ _ _ _ _ _ refl before.answered (c.in_err-take_end.ensures.serves (after_last_lf input) before.holds).1),
+        rw (append-nil input) (stopped-end _ _ input _ _ _ _ _ _ _ refl before (c.in_err-take_end.ensures.serves (begun_request input) before.holds).1),
       ),
     )
 
@@ -36,7 +36,7 @@ returns-then-n-eq0-clause-ended g c = λ e.
       consumed_nothing _ _ _ [] c.fill.new.piece.items c.in-Ok.n c.if-n-eq0.true (Consumes-nil _) c.in-Ok.ensures.bytes.0,
       c.in-Ok.ensures.bytes.1 c.if-n-eq0.true there,
       c.in_ok-take_end.ensures.held,
-      λ input h w before. answered-end _ _ input _ _ _ _ _ _ refl before.answered (c.in_ok-take_end.ensures.serves (after_last_lf input) before.holds).0,
+      λ input h w before. answered-end _ _ input _ _ _ _ _ _ _ refl before (c.in_ok-take_end.ensures.serves (begun_request input) before.holds).0,
     )
 
 -- a piece was read
@@ -47,8 +47,8 @@ returns-in_err-take_piece-clause-err g c =
       take c.in-Ok.n c.fill.new.piece.items,
       c.in-Ok.ensures.bytes.0,
       λ input h w before.
-          let stopped = rw (c.split_at.ensures.front, c.as_slice.ensures.value) at (c.in_err-take_piece.ensures.serves (after_last_lf input) before.holds).1 in
-          (ended_lines (input ++ take c.in-Ok.n c.fill.new.piece.items), inl refl, stopped-input _ _ input _ _ _ _ _ _ _ refl before.answered stopped),
+          let stopped = rw (c.split_at.ensures.front, c.as_slice.ensures.value) at (c.in_err-take_piece.ensures.err (begun_request input) before.holds) in
+          (ended_requests (input ++ take c.in-Ok.n c.fill.new.piece.items), inl refl, gone-stopped _ _ [] input _ _ _ _ _ _ _ refl before _ stopped),
     )
 
 pub returns-clause-more : goal.returns-clause-more
@@ -57,7 +57,6 @@ returns-clause-more g c = λ e.
       take c.in-Ok.n c.fill.new.piece.items,
       c.in-Ok.ensures.bytes.0,
       λ input h w before.
-          let went = rw (c.split_at.ensures.front, c.as_slice.ensures.value) at (c.in_ok-take_piece.ensures.serves (after_last_lf input) before.holds).0 in
-          let holds = rw (c.split_at.ensures.front, c.as_slice.ensures.value) at c.in_ok-take_piece.ensures.held (after_last_lf input) before.holds in
-          taken-piece _ _ input _ _ _ _ _ _ _ _ _ refl before went holds,
+          let went = rw (c.split_at.ensures.front, c.as_slice.ensures.value) at c.in_ok-take_piece.ensures.ok (begun_request input) before.holds in
+          gone-more _ _ [] input _ _ _ _ _ _ _ refl before _ _ went,
     )

@@ -1,7 +1,7 @@
 use Rattle.std.proofs.Common.{◌≡◌, ◌++◌, take, map}
 use Rattle.engine.specs.Journal.{journal_of}
 use Rattle.serving.specs.Listings.{text_of, named_line, IsPassed}
-use Rattle.serving.proofs.journal.write_rows.Given as goal
+use Rattle.serving.proofs.spilling.write_rows.Given as goal
 
 -- the lines of the first rows are passed
 abbrev pub invariant-loop-row : goal.invariant-loop-row

@@ -2,7 +2,7 @@ use Rattle.std.proofs.Common.{◌∙◌}
 use Rattle.std.proofs.Math.Bool.{or-false}
 use Rattle.std.proofs.lemmas.Result.{err_from_is_err_and}
 use Rattle.serving.proofs.PassingLaws.{all_begun, just_begun, row_begun, row_passed}
-use Rattle.serving.proofs.journal.write_rows.Goals as goal
+use Rattle.serving.proofs.spilling.write_rows.Goals as goal
 
 pub returns-in_err-push_numbered-clause-err : goal.returns-in_err-push_numbered-clause-err
 returns-in_err-push_numbered-clause-err g c =
