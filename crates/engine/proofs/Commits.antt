@@ -14,55 +14,59 @@ use Rattle.engine.specs.declared.state.Effect.{Effect}
 use Rattle.alarm_machine.specs.Codes.{PlainChange}
 use Rattle.alarm_bank.specs.Moves.{changes_from}
 use Rattle.journal_core.specs.Rows.{change_entry}
-use Rattle.engine.specs.System.{System, step, ordered}
+use Rattle.engine.specs.System.{System, system, after_event, ordered}
 use Rattle.engine.specs.Lawful.{IsTaken}
 use Rattle.engine.specs.Reports.{PlainReport}
 use Rattle.engine.specs.Journal.{IsJournal, OrderBy, ChangeOf, refusal_of, one_or_none, change_entries, added_entries, scan_entries, order_entries}
 use Rattle.engine.specs.Orders.{alarms_by, changed_by}
 use Rattle.engine.proofs.OrderRows.{order_changes}
-use Rattle.engine.specs.Engines.{PlainEngine, PlainState, PlainPrepared, PlainPreparedOrder, Fits, FitsOrder, IsState, IsReport, state_of}
+use Rattle.engine.specs.Engines.{PlainEngine, PlainState, PlainPrepared, PlainPreparedOrder, after_effect, Fits, FitsOrder, IsState, IsReport, state_of}
 use Rattle.engine.proofs.Images.{taken_when}
 use Rattle.engine.proofs.Systems.{system_next}
 use Rattle.engine.proofs.Journals.{scan_journal, order_journal, until_after, last_below, room_after, length-scan_entries, few_order_entries}
 
--- a scan leaves the journal of the history with it
+-- a scan leaves the state of the history with it
+pub scan_state : (e : PlainEngine) (p : PlainPrepared) (k : PlainState) → Fits e p → IsState (state_of e) k → IsState (system e.plant (e.history ++ p.event ∷ [])) (after_effect p.effect k)
+scan_state e p k fits held = subst (λ (s : System). IsState s (after_effect p.effect k)) (sym (system_next e.plant e.history p.event)) (fits.effect_is k held)
+
+-- and the journal of that history
 pub scan_committed : (e : PlainEngine) (p : PlainPrepared) (log : PlainLog) → Fits e p → IsJournal e.plant e.history log.rows → IsJournal e.plant (e.history ++ p.event ∷ []) (after_entries p.report.moment log (scan_entries p.report)).rows
 scan_committed e p log fits held =
     subst (λ (x : Event). IsJournal e.plant (e.history ++ x ∷ []) (after_entries p.report.moment log (scan_entries p.report)).rows) (sym fits.event_is)
-    (scan_journal e.plant e.history fits.image p.report.moment p.report log (subst (λ (x : Event). IsReport e.plant (state_of e) x p.report) fits.event_is fits.report_is) held)
+    (scan_journal e.plant e.history fits.image p.report.moment p.report log (subst (λ (x : Event). IsReport (state_of e) x p.report) fits.event_is fits.report_is) held)
 
 -- its moment isn't before that of the last scan
-scan_forward : (e : PlainEngine) (p : PlainPrepared) (k : PlainState) → Fits e p → IsState e.plant (state_of e) k → k.moment ≤ p.report.moment
+scan_forward : (e : PlainEngine) (p : PlainPrepared) (k : PlainState) → Fits e p → IsState (state_of e) k → k.moment ≤ p.report.moment
 scan_forward e p k fits held =
     let sys = state_of e in
-    let taken : IsTaken e.plant sys (event.Scan fits.image p.report.moment) = subst (IsTaken e.plant sys) fits.event_is fits.taken in
-    let found = taken_when (globals_of e.plant) sys.moment sys.events taken.0 p.report.moment p.report.moment fits.image taken.1 in
+    let taken : IsTaken sys (event.Scan fits.image p.report.moment) = subst (IsTaken sys) fits.event_is fits.taken in
+    let found = taken_when (globals_of sys.plant) sys.moment sys.events taken.0 p.report.moment p.report.moment fits.image taken.1 in
     omega (arith, held.moment_is, found.forward)
 
 -- and is that of the state that it leaves
-moment_after : (e : PlainEngine) (p : PlainPrepared) (k : PlainState) → Fits e p → IsState e.plant (state_of e) k → p.effect.moment ≡ p.report.moment
+moment_after : (e : PlainEngine) (p : PlainPrepared) (k : PlainState) → Fits e p → IsState (state_of e) k → p.effect.moment ≡ p.report.moment
 moment_after e p k fits held =
-    (fits.effect_is k held).moment_is ∙ ap (λ (s : System). s.moment) (system_next e.plant e.history p.event) ∙ ap (λ (x : Event). (step e.plant (state_of e) x).moment) fits.event_is
+    (fits.effect_is k held).moment_is ∙ ap (λ (x : Event). (after_event (state_of e) x).moment) fits.event_is
 
-pub scan_until : (e : PlainEngine) (p : PlainPrepared) (k : PlainState) (log : PlainLog) → Fits e p → IsState e.plant (state_of e) k → All (λ row. row.moment ≤ k.moment) log.rows
+pub scan_until : (e : PlainEngine) (p : PlainPrepared) (k : PlainState) (log : PlainLog) → Fits e p → IsState (state_of e) k → All (λ row. row.moment ≤ k.moment) log.rows
     → All (λ row. row.moment ≤ p.effect.moment) (after_entries p.report.moment log (scan_entries p.report)).rows
 scan_until e p k log fits held until =
     subst (λ m. All (λ (row : Row). row.moment ≤ m) (after_entries p.report.moment log (scan_entries p.report)).rows) (sym (moment_after e p k fits held))
     (until_after k.moment p.report.moment log (scan_entries p.report) (scan_forward e p k fits held) until)
 
 -- so its rows are in order
-pub scan_in_order : (e : PlainEngine) (p : PlainPrepared) (k : PlainState) (rows : List Row) → Fits e p → IsState e.plant (state_of e) k → All (λ row. row.moment ≤ k.moment) rows → last_moment rows ≤ p.report.moment
+pub scan_in_order : (e : PlainEngine) (p : PlainPrepared) (k : PlainState) (rows : List Row) → Fits e p → IsState (state_of e) k → All (λ row. row.moment ≤ k.moment) rows → last_moment rows ≤ p.report.moment
 scan_in_order e p k rows fits held until =
     let last = last_below k.moment rows until in
     let forward = scan_forward e p k fits held in
     omega (arith, last, forward)
 
 -- an order leaves the journal of the history with it
-pub order_committed : (e : PlainEngine) (p : PlainPreparedOrder) (k : PlainState) (log : PlainLog) → IsState e.plant (state_of e) k → FitsOrder e p → IsJournal e.plant e.history log.rows
+pub order_committed : (e : PlainEngine) (p : PlainPreparedOrder) (k : PlainState) (log : PlainLog) → IsState (state_of e) k → FitsOrder e p → IsJournal e.plant e.history log.rows
     → IsJournal e.plant (e.history ++ event.Order p.console p.order ∷ []) (after_entries k.moment log (order_entries p.console p.order p.done k.alarms)).rows
 order_committed e p k log held fits journal =
     let sys = state_of e in
-    let done = ordered e.plant sys p.console p.order in
+    let done = ordered sys p.console p.order in
     let rows : ℕ → Result Effect OrderFault → List PlainAlarm → List Row = λ m d a. (after_entries m log (order_entries p.console p.order d a)).rows in
     let same : rows k.moment p.done k.alarms ≡ rows sys.moment done sys.alarms =
     ap (λ m. rows m p.done k.alarms) held.moment_is ∙ ap (λ d. rows sys.moment d k.alarms) fits.done_is ∙ ap (rows sys.moment done) held.alarms_are in
@@ -88,13 +92,13 @@ order_many console order done alarms =
     let same = ap length (order_changes done alarms) in
     omega (arith, ours, theirs, same)
 
-pub order_room : (e : PlainEngine) (p : PlainPreparedOrder) (k : PlainState) (log : PlainLog) → IsState e.plant (state_of e) k → FitsOrder e p → 2 ≤ log.room
-    → (after_entries k.moment log (order_entries p.console p.order p.done k.alarms)).room + length (added_entries e.plant (state_of e) (event.Order p.console p.order)) ≡ log.room
+pub order_room : (e : PlainEngine) (p : PlainPreparedOrder) (k : PlainState) (log : PlainLog) → IsState (state_of e) k → FitsOrder e p → 2 ≤ log.room
+    → (after_entries k.moment log (order_entries p.console p.order p.done k.alarms)).room + length (added_entries (state_of e) (event.Order p.console p.order)) ≡ log.room
 order_room e p k log held fits there =
     let sys = state_of e in
-    let done = ordered e.plant sys p.console p.order in
+    let done = ordered sys p.console p.order in
     let left = room_after k.moment log (order_entries p.console p.order p.done k.alarms) in
     let few = few_order_entries p.console p.order p.done k.alarms in
     let same : length (order_entries p.console p.order p.done k.alarms) ≡ length (order_entries p.console p.order done sys.alarms) = λ i. length (order_entries p.console p.order (fits.done_is i) (held.alarms_are i)) in
-    let many : length (order_entries p.console p.order done sys.alarms) ≡ length (added_entries e.plant sys (event.Order p.console p.order)) = order_many p.console p.order done sys.alarms in
+    let many : length (order_entries p.console p.order done sys.alarms) ≡ length (added_entries sys (event.Order p.console p.order)) = order_many p.console p.order done sys.alarms in
     omega (arith, left, few, same, many, there)

@@ -27,7 +27,6 @@ use Rattle.block_walk.specs.Cells.{PlainCells}
 use Rattle.block_frames.specs.Stands.{StandFor}
 use Rattle.plant_walk.specs.Sound.{IsSound}
 use Rattle.plant_walk.proofs.Ranges.{run_program_keeps, assigned_global_keeps, opening_in_range}
-use Rattle.journal_core.specs.declared.row.Row.{Row}
 use Rattle.plant_config.specs.Plants.{PlainPlant}
 use Rattle.plant_config.specs.Names.{globals_of}
 use Rattle.engine.specs.declared.event.Event.{Event}
@@ -35,9 +34,8 @@ use Rattle.engine.specs.declared.event.Event.TheVariants as event
 use Rattle.engine.specs.declared.image.Input.{Input}
 use Rattle.engine.specs.Image.{input_at, input_of, inputs_of, values_of, FitsGlobal}
 use Rattle.engine.specs.Programs.{Scanned, with_input, with_inputs, after_run, programs_from, world_after}
-use Rattle.engine.specs.System.{System, system, step, taken_scan}
-use Rattle.engine.specs.Lawful.{IsTaken, IsLawfulHistory}
-use Rattle.engine.specs.Engines.{PlainState, IsEngine}
+use Rattle.engine.specs.System.{System, system, after_event, taken_scan}
+use Rattle.engine.specs.Lawful.{IsTaken, IsLawfulHistory, HasValuesInRange}
 use Rattle.engine.specs.Steps.{with_cell, ProgramsRan, StandInRange}
 use Rattle.engine.proofs.CellWorlds.{inputs_stand}
 use Rattle.engine.proofs.Images.{has_number, same_some, mapped_some, chosen_input, taken_image}
@@ -147,23 +145,19 @@ scan_in : (plant : PlainPlant) (image : List (ℕ × Value)) (t : ℕ) (flags : 
 unfolding world_after
 scan_in plant image t flags w sound fits holds = programs_in plant.source t 0 flags (with_inputs (globals_of plant) image w) sound (inputs_in plant.source image w sound fits holds)
 
-event_in : (plant : PlainPlant) (sys : System) (e : Event) → IsSound plant.source → IsTaken plant sys e → AllInRange plant.source sys.world → AllInRange plant.source (step plant sys e).world
-event_in plant sys (event.Scan image t) sound taken holds = scan_in plant image t sys.faulted sys.world sound (taken_fits (globals_of plant) sys.moment sys.events taken.0 t t image taken.1) holds
-event_in plant sys (event.Order console order) sound taken holds = holds
+-- the plant of a system is sound, and each value is in the range of its kind
+abbrev pub SoundInRange : System → Type 0
+SoundInRange sys = IsSound sys.plant.source × HasValuesInRange sys
 
--- so each value is in range after a lawful history
-pub lawful_in_range : (plant : PlainPlant) (history : List Event) → IsSound plant.source → IsLawfulHistory plant history → AllInRange plant.source (system plant history).world
-lawful_in_range plant history sound lawful =
-    lawful_keeps plant (λ s. AllInRange plant.source s.world) (λ s e taken holds. event_in plant s e sound taken holds) history (opening_in_range plant.source sound) lawful
+event_in : (sys : System) (e : Event) → IsTaken sys e → SoundInRange sys → SoundInRange (after_event sys e)
+event_in sys (event.Scan image t) taken holds =
+    (holds.0, scan_in sys.plant image t sys.faulted sys.world holds.0 (taken_fits (globals_of sys.plant) sys.moment sys.events taken.0 t t image taken.1) holds.1)
+event_in sys (event.Order console order) taken holds = holds
 
--- the cells of an engine stand for such a world
-pub engine_stands : (plant : PlainPlant) (history : List Event) (rows : List Row) (k : PlainState) → IsEngine plant history rows k → StandInRange plant.source k.cells
-engine_stands plant history rows k is = record {
-  world = (system plant history).world;
-  stands = is.state_is.world_stands;
-  in_range = lawful_in_range plant history is.plant_is.sound is.lawful;
-}
+-- so it is after a lawful history
+pub lawful_in_range : (plant : PlainPlant) (history : List Event) → IsSound plant.source → IsLawfulHistory plant history → SoundInRange (system plant history)
+lawful_in_range plant history sound lawful = lawful_keeps SoundInRange event_in plant history (sound, opening_in_range plant.source sound) lawful
 
--- and so do those before the first event
+-- so do the cells before the first event
 pub opening_stands : (source : Source) (cells : PlainCells) → IsSound source → StandFor source cells (opening source) → StandInRange source cells
 opening_stands source cells sound stands = record { world = opening source; stands = stands; in_range = opening_in_range source sound }

@@ -27,7 +27,7 @@ use Rattle.engine.specs.Orders.{changed_by}
 use Rattle.engine.specs.Reports.{PlainReport}
 use Rattle.engine.specs.Engines.{IsReport}
 use Rattle.alarm_bank.specs.Moves.{changes_from}
-use Rattle.engine.specs.System.{System, system, opening_system, step, after_event, ordered}
+use Rattle.engine.specs.System.{System, system, opening_system, after_event, ordered}
 use Rattle.engine.proofs.Systems.{system_keeps_its_plant, system_alarms, system_faulted, changes_within, numbers_more}
 use Rattle.engine.proofs.OrderRows.{order_changes, order_named}
 use Rattle.engine.specs.Journal.{NamedEntry, FaultAt, ChangeOf, named_entry, named_row, fault_entries, change_entries, added_entries, OrderBy, refusal_of, one_or_none, scan_entries, order_entries, rows_from, added_rows, journal_from, journal_of, IsNamed, IsJournal}
@@ -37,28 +37,28 @@ length-rows_from n moment [] = refl
 length-rows_from n moment (entry ∷ entries) = ap suc (length-rows_from (n + 1) moment entries)
 
 journal_more : (n : ℕ) (sys : System) (history : List Event) (e : Event)
-    → journal_from n sys (history ++ e ∷ []) ≡ journal_from n sys history ++ added_rows (fold after_event sys history).plant (n + length (journal_from n sys history)) (fold after_event sys history) e
-journal_more n sys [] e = append-nil (added_rows sys.plant n sys e) ∙ ap (λ m. added_rows sys.plant m sys e) (let h : n ≡ n + 0 = omega arith in h)
+    → journal_from n sys (history ++ e ∷ []) ≡ journal_from n sys history ++ added_rows (n + length (journal_from n sys history)) (fold after_event sys history) e
+journal_more n sys [] e = append-nil (added_rows n sys e) ∙ ap (λ m. added_rows m sys e) (let h : n ≡ n + 0 = omega arith in h)
 journal_more n sys (d ∷ history) e =
-    let rows = added_rows sys.plant n sys d in
-    let m = n + length (added_entries sys.plant sys d) in
+    let rows = added_rows n sys d in
+    let m = n + length (added_entries sys d) in
     let later = journal_from m (after_event sys d) history in
     let last = fold after_event (after_event sys d) history in
-    let long = length-rows_from n (after_event sys d).moment (added_entries sys.plant sys d) in
+    let long = length-rows_from n (after_event sys d).moment (added_entries sys d) in
     let both = length-append rows later in
     let same : m + length later ≡ n + length (rows ++ later) = omega (arith, long, both) in
     ap (λ l. rows ++ l) (journal_more m (after_event sys d) history e)
-    ∙ ap (λ k. rows ++ (later ++ added_rows last.plant k last e)) same
-    ∙ sym (append_assoc rows later (added_rows last.plant (n + length (rows ++ later)) last e))
+    ∙ ap (λ k. rows ++ (later ++ added_rows k last e)) same
+    ∙ sym (append_assoc rows later (added_rows (n + length (rows ++ later)) last e))
 
 -- one more event adds its rows
-pub journal_next : (plant : PlainPlant) (history : List Event) (e : Event) → journal_of plant (history ++ e ∷ []) ≡ journal_of plant history ++ added_rows plant (length (journal_of plant history) + 1) (system plant history) e
+pub journal_next : (plant : PlainPlant) (history : List Event) (e : Event) → journal_of plant (history ++ e ∷ []) ≡ journal_of plant history ++ added_rows (length (journal_of plant history) + 1) (system plant history) e
 unfolding journal_of system
 journal_next plant history e =
     let rows = journal_from 1 (opening_system plant) history in
     let now = fold after_event (opening_system plant) history in
     let same : 1 + length rows ≡ length rows + 1 = omega arith in
-    journal_more 1 (opening_system plant) history e ∙ (λ i. rows ++ added_rows (system_keeps_its_plant plant history i) (same i) now e)
+    journal_more 1 (opening_system plant) history e ∙ ap (λ n. rows ++ added_rows n now e) same
 
 pub journal_none : (plant : PlainPlant) → journal_of plant [] ≡ []
 unfolding journal_of
@@ -133,10 +133,13 @@ pub changes_named : (source : Source) (changes : List (ℕ × PlainChange)) → 
 changes_named source [] = refl
 changes_named source (c ∷ cs) = ap (λ l. ChangeOf c.0 c.1 ∷ l) (changes_named source cs)
 
--- ---- a journal goes on
-journal_on : (plant : PlainPlant) (history : List Event) (e : Event) (moment : ℕ) (log : PlainLog) (entries : List Entry) → moment ≡ (step plant (system plant history) e).moment
-    → map (named_entry plant.source) entries ≡ added_entries plant (system plant history) e → All (IsNamed plant) entries → IsJournal plant history log.rows → IsJournal plant (history ++ e ∷ []) (after_entries moment log entries).rows
-journal_on plant history e moment log entries at are within held =
+-- ---- a journal goes on, by entries that the system's plant names
+journal_on : (plant : PlainPlant) (history : List Event) (e : Event) (moment : ℕ) (log : PlainLog) (entries : List Entry) → moment ≡ (after_event (system plant history) e).moment
+    → map (named_entry (system plant history).plant.source) entries ≡ added_entries (system plant history) e → All (IsNamed (system plant history).plant) entries → IsJournal plant history log.rows → IsJournal plant (history ++ e ∷ []) (after_entries moment log entries).rows
+journal_on plant history e moment log entries at named within held =
+    let sys = system plant history in
+    let own = system_keeps_its_plant plant history in
+    let are = subst (λ (x : PlainPlant). map (named_entry x.source) entries ≡ added_entries sys e) own named in
     let journal = journal_of plant history in
     let long : length log.rows + 1 ≡ length journal + 1 = ap (λ k. k + 1) (sym (length-map log.rows (named_row plant.source)) ∙ ap length held.rows_are) in
     record {
@@ -144,39 +147,40 @@ journal_on plant history e moment log entries at are within held =
           ∙ ap (λ l. l ++ rows_from (length log.rows + 1) moment (map (named_entry plant.source) entries)) held.rows_are
           ∙ ap (λ n. journal ++ rows_from n moment (map (named_entry plant.source) entries)) long
           ∙ ap (λ es. journal ++ rows_from (length journal + 1) moment es) are
-          ∙ ap (λ m. journal ++ rows_from (length journal + 1) m (added_entries plant (system plant history) e)) at
+          ∙ ap (λ m. journal ++ rows_from (length journal + 1) m (added_entries sys e)) at
           ∙ sym (journal_next plant history e);
-      named = all_after (λ (row : Row). IsNamed plant row.entry) moment log entries held.named (λ n. within);
+      named = all_after (λ (row : Row). IsNamed plant row.entry) moment log entries held.named (λ n. subst (λ (x : PlainPlant). All (IsNamed x) entries) own within);
     }
 
 -- by the rows of a scan
-pub scan_journal : (plant : PlainPlant) (history : List Event) (image : List (ℕ × Value)) (t : ℕ) (r : PlainReport) (log : PlainLog) → IsReport plant (system plant history) (event.Scan image t) r → IsJournal plant history log.rows
+pub scan_journal : (plant : PlainPlant) (history : List Event) (image : List (ℕ × Value)) (t : ℕ) (r : PlainReport) (log : PlainLog) → IsReport (system plant history) (event.Scan image t) r → IsJournal plant history log.rows
     → IsJournal plant (history ++ event.Scan image t ∷ []) (after_entries r.moment log (scan_entries r)).rows
 scan_journal plant history image t r log report held =
-    let P = IsNamed plant in
-    let faults = faults_named plant.source r.faults ∙ ap fault_entries report.faults_are in
-    let changes = changes_named plant.source r.changes ∙ ap change_entries report.changes_are in
+    let here = (system plant history).plant in
+    let P = IsNamed here in
+    let faults = faults_named here.source r.faults ∙ ap fault_entries report.faults_are in
+    let changes = changes_named here.source r.changes ∙ ap change_entries report.changes_are in
     journal_on plant history (event.Scan image t) r.moment log (scan_entries r) report.moment_is
-    (map-append (named_entry plant.source) (map fault_entry r.faults) (map change_entry r.changes) ∙ (λ i. faults i ++ changes i))
+    (map-append (named_entry here.source) (map fault_entry r.faults) (map change_entry r.changes) ∙ (λ i. faults i ++ changes i))
     (All-append P (map fault_entry r.faults) (map change_entry r.changes) (All-map P fault_entry r.faults report.faults_within) (All-map P change_entry r.changes report.changes_within))
     held
 
 -- by those of an order
 pub order_journal : (plant : PlainPlant) (history : List Event) (console : ℕ) (order : Order) (log : PlainLog) → IsJournal plant history log.rows
-    → IsJournal plant (history ++ event.Order console order ∷ []) (after_entries (system plant history).moment log (order_entries console order (ordered plant (system plant history) console order) (system plant history).alarms)).rows
+    → IsJournal plant (history ++ event.Order console order ∷ []) (after_entries (system plant history).moment log (order_entries console order (ordered (system plant history) console order) (system plant history).alarms)).rows
 order_journal plant history console order log held =
     let sys = system plant history in
-    let done = ordered plant sys console order in
-    let changes = changes_from 0 sys.alarms (step plant sys (event.Order console order)).alarms in
+    let done = ordered sys console order in
+    let changes = changes_from 0 sys.alarms (after_event sys (event.Order console order)).alarms in
     let are : changes ≡ one_or_none (changed_by done sys.alarms) = order_changes done sys.alarms in
     let many = system_alarms plant history in
-    let few : All (λ (c : ℕ × PlainChange). c.0 < length plant.alarms) changes = numbers_more changes (0 + length sys.alarms) (length plant.alarms) (omega (arith, many)) (changes_within 0 sys.alarms (step plant sys (event.Order console order)).alarms) in
-    let P = IsNamed plant in
+    let few : All (λ (c : ℕ × PlainChange). c.0 < length sys.plant.alarms) changes = numbers_more changes (0 + length sys.alarms) (length sys.plant.alarms) (omega (arith, many)) (changes_within 0 sys.alarms (after_event sys (event.Order console order)).alarms) in
+    let P = IsNamed sys.plant in
     journal_on plant history (event.Order console order) sys.moment log (order_entries console order done sys.alarms) refl
-    (ap (λ l. OrderBy console order (refusal_of done) ∷ l) (changes_named plant.source (one_or_none (changed_by done sys.alarms)) ∙ ap change_entries (sym are)))
+    (ap (λ l. OrderBy console order (refusal_of done) ∷ l) (changes_named sys.plant.source (one_or_none (changed_by done sys.alarms)) ∙ ap change_entries (sym are)))
     (All-cons P (entry.Order console order.verb order.target (refusal_of done)) (map change_entry (one_or_none (changed_by done sys.alarms)))
-    (order_named plant sys.alarms sys.faulted sys.moment console order (system_faulted plant history))
-    (All-map P change_entry (one_or_none (changed_by done sys.alarms)) (subst (All (λ (c : ℕ × PlainChange). c.0 < length plant.alarms)) are few)))
+    (order_named sys.plant sys.alarms sys.faulted sys.moment console order (system_faulted plant history))
+    (All-map P change_entry (one_or_none (changed_by done sys.alarms)) (subst (All (λ (c : ℕ × PlainChange). c.0 < length sys.plant.alarms)) are few)))
     held
 
 -- the rows of a history without events

@@ -1,5 +1,5 @@
 -- Histories whose events were each taken.
-use Rattle.std.proofs.Common.{◌≡◌, ℕ, ◌<◌, ◌≤◌, Bool, true, false, List, [], ◌∷◌, ◌++◌, length, fold, refl, sym, ◌∙◌, subst, arith, Ok, Err, if◌then◌else◌}
+use Rattle.std.proofs.Common.{◌≡◌, ℕ, ◌<◌, ◌≤◌, Bool, true, false, List, [], ◌∷◌, ◌++◌, length, fold, refl, arith, Ok, Err, if◌then◌else◌}
 use Rattle.std.specs.Prelude.{nat_le}
 use Rattle.std.proofs.lemmas.Bool.Decides.{nat_tests}
 use Rattle.alarm_machine.specs.declared.limits.TheConstants.{LAST_MOMENT}
@@ -11,36 +11,33 @@ use Rattle.engine.specs.declared.event.Event.TheVariants as event
 use Rattle.engine.specs.declared.event.Order.{Order}
 use Rattle.engine.specs.declared.event.EngineFault.{EngineFault}
 use Rattle.engine.specs.declared.event.EngineFault.TheVariants as refusal
-use Rattle.engine.specs.System.{System, system, opening_system, step, after_event, order_event}
+use Rattle.engine.specs.System.{System, system, opening_system, after_event, order_event}
 use Rattle.engine.specs.Lawful.{IsTaken, AreTaken, IsLawfulHistory}
 use Rattle.engine.proofs.Images.{taken_when}
-use Rattle.engine.proofs.Systems.{step_holds, system_keeps_its_plant, system_events}
+use Rattle.engine.proofs.Systems.{system_events}
 
-taken_next : (s : System) (history : List Event) (e : Event) → AreTaken s history → IsTaken (fold after_event s history).plant (fold after_event s history) e → AreTaken s (history ++ e ∷ [])
+taken_next : (s : System) (history : List Event) (e : Event) → AreTaken s history → IsTaken (fold after_event s history) e → AreTaken s (history ++ e ∷ [])
 taken_next s [] e lawful taken = (taken, tt)
 taken_next s (d ∷ history) e lawful taken = (lawful.0, taken_next (after_event s d) history e lawful.1 taken)
 
 -- one more event that was taken
-pub lawful_next : (plant : PlainPlant) (history : List Event) (e : Event) → IsLawfulHistory plant history → IsTaken plant (system plant history) e → IsLawfulHistory plant (history ++ e ∷ [])
+pub lawful_next : (plant : PlainPlant) (history : List Event) (e : Event) → IsLawfulHistory plant history → IsTaken (system plant history) e → IsLawfulHistory plant (history ++ e ∷ [])
 unfolding IsLawfulHistory system
-lawful_next plant history e lawful taken =
-    taken_next (opening_system plant) history e lawful (subst (λ (p : PlainPlant). IsTaken p (fold after_event (opening_system plant) history) e) (sym (system_keeps_its_plant plant history)) taken)
+lawful_next plant history e lawful taken = taken_next (opening_system plant) history e lawful taken
 
 pub lawful_none : (plant : PlainPlant) → IsLawfulHistory plant []
 unfolding IsLawfulHistory
 lawful_none plant = tt
 
 -- what the opening system has and each event that is taken keeps, the system of every lawful history has
-module _ (plant : PlainPlant) (P : System → Type 0) (keeps : (s : System) (e : Event) → IsTaken plant s e → P s → P (step plant s e)) where
-  kept_from : (s : System) (history : List Event) → s.plant ≡ plant → P s → AreTaken s history → P (fold after_event s history)
-  kept_from s [] is p lawful = p
-  kept_from s (e ∷ history) is p lawful =
-      kept_from (after_event s e) history (step_holds s.plant s e ∙ is)
-      (subst (λ (x : PlainPlant). P (step x s e)) (sym is) (keeps s e (subst (λ (x : PlainPlant). IsTaken x s e) is lawful.0) p)) lawful.1
+module _ (P : System → Type 0) (keeps : (s : System) (e : Event) → IsTaken s e → P s → P (after_event s e)) where
+  kept_from : (s : System) (history : List Event) → P s → AreTaken s history → P (fold after_event s history)
+  kept_from s [] p lawful = p
+  kept_from s (e ∷ history) p lawful = kept_from (after_event s e) history (keeps s e lawful.0 p) lawful.1
 
-  pub lawful_keeps : (history : List Event) → P (opening_system plant) → IsLawfulHistory plant history → P (system plant history)
+  pub lawful_keeps : (plant : PlainPlant) (history : List Event) → P (opening_system plant) → IsLawfulHistory plant history → P (system plant history)
   unfolding IsLawfulHistory system
-  lawful_keeps history p lawful = kept_from (opening_system plant) history refl p lawful
+  lawful_keeps plant history p lawful = kept_from (opening_system plant) history p lawful
 
 -- an order that isn't refused finds room in the history
 not_full : {A : Type 0} (n : ℕ) (b : Bool) (e : EngineFault) (a : A) → nat_le MOST_EVENTS n ≡ b → (if b then Err e else Ok a) ≡ Ok a → n < MOST_EVENTS
@@ -55,12 +52,12 @@ order_room s console order h = not_full s.events (nat_le MOST_EVENTS s.events) r
 abbrev Short : System → Type 0
 Short s = (s.events ≤ MOST_EVENTS) × (s.moment ≤ LAST_MOMENT)
 
-short_next : (plant : PlainPlant) (s : System) (e : Event) → IsTaken plant s e → Short s → Short (step plant s e)
-short_next plant s (event.Scan image t) taken short = let when = taken_when (globals_of plant) s.moment s.events taken.0 t t image taken.1 in (omega (arith, when.room), when.in_range)
-short_next plant s (event.Order console order) taken short = let room = order_room s console order taken in (omega (arith, room), short.1)
+short_next : (s : System) (e : Event) → IsTaken s e → Short s → Short (after_event s e)
+short_next s (event.Scan image t) taken short = let when = taken_when (globals_of s.plant) s.moment s.events taken.0 t t image taken.1 in (omega (arith, when.room), when.in_range)
+short_next s (event.Order console order) taken short = let room = order_room s console order taken in (omega (arith, room), short.1)
 
 pub lawful_short : (plant : PlainPlant) (history : List Event) → IsLawfulHistory plant history → (length history ≤ 1000000) × ((system plant history).moment ≤ 4000000000000)
 lawful_short plant history lawful =
-    let short = lawful_keeps plant Short (short_next plant) history (omega arith, omega arith) lawful in
+    let short = lawful_keeps Short short_next plant history (omega arith, omega arith) lawful in
     let events = system_events plant history in
     (omega (arith, events, short.0), short.1)

@@ -8,6 +8,7 @@ pub mod Systems
 pub mod Twins
 mod Lawful
 mod InRange
+mod Ready
 mod Shown
 mod Journals
 mod OrderRows

@@ -12,15 +12,13 @@ use Rattle.plant_types.specs.Values.{kind_of, truth, worth, value_of_kind, is_in
 use Rattle.plant_logic.specs.declared.logic.Variable.{Variable}
 use Rattle.plant_logic.specs.Source.{Source}
 use Rattle.plant_logic.specs.Worlds.{World, path_of}
-use Rattle.plant_logic.specs.Ranges.{AllInRange}
 use Rattle.block_walk.specs.Cells.{PlainCells, value_at}
 use Rattle.plant_walk.proofs.Standing.{cell_holds}
 use Rattle.plant_walk.proofs.Ranges.{global_in_range}
-use Rattle.plant_config.specs.Plants.{PlainPlant}
 use Rattle.plant_config.specs.Names.{globals_of}
 use Rattle.engine.specs.Programs.{global_in}
-use Rattle.engine.specs.System.{is_output, outputs_from}
-use Rattle.engine.specs.Lawful.{IsOutputValue}
+use Rattle.engine.specs.System.{System, is_output, outputs_from, outputs_of}
+use Rattle.engine.specs.Lawful.{HasValuesInRange, IsOutputValue}
 use Rattle.engine.specs.Steps.{IsShowable, AreShowable, StandInRange}
 
 -- a number in the range of a kind
@@ -68,16 +66,19 @@ outputs_showable globals before now outputs fits are =
     subst (All (IsShowable now)) (sym are) (outputs_in 0 globals before now (λ i g at. let e : i ≡ 0 + i = omega arith in subst (λ m. In g.kind (now m)) e (fits i g at)))
 
 -- each output that is shown is the value of an output global
-module _ (plant : PlainPlant) (w : World) (holds : AllInRange plant.source w) where
-  abbrev now : ℕ → ℤ
-  now = global_in (globals_of plant) w
+module _ (sys : System) (holds : HasValuesInRange sys) where
+  abbrev globals_here : List Variable
+  globals_here = globals_of sys.plant
 
-  one_valued : (b : Bool) (n : ℕ) (g : Variable) (rest : List (ℕ × Value)) → is_output g.region ≡ b → slice_get (globals_of plant) n ≡ Some g → All (IsOutputValue plant w) rest
-      → All (IsOutputValue plant w) (if b then (n, value_of_kind g.kind (now n)) ∷ rest else rest)
+  abbrev now : ℕ → ℤ
+  now = global_in globals_here sys.world
+
+  one_valued : (b : Bool) (n : ℕ) (g : Variable) (rest : List (ℕ × Value)) → is_output g.region ≡ b → slice_get globals_here n ≡ Some g → All (IsOutputValue sys) rest
+      → All (IsOutputValue sys) (if b then (n, value_of_kind g.kind (now n)) ∷ rest else rest)
   one_valued true n g rest is at all =
-      let value = global_value (globals_of plant) w n g at in
-      let fits = global_in_range plant.source w n g holds at in
-      All-cons (IsOutputValue plant w) (n, value_of_kind g.kind (now n)) rest (record {
+      let value = global_value globals_here sys.world n g at in
+      let fits = global_in_range sys.plant.source sys.world n g holds at in
+      All-cons (IsOutputValue sys) (n, value_of_kind g.kind (now n)) rest (record {
         global = g;
         global_is = at;
         is_output = is;
@@ -86,12 +87,12 @@ module _ (plant : PlainPlant) (w : World) (holds : AllInRange plant.source w) wh
       }) all
   one_valued false n g rest is at all = all
 
-  valued_from : (n : ℕ) (globals : List Variable) → ((i : ℕ) (g : Variable) → slice_get globals i ≡ Some g → slice_get (globals_of plant) (n + i) ≡ Some g) → All (IsOutputValue plant w) (outputs_from n globals now)
-  valued_from n [] there = All-nil (IsOutputValue plant w)
+  valued_from : (n : ℕ) (globals : List Variable) → ((i : ℕ) (g : Variable) → slice_get globals i ≡ Some g → slice_get globals_here (n + i) ≡ Some g) → All (IsOutputValue sys) (outputs_from n globals now)
+  valued_from n [] there = All-nil (IsOutputValue sys)
   valued_from n (g ∷ globals) there =
       one_valued (is_output g.region) n g (outputs_from (n + 1) globals now) refl
-      (let e : n + 0 ≡ n = omega arith in subst (λ m. slice_get (globals_of plant) m ≡ Some g) e (there 0 g refl))
-      (valued_from (n + 1) globals (λ i h at. let e : n + suc i ≡ n + 1 + i = omega arith in subst (λ m. slice_get (globals_of plant) m ≡ Some h) e (there (suc i) h at)))
+      (let e : n + 0 ≡ n = omega arith in subst (λ m. slice_get globals_here m ≡ Some g) e (there 0 g refl))
+      (valued_from (n + 1) globals (λ i h at. let e : n + suc i ≡ n + 1 + i = omega arith in subst (λ m. slice_get globals_here m ≡ Some h) e (there (suc i) h at)))
 
-  pub outputs_valued : All (IsOutputValue plant w) (outputs_from 0 (globals_of plant) now)
-  outputs_valued = valued_from 0 (globals_of plant) (λ i g at. let e : i ≡ 0 + i = omega arith in subst (λ m. slice_get (globals_of plant) m ≡ Some g) e at)
+  pub outputs_valued : All (IsOutputValue sys) (outputs_of sys)
+  outputs_valued = valued_from 0 globals_here (λ i g at. let e : i ≡ 0 + i = omega arith in subst (λ m. slice_get globals_here m ≡ Some g) e at)

@@ -36,7 +36,7 @@ use Rattle.engine.specs.declared.state.Effect.TheVariants as effect
 use Rattle.plant_config.specs.Names.{globals_of, programs_of, body_paths}
 use Rattle.engine.specs.Programs.{Scanned, opening_faulted, after_run, programs_from, with_inputs, global_in, world_after}
 use Rattle.engine.specs.Orders.{order_outcome, alarms_by, faulted_by, reply_by}
-use Rattle.engine.specs.System.{System, system, step, after_event, taken_scan, scan_event, order_event, opening_system, opening_alarm, scanned_by, after_scan_event, ordered, conditions, suppressions, alarms_after, sites_of, outputs_from, out_at, outs_from}
+use Rattle.engine.specs.System.{System, system, after_event, taken_scan, scan_event, order_event, opening_system, opening_alarm, scanned_by, after_scan_event, ordered, conditions, suppressions, alarms_after, sites_of, outputs_from, out_at, outs_from}
 use Rattle.engine.specs.Journal.{IsJournal}
 use Rattle.engine.specs.Lawful.{IsTaken, IsLawfulHistory}
 use Rattle.engine.specs.Reports.{PlainReport}
@@ -45,38 +45,36 @@ use Rattle.engine.specs.Steps.{ProgramsRan, ScanRan, IsPreparedScan, IsPreparedO
 use Rattle.engine.proofs.CellWorlds.{inputs_stand, values_stand, alarms_same, outputs_stand, outs_stand}
 use Rattle.engine.proofs.Images.{has_number, taken_within}
 
-pub step_holds : (plant : PlainPlant) (s : System) (e : Event) → (step plant s e).plant ≡ s.plant
-step_holds plant s (event.Scan image t) = refl
-step_holds plant s (event.Order console order) = refl
+event_holds : (s : System) (e : Event) → (after_event s e).plant ≡ s.plant
+event_holds s (event.Scan image t) = refl
+event_holds s (event.Order console order) = refl
 
 plant_from : (s : System) (history : List Event) → (fold after_event s history).plant ≡ s.plant
 plant_from s [] = refl
-plant_from s (e ∷ history) = plant_from (after_event s e) history ∙ step_holds s.plant s e
+plant_from s (e ∷ history) = plant_from (after_event s e) history ∙ event_holds s e
 
 -- a system keeps the plant that it began with
 pub system_keeps_its_plant : (plant : PlainPlant) (history : List Event) → (system plant history).plant ≡ plant
 unfolding system
 system_keeps_its_plant plant history = plant_from (opening_system plant) history
 
-pub system_next : (plant : PlainPlant) (history : List Event) (e : Event) → system plant (history ++ e ∷ []) ≡ step plant (system plant history) e
+pub system_next : (plant : PlainPlant) (history : List Event) (e : Event) → system plant (history ++ e ∷ []) ≡ after_event (system plant history) e
 unfolding system
-system_next plant history e =
-    let now = fold after_event (opening_system plant) history in
-    fold-append after_event (opening_system plant) history (e ∷ []) ∙ ap (λ p. step p now e) (plant_from (opening_system plant) history)
+system_next plant history e = fold-append after_event (opening_system plant) history (e ∷ [])
 
 pub system_none : (plant : PlainPlant) → system plant [] ≡ opening_system plant
 unfolding system
 system_none plant = refl
 
 -- what the opening system has and each step keeps, every system has
-module _ (plant : PlainPlant) (P : System → Type 0) (keeps : (s : System) (e : Event) → P s → P (step plant s e)) where
-  kept_from : (s : System) (history : List Event) → s.plant ≡ plant → P s → P (fold after_event s history)
-  kept_from s [] is p = p
-  kept_from s (e ∷ history) is p = kept_from (after_event s e) history (step_holds s.plant s e ∙ is) (subst (λ (x : PlainPlant). P (step x s e)) (sym is) (keeps s e p))
+module _ (P : System → Type 0) (keeps : (s : System) (e : Event) → P s → P (after_event s e)) where
+  kept_from : (s : System) (history : List Event) → P s → P (fold after_event s history)
+  kept_from s [] p = p
+  kept_from s (e ∷ history) p = kept_from (after_event s e) history (keeps s e p)
 
-  pub system_keeps : (history : List Event) → P (opening_system plant) → P (system plant history)
+  pub system_keeps : (plant : PlainPlant) (history : List Event) → P (opening_system plant) → P (system plant history)
   unfolding system
-  system_keeps history p = kept_from (opening_system plant) history refl p
+  system_keeps plant history p = kept_from (opening_system plant) history p
 
 length-alarms_after : (now : ℕ → ℤ) (t : ℕ) (rows : List AlarmRow) (alarms : List PlainAlarm) → length alarms ≡ length rows → length (alarms_after now t rows alarms) ≡ length rows
 length-alarms_after now t rows alarms h =
@@ -106,24 +104,24 @@ unfolding world_after
 length-world_after plant image t flags w = length-programs_from plant.source t 0 flags (with_inputs (globals_of plant) image w)
 
 -- an alarm for each row of the database
-pub system_alarms : (plant : PlainPlant) (history : List Event) → length ((system plant history).alarms) ≡ length plant.alarms
+pub system_alarms : (plant : PlainPlant) (history : List Event) → length ((system plant history).alarms) ≡ length ((system plant history).plant.alarms)
 system_alarms plant history =
-    system_keeps plant (λ s. length s.alarms ≡ length plant.alarms)
+    system_keeps (λ s. length s.alarms ≡ length s.plant.alarms)
     (λ s. elim [
-      | event.Scan image t ↦ λ h. length-alarms_after (global_in (globals_of plant) (scanned_by plant s image t).world) t plant.alarms s.alarms h
-      | event.Order console order ↦ λ h. length-alarms_by (ordered plant s console order) s.alarms ∙ h
+      | event.Scan image t ↦ λ h. length-alarms_after (global_in (globals_of s.plant) (scanned_by s image t).world) t s.plant.alarms s.alarms h
+      | event.Order console order ↦ λ h. length-alarms_by (ordered s console order) s.alarms ∙ h
     ])
-    history (length-map plant.alarms opening_alarm)
+    plant history (length-map plant.alarms opening_alarm)
 
 -- a flag for each program
-pub system_faulted : (plant : PlainPlant) (history : List Event) → length ((system plant history).faulted) ≡ length (programs_of plant)
+pub system_faulted : (plant : PlainPlant) (history : List Event) → length ((system plant history).faulted) ≡ length (programs_of (system plant history).plant)
 system_faulted plant history =
-    system_keeps plant (λ s. length s.faulted ≡ length (programs_of plant))
+    system_keeps (λ s. length s.faulted ≡ length (programs_of s.plant))
     (λ s. elim [
-      | event.Scan image t ↦ λ h. length-world_after plant image t s.faulted s.world ∙ h
-      | event.Order console order ↦ λ h. length-faulted_by (ordered plant s console order) s.faulted ∙ h
+      | event.Scan image t ↦ λ h. length-world_after s.plant image t s.faulted s.world ∙ h
+      | event.Order console order ↦ λ h. length-faulted_by (ordered s console order) s.faulted ∙ h
     ])
-    history (length-map (programs_of plant) (λ (program : List ℕ). false))
+    plant history (length-map (programs_of plant) (λ (program : List ℕ). false))
 
 events_from : (s : System) (history : List Event) → (fold after_event s history).events ≡ s.events + length history
 events_from s [] = omega arith
@@ -136,35 +134,37 @@ unfolding system
 system_events plant history = events_from (opening_system plant) history ∙ zero-add (length history)
 
 -- an engine has an alarm for each row of the database
-pub kept_alarms : (plant : PlainPlant) (history : List Event) (k : PlainState) → IsState plant (system plant history) k → length k.alarms ≡ length plant.alarms
+pub kept_alarms : (plant : PlainPlant) (history : List Event) (k : PlainState) → IsState (system plant history) k → length k.alarms ≡ length ((system plant history).plant.alarms)
 kept_alarms plant history k held = ap length held.alarms_are ∙ system_alarms plant history
 
 -- and a flag for each program
-pub kept_faulted : (plant : PlainPlant) (history : List Event) (k : PlainState) → IsState plant (system plant history) k → length k.faulted ≡ length (programs_of plant)
+pub kept_faulted : (plant : PlainPlant) (history : List Event) (k : PlainState) → IsState (system plant history) k → length k.faulted ≡ length (programs_of (system plant history).plant)
 kept_faulted plant history k held = ap length held.faulted_is ∙ system_faulted plant history
 
 -- and its outputs are those of its cells
-pub kept_outputs : (plant : PlainPlant) (history : List Event) (k : PlainState) → IsState plant (system plant history) k → k.outputs ≡ outputs_from 0 plant.source.globals (value_at k.cells)
-kept_outputs plant history k held =
-    let world = (system plant history).world in
-    held.outputs_are ∙ sym (outputs_stand plant.source (value_at k.cells) (global_in (globals_of plant) world) (values_stand plant.source k.cells world held.world_stands))
+pub kept_outputs : (sys : System) (k : PlainState) → IsState sys k → k.outputs ≡ outputs_from 0 (globals_of sys.plant) (value_at k.cells)
+kept_outputs sys k held =
+    let source = sys.plant.source in
+    held.outputs_are ∙ sym (outputs_stand source (value_at k.cells) (global_in source.globals sys.world) (values_stand source k.cells sys.world held.world_stands))
 
 -- what the programs leave in cells is what they leave in the system's world
-runs_world : (plant : PlainPlant) (sys : System) (old new : PlainState) (image : List (ℕ × Value)) (t : ℕ) (r : PlainReport) → IsSound plant.source → All (has_number (length plant.source.globals)) image → IsState plant sys old → ScanRan plant old image t new r
-    → ProgramsRan plant.source (scanned_by plant sys image t) new.cells new.faulted r.faults
+runs_world : (sys : System) (old new : PlainState) (image : List (ℕ × Value)) (t : ℕ) (r : PlainReport) → IsSound sys.plant.source → All (has_number (length sys.plant.source.globals)) image → IsState sys old → ScanRan sys.plant old image t new r
+    → ProgramsRan sys.plant.source (scanned_by sys image t) new.cells new.faulted r.faults
 unfolding world_after
-runs_world plant sys old new image t r sound within held made =
-    let w = with_inputs (globals_of plant) image sys.world in
-    subst (λ (flags : List Bool). ProgramsRan plant.source (programs_from plant.source t 0 flags w) new.cells new.faulted r.faults) held.faulted_is
-    (made.programs w (inputs_stand plant.source image old.cells sys.world sound within held.world_stands))
+runs_world sys old new image t r sound within held made =
+    let source = sys.plant.source in
+    let w = with_inputs source.globals image sys.world in
+    subst (λ (flags : List Bool). ProgramsRan source (programs_from source t 0 flags w) new.cells new.faulted r.faults) held.faulted_is
+    (made.programs w (inputs_stand source image old.cells sys.world sound within held.world_stands))
 
 -- what a scan leaves is the next system
-scan_agrees : (plant : PlainPlant) (sys : System) (old new : PlainState) (image : List (ℕ × Value)) (t : ℕ) (r : PlainReport) → IsPlant plant → All (has_number (length plant.source.globals)) image → IsState plant sys old → ScanRan plant old image t new r
-    → IsState plant (after_scan_event plant sys image t) new
-scan_agrees plant sys old new image t r is within held made =
-    let runs = runs_world plant sys old new image t r is.sound within held made in
-    let look = global_in (globals_of plant) (scanned_by plant sys image t).world in
-    let now = values_stand plant.source new.cells (scanned_by plant sys image t).world runs.world_stands in
+scan_agrees : (sys : System) (old new : PlainState) (image : List (ℕ × Value)) (t : ℕ) (r : PlainReport) → IsPlant sys.plant → All (has_number (length sys.plant.source.globals)) image → IsState sys old → ScanRan sys.plant old image t new r
+    → IsState (after_scan_event sys image t) new
+scan_agrees sys old new image t r is within held made =
+    let plant = sys.plant in
+    let runs = runs_world sys old new image t r is.sound within held made in
+    let look = global_in (globals_of plant) (scanned_by sys image t).world in
+    let now = values_stand plant.source new.cells (scanned_by sys image t).world runs.world_stands in
     record {
       world_stands = runs.world_stands;
       faulted_is = runs.faulted_is;
@@ -205,14 +205,15 @@ as_many_paths : (plant : PlainPlant) → length (paths_of plant.source) ≡ leng
 as_many_paths plant = sym (length-map (paths_of plant.source) path_text)
 
 -- what a scan reports is what its event did
-scan_reports : (plant : PlainPlant) (sys : System) (old new : PlainState) (image : List (ℕ × Value)) (t : ℕ) (r : PlainReport) → IsPlant plant → All (has_number (length plant.source.globals)) image → length old.alarms ≡ length plant.alarms → IsState plant sys old → ScanRan plant old image t new r
-    → IsReport plant sys (event.Scan image t) r
-scan_reports plant sys old new image t r is within each held made =
-    let runs = runs_world plant sys old new image t r is.sound within held made in
-    let after = scan_agrees plant sys old new image t r is within held made in
-    let look = global_in (globals_of plant) (scanned_by plant sys image t).world in
+scan_reports : (sys : System) (old new : PlainState) (image : List (ℕ × Value)) (t : ℕ) (r : PlainReport) → IsPlant sys.plant → All (has_number (length sys.plant.source.globals)) image → length old.alarms ≡ length sys.plant.alarms → IsState sys old → ScanRan sys.plant old image t new r
+    → IsReport sys (event.Scan image t) r
+scan_reports sys old new image t r is within each held made =
+    let plant = sys.plant in
+    let runs = runs_world sys old new image t r is.sound within held made in
+    let after = scan_agrees sys old new image t r is within held made in
+    let look = global_in (globals_of plant) (scanned_by sys image t).world in
     let before = values_stand plant.source old.cells sys.world held.world_stands in
-    let now = values_stand plant.source new.cells (scanned_by plant sys image t).world runs.world_stands in
+    let now = values_stand plant.source new.cells (scanned_by sys image t).world runs.world_stands in
     record {
       moment_is = made.reported_at;
       faults_are = runs.faults_are;
@@ -224,17 +225,18 @@ scan_reports plant sys old new image t r is within each held made =
     }
 
 -- the event of a scan, by what an engine keeps and how many events there were
-pub scan_event_is : (plant : PlainPlant) (history : List Event) (k : PlainState) (n : ℕ) (pairs : List PlainPair) (t : ℕ) → IsState plant (system plant history) k → n ≡ length history → taken_scan plant.source.globals k.moment n pairs t ≡ scan_event plant (system plant history) pairs t
+pub scan_event_is : (plant : PlainPlant) (history : List Event) (k : PlainState) (n : ℕ) (pairs : List PlainPair) (t : ℕ) → IsState (system plant history) k → n ≡ length history → taken_scan (globals_of plant) k.moment n pairs t ≡ scan_event (system plant history) pairs t
 scan_event_is plant history k n pairs t held is =
-    ap (λ m. taken_scan plant.source.globals m n pairs t) held.moment_is
-    ∙ ap (λ m. taken_scan plant.source.globals (system plant history).moment m pairs t) (is ∙ sym (system_events plant history))
+    let own = system_keeps_its_plant plant history in
+    let events = is ∙ sym (system_events plant history) in
+    λ i. taken_scan (globals_of (sym own i)) (held.moment_is i) (events i) pairs t
 
 -- what an effect makes of one state that is kept for a system, it makes of each
-effect_anywhere : (plant : PlainPlant) (sys next : System) (old k : PlainState) (effect : PlainScanEffect) → IsState plant sys old → IsState plant sys k → IsState plant next (after_effect effect old) → IsState plant next (after_effect effect k)
-effect_anywhere plant sys next old k effect held keeps after = record {
+effect_anywhere : (sys next : System) (old k : PlainState) (effect : PlainScanEffect) → IsState sys old → IsState sys k → IsState next (after_effect effect old) → IsState next (after_effect effect k)
+effect_anywhere sys next old k effect held keeps after = record {
   world_stands = after.world_stands;
   faulted_is = after.faulted_is;
-  sites_are = keeps.sites_are;
+  sites_are = keeps.sites_are ∙ sym held.sites_are ∙ after.sites_are;
   alarms_are = ap (λ l. put_all l effect.moved) (keeps.alarms_are ∙ sym held.alarms_are) ∙ after.alarms_are;
   outputs_are = after.outputs_are;
   moment_is = after.moment_is;
@@ -242,38 +244,40 @@ effect_anywhere plant sys next old k effect held keeps after = record {
 }
 
 -- a scan that was made ready from what an engine holds fits that engine, where it has room
-pub scan_fits : (e : PlainEngine) (p : PlainPrepared) (old : PlainState) (events : ℕ) (pairs : List PlainPair) (t : ℕ) → IsPlant e.plant → IsState e.plant (state_of e) old → IsPreparedScan e.plant old events pairs t p → events ≡ length e.history → 0 < e.room → length p.report.faults + length p.report.changes ≤ e.row_room → Fits e p
-scan_fits e p old events pairs t plant_is held scan counted there rows_there =
+pub scan_fits : (e : PlainEngine) (p : PlainPrepared) (old : PlainState) (events : ℕ) (pairs : List PlainPair) (t : ℕ) → IsPlant e.plant → IsState (state_of e) old → IsPreparedScan e.plant old events pairs t p → events ≡ length e.history → 0 < e.room → length p.report.faults + length p.report.changes ≤ e.row_room → Fits e p
+scan_fits e p old events pairs t begun held scan counted there rows_there =
     let sys = state_of e in
+    let own : e.plant ≡ sys.plant = sym (system_keeps_its_plant e.plant e.history) in
     let image = scan.image in
     let is = scan.event_is in
-    let made = scan.ran in
-    let within = taken_within e.plant.source.globals old.moment events pairs t t image (scan.taken ∙ ap Ok is) in
-    let next : system e.plant (e.history ++ p.event ∷ []) ≡ after_scan_event e.plant sys image t = system_next e.plant e.history p.event ∙ ap (step e.plant sys) is in
     let new = after_effect p.effect old in
-    let after = scan_agrees e.plant sys old new image t p.report plant_is within held made in
+    let plant_is = subst IsPlant own begun in
+    let made = subst (λ (x : PlainPlant). ScanRan x old image t new p.report) own scan.ran in
+    let taken : scan_event sys pairs t ≡ Ok (event.Scan image t) = sym (scan_event_is e.plant e.history old events pairs t held counted) ∙ scan.taken ∙ ap Ok is in
+    let within = taken_within (globals_of sys.plant) sys.moment sys.events pairs t t image taken in
+    let after = scan_agrees sys old new image t p.report plant_is within held made in
     record {
       room = there;
       image = image;
       event_is = is ∙ ap (event.Scan image) (sym made.reported_at);
       row_room = rows_there;
-      effect_is = λ k keeps. subst (λ s. IsState e.plant s (after_effect p.effect k)) (sym next) (effect_anywhere e.plant sys (after_scan_event e.plant sys image t) old k p.effect held keeps after);
+      effect_is = λ k keeps. subst (λ (x : Event). IsState (after_event sys x) (after_effect p.effect k)) (sym is) (effect_anywhere sys (after_scan_event sys image t) old k p.effect held keeps after);
       in_range = after.in_range;
-      report_is = subst (λ x. IsReport e.plant sys x p.report) (sym is) (scan_reports e.plant sys old new image t p.report plant_is within (kept_alarms e.plant e.history old held) held made);
-      taken = subst (IsTaken e.plant sys) (sym is) (pairs, sym (scan_event_is e.plant e.history old events pairs t held counted) ∙ scan.taken ∙ ap Ok is);
+      report_is = subst (λ (x : Event). IsReport sys x p.report) (sym is) (scan_reports sys old new image t p.report plant_is within (kept_alarms e.plant e.history old held) held made);
+      taken = subst (IsTaken sys) (sym is) (pairs, taken);
     }
 
 -- what an order that was made ready leaves is the next system
-pub order_agrees : (e : PlainEngine) (p : PlainPreparedOrder) (old : PlainState) → IsState e.plant (state_of e) old → FitsOrder e p
-    → IsState e.plant (system e.plant (e.history ++ event.Order p.console p.order ∷ [])) (record old { faulted = faulted_by p.done old.faulted; alarms = alarms_by p.done old.alarms })
+pub order_agrees : (e : PlainEngine) (p : PlainPreparedOrder) (old : PlainState) → IsState (state_of e) old → FitsOrder e p
+    → IsState (system e.plant (e.history ++ event.Order p.console p.order ∷ [])) (record old { faulted = faulted_by p.done old.faulted; alarms = alarms_by p.done old.alarms })
 order_agrees e p old held fits =
     let sys = state_of e in
-    let next : system e.plant (e.history ++ event.Order p.console p.order ∷ []) ≡ step e.plant sys (event.Order p.console p.order) = system_next e.plant e.history (event.Order p.console p.order) in
-    subst (λ s. IsState e.plant s (record old { faulted = faulted_by p.done old.faulted; alarms = alarms_by p.done old.alarms })) (sym next) (record {
+    let next = system_next e.plant e.history (event.Order p.console p.order) in
+    subst (λ (s : System). IsState s (record old { faulted = faulted_by p.done old.faulted; alarms = alarms_by p.done old.alarms })) (sym next) (record {
       world_stands = held.world_stands;
-      faulted_is = ap (λ d. faulted_by d old.faulted) fits.done_is ∙ ap (faulted_by (ordered e.plant sys p.console p.order)) held.faulted_is;
+      faulted_is = ap (λ d. faulted_by d old.faulted) fits.done_is ∙ ap (faulted_by (ordered sys p.console p.order)) held.faulted_is;
       sites_are = held.sites_are;
-      alarms_are = ap (λ d. alarms_by d old.alarms) fits.done_is ∙ ap (alarms_by (ordered e.plant sys p.console p.order)) held.alarms_are;
+      alarms_are = ap (λ d. alarms_by d old.alarms) fits.done_is ∙ ap (alarms_by (ordered sys p.console p.order)) held.alarms_are;
       outputs_are = held.outputs_are;
       moment_is = held.moment_is;
       in_range = held.in_range;
@@ -299,7 +303,7 @@ sites_there plant is =
 pub opening_agrees : (plant : PlainPlant) (k : PlainState) → IsPlant plant → StandFor plant.source k.cells (opening plant.source) → k.faulted ≡ opening_faulted (programs_of plant) → k.sites ≡ sites_of plant.alarms → k.alarms ≡ map opening_alarm plant.alarms → k.outputs ≡ outputs_from 0 plant.source.globals (value_at k.cells) → k.moment ≡ 0 → IsLawfulHistory plant [] → IsJournal plant [] [] → IsEngine plant [] [] k
 opening_agrees plant k is stands faulted sites alarms outputs moment lawful journal =
     record {
-      state_is = subst (λ s. IsState plant s k) (sym (system_none plant)) (record {
+      state_is = subst (λ (s : System). IsState s k) (sym (system_none plant)) (record {
         world_stands = stands;
         faulted_is = faulted;
         sites_are = sites;
@@ -322,16 +326,14 @@ order_event_room plant history console order few =
     grind (arith, nat_tests)
 
 -- an order that was made ready from what an engine holds fits that engine, where it has room
-pub order_fits : (e : PlainEngine) (k : PlainState) (console : ℕ) (order : Order) (p : PlainPreparedOrder) → IsState e.plant (state_of e) k → IsPreparedOrder e.plant k console order p → length e.history < MOST_EVENTS → 0 < e.room → 2 ≤ e.row_room → FitsOrder e p
+pub order_fits : (e : PlainEngine) (k : PlainState) (console : ℕ) (order : Order) (p : PlainPreparedOrder) → IsState (state_of e) k → IsPreparedOrder e.plant k console order p → length e.history < MOST_EVENTS → 0 < e.room → 2 ≤ e.row_room → FitsOrder e p
 order_fits e k console order p held made few there rows_there =
     let sys = state_of e in
-    let is : p.done ≡ ordered e.plant sys p.console p.order =
+    let own : e.plant ≡ sys.plant = sym (system_keeps_its_plant e.plant e.history) in
+    let is : p.done ≡ ordered sys p.console p.order =
     made.done_is
-    ∙ ap (λ a. order_outcome e.plant a k.faulted k.moment console order) held.alarms_are
-    ∙ ap (λ f. order_outcome e.plant sys.alarms f k.moment console order) held.faulted_is
-    ∙ ap (λ m. order_outcome e.plant sys.alarms sys.faulted m console order) held.moment_is
-    ∙ ap (λ n. ordered e.plant sys n order) (sym made.console_is)
-    ∙ ap (ordered e.plant sys p.console) (sym made.order_is) in
+    ∙ (λ i. order_outcome (own i) (held.alarms_are i) (held.faulted_is i) (held.moment_is i) console order)
+    ∙ (λ i. ordered sys (sym made.console_is i) (sym made.order_is i)) in
     record {
       room = there;
       row_room = rows_there;

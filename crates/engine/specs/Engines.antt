@@ -22,11 +22,11 @@ use Rattle.engine.specs.declared.event.Order.{Order}
 use Rattle.engine.specs.declared.event.Reply.{Reply}
 use Rattle.engine.specs.declared.state.Effect.{Effect}
 use Rattle.engine.specs.Reports.{PlainReport}
-use Rattle.engine.specs.System.{System, system, step, scan_event, faults_of, changes_of, outs_of, outputs_of, sites_of, ordered, reply_to}
+use Rattle.engine.specs.System.{System, system, after_event, scan_event, faults_of, changes_of, outs_of, outputs_of, sites_of, ordered, reply_to}
 use Rattle.engine.specs.Lawful.{IsTaken, IsLawfulHistory}
 use Rattle.engine.specs.Journal.{IsJournal}
 
--- the plant, the events so far, for how many more there is room, and for how many rows of the journal
+-- the plant with which it began, the events so far, for how many more there is room, and for how many rows of the journal
 pub record PlainEngine : Type 0 where
   pub plant : PlainPlant
   pub history : List Event
@@ -53,31 +53,31 @@ pub record PlainState : Type 0 where
   pub moment : ℕ
 
 -- what an engine keeps is what the system has
-pub record IsState (plant : PlainPlant) (sys : System) (k : PlainState) : Type 0 where
-  pub world_stands : StandFor plant.source k.cells sys.world
+pub record IsState (sys : System) (k : PlainState) : Type 0 where
+  pub world_stands : StandFor sys.plant.source k.cells sys.world
   pub faulted_is : k.faulted ≡ sys.faulted
-  pub sites_are : k.sites ≡ sites_of plant.alarms
+  pub sites_are : k.sites ≡ sites_of sys.plant.alarms
   pub alarms_are : k.alarms ≡ sys.alarms
-  pub outputs_are : k.outputs ≡ outputs_of plant sys
+  pub outputs_are : k.outputs ≡ outputs_of sys
   pub moment_is : k.moment ≡ sys.moment
   pub in_range : k.moment ≤ LAST_MOMENT
 
 -- a report is what an event did: its moment, the faults in program order, the changes in the order of the database, and the outputs that it changed in order of declaration; the plant has each path, each alarm and each global that it names by number
-pub record IsReport (plant : PlainPlant) (sys : System) (e : Event) (r : PlainReport) : Type 0 where
-  pub moment_is : r.moment ≡ (step plant sys e).moment
-  pub faults_are : map (λ f. (place_spot plant.source f.0, f.1)) r.faults ≡ faults_of plant sys e
-  pub faults_within : All (λ f. f.0.path < length (body_paths plant)) r.faults
-  pub changes_are : r.changes ≡ changes_of plant sys e
-  pub changes_within : All (λ c. c.0 < length plant.alarms) r.changes
-  pub outs_are : r.outs ≡ outs_of plant sys e
-  pub outs_within : All (λ o. o.0 < length (globals_of plant)) r.outs
+pub record IsReport (sys : System) (e : Event) (r : PlainReport) : Type 0 where
+  pub moment_is : r.moment ≡ (after_event sys e).moment
+  pub faults_are : map (λ f. (place_spot sys.plant.source f.0, f.1)) r.faults ≡ faults_of sys e
+  pub faults_within : All (λ f. f.0.path < length (body_paths sys.plant)) r.faults
+  pub changes_are : r.changes ≡ changes_of sys e
+  pub changes_within : All (λ c. c.0 < length sys.plant.alarms) r.changes
+  pub outs_are : r.outs ≡ outs_of sys e
+  pub outs_within : All (λ o. o.0 < length (globals_of sys.plant)) r.outs
 
 -- a scan was taken: its event is the last of the history, and the report is what it did
 pub record TakesScan (old new : PlainEngine) (pairs : List PlainPair) (t : ℕ) (r : PlainReport) : Type 0 where
   pub event : Event
-  pub event_is : scan_event old.plant (state_of old) pairs t ≡ Ok event
+  pub event_is : scan_event (state_of old) pairs t ≡ Ok event
   pub history_is : new.history ≡ old.history ++ event ∷ []
-  pub report_is : IsReport old.plant (state_of old) event r
+  pub report_is : IsReport (state_of old) event r
 
 -- what a scan does to a state: the cells, the faulted programs and the outputs that it leaves, the alarms that it moves, and its moment
 pub record PlainScanEffect : Type 0 where
@@ -98,15 +98,15 @@ pub record PlainPrepared : Type 0 where
   pub effect : PlainScanEffect
   pub report : PlainReport
 
--- an engine may commit it: there is room, for its rows too, its event is a scan at the moment of its report, it is what that event makes of this engine's plant and history, and the event was taken there
+-- an engine may commit it: there is room, for its rows too, its event is a scan at the moment of its report, it is what that event makes of this engine's state, and the event was taken there
 pub record Fits (e : PlainEngine) (p : PlainPrepared) : Type 0 where
   pub room : 0 < e.room
   pub image : List (ℕ × Value)
   pub event_is : p.event ≡ event.Scan image p.report.moment
-  pub effect_is : (k : PlainState) → IsState e.plant (state_of e) k → IsState e.plant (system e.plant (e.history ++ p.event ∷ [])) (after_effect p.effect k)
+  pub effect_is : (k : PlainState) → IsState (state_of e) k → IsState (after_event (state_of e) p.event) (after_effect p.effect k)
   pub in_range : p.effect.moment ≤ LAST_MOMENT
-  pub report_is : IsReport e.plant (state_of e) p.event p.report
-  pub taken : IsTaken e.plant (state_of e) p.event
+  pub report_is : IsReport (state_of e) p.event p.report
+  pub taken : IsTaken (state_of e) p.event
   pub row_room : length p.report.faults + length p.report.changes ≤ e.row_room
 
 -- an order that was made ready: what it does, and its reply
@@ -119,14 +119,14 @@ pub record PlainPreparedOrder : Type 0 where
 -- an engine may commit it: there is room, for two rows too, that is what the order does in this engine's state, and the order was taken there
 pub record FitsOrder (e : PlainEngine) (p : PlainPreparedOrder) : Type 0 where
   pub room : 0 < e.room
-  pub done_is : p.done ≡ ordered e.plant (state_of e) p.console p.order
-  pub reply_is : p.reply ≡ reply_to e.plant (state_of e) p.console p.order
-  pub taken : IsTaken e.plant (state_of e) (event.Order p.console p.order)
+  pub done_is : p.done ≡ ordered (state_of e) p.console p.order
+  pub reply_is : p.reply ≡ reply_to (state_of e) p.console p.order
+  pub taken : IsTaken (state_of e) (event.Order p.console p.order)
   pub row_room : 2 ≤ e.row_room
 
 -- what an engine keeps is what the system after its history has, what holds of each plant holds of this one, the history is lawful, and the rows are its journal, none of them later than the last scan
 pub record IsEngine (plant : PlainPlant) (history : List Event) (rows : List Row) (k : PlainState) : Type 0 where
-  pub state_is : IsState plant (system plant history) k
+  pub state_is : IsState (system plant history) k
   pub plant_is : IsPlant plant
   pub lawful : IsLawfulHistory plant history
   pub journal : IsJournal plant history rows

@@ -22,7 +22,7 @@ use Rattle.engine.specs.declared.event.Order.{Order}
 use Rattle.engine.specs.declared.state.Effect.{Effect}
 use Rattle.engine.specs.Reports.{PlainReport}
 use Rattle.engine.specs.Orders.{is_restart, changed_by}
-use Rattle.engine.specs.System.{System, opening_system, step, after_event, ordered, faults_of, changes_of}
+use Rattle.engine.specs.System.{System, opening_system, after_event, ordered, faults_of, changes_of}
 
 -- what a row tells, by names: a program's fault at a spot, the change of an alarm's code, or an order of a console and why it was refused, if it was
 pub data NamedEntry : Type 0 where
@@ -65,9 +65,9 @@ abbrev pub change_entries : List (ℕ × PlainChange) → List NamedEntry
 change_entries changes = map (λ (c : ℕ × PlainChange). ChangeOf c.0 c.1) changes
 
 -- the entries that an event adds: a scan its faults in program order, an order itself with its reply; then the changes of alarms' codes in the order of the database
-abbrev pub added_entries : PlainPlant → System → Event → List NamedEntry
-added_entries plant sys (event.Scan image t) = fault_entries (faults_of plant sys (event.Scan image t)) ++ change_entries (changes_of plant sys (event.Scan image t))
-added_entries plant sys (event.Order console order) = OrderBy console order (refusal_of (ordered plant sys console order)) ∷ change_entries (changes_of plant sys (event.Order console order))
+abbrev pub added_entries : System → Event → List NamedEntry
+added_entries sys (event.Scan image t) = fault_entries (faults_of sys (event.Scan image t)) ++ change_entries (changes_of sys (event.Scan image t))
+added_entries sys (event.Order console order) = OrderBy console order (refusal_of (ordered sys console order)) ∷ change_entries (changes_of sys (event.Order console order))
 
 -- the entries that a scan's report has, with the places of its faults
 abbrev pub scan_entries : PlainReport → List Entry
@@ -83,13 +83,13 @@ rows_from n moment [] = []
 rows_from n moment (entry ∷ entries) = record { number = n; moment = moment; entry = entry } ∷ rows_from (n + 1) moment entries
 
 -- the rows that an event adds in a state, numbered from a number on: each bears the last scan's moment, a scan's rows its own
-abbrev pub added_rows : PlainPlant → ℕ → System → Event → List NamedRow
-added_rows plant n sys e = rows_from n (step plant sys e).moment (added_entries plant sys e)
+abbrev pub added_rows : ℕ → System → Event → List NamedRow
+added_rows n sys e = rows_from n (after_event sys e).moment (added_entries sys e)
 
 -- the rows that events add from a state on, numbered from a number on
 abbrev pub journal_from : ℕ → System → List Event → List NamedRow
 journal_from n sys [] = []
-journal_from n sys (e ∷ events) = added_rows sys.plant n sys e ++ journal_from (n + length (added_entries sys.plant sys e)) (after_event sys e) events
+journal_from n sys (e ∷ events) = added_rows n sys e ++ journal_from (n + length (added_entries sys e)) (after_event sys e) events
 
 -- the journal of a history: the rows of all its events, numbered from 1
 unfoldable pub journal_of : PlainPlant → List Event → List NamedRow

@@ -4,7 +4,8 @@ use Rattle.plant_types.specs.Pairs.{PlainPair}
 use Rattle.plant_types.specs.Values.{kind_of, worth}
 use Rattle.plant_types.specs.declared.values.Value.{Value}
 use Rattle.plant_logic.specs.declared.logic.Variable.{Variable}
-use Rattle.plant_logic.specs.Worlds.{World, path_of}
+use Rattle.plant_logic.specs.Worlds.{path_of}
+use Rattle.plant_logic.specs.Ranges.{AllInRange}
 use Rattle.plant_config.specs.Plants.{PlainPlant}
 use Rattle.plant_config.specs.Names.{globals_of}
 use Rattle.engine.specs.declared.event.Event.{Event}
@@ -12,23 +13,27 @@ use Rattle.engine.specs.declared.event.Event.TheVariants as event
 use Rattle.engine.specs.System.{System, opening_system, after_event, scan_event, order_event, is_output}
 
 -- an event was taken in a state: a scan is the one that some pairs give at its moment, an order is one that isn't refused there
-abbrev pub IsTaken : PlainPlant → System → Event → Type 0
-IsTaken plant sys (event.Scan image t) = (pairs : List PlainPair) × (scan_event plant sys pairs t ≡ Ok (event.Scan image t))
-IsTaken plant sys (event.Order console order) = order_event sys console order ≡ Ok (event.Order console order)
+abbrev pub IsTaken : System → Event → Type 0
+IsTaken sys (event.Scan image t) = (pairs : List PlainPair) × (scan_event sys pairs t ≡ Ok (event.Scan image t))
+IsTaken sys (event.Order console order) = order_event sys console order ≡ Ok (event.Order console order)
 
 -- from a state on, each event was taken in the state that those before it left
 abbrev pub AreTaken : System → List Event → Type 0
 AreTaken sys [] = Unit {0}
-AreTaken sys (e ∷ events) = IsTaken sys.plant sys e × AreTaken (after_event sys e) events
+AreTaken sys (e ∷ events) = IsTaken sys e × AreTaken (after_event sys e) events
 
 -- a lawful history: each event was taken, the first one before any event
 unfoldable pub IsLawfulHistory : PlainPlant → List Event → Type 0
 IsLawfulHistory plant history = AreTaken (opening_system plant) history
 
+-- the value of each variable is in the range of its kind
+abbrev pub HasValuesInRange : System → Type 0
+HasValuesInRange sys = AllInRange sys.plant.source sys.world
+
 -- an output is the value of an output global: of that global's kind, and worth the number that the world has for it
-pub record IsOutputValue (plant : PlainPlant) (w : World) (output : ℕ × Value) : Type 0 where
+pub record IsOutputValue (sys : System) (output : ℕ × Value) : Type 0 where
   pub global : Variable
-  pub global_is : slice_get (globals_of plant) output.0 ≡ Some global
+  pub global_is : slice_get (globals_of sys.plant) output.0 ≡ Some global
   pub is_output : is_output global.region ≡ true
   pub kind_is : kind_of output.1 ≡ global.kind
-  pub worth_is : worth output.1 ≡ w.values (path_of global.name)
+  pub worth_is : worth output.1 ≡ sys.world.values (path_of global.name)

@@ -75,33 +75,29 @@ abbrev pub alarms_after : (ℕ → ℤ) → ℕ → List AlarmRow → List Plain
 alarms_after now t rows alarms = scan_each (conditions now rows) (suppressions now rows) t alarms
 
 -- what the programs make of a state's world
-abbrev pub scanned_by : PlainPlant → System → List (ℕ × Value) → ℕ → Scanned
-scanned_by plant sys image t = world_after plant image t sys.faulted sys.world
+abbrev pub scanned_by : System → List (ℕ × Value) → ℕ → Scanned
+scanned_by sys image t = world_after sys.plant image t sys.faulted sys.world
 
 -- a scan: the programs, then each alarm
-abbrev pub after_scan_event : PlainPlant → System → List (ℕ × Value) → ℕ → System
-after_scan_event plant sys image t =
-    let logic = scanned_by plant sys image t in
-    record sys { world = logic.world; faulted = logic.faulted; alarms = alarms_after (global_in (globals_of plant) logic.world) t plant.alarms sys.alarms; moment = t; events = sys.events + 1 }
+abbrev pub after_scan_event : System → List (ℕ × Value) → ℕ → System
+after_scan_event sys image t =
+    let logic = scanned_by sys image t in
+    record sys { world = logic.world; faulted = logic.faulted; alarms = alarms_after (global_in (globals_of sys.plant) logic.world) t sys.plant.alarms sys.alarms; moment = t; events = sys.events + 1 }
 
 -- what an order does in a state, or why it is refused
-abbrev pub ordered : PlainPlant → System → ℕ → Order → Result Effect OrderFault
-ordered plant sys console order = order_outcome plant sys.alarms sys.faulted sys.moment console order
+abbrev pub ordered : System → ℕ → Order → Result Effect OrderFault
+ordered sys console order = order_outcome sys.plant sys.alarms sys.faulted sys.moment console order
 
 -- an order: a refused one is an event too, and changes no alarm and no program
-abbrev pub after_order_event : PlainPlant → System → ℕ → Order → System
-after_order_event plant sys console order =
-    let done = ordered plant sys console order in
+abbrev pub after_order_event : System → ℕ → Order → System
+after_order_event sys console order =
+    let done = ordered sys console order in
     record sys { faulted = faulted_by done sys.faulted; alarms = alarms_by done sys.alarms; events = sys.events + 1 }
-
--- what an event makes of a state by a plant
-abbrev pub step : PlainPlant → System → Event → System
-step plant sys (event.Scan image t) = after_scan_event plant sys image t
-step plant sys (event.Order console order) = after_order_event plant sys console order
 
 -- one event is one step, by the plant that the system holds
 abbrev pub after_event : System → Event → System
-after_event sys e = step sys.plant sys e
+after_event sys (event.Scan image t) = after_scan_event sys image t
+after_event sys (event.Order console order) = after_order_event sys console order
 
 -- what the events make of the system that begins with a plant
 unfoldable pub system : PlainPlant → List Event → System
@@ -118,33 +114,33 @@ taken_scan globals last events pairs t =
     ]
 
 -- the event that a scan of these pairs is in a state, or its refusal
-abbrev pub scan_event : PlainPlant → System → List PlainPair → ℕ → Result Event EngineFault
-scan_event plant sys pairs t = taken_scan (globals_of plant) sys.moment sys.events pairs t
+abbrev pub scan_event : System → List PlainPair → ℕ → Result Event EngineFault
+scan_event sys pairs t = taken_scan (globals_of sys.plant) sys.moment sys.events pairs t
 
 -- the event that an order is, or its refusal: E6 where the history is full
 unfoldable pub order_event : System → ℕ → Order → Result Event EngineFault
 order_event sys console order = if nat_le MOST_EVENTS sys.events then Err refusal.HistoryFull else Ok (event.Order console order)
 
 -- the reply to an order
-abbrev pub reply_to : PlainPlant → System → ℕ → Order → Reply
-reply_to plant sys console order = reply_by (ordered plant sys console order) sys.alarms
+abbrev pub reply_to : System → ℕ → Order → Reply
+reply_to sys console order = reply_by (ordered sys console order) sys.alarms
 
 -- the faults of an event, in program order
-abbrev pub faults_of : PlainPlant → System → Event → List (Spot × Trap)
-faults_of plant sys (event.Scan image t) = (scanned_by plant sys image t).faults
-faults_of plant sys (event.Order console order) = []
+abbrev pub faults_of : System → Event → List (Spot × Trap)
+faults_of sys (event.Scan image t) = (scanned_by sys image t).faults
+faults_of sys (event.Order console order) = []
 
 -- the changes of an event
-abbrev pub changes_of : PlainPlant → System → Event → List (ℕ × PlainChange)
-changes_of plant sys e = changes_from 0 sys.alarms (step plant sys e).alarms
+abbrev pub changes_of : System → Event → List (ℕ × PlainChange)
+changes_of sys e = changes_from 0 sys.alarms (after_event sys e).alarms
 
 -- the area and the priority of each alarm
 abbrev pub sites_of : List AlarmRow → List Site
 sites_of rows = map (λ row. record { area = row.area; priority = row.priority }) rows
 
 -- the alarms as they are counted in a state: the area and priority of each, and the code that it has now
-abbrev pub summary_of : PlainPlant → System → List Counted
-summary_of plant sys = counted (sites_of plant.alarms) sys.alarms
+abbrev pub summary_of : System → List Counted
+summary_of sys = counted (sites_of sys.plant.alarms) sys.alarms
 
 -- whether a region is that of outputs
 abbrev pub is_output : Option Region → Bool
@@ -158,8 +154,8 @@ outputs_from n (global ∷ globals) now =
     if is_output global.region then (n, value_of_kind global.kind (now n)) ∷ outputs_from (n + 1) globals now else outputs_from (n + 1) globals now
 
 -- the outputs in a state
-abbrev pub outputs_of : PlainPlant → System → List (ℕ × Value)
-outputs_of plant sys = outputs_from 0 (globals_of plant) (global_in (globals_of plant) sys.world)
+abbrev pub outputs_of : System → List (ℕ × Value)
+outputs_of sys = outputs_from 0 (globals_of sys.plant) (global_in (globals_of sys.plant) sys.world)
 
 -- the value of an output, if it isn't what it was before
 abbrev pub out_at : ℕ → Variable → (ℕ → ℤ) → (ℕ → ℤ) → Option Value
@@ -174,5 +170,5 @@ outs_from n (global ∷ globals) before now = elim (out_at n global before now) 
 ]
 
 -- the outputs that an event changed
-abbrev pub outs_of : PlainPlant → System → Event → List (ℕ × Value)
-outs_of plant sys e = outs_from 0 (globals_of plant) (global_in (globals_of plant) sys.world) (global_in (globals_of plant) (step plant sys e).world)
+abbrev pub outs_of : System → Event → List (ℕ × Value)
+outs_of sys e = outs_from 0 (globals_of sys.plant) (global_in (globals_of sys.plant) sys.world) (global_in (globals_of sys.plant) (after_event sys e).world)

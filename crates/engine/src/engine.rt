@@ -73,7 +73,7 @@ impl Engine {
 
     /// The plant.
     pub fn plant(&self) -> &Plant
-        ensures { result.now ≡ self.now.plant }
+        ensures { result.now ≡ (state_of self.now).plant }
     {
         &self.plant
     }
@@ -87,7 +87,7 @@ impl Engine {
 
     /// The state of the alarm of a number.
     pub fn state(&self, alarm: u32) -> AlarmState
-        requires { alarm < length self.now.plant.alarms }
+        requires { alarm < length (state_of self.now).plant.alarms }
         ensures { option_map (λ a. a.state) (slice_get (state_of self.now).alarms alarm) ≡ Some result }
     {
         alarm_state(&self.state, alarm)
@@ -95,7 +95,7 @@ impl Engine {
 
     /// How many alarms of each area and priority have each code now. Areas are numbered from 0, in the order of the plant file.
     pub fn summary(&self) -> &Summary
-        ensures { result.now ≡ summary_of self.now.plant (state_of self.now) }
+        ensures { result.now ≡ summary_of (state_of self.now) }
     {
         self.state.bank.summary()
     }
@@ -109,7 +109,7 @@ impl Engine {
 
     /// The outputs (`%Q`) and their values, in order of declaration. The history is lawful: each event was taken in the state before it.
     pub fn outputs(&self) -> &[(u32, Value)]
-        ensures outputs { result.now ≡ outputs_of self.now.plant (state_of self.now) }
+        ensures outputs { result.now ≡ outputs_of (state_of self.now) }
         ensures lawful { IsLawfulHistory self.now.plant self.now.history }
     {
         self.state.outputs.as_slice()
@@ -152,8 +152,8 @@ impl Engine {
         ensures history { self.new.history ≡ self.old.history }
         ensures room { self.old.room ≤ self.new.room }
         ensures row_room { self.old.row_room ≤ self.new.row_room }
-        ensures ok { IfOk result (λ p. Fits self.new p × (scan_event self.old.plant (state_of self.old) pairs.now moment ≡ Ok p.event)) }
-        ensures err { IfErr result (λ e. IsDue e (scan_event self.old.plant (state_of self.old) pairs.now moment)) }
+        ensures ok { IfOk result (λ p. Fits self.new p × (scan_event (state_of self.old) pairs.now moment ≡ Ok p.event)) }
+        ensures err { IfErr result (λ e. IsDue e (scan_event (state_of self.old) pairs.now moment)) }
     {
         let events = self.history.len();
         let prepared = prepared_scan(
@@ -178,7 +178,7 @@ impl Engine {
         ensures history { self.new.history ≡ self.old.history ++ prepared.event ∷ [] }
         ensures room { self.new.room + 1 ≡ self.old.room }
         ensures row_room { self.new.row_room + (length result.faults + length result.changes) ≡ self.old.row_room }
-        ensures report { IsReport self.old.plant (state_of self.old) prepared.event result }
+        ensures report { IsReport (state_of self.old) prepared.event result }
     {
         let Prepared {
             event,
@@ -224,8 +224,8 @@ impl Engine {
         ensures plant { self.new.plant ≡ self.old.plant }
         ensures history { self.new.history ≡ self.old.history ++ Event.Order prepared.console prepared.order ∷ [] }
         ensures room { self.new.room + 1 ≡ self.old.room }
-        ensures row_room { self.new.row_room + length (added_entries self.old.plant (state_of self.old) (Event.Order prepared.console prepared.order)) ≡ self.old.row_room }
-        ensures reply { result ≡ reply_to self.old.plant (state_of self.old) prepared.console prepared.order }
+        ensures row_room { self.new.row_room + length (added_entries (state_of self.old) (Event.Order prepared.console prepared.order)) ≡ self.old.row_room }
+        ensures reply { result ≡ reply_to (state_of self.old) prepared.console prepared.order }
     {
         let PreparedOrder {
             console,
@@ -248,7 +248,7 @@ impl Engine {
     ) -> Result<Report, EngineFault>
         ensures plant { self.new.plant ≡ self.old.plant }
         ensures ok { IfOk result (λ r. TakesScan self.old self.new pairs.now moment r) }
-        ensures err { IfErr result (λ e. IsDue e (scan_event self.old.plant (state_of self.old) pairs.now moment)) }
+        ensures err { IfErr result (λ e. IsDue e (scan_event (state_of self.old) pairs.now moment)) }
         ensures kept { OnErr result (self.new.history ≡ self.old.history) }
         ensures room { OnErr result (self.old.room ≤ self.new.room) }
         ensures row_room { OnErr result (self.old.row_room ≤ self.new.row_room) }
@@ -262,7 +262,7 @@ impl Engine {
         ensures plant { self.new.plant ≡ self.old.plant }
         ensures ok { OnOk result (self.new.history ≡ self.old.history ++ Event.Order console order ∷ []) }
         ensures allowed { OnOk result (order_event (state_of self.old) console order ≡ Ok (Event.Order console order)) }
-        ensures reply { IfOk result (λ r. r ≡ reply_to self.old.plant (state_of self.old) console order) }
+        ensures reply { IfOk result (λ r. r ≡ reply_to (state_of self.old) console order) }
         ensures err { IfErr result (λ e. IsDue e (order_event (state_of self.old) console order)) }
         ensures kept { OnErr result (self.new.history ≡ self.old.history) }
         ensures room { OnErr result (self.old.room ≤ self.new.room) }
@@ -286,7 +286,7 @@ impl Engine {
         ensures plant { self.new.plant ≡ self.old.plant }
         ensures ok { OnOk result (self.new.history ≡ self.old.history ++ Event.Order console (restart_of program) ∷ []) }
         ensures allowed { OnOk result (order_event (state_of self.old) console (restart_of program) ≡ Ok (Event.Order console (restart_of program))) }
-        ensures reply { IfOk result (λ r. r ≡ reply_to self.old.plant (state_of self.old) console (restart_of program)) }
+        ensures reply { IfOk result (λ r. r ≡ reply_to (state_of self.old) console (restart_of program)) }
         ensures err { IfErr result (λ e. IsDue e (order_event (state_of self.old) console (restart_of program))) }
         ensures kept { OnErr result (self.new.history ≡ self.old.history) }
         ensures room { OnErr result (self.old.room ≤ self.new.room) }

@@ -1,11 +1,10 @@
 //! Laws of lawful histories. These functions do nothing: each has a law as its contract, for the crates above.
 
 ghost use Rattle.std.specs.Prelude.{◌≡◌, ◌≤◌, List, length, All};
-ghost use Rattle.plant_logic.specs.Ranges.{AllInRange};
 ghost use Rattle.plant_config.specs.Plants.{PlainPlant, IsPlant};
 ghost use Rattle.engine.specs.declared.event.Event.{Event};
 ghost use Rattle.engine.specs.System.{system, outputs_of};
-ghost use Rattle.engine.specs.Lawful.{IsLawfulHistory, IsOutputValue};
+ghost use Rattle.engine.specs.Lawful.{IsLawfulHistory, HasValuesInRange, IsOutputValue};
 
 /// The system holds its plant, and no event changes it: after each history it is the plant with which the system began.
 pub fn system_keeps_its_plant()
@@ -14,7 +13,7 @@ pub fn system_keeps_its_plant()
 
 /// After each lawful history the value of each variable is in the range of its kind.
 pub fn lawful_history_stays_in_range()
-    ensures { (plant : PlainPlant) (history : List Event) → IsPlant plant → IsLawfulHistory plant history → AllInRange plant.source (system plant history).world }
+    ensures { (plant : PlainPlant) (history : List Event) → IsPlant plant → IsLawfulHistory plant history → HasValuesInRange (system plant history) }
 {}
 
 /// A lawful history has at most 1,000,000 events, and the moment of its last scan is at most 4,000,000,000,000.
@@ -24,5 +23,5 @@ pub fn lawful_history_is_short()
 
 /// After each lawful history each output is a value of its global's kind, and worth the number that the world has for that global.
 pub fn outputs_are_worth_their_numbers()
-    ensures { (plant : PlainPlant) (history : List Event) → IsPlant plant → IsLawfulHistory plant history → All (IsOutputValue plant (system plant history).world) (outputs_of plant (system plant history)) }
+    ensures { (plant : PlainPlant) (history : List Event) → IsPlant plant → IsLawfulHistory plant history → All (IsOutputValue (system plant history)) (outputs_of (system plant history)) }
 {}

@@ -119,7 +119,7 @@ below_begun f i d old w₀ w₁ b =
     let p = below_rest f i d in
     let front = text_of (lines_below f i) in
     let same : (old ++ front) ++ text_of p.0 ≡ old ++ text_of (lines_below f (i + d)) =
-        append_assoc old front (text_of p.0) ∙ ap (λ (t : List ℕ). old ++ t) (sym (flat_map-append (λ (line : List ℕ). line) (lines_below f i) p.0) ∙ ap text_of (sym p.1)) in
+    append_assoc old front (text_of p.0) ∙ ap (λ (t : List ℕ). old ++ t) (sym (flat_map-append (λ (line : List ℕ). line) (lines_below f i) p.0) ∙ ap text_of (sym p.1)) in
     subst (IsBegun w₀ w₁) same (begun_longer w₀ w₁ (old ++ front) (text_of p.0) b)
 
 pub half_begun : (f : ℕ → List (List ℕ)) (i total : ℕ) (old : List ℕ) (w₀ w₁ : Option (List ℕ)) → i ≤ total → IsBegun w₀ w₁ (old ++ text_of (lines_below f i)) → IsBegun w₀ w₁ (old ++ text_of (lines_below f total))

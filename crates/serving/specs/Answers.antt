@@ -20,7 +20,7 @@ use Rattle.engine.specs.declared.event.Order.{Order as OrderMade}
 use Rattle.engine.specs.declared.event.Reply.{Reply}
 use Rattle.engine.specs.declared.event.Reply.TheVariants as reply
 use Rattle.engine.specs.Orders.{is_restart}
-use Rattle.engine.specs.System.{System, system, step, scan_event, order_event, reply_to, faults_of, changes_of, outs_of}
+use Rattle.engine.specs.System.{System, system, after_event, scan_event, order_event, reply_to, faults_of, changes_of, outs_of}
 use Rattle.command_text.specs.Commands.{PlainCommand, Nothing, Unknown, Scan, Order, Listing, Journal}
 use Rattle.serving.specs.Requests.{Request, asked_by}
 use Rattle.serving.specs.Listings.{list_text, journal_text}
@@ -72,8 +72,8 @@ report_text plant moment faults changes outs =
     ++ done_line moment (length faults + length changes + length outs)
 
 -- the answer to a scan's event in a state
-abbrev pub scan_text : PlainPlant → System → Event → List ℕ
-scan_text plant sys e = report_text plant (step plant sys e).moment (faults_of plant sys e) (changes_of plant sys e) (outs_of plant sys e)
+abbrev pub scan_text : System → Event → List ℕ
+scan_text sys e = report_text sys.plant (after_event sys e).moment (faults_of sys e) (changes_of sys e) (outs_of sys e)
 
 -- the ALARM line of this tag, where its code changed
 abbrev pub change_line : ℕ → List ℕ → Option PlainChange → List ℕ
@@ -100,8 +100,8 @@ event_text (Ok e) text = text e
 event_text (Err fault) text = refused_line (fault_number fault)
 
 -- the answer to an order: its reply with the moment of the last scan and the tag of its alarm, or REFUSED where the history is full
-abbrev pub order_answer : PlainPlant → System → ℕ → OrderMade → List ℕ
-order_answer plant sys console order = event_text (order_event sys console order) (λ _. order_text sys.moment (tag_for plant order) (reply_to plant sys console order))
+abbrev pub order_answer : System → ℕ → OrderMade → List ℕ
+order_answer sys console order = event_text (order_event sys console order) (λ _. order_text sys.moment (tag_for sys.plant order) (reply_to sys console order))
 
 -- ---- commands
 
@@ -111,26 +111,26 @@ event_added (Ok e) = e ∷ []
 event_added (Err fault) = []
 
 -- the events that a command adds, one or none
-abbrev pub command_events : PlainPlant → System → PlainCommand → List Event
-command_events plant sys Nothing = []
-command_events plant sys Unknown = []
-command_events plant sys (Scan moment pairs) = event_added (scan_event plant sys pairs moment)
-command_events plant sys (Order verb console word) = event_added (order_event sys console (order_for plant verb word))
-command_events plant sys Listing = []
-command_events plant sys Journal = []
+abbrev pub command_events : System → PlainCommand → List Event
+command_events sys Nothing = []
+command_events sys Unknown = []
+command_events sys (Scan moment pairs) = event_added (scan_event sys pairs moment)
+command_events sys (Order verb console word) = event_added (order_event sys console (order_for sys.plant verb word))
+command_events sys Listing = []
+command_events sys Journal = []
 
 -- the answer to a command, after a history and in the state that it left
 abbrev pub command_answer : PlainPlant → List Event → System → PlainCommand → List ℕ
 command_answer plant history sys Nothing = []
 command_answer plant history sys Unknown = refused_line (codes "L1")
-command_answer plant history sys (Scan moment pairs) = event_text (scan_event plant sys pairs moment) (scan_text plant sys)
-command_answer plant history sys (Order verb console word) = order_answer plant sys console (order_for plant verb word)
-command_answer plant history sys Listing = list_text plant sys
+command_answer plant history sys (Scan moment pairs) = event_text (scan_event sys pairs moment) (scan_text sys)
+command_answer plant history sys (Order verb console word) = order_answer sys console (order_for sys.plant verb word)
+command_answer plant history sys Listing = list_text sys
 command_answer plant history sys Journal = journal_text plant history
 
 -- the history after a command
 unfoldable pub after_command : PlainPlant → List Event → PlainCommand → List Event
-after_command plant history command = history ++ command_events plant (system plant history) command
+after_command plant history command = history ++ command_events (system plant history) command
 
 -- the answer to a command after a history
 unfoldable pub answer_after : PlainPlant → List Event → PlainCommand → List ℕ

@@ -50,12 +50,12 @@ shown_alarm plant alarm None = []
 shown_alarm plant alarm (Some state) = shown_state plant alarm state
 
 -- the STATE line of the alarm of a number
-unfoldable pub state_lines_of : PlainPlant → System → ℕ → List (List ℕ)
-state_lines_of plant sys alarm = shown_alarm plant alarm (option_map (λ a. a.state) (slice_get sys.alarms alarm))
+unfoldable pub state_lines_of : System → ℕ → List (List ℕ)
+state_lines_of sys alarm = shown_alarm sys.plant alarm (option_map (λ a. a.state) (slice_get sys.alarms alarm))
 
 -- a STATE line for each alarm that isn't NORM, in the order of the database
-abbrev pub state_lines : PlainPlant → System → List (List ℕ)
-state_lines plant sys = lines_below (state_lines_of plant sys) (length plant.alarms)
+abbrev pub state_lines : System → List (List ℕ)
+state_lines sys = lines_below (state_lines_of sys) (length sys.plant.alarms)
 
 -- the COUNT line of an area, a priority and a code, by the alarms as they are counted; none where there is no such alarm
 unfoldable pub code_lines : PlainPlant → List Counted → ℕ → ℕ → Code → List (List ℕ)
@@ -79,8 +79,8 @@ abbrev pub count_lines : PlainPlant → List Counted → List (List ℕ)
 count_lines plant counted = lines_below (area_lines plant counted) (length plant.areas)
 
 -- the answer to `list`
-unfoldable pub list_text : PlainPlant → System → List ℕ
-list_text plant sys = ended (state_lines plant sys ++ count_lines plant (summary_of plant sys))
+unfoldable pub list_text : System → List ℕ
+list_text sys = ended (state_lines sys ++ count_lines sys.plant (summary_of sys))
 
 -- how many numbers a half of the list has lines for: those of the alarms, or of the areas
 abbrev pub half_total : PlainPlant → Half → ℕ
@@ -88,13 +88,13 @@ half_total plant half.States = length plant.alarms
 half_total plant half.Counts = length plant.areas
 
 -- the lines that a half of the list has for a number
-abbrev pub half_lines_of : PlainPlant → System → Half → ℕ → List (List ℕ)
-half_lines_of plant sys half.States = state_lines_of plant sys
-half_lines_of plant sys half.Counts = area_lines plant (summary_of plant sys)
+abbrev pub half_lines_of : System → Half → ℕ → List (List ℕ)
+half_lines_of sys half.States = state_lines_of sys
+half_lines_of sys half.Counts = area_lines sys.plant (summary_of sys)
 
 -- the lines of a half of the list
-abbrev pub half_lines : PlainPlant → System → Half → List (List ℕ)
-half_lines plant sys half = lines_below (half_lines_of plant sys half) (half_total plant half)
+abbrev pub half_lines : System → Half → List (List ℕ)
+half_lines sys half = lines_below (half_lines_of sys half) (half_total sys.plant half)
 
 -- ---- the journal
 

@@ -14,7 +14,7 @@ use command_text::{
     Command, Pool, push_alarm, push_done, push_fault, push_out, push_refused, push_reply,
     read_command,
 };
-use engine::{Engine, EngineFault, Order, Reply, Report};
+use engine::{Engine, EngineFault, Order, Reply, Report, system_keeps_its_plant};
 use plant_config::Plant;
 use plant_types::{Pair, Place, Trap, Value};
 use std::alloc::{AllocError, Global};
@@ -139,10 +139,11 @@ fn answer_scan(
     pairs: &[Pair],
 ) -> Result<(), AllocError>
     ensures plant { engine.new.plant ≡ engine.old.plant }
-    ensures history { OnOk result (engine.new.history ≡ engine.old.history ++ event_added (scan_event engine.old.plant (state_of engine.old) pairs.now moment)) }
-    ensures text { OnOk result (text.new.items ≡ text.old.items ++ event_text (scan_event engine.old.plant (state_of engine.old) pairs.now moment) (scan_text engine.old.plant (state_of engine.old))) }
-    ensures err { OnErr result ((engine.new.history ≡ engine.old.history) ⊎ (engine.new.history ≡ engine.old.history ++ event_added (scan_event engine.old.plant (state_of engine.old) pairs.now moment))) }
+    ensures history { OnOk result (engine.new.history ≡ engine.old.history ++ event_added (scan_event (state_of engine.old) pairs.now moment)) }
+    ensures text { OnOk result (text.new.items ≡ text.old.items ++ event_text (scan_event (state_of engine.old) pairs.now moment) (scan_text (state_of engine.old))) }
+    ensures err { OnErr result ((engine.new.history ≡ engine.old.history) ⊎ (engine.new.history ≡ engine.old.history ++ event_added (scan_event (state_of engine.old) pairs.now moment))) }
 {
+    system_keeps_its_plant();
     match engine.scan(alloc, pairs, moment) {
         Ok(report) => push_report(alloc, text, engine.plant(), &report),
         Err(EngineFault::Memory) => Err(AllocError),
@@ -207,11 +208,12 @@ fn answer_order(
     word: &[u8],
 ) -> Result<(), AllocError>
     ensures plant { engine.new.plant ≡ engine.old.plant }
-    ensures history { OnOk result (engine.new.history ≡ engine.old.history ++ event_added (order_event (state_of engine.old) console (order_for engine.old.plant verb word.now))) }
-    ensures text { OnOk result (text.new.items ≡ text.old.items ++ order_answer engine.old.plant (state_of engine.old) console (order_for engine.old.plant verb word.now)) }
+    ensures history { OnOk result (engine.new.history ≡ engine.old.history ++ event_added (order_event (state_of engine.old) console (order_for (state_of engine.old).plant verb word.now))) }
+    ensures text { OnOk result (text.new.items ≡ text.old.items ++ order_answer (state_of engine.old) console (order_for (state_of engine.old).plant verb word.now)) }
     ensures err { OnErr result ((engine.new.history ≡ engine.old.history)
-        ⊎ (engine.new.history ≡ engine.old.history ++ event_added (order_event (state_of engine.old) console (order_for engine.old.plant verb word.now)))) }
+        ⊎ (engine.new.history ≡ engine.old.history ++ event_added (order_event (state_of engine.old) console (order_for (state_of engine.old).plant verb word.now)))) }
 {
+    system_keeps_its_plant();
     let last = engine.moment();
     let order = Order {
         verb,
@@ -248,7 +250,7 @@ pub(crate) fn answer_line(
     ensures plant { engine.new.plant ≡ engine.old.plant }
     ensures history { OnOk result (engine.new.history ≡ after_command engine.old.plant engine.old.history (command_of line.now)) }
     ensures text { IfOk result (λ said. said ≡ Said.Text → text.new.items ≡ text.old.items ++ answer_after engine.old.plant engine.old.history (command_of line.now)) }
-    ensures list { IfOk result (λ said. said ≡ Said.List → answer_after engine.old.plant engine.old.history (command_of line.now) ≡ list_text engine.old.plant (state_of engine.old)) }
+    ensures list { IfOk result (λ said. said ≡ Said.List → answer_after engine.old.plant engine.old.history (command_of line.now) ≡ list_text (state_of engine.old)) }
     ensures list_kept { IfOk result (λ said. said ≡ Said.List → engine.new.history ≡ engine.old.history) }
     ensures journal { IfOk result (λ said. said ≡ Said.Journal → answer_after engine.old.plant engine.old.history (command_of line.now) ≡ journal_text engine.old.plant engine.old.history) }
     ensures journal_kept { IfOk result (λ said. said ≡ Said.Journal → engine.new.history ≡ engine.old.history) }

@@ -17,8 +17,8 @@ use std::alloc::{AllocError, Global};
 /// Appends the STATE line of an alarm, none where it is normal, and returns how many lines that is.
 #[tactic(auto, unfolding(crate::specs::Listings::state_lines_of))]
 pub(crate) fn push_shown(text: &mut Vec<u8>, engine: &Engine, alarm: u32) -> Result<u64, AllocError>
-    requires { alarm < length engine.now.plant.alarms }
-    ensures listed { IfOk result (λ n. HasListed text.old.items text.new.items n (state_lines_of engine.now.plant (state_of engine.now) alarm)) }
+    requires { alarm < length (state_of engine.now).plant.alarms }
+    ensures listed { IfOk result (λ n. HasListed text.old.items text.new.items n (state_lines_of (state_of engine.now) alarm)) }
     ensures few { IfOk result (λ n. n ≤ 1) }
 {
     let plant = engine.plant();

@@ -69,8 +69,8 @@ impl Half {
 
     /// Appends the lines that it has for a number, and returns how many there are.
     fn push(self, text: &mut Vec<u8>, engine: &Engine, number: u32) -> Result<u64, AllocError>
-        requires { number < half_total engine.now.plant self }
-        ensures listed { IfOk result (λ n. HasListed text.old.items text.new.items n (half_lines_of engine.now.plant (state_of engine.now) self number)) }
+        requires { number < half_total (state_of engine.now).plant self }
+        ensures listed { IfOk result (λ n. HasListed text.old.items text.new.items n (half_lines_of (state_of engine.now) self number)) }
         ensures few { IfOk result (λ n. n ≤ 36) }
     {
         match self {
@@ -87,9 +87,9 @@ fn write_half<S: Sink>(
     text: &mut Vec<u8>,
     half: Half,
 ) -> Result<u64, ServeFault>
-    ensures ok { IfOk result (λ n. HasPassed (S.written sink.old) (S.written sink.new) text.old.items text.new.items n (half_lines engine.now.plant (state_of engine.now) half)) }
+    ensures ok { IfOk result (λ n. HasPassed (S.written sink.old) (S.written sink.new) text.old.items text.new.items n (half_lines (state_of engine.now) half)) }
     ensures few { IfOk result (λ n. n < 2 ^ 40) }
-    ensures err { OnErr result (IsBegun (S.written sink.old) (S.written sink.new) (text.old.items ++ text_of (half_lines engine.now.plant (state_of engine.now) half))) }
+    ensures err { OnErr result (IsBegun (S.written sink.old) (S.written sink.new) (text.old.items ++ text_of (half_lines (state_of engine.now) half))) }
     ensures read { is_read result ≡ false }
     ensures write { S.broken sink.new ≡ (S.broken sink.old || is_write result) }
 {
@@ -107,8 +107,8 @@ pub(crate) fn write_list<S: Sink>(
     sink: &mut S,
     text: &mut Vec<u8>,
 ) -> Result<(), ServeFault>
-    ensures ok { OnOk result (Appends (S.written sink.old) (S.written sink.new) (list_text engine.now.plant (state_of engine.now))) }
-    ensures err { OnErr result (IsBegun (S.written sink.old) (S.written sink.new) (list_text engine.now.plant (state_of engine.now))) }
+    ensures ok { OnOk result (Appends (S.written sink.old) (S.written sink.new) (list_text (state_of engine.now))) }
+    ensures err { OnErr result (IsBegun (S.written sink.old) (S.written sink.new) (list_text (state_of engine.now))) }
     ensures read { is_read result ≡ false }
     ensures write { S.broken sink.new ≡ (S.broken sink.old || is_write result) }
 {

@@ -4,4 +4,4 @@ use Rattle.engine.proofs.Shown.{outputs_valued}
 use Rattle.engine.proofs.laws.outputs_are_worth_their_numbers.Goals as goal
 
 pub returns : goal.returns
-returns c plant history is lawful = outputs_valued plant (system plant history).world (lawful_in_range plant history is.sound lawful)
+returns c plant history is lawful = outputs_valued (system plant history) (lawful_in_range plant history is.sound lawful).1

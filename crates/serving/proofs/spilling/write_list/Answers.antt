@@ -10,14 +10,14 @@ unfolding list_text
 returns-in_err-states-clause-err g c =
     let p = err_from_is_err_and c.from_residual.result c.from_residual.ensures.1 in
     let begun = rw c.clear.ensures.items at c.in_err-states.ensures.err in
-    rw p.1 (list_first _ _ (half_lines c.args.engine.now.plant (state_of c.args.engine.now) half.States) (half_lines c.args.engine.now.plant (state_of c.args.engine.now) half.Counts) begun)
+    rw p.1 (list_first _ _ (half_lines (state_of c.args.engine.now) half.States) (half_lines (state_of c.args.engine.now) half.Counts) begun)
 
 pub returns-in_err-counts-clause-err : goal.returns-in_err-counts-clause-err
 unfolding list_text
 returns-in_err-counts-clause-err g c =
     let p = err_from_is_err_and c.from_residual-in_err-counts.result c.from_residual-in_err-counts.ensures.1 in
     let states = rw c.clear.ensures.items at c.in_ok-states.ensures.ok in
-    rw p.1 (list_cut _ _ _ _ _ (half_lines c.args.engine.now.plant (state_of c.args.engine.now) half.Counts) states _ c.in_err-counts.ensures.err)
+    rw p.1 (list_cut _ _ _ _ _ (half_lines (state_of c.args.engine.now) half.Counts) states _ c.in_err-counts.ensures.err)
 
 pub returns-clause-ok : goal.returns-clause-ok
 unfolding list_text

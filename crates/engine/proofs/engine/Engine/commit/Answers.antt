@@ -1,4 +1,4 @@
-use Rattle.engine.proofs.Commits.{scan_committed, scan_until, scan_in_order, scan_room}
+use Rattle.engine.proofs.Commits.{scan_state, scan_committed, scan_until, scan_in_order, scan_room}
 use Rattle.engine.proofs.Lawful.{lawful_next}
 use Rattle.engine.proofs.engine.Engine.commit.Goals as goal
 
@@ -7,7 +7,7 @@ invariant_of-self c =
     let fits = rw (← c.self.view_is, ← c.prepared.view_is) at c.requires in
     let k = c.self.inside.state in
     rw (c.push_reserved.ensures.items, c.apply_scan.ensures, c.push_scan.ensures) (record {
-      state_is = fits.effect_is k c.self.invariant.state_is;
+      state_is = scan_state _ _ k fits c.self.invariant.state_is;
       plant_is = c.self.invariant.plant_is;
       lawful = lawful_next _ _ _ c.self.invariant.lawful fits.taken;
       journal = scan_committed _ _ c.self.inside.log fits c.self.invariant.journal;

@@ -29,6 +29,6 @@ returns-clause-row_room c =
     let own = c.self.inside in
     let left = order_room _ _ _ own.log c.self.invariant.state_is fits fits.row_room in
     let now = ap (λ (log : PlainLog). log.room) c.push_order.ensures in
-    let added : PlainPreparedOrder → ℕ = λ p. length (added_entries own.plant (system own.plant own.history.items) (event.Order p.console p.order)) in
-    subst (λ (e : PlainEngine). c.push_order.new.log.room + length (added_entries e.plant (state_of e) (event.Order c.args.prepared.console c.args.prepared.order)) ≡ e.row_room) c.self.view_is
+    let added : PlainPreparedOrder → ℕ = λ p. length (added_entries (system own.plant own.history.items) (event.Order p.console p.order)) in
+    subst (λ (e : PlainEngine). c.push_order.new.log.room + length (added_entries (state_of e) (event.Order c.args.prepared.console c.args.prepared.order)) ≡ e.row_room) c.self.view_is
     (subst (λ (p : PlainPreparedOrder). c.push_order.new.log.room + added p ≡ own.log.room) c.prepared.view_is (omega (arith, left, now)))

@@ -4,15 +4,15 @@ use Rattle.engine.specs.declared.event.EngineFault.{EngineFault}
 use Rattle.engine.specs.Image.{IsDue}
 use Rattle.engine.specs.System.{system}
 use Rattle.engine.specs.Engines.{IsState}
-use Rattle.engine.proofs.InRange.{engine_stands}
-use Rattle.engine.proofs.Systems.{kept_alarms, kept_faulted, kept_outputs, scan_event_is, scan_fits}
+use Rattle.engine.proofs.Ready.{ready}
+use Rattle.engine.proofs.Systems.{scan_event_is, scan_fits}
 use Rattle.engine.proofs.engine.Engine.prepare.Goals as goal
 
 pub prepared_scan-requires-clause-programs : goal.prepared_scan-requires-clause-programs
-prepared_scan-requires-clause-programs c = kept_faulted c.self.inside.plant c.self.inside.history.items c.self.inside.state c.self.invariant.state_is
+prepared_scan-requires-clause-programs c = (ready _ _ _ _ c.self.invariant).programs
 
 pub prepared_scan-requires-clause-alarms : goal.prepared_scan-requires-clause-alarms
-prepared_scan-requires-clause-alarms c = kept_alarms c.self.inside.plant c.self.inside.history.items c.self.inside.state c.self.invariant.state_is
+prepared_scan-requires-clause-alarms c = (ready _ _ _ _ c.self.invariant).alarms
 
 pub returns-in_err-prepared-clause-err : goal.returns-in_err-prepared-clause-err
 returns-in_err-prepared-clause-err c =
@@ -25,15 +25,15 @@ returns-clause-ok c =
     let made = c.in_ok-prepared.ensures.ok in
     let len : c.len-events.result ≡ length c.self.inside.history.items = search rules in
     let due = scan_event_is c.self.inside.plant c.self.inside.history.items c.self.inside.state c.len-events.result c.args.pairs.now c.args.moment c.self.invariant.state_is len in
-    let held : IsState c.self.inside.plant (system c.self.inside.plant c.reserve-2.new.self.items) c.self.inside.state = rw c.in_ok-reserve-2.ensures.items c.self.invariant.state_is in
+    let held : IsState (system c.self.inside.plant c.reserve-2.new.self.items) c.self.inside.state = rw c.in_ok-reserve-2.ensures.items c.self.invariant.state_is in
     let rows : length c.in_ok-prepared.prepared.report.faults + length c.in_ok-prepared.prepared.report.changes ≤ c.reserve.new.self.room = rw (← c.prepared.view_is) (omega (arith, c.row_count.ensures, c.in_ok-reserve.ensures.ok)) in
     (scan_fits _ c.in_ok-prepared.prepared c.self.inside.state c.len-events.result c.args.pairs.now c.args.moment c.self.invariant.plant_is held made (rw c.in_ok-reserve-2.ensures.items len) (omega (arith, c.in_ok-reserve-2.ensures.ok)) rows, rw (← c.self.view_is) (sym due ∙ made.taken))
 
 pub prepared_scan-requires-clause-outputs : goal.prepared_scan-requires-clause-outputs
-prepared_scan-requires-clause-outputs c = kept_outputs c.self.inside.plant c.self.inside.history.items c.self.inside.state c.self.invariant.state_is
+prepared_scan-requires-clause-outputs c = (ready _ _ _ _ c.self.invariant).outputs
 
 pub prepared_scan-requires-clause-sound : goal.prepared_scan-requires-clause-sound
 prepared_scan-requires-clause-sound c = c.self.invariant.plant_is.sound
 
 pub prepared_scan-requires-clause-values : goal.prepared_scan-requires-clause-values
-prepared_scan-requires-clause-values c = engine_stands c.self.inside.plant c.self.inside.history.items c.self.inside.log.rows c.self.inside.state c.self.invariant
+prepared_scan-requires-clause-values c = (ready _ _ _ _ c.self.invariant).values

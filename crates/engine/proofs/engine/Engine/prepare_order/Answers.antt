@@ -1,7 +1,8 @@
 use Rattle.std.proofs.Common.{◌≡◌, length, rules, arith}
 use Rattle.engine.specs.System.{system}
 use Rattle.engine.specs.Engines.{IsState}
-use Rattle.engine.proofs.Systems.{kept_alarms, order_fits, order_event_ready, order_event_full}
+use Rattle.engine.proofs.Ready.{ready}
+use Rattle.engine.proofs.Systems.{order_fits, order_event_ready, order_event_full}
 use Rattle.engine.proofs.engine.Engine.prepare_order.Goals as goal
 
 pub returns-then-len-ge-MOST_EVENTS-clause-err : goal.returns-then-len-ge-MOST_EVENTS-clause-err
@@ -10,14 +11,13 @@ returns-then-len-ge-MOST_EVENTS-clause-err c =
     rw (← c.self.view_is) (order_event_full c.self.inside.plant c.self.inside.history.items c.args.console c.args.order (omega (arith, len)))
 
 pub prepared_order-prepared-requires-clause-alarms : goal.prepared_order-prepared-requires-clause-alarms
-prepared_order-prepared-requires-clause-alarms c =
-    kept_alarms c.self.inside.plant c.self.inside.history.items c.self.inside.state c.self.invariant.state_is
+prepared_order-prepared-requires-clause-alarms c = (ready _ _ _ _ c.self.invariant).alarms
 
 pub returns-clause-ok : goal.returns-clause-ok
 returns-clause-ok c =
     let len : c.len.result ≡ length c.self.inside.history.items = search rules in
     let made = c.prepared_order-prepared.ensures in
-    let held : IsState c.self.inside.plant (system c.self.inside.plant c.reserve-2.new.self.items) c.self.inside.state = rw c.in_ok-reserve-2.ensures.items c.self.invariant.state_is in (
+    let held : IsState (system c.self.inside.plant c.reserve-2.new.self.items) c.self.inside.state = rw c.in_ok-reserve-2.ensures.items c.self.invariant.state_is in (
       order_fits _ c.self.inside.state c.args.console c.args.order c.prepared_order-prepared.result held made (rw c.in_ok-reserve-2.ensures.items (omega (arith, len))) (omega (arith, c.in_ok-reserve-2.ensures.ok)) (omega (arith, c.in_ok-reserve.ensures.ok)),
       rw (← c.self.view_is) (order_event_ready c.self.inside.plant c.self.inside.history.items c.args.console c.args.order c.prepared_order-prepared.result (omega (arith, len)) made.console_is made.order_is),
       made.console_is,
