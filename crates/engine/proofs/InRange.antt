@@ -26,6 +26,8 @@ use Rattle.plant_logic.specs.Ranges.{AllInRange}
 use Rattle.block_walk.specs.Cells.{PlainCells}
 use Rattle.block_frames.specs.Stands.{StandFor}
 use Rattle.plant_walk.specs.Sound.{IsSound}
+use Rattle.plant_walk.specs.Runs.{HasCells}
+use Rattle.plant_walk.proofs.Standing.{are_there}
 use Rattle.plant_walk.proofs.Ranges.{run_program_keeps, assigned_global_keeps, opening_in_range}
 use Rattle.plant_config.specs.Plants.{PlainPlant}
 use Rattle.plant_config.specs.Names.{globals_of}
@@ -128,6 +130,12 @@ programs_in source t n [] w sound holds = holds
 programs_in source t n (true ∷ flags) w sound holds = programs_in source t (n + 1) flags w sound holds
 programs_in source t n (false ∷ flags) w sound holds =
     after_in source (run_program source n t w) (programs_from source t (n + 1) flags) (run_program_keeps source n t w sound holds) (λ u h. programs_in source t (n + 1) flags u sound h)
+
+-- cells in which inputs got their values are still as many as the source has
+pub inputs_have_cells : (source : Source) (old : PlainCells) (image : List (ℕ × Value)) → IsSound source → All (FitsGlobal source.globals) image → StandInRange source old → HasCells source (fold with_cell old image)
+inputs_have_cells source old image sound fits held =
+    let within = All-weaker (FitsGlobal source.globals) (has_number (length source.globals)) (λ input fit. slice_get_within source.globals input.0 fit.0 fit.1) image fits in
+    are_there source (fold with_cell old image) (with_inputs source.globals image held.world) (inputs_stand source image old held.world sound within held.stands)
 
 -- a scan over cells that stand for a world in range leaves such cells
 pub scan_stands : (source : Source) (old new : PlainCells) (image : List (ℕ × Value)) (t : ℕ) (flags faulted : List Bool) (faults : List (Place × Trap)) → IsSound source → All (FitsGlobal source.globals) image → StandInRange source old

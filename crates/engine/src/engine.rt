@@ -10,16 +10,16 @@ ghost use Rattle.engine.specs.Journal.{IsJournal, IsLine, added_entries, journal
 ghost use Rattle.engine.specs.Engines.{state_of, Fits, FitsOrder, IsReport, TakesScan};
 
 use crate::event::{EngineFault, Event, MOST_EVENTS, Order, Reply, Report};
-use crate::image::Input;
 use crate::journal::{line_text, push_order, push_scan, row_count};
 use crate::orders::{PreparedOrder, prepared_order};
-use crate::scan::{Prepared, prepared_scan};
-use crate::state::{ScanEffect, State, alarm_state, apply, apply_scan, opening_state};
+use crate::scan::{Prepared, Room, prepared_scan};
+use crate::state::{State, alarm_state, apply, apply_scan, opening_state};
 use alarm_bank::Summary;
 use alarm_machine::{AlarmState, Verb};
 use journal_core::Log;
 use plant_config::Plant;
 use plant_types::{Pair, Value};
+use plant_walk::Stack;
 use std::alloc::{AllocError, Global};
 use std::marker::Model;
 
@@ -30,10 +30,7 @@ pub struct Engine {
     history: Vec<Event>,
     log: Log,
     state: State,
-    /// What an earlier scan replaced: only its room is used.
-    spare: Option<ScanEffect>,
-    /// Room for the inputs of a scan.
-    inputs: Vec<Input>,
+    room: Room,
 }
 
 impl Model for Engine {
@@ -60,14 +57,17 @@ impl Engine {
         let state = opening_state(alloc, &plant)?;
         let history = Vec::new(alloc);
         let log = Log::new(alloc);
-        let inputs = Vec::new(alloc);
+        let room = Room {
+            spare: None,
+            inputs: Vec::new(alloc),
+            stack: Stack::new(alloc)?,
+        };
         Ok(Engine {
             plant,
             history,
             log,
             state,
-            spare: None,
-            inputs,
+            room,
         })
     }
 
@@ -160,8 +160,7 @@ impl Engine {
             alloc,
             &self.plant,
             &self.state,
-            &mut self.spare,
-            &mut self.inputs,
+            &mut self.room,
             events,
             pairs,
             moment,
@@ -187,7 +186,7 @@ impl Engine {
         } = prepared;
         push_scan(&mut self.log, &report);
         self.history.push_reserved(event);
-        self.spare = Some(apply_scan(effect, &mut self.state));
+        self.room.spare = Some(apply_scan(effect, &mut self.state));
         report
     }
 

@@ -16,6 +16,7 @@ use crate::state::{ScanEffect, State, copied_cells, copied_flags, empty_effect};
 use crate::steps::{changed, renewed, run_programs, set_inputs, step_alarms};
 use plant_config::Plant;
 use plant_types::{Pair, Value};
+use plant_walk::Stack;
 use std::alloc::{AllocError, Global};
 use std::marker::Model;
 
@@ -35,12 +36,24 @@ impl Model for Prepared {
     ghost view = { λ p. record { event = p.event; effect = p.effect; report = p.report } };
 }
 
+/// Memory that one scan after another uses. What it holds doesn't matter.
+#[derive(Drop)]
+pub struct Room {
+    /// What an earlier scan replaced.
+    pub spare: Option<ScanEffect>,
+    /// For the inputs of an image.
+    pub inputs: Vec<Input>,
+    /// For the programs' runs.
+    pub stack: Stack,
+}
+
 /// Runs a scan on copies of what a state has, and returns what it does to the state, in the room of another's, and what it reports. Fails if
 /// allocation fails.
 fn run_scan(
     alloc: Global,
     plant: &Plant,
     old: &State,
+    stack: &mut Stack,
     room: ScanEffect,
     image: &[(u32, Value)],
     moment: u64,
@@ -64,7 +77,7 @@ fn run_scan(
     let mut cells = copied_cells(alloc, &old.cells, room_of_cells)?;
     set_inputs(image, &mut cells);
     let mut faulted = copied_flags(old.faulted.as_slice(), room_of_flags)?;
-    let faults = run_programs(alloc, plant, moment, &mut cells, &mut faulted)?;
+    let faults = run_programs(alloc, plant, moment, stack, &mut cells, &mut faulted)?;
     let rows = plant.alarm_rows();
     let (moved, changes) = step_alarms(alloc, rows, &cells, moment, &old.bank, room_of_moved)?;
     let outputs = renewed(old.outputs.as_slice(), &cells, room_of_outputs)?;
@@ -85,14 +98,12 @@ fn run_scan(
     Ok((effect, report))
 }
 
-/// Makes a scan ready after so many events, in the room of a spare one if there is one and of a list of inputs, or
-/// returns why it is refused.
+/// Makes a scan ready after so many events, in the room that there is, or returns why it is refused.
 pub fn prepared_scan(
     alloc: Global,
     plant: &Plant,
     old: &State,
-    spare: &mut Option<ScanEffect>,
-    inputs: &mut Vec<Input>,
+    room: &mut Room,
     events: usize,
     pairs: &[Pair],
     moment: u64,
@@ -108,17 +119,18 @@ pub fn prepared_scan(
     let image = taken_image(
         alloc,
         plant,
-        inputs,
+        &mut room.inputs,
         old.bank.moment(),
         events,
         pairs,
         moment,
     )?;
-    let room = match spare.take() {
+    let spare = match room.spare.take() {
         Some(effect) => effect,
         None => empty_effect(alloc),
     };
-    let (effect, report) = run_scan(alloc, plant, old, room, image.as_slice(), moment)?;
+    let stack = &mut room.stack;
+    let (effect, report) = run_scan(alloc, plant, old, stack, spare, image.as_slice(), moment)?;
     Ok(Prepared {
         event: Event::Scan(image, moment),
         effect,

@@ -7,7 +7,7 @@ ghost use Rattle.plant_logic.specs.Worlds.{World};
 ghost use Rattle.plant_logic.specs.Paths.{paths_of};
 ghost use Rattle.block_walk.specs.Cells.{value_at};
 ghost use Rattle.block_frames.specs.Stands.{StandFor};
-ghost use Rattle.plant_walk.specs.Runs.{Agree};
+ghost use Rattle.plant_walk.specs.Runs.{Agree, HasCells};
 ghost use Rattle.plant_config.specs.Names.{programs_of};
 ghost use Rattle.engine.specs.Programs.{programs_from};
 ghost use Rattle.engine.specs.System.{opening_alarm, sites_of, alarms_after, is_output, outputs_from};
@@ -21,7 +21,7 @@ use block_walk::Cells;
 use plant_config::{AlarmRow, Plant};
 use plant_logic::Variable;
 use plant_types::{Place, Region, Trap, Value};
-use plant_walk::{Walked, walk};
+use plant_walk::{Stack, Walked, run};
 use std::alloc::{AllocError, Global};
 
 /// Gives the inputs of an image their values.
@@ -41,17 +41,20 @@ fn run_program(
     plant: &Plant,
     program: u32,
     moment: u64,
+    stack: &mut Stack,
     cells: &mut Cells,
     is_faulted: bool,
 ) -> Option<(Place, Trap)>
-    requires { program < length (programs_of plant.now) }
+    requires there { program < length (programs_of plant.now) }
+    requires cells { HasCells plant.now.source cells.old }
+    ensures cells { HasCells plant.now.source cells.new }
     ensures ran { (w : World) → StandFor plant.now.source cells.old w → Agree plant.now.source (run_by is_faulted plant.now.source program moment w) (ended_by plant.now.source result cells.new) }
     ensures within { IfSome result (λ fault. fault.0.path < length (paths_of plant.now.source)) }
 {
     if is_faulted {
         return None;
     }
-    match walk(plant.logic(), program, cells, moment) {
+    match run(plant.logic(), program, stack, cells, moment) {
         Walked::Done => None,
         Walked::Trapped(place, trap) => Some((place, trap)),
     }
@@ -64,17 +67,19 @@ pub fn run_programs(
     alloc: Global,
     plant: &Plant,
     moment: u64,
+    stack: &mut Stack,
     cells: &mut Cells,
     faulted: &mut Vec<bool>,
 ) -> Result<Vec<(Place, Trap)>, AllocError>
-    requires { length faulted.old.items ≡ length (programs_of plant.now) }
+    requires flags { length faulted.old.items ≡ length (programs_of plant.now) }
+    requires cells { HasCells plant.now.source cells.old }
     ensures ran { IfOk result (λ faults. (w : World) → StandFor plant.now.source cells.old w → ProgramsRan plant.now.source (programs_from plant.now.source moment 0 faulted.old.items w) cells.new faulted.new.items faults.items) }
     ensures within { IfOk result (λ faults. All (λ f. f.0.path < length (paths_of plant.now.source)) faults.items) }
 {
     let mut faults = Vec::new(alloc);
     for program in 0..plant.programs() {
         let at = program as usize;
-        let fault = run_program(plant, program, moment, cells, faulted[at]);
+        let fault = run_program(plant, program, moment, stack, cells, faulted[at]);
         if let Some(fault) = fault {
             faulted[at] = true;
             faults.push(fault)?;

@@ -1,9 +1,10 @@
-use Rattle.std.proofs.Common.{◌≡◌, ◌∙◌, ap, map, rules}
+use Rattle.std.proofs.Common.{◌≡◌, ◌∙◌, ap, sym, subst, fold, map, rules}
 use Rattle.block_walk.specs.Cells.{value_at}
 use Rattle.engine.specs.System.{outputs_from, outs_from}
 use Rattle.engine.specs.Engines.{PlainState}
-use Rattle.engine.specs.Steps.{output_in}
-use Rattle.engine.proofs.InRange.{scan_stands}
+use Rattle.plant_walk.specs.Runs.{HasCells}
+use Rattle.engine.specs.Steps.{with_cell, output_in}
+use Rattle.engine.proofs.InRange.{inputs_have_cells, scan_stands}
 use Rattle.engine.proofs.Shown.{cells_showable, outputs_showable}
 use Rattle.engine.proofs.Outs.{outputs_renewed, outs_differ}
 use Rattle.engine.proofs.scan.run_scan.Goals as goal
@@ -36,3 +37,9 @@ renewed-requires c =
     let held = scan_stands source c.args.old.now.cells c.run_programs.new.cells c.args.image.now c.args.moment c.args.old.now.faulted c.run_programs.new.faulted.items c.in_ok-faults.faults.items c.requires.sound c.requires.image c.requires.values (search rules) in
     let showable = outputs_showable source.globals (value_at c.args.old.now.cells) now c.args.old.now.outputs (cells_showable source c.run_programs.new.cells held) c.requires.outputs in
     rw c.as_slice-2.ensures.value (rw (← c.old.view_is) at showable)
+
+pub run_programs-requires-clause-cells : goal.run_programs-requires-clause-cells
+run_programs-requires-clause-cells c =
+    let source = c.args.plant.now.source in
+    let set : c.set_inputs.new.cells ≡ fold with_cell c.args.old.now.cells c.args.image.now = search rules in
+    subst (HasCells source) (sym set) (inputs_have_cells source c.args.old.now.cells c.args.image.now c.requires.sound c.requires.image c.requires.values)

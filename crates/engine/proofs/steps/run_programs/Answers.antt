@@ -26,6 +26,7 @@ loop-program-preserved c =
           record {
             few = l.invariant.few;
             same = ap length flags ∙ length-set l.faulted.items l.program true ∙ l.invariant.same;
+            cells_there = c.run_program-fault.ensures.cells;
             within = rw faults (All-push (λ (f : Place × Trap). f.0.path < length (paths_of source)) l.faults.items fault l.invariant.within (subst (λ o. IfSome o (λ (f : Place × Trap). f.0.path < length (paths_of source))) w.in-Some.is c.run_program-fault.ensures.within));
             reached = λ u stands.
                 rw (flags, faults) (reached_trap source c.args.moment _ l.program l.cells after l.faulted.items l.faults.items flag fault there (sym c.index.ensures)
@@ -35,6 +36,7 @@ loop-program-preserved c =
           record {
             few = l.invariant.few;
             same = ap (λ f. length f.items) w.faulted-is ∙ l.invariant.same;
+            cells_there = c.run_program-fault.ensures.cells;
             within = search rules;
             reached = λ u stands.
                 rw (w.faulted-is, w.faults-is) (reached_next source c.args.moment _ l.program l.cells after l.faulted.items l.faults.items flag there (sym c.index.ensures)
