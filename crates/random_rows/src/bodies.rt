@@ -1,0 +1,413 @@
+//! Random bodies, as texts. A body is made from its beginning to its end: what is still to be written waits on a stack.
+
+use crate::dice::Dice;
+use crate::names::{BOOLS, Called, DINTS, GLOBALS, ROUTINES, Routine, TIMES};
+use plant_types::Kind;
+use std::alloc::{AllocError, Global};
+
+/// Something still to be written.
+#[derive(Clone, Copy, Drop)]
+enum Piece {
+    /// These words.
+    Words(&'static str),
+    /// An expression of a kind, and at most so deep.
+    Expr(Kind, u32),
+    /// A list of statements, each at most so deep.
+    List(u32),
+    /// A statement at most so deep.
+    Stmt(u32),
+    /// A call of a block.
+    Call(Called),
+}
+
+/// More pieces than a body has.
+const MOST: u32 = 20_000;
+
+const DINT_LITERALS: &[&str] = &[
+    "0", "1", "2", "3", "7", "-1", "-5", "10", "100", "16#FF", "2#101", "DINT#-3",
+];
+
+const FAR_DINT_LITERALS: &[&str] = &["2147483647", "-2147483648", "65536", "-46341"];
+
+const BOOL_LITERALS: &[&str] = &["TRUE", "FALSE", "BOOL#1", "BOOL#0"];
+
+const TIME_LITERALS: &[&str] = &[
+    "T#0s", "T#1ms", "T#500ms", "T#1s", "T#2s", "T#-1s", "T#1m_1s",
+];
+
+const FAR_TIME_LITERALS: &[&str] = &["T#9223372036854775807ms", "T#-9223372036854775808ms"];
+
+const DINT_OPERATORS: &[&str] = &[" + ", " - ", " * ", " MOD "];
+
+/// Divisors that aren't 0.
+const DIVISORS: &[&str] = &[" / 2)", " / -3)", " / 7)", " / -1)"];
+
+const BOOL_OPERATORS: &[&str] = &[" AND ", " & ", " OR ", " XOR ", " = ", " <> "];
+
+const ORDERS: &[&str] = &[" < ", " > ", " <= ", " >= ", " = ", " <> "];
+
+const TIME_OPERATORS: &[&str] = &[" + ", " - "];
+
+/// The bounds of loops.
+const BOUNDS: &[&str] = &[
+    " := 1 TO 3 DO ",
+    " := 0 TO 4 BY 2 DO ",
+    " := 3 TO -1 BY -2 DO ",
+    " := 2 TO 1 DO ",
+    " := -1 TO 0 BY -1 DO ",
+    " := 4 / 2 TO 2 + 1 BY -1 + 2 DO ",
+];
+
+/// The bounds of loops that end at a bound of the range.
+const FAR_BOUNDS: &[&str] = &[
+    " := 2147483646 TO 2147483647 DO ",
+    " := 2147483645 TO 2147483647 BY 3 DO ",
+    " := -2147483647 TO -2147483648 BY -1 DO ",
+    " := 0 TO 2147483647 BY 1073741823 DO ",
+];
+
+/// The labels of branches. Some fit nothing, some fit what an earlier branch takes.
+const LABELS: &[&str] = &[
+    "0: ",
+    "1, 2: ",
+    "-3..-1: ",
+    "3..5, 7: ",
+    "5..3: ",
+    "4..4, -7: ",
+    "2147483647: ",
+    "-2147483648..-100: ",
+    "6..2147483647: ",
+];
+
+/// The control variable of a loop, by the depth of what stands in it: none of the loops around it has the same.
+fn control(depth: u32) -> &'static str {
+    match depth {
+        0 => "i1",
+        1 => "i2",
+        _ => "i3",
+    }
+}
+
+/// The names that may be assigned, by kind.
+fn targets(kind: Kind) -> &'static [&'static str] {
+    match kind {
+        Kind::Bool => BOOLS,
+        Kind::Dint => DINTS,
+        Kind::Time => TIMES,
+    }
+}
+
+/// A body that is being written.
+#[derive(Drop)]
+struct Writer<'a> {
+    dice: &'a mut Dice,
+    routine: Routine,
+    /// What is written.
+    text: String,
+    /// What is still to be written, the next one last.
+    pieces: Vec<Piece>,
+}
+
+impl Writer<'_> {
+    /// Puts pieces before all that waits.
+    fn next(&mut self, pieces: &[Piece]) -> Result<(), AllocError> {
+        for piece in pieces.iter().rev() {
+            self.pieces.push(*piece)?;
+        }
+        Ok(())
+    }
+
+    /// A kind.
+    fn kind(&mut self) -> Kind {
+        self.dice.pick(
+            &[Kind::Bool, Kind::Dint, Kind::Dint, Kind::Time],
+            Kind::Dint,
+        )
+    }
+
+    /// Writes a literal of a kind, now and then one at a bound of its range.
+    fn literal(&mut self, kind: Kind) -> Result<(), AllocError> {
+        let from = match (kind, self.dice.is_one_of(30)) {
+            (Kind::Bool, _) => BOOL_LITERALS,
+            (Kind::Dint, false) => DINT_LITERALS,
+            (Kind::Dint, true) => FAR_DINT_LITERALS,
+            (Kind::Time, false) => TIME_LITERALS,
+            (Kind::Time, true) => FAR_TIME_LITERALS,
+        };
+        let word = self.dice.pick(from, "");
+        self.text.push_str(word)
+    }
+
+    /// Writes a literal or a name of a kind.
+    fn leaf(&mut self, kind: Kind) -> Result<(), AllocError> {
+        if self.dice.is_one_of(3) {
+            return self.literal(kind);
+        }
+        let routine = self.routine;
+        let from = match kind {
+            Kind::Bool => routine.bools,
+            Kind::Dint => routine.dints,
+            Kind::Time => routine.times,
+        };
+        let word = self.dice.pick(from, "");
+        self.text.push_str(word)
+    }
+
+    /// Has two expressions of a kind written with an operator between them.
+    fn binary(
+        &mut self,
+        operators: &[&'static str],
+        kind: Kind,
+        depth: u32,
+    ) -> Result<(), AllocError> {
+        let operator = self.dice.pick(operators, " = ");
+        self.next(&[
+            Piece::Words("("),
+            Piece::Expr(kind, depth),
+            Piece::Words(operator),
+            Piece::Expr(kind, depth),
+            Piece::Words(")"),
+        ])
+    }
+
+    /// Has an expression written after an operator.
+    fn unary(&mut self, operator: &'static str, kind: Kind, depth: u32) -> Result<(), AllocError> {
+        self.next(&[
+            Piece::Words(operator),
+            Piece::Expr(kind, depth),
+            Piece::Words(")"),
+        ])
+    }
+
+    /// Has a quotient written. Its divisor is seldom 0.
+    fn quotient(&mut self, depth: u32) -> Result<(), AllocError> {
+        if self.dice.is_one_of(4) {
+            return self.binary(&[" / "], Kind::Dint, depth);
+        }
+        let end = self.dice.pick(DIVISORS, " / 2)");
+        self.next(&[
+            Piece::Words("("),
+            Piece::Expr(Kind::Dint, depth),
+            Piece::Words(end),
+        ])
+    }
+
+    /// Writes an expression of a kind, at most so deep.
+    fn expression(&mut self, kind: Kind, depth: u32) -> Result<(), AllocError> {
+        if depth == 0 || self.dice.is_one_of(4) {
+            return self.leaf(kind);
+        }
+        let below = depth - 1;
+        match (kind, self.dice.below(6)) {
+            (Kind::Bool, 0) => self.unary("NOT (", Kind::Bool, below),
+            (Kind::Bool, 1 | 2) => self.binary(BOOL_OPERATORS, Kind::Bool, below),
+            (Kind::Bool, 3) => self.binary(ORDERS, Kind::Time, below),
+            (Kind::Bool, _) => self.binary(ORDERS, Kind::Dint, below),
+            (Kind::Dint, 0) => self.unary("-(", Kind::Dint, below),
+            (Kind::Dint, 1) => self.quotient(below),
+            (Kind::Dint, _) => self.binary(DINT_OPERATORS, Kind::Dint, below),
+            (Kind::Time, 0) => self.unary("-(", Kind::Time, below),
+            (Kind::Time, _) => self.binary(TIME_OPERATORS, Kind::Time, below),
+        }
+    }
+
+    /// Writes an assignment. Most of those to numbers and times keep them small, so that not all that follows overflows.
+    fn assignment(&mut self) -> Result<(), AllocError> {
+        let kind = self.kind();
+        let target = self.dice.pick(targets(kind), "");
+        self.text.push_str(target)?;
+        self.text.push_str(" := ")?;
+        let is_free = self.dice.is_one_of(4);
+        match (kind, is_free) {
+            (Kind::Dint, false) => self.next(&[Piece::Expr(kind, 3), Piece::Words(" MOD 50;\n")]),
+            (Kind::Time, false) => self.next(&[Piece::Expr(kind, 0), Piece::Words(";\n")]),
+            _ => self.next(&[Piece::Expr(kind, 3), Piece::Words(";\n")]),
+        }
+    }
+
+    /// Puts the arguments of a call before all that waits, from the last to the first.
+    fn arguments(&mut self, called: Called) -> Result<(), AllocError> {
+        for (name, kind) in called.outputs {
+            if self.dice.is_one_of(2) {
+                let target = self.dice.pick(targets(*kind), "");
+                self.next(&[
+                    Piece::Words(", "),
+                    Piece::Words(*name),
+                    Piece::Words(" => "),
+                    Piece::Words(target),
+                ])?;
+            }
+        }
+        for (name, kind) in called.inputs {
+            if !self.dice.is_one_of(4) {
+                self.next(&[
+                    Piece::Words(", "),
+                    Piece::Words(*name),
+                    Piece::Words(" := "),
+                    Piece::Expr(*kind, 1),
+                ])?;
+            }
+        }
+        Ok(())
+    }
+
+    /// Writes a call of a block.
+    fn call_of(&mut self, called: Called) -> Result<(), AllocError> {
+        self.next(&[Piece::Words(");\n")])?;
+        self.arguments(called)?;
+        let is_first_comma = matches!(self.pieces.last(), Some(Piece::Words(", ")));
+        if is_first_comma {
+            let _comma = self.pieces.pop();
+        }
+        self.text.push_str(called.name)?;
+        self.text.push_str("(")
+    }
+
+    /// Writes a call.
+    fn call(&mut self) -> Result<(), AllocError> {
+        let called = self.routine.called;
+        match called.first() {
+            Some(first) => {
+                let chosen = self.dice.pick(called, *first);
+                self.call_of(chosen)
+            }
+            None => self.text.push_str(";\n"),
+        }
+    }
+
+    /// Writes a branching by tests.
+    fn choice(&mut self, below: u32) -> Result<(), AllocError> {
+        self.next(&[Piece::Words("END_IF;\n")])?;
+        if self.dice.is_one_of(2) {
+            self.next(&[Piece::Words("ELSE\n"), Piece::List(below)])?;
+        }
+        for _ in 0..self.dice.below(3) {
+            self.next(&[
+                Piece::Words("ELSIF "),
+                Piece::Expr(Kind::Bool, 2),
+                Piece::Words(" THEN\n"),
+                Piece::List(below),
+            ])?;
+        }
+        self.next(&[
+            Piece::Words("IF "),
+            Piece::Expr(Kind::Bool, 2),
+            Piece::Words(" THEN\n"),
+            Piece::List(below),
+        ])
+    }
+
+    /// Writes a branching by labels.
+    fn labelled(&mut self, below: u32) -> Result<(), AllocError> {
+        self.next(&[Piece::Words("END_CASE;\n")])?;
+        if self.dice.is_one_of(2) {
+            self.next(&[Piece::Words("ELSE\n"), Piece::List(below)])?;
+        }
+        for _ in 0..self.dice.below(4) + 1 {
+            let labels = self.dice.pick(LABELS, "0: ");
+            self.next(&[Piece::Words(labels), Piece::List(below)])?;
+        }
+        let end = self
+            .dice
+            .pick(&[" OF\n", " MOD 9 OF\n", " MOD 4 OF\n"], " OF\n");
+        self.next(&[
+            Piece::Words("CASE "),
+            Piece::Expr(Kind::Dint, 2),
+            Piece::Words(end),
+        ])
+    }
+
+    /// Writes a loop.
+    fn turns(&mut self, below: u32) -> Result<(), AllocError> {
+        let from = if self.dice.is_one_of(12) {
+            FAR_BOUNDS
+        } else {
+            BOUNDS
+        };
+        let bounds = self.dice.pick(from, "");
+        self.next(&[
+            Piece::Words("FOR "),
+            Piece::Words(control(below)),
+            Piece::Words(bounds),
+            Piece::List(below),
+            Piece::Words("END_FOR;\n"),
+        ])
+    }
+
+    /// Writes a statement at most so deep.
+    fn statement(&mut self, depth: u32) -> Result<(), AllocError> {
+        let chosen = self.dice.below(16);
+        if depth == 0 || chosen < 8 {
+            return match chosen {
+                0 | 1 => self.call(),
+                2 => self.text.push_str(";\n"),
+                _ => self.assignment(),
+            };
+        }
+        let below = depth - 1;
+        match chosen {
+            8 | 9 => self.call(),
+            10 | 11 => self.choice(below),
+            12 | 13 => self.labelled(below),
+            _ => self.turns(below),
+        }
+    }
+
+    /// Has a list of statements written, perhaps an empty one.
+    fn list(&mut self, depth: u32) -> Result<(), AllocError> {
+        let length = self.dice.below(self.routine.length.max(1)) + 1;
+        for _ in 0..length {
+            self.pieces.push(Piece::Stmt(depth))?;
+        }
+        Ok(())
+    }
+
+    /// Writes the next piece.
+    fn write(&mut self, piece: Piece) -> Result<(), AllocError> {
+        match piece {
+            Piece::Words(words) => self.text.push_str(words),
+            Piece::Expr(kind, depth) => self.expression(kind, depth),
+            Piece::List(depth) => self.list(depth),
+            Piece::Stmt(depth) => self.statement(depth),
+            Piece::Call(called) => self.call_of(called),
+        }
+    }
+
+    /// Writes all that waits.
+    fn write_all(&mut self) -> Result<(), AllocError> {
+        for _ in 0..MOST {
+            match self.pieces.pop() {
+                Some(piece) => self.write(piece)?,
+                None => return Ok(()),
+            }
+        }
+        Ok(())
+    }
+}
+
+/// The text of a routine with a random body, which calls each of its blocks at least once.
+fn routine_text(alloc: Global, dice: &mut Dice, routine: Routine) -> Result<String, AllocError> {
+    let mut writer = Writer {
+        dice,
+        routine,
+        text: String::from_str(alloc, routine.head)?,
+        pieces: Vec::new(alloc),
+    };
+    writer.next(&[Piece::List(routine.depth)])?;
+    for called in routine.called {
+        writer.next(&[Piece::List(routine.depth), Piece::Call(*called)])?;
+    }
+    writer.write_all()?;
+    writer.text.push_str(routine.end)?;
+    Ok(writer.text)
+}
+
+/// A random source: two block types and two programs with random bodies.
+pub fn source(alloc: Global, dice: &mut Dice) -> Result<String, AllocError> {
+    let mut text = String::from_str(alloc, GLOBALS)?;
+    for routine in ROUTINES {
+        let body = routine_text(alloc, dice, routine)?;
+        text.push_str(body.as_str())?;
+    }
+    Ok(text)
+}

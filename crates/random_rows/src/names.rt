@@ -1,0 +1,137 @@
+//! The declarations of a random source, and which names its bodies may use.
+
+use plant_types::Kind;
+
+/// A block that a body calls: its instance, and its inputs and outputs with their kinds.
+#[derive(Clone, Copy, Drop)]
+pub struct Called {
+    pub name: &'static str,
+    pub inputs: &'static [(&'static str, Kind)],
+    pub outputs: &'static [(&'static str, Kind)],
+}
+
+/// A program or a block type.
+#[derive(Clone, Copy, Drop)]
+pub struct Routine {
+    /// Its name and its declarations.
+    pub head: &'static str,
+    pub end: &'static str,
+    /// What may be read, by kind.
+    pub dints: &'static [&'static str],
+    pub bools: &'static [&'static str],
+    pub times: &'static [&'static str],
+    /// The blocks that it calls.
+    pub called: &'static [Called],
+    /// How deep its statements are nested, and how many stand in a list.
+    pub depth: u32,
+    pub length: u32,
+}
+
+/// The globals.
+pub const GLOBALS: &str = "VAR_GLOBAL
+  di AT %ID0 : DINT; bi AT %IX0.0 : BOOL; ti AT %IL0 : TIME;
+  gx AT %QD0 : DINT; gp AT %QX0.0 : BOOL; gu AT %QL0 : TIME;
+END_VAR
+";
+
+/// The variables that may be assigned anywhere.
+pub const DINTS: &[&str] = &["x", "y", "gx"];
+
+pub const BOOLS: &[&str] = &["p", "q", "gp"];
+
+pub const TIMES: &[&str] = &["u", "v", "gu"];
+
+const TON: Called = Called {
+    name: "on",
+    inputs: &[("IN", Kind::Bool), ("PT", Kind::Time)],
+    outputs: &[("Q", Kind::Bool), ("ET", Kind::Time)],
+};
+
+const TOF: Called = Called {
+    name: "off",
+    inputs: &[("IN", Kind::Bool), ("PT", Kind::Time)],
+    outputs: &[("Q", Kind::Bool), ("ET", Kind::Time)],
+};
+
+const EDGE: Called = Called {
+    name: "edge",
+    inputs: &[("CLK", Kind::Bool)],
+    outputs: &[("Q", Kind::Bool)],
+};
+
+const INNER: Called = Called {
+    name: "inner",
+    inputs: &[("n", Kind::Dint), ("c", Kind::Bool), ("w", Kind::Time)],
+    outputs: &[("m", Kind::Dint), ("d", Kind::Bool), ("e", Kind::Time)],
+};
+
+const OUTER: Called = Called {
+    name: "outer",
+    inputs: &[("n", Kind::Dint), ("c", Kind::Bool), ("w", Kind::Time)],
+    outputs: &[("m", Kind::Dint), ("d", Kind::Bool), ("e", Kind::Time)],
+};
+
+/// The block type that calls standard blocks alone.
+const LOW: Routine = Routine {
+    head: "FUNCTION_BLOCK Low
+VAR_INPUT n : DINT; c : BOOL := TRUE; w : TIME; END_VAR
+VAR_OUTPUT m : DINT := 3; d : BOOL; e : TIME; END_VAR
+VAR x, y, i1, i2 : DINT; p, q : BOOL; u, v : TIME; on : TON; edge : R_TRIG; END_VAR
+",
+    end: "m := x; d := p; END_FUNCTION_BLOCK
+",
+    dints: &["x", "y", "gx", "di", "n", "m", "i1", "i2"],
+    bools: &["p", "q", "gp", "bi", "c", "d", "on.Q", "edge.Q"],
+    times: &["u", "v", "gu", "ti", "w", "e", "on.ET"],
+    called: &[TON, EDGE],
+    depth: 2,
+    length: 2,
+};
+
+/// The block type that calls it.
+const HIGH: Routine = Routine {
+    head: "FUNCTION_BLOCK High
+VAR_INPUT n : DINT; c : BOOL; w : TIME := T#2s; END_VAR
+VAR_OUTPUT m : DINT; d : BOOL := TRUE; e : TIME; END_VAR
+VAR x, y, i1, i2 : DINT; p, q : BOOL; u, v : TIME; off : TOF; inner : Low; END_VAR
+",
+    end: "m := y; e := u; END_FUNCTION_BLOCK
+",
+    dints: &["x", "y", "gx", "di", "n", "m", "i1", "i2", "inner.m"],
+    bools: &["p", "q", "gp", "bi", "c", "d", "off.Q", "inner.d"],
+    times: &["u", "v", "gu", "ti", "w", "e", "off.ET", "inner.e"],
+    called: &[TOF, INNER],
+    depth: 2,
+    length: 2,
+};
+
+const FIRST: Routine = Routine {
+    head: "PROGRAM First
+VAR x : DINT := 5; y, i1, i2, i3 : DINT; p, q : BOOL; u, v : TIME; inner : Low; outer : High; on : TON; edge : R_TRIG; END_VAR
+",
+    end: "END_PROGRAM
+",
+    dints: &["x", "y", "gx", "di", "i1", "i2", "i3", "inner.m", "outer.m"],
+    bools: &["p", "q", "gp", "bi", "inner.d", "outer.d", "on.Q", "edge.Q"],
+    times: &["u", "v", "gu", "ti", "inner.e", "outer.e", "on.ET"],
+    called: &[INNER, OUTER, TON, EDGE],
+    depth: 3,
+    length: 3,
+};
+
+const SECOND: Routine = Routine {
+    head: "PROGRAM Second
+VAR x, y, i1, i2, i3 : DINT; p : BOOL := TRUE; q : BOOL; u, v : TIME := T#1m; outer : High; off : TOF; END_VAR
+",
+    end: "END_PROGRAM
+",
+    dints: &["x", "y", "gx", "di", "i1", "i2", "i3", "outer.m"],
+    bools: &["p", "q", "gp", "bi", "outer.d", "off.Q"],
+    times: &["u", "v", "gu", "ti", "outer.e", "off.ET"],
+    called: &[OUTER, TOF],
+    depth: 3,
+    length: 3,
+};
+
+/// The routines of a source: two block types and two programs.
+pub const ROUTINES: [Routine; 4] = [LOW, HIGH, FIRST, SECOND];
