@@ -5,7 +5,7 @@ ghost use Rattle.engine.specs.Engines.{Fits, FitsOrder};
 
 use crate::again::again;
 use crate::example::example;
-use alarm_machine::Verb;
+use alarm_machine::{Code, Verb};
 use engine::{Engine, Order, Prepared, PreparedOrder};
 use std::alloc::{AllocError, Global};
 use std::test::Fail;
@@ -106,5 +106,69 @@ fn a_program_is_restarted(rt: HostRuntime) -> Result<(), Fail> {
         assert!(rt; restarted(alloc, &mut engine));
     }
     assert!(rt; engine.events() == 4);
+    Ok(())
+}
+
+/// All codes.
+const CODES: [Code; 9] = [
+    Code::Norm,
+    Code::Unack,
+    Code::Acked,
+    Code::Rtnun,
+    Code::Latun,
+    Code::Latak,
+    Code::Shelved,
+    Code::Suppr,
+    Code::Oos,
+];
+
+/// Whether one alarm is counted: in area 0, with priority 2, and under this code.
+fn is_counted(engine: &Engine, code: Code) -> bool {
+    let summary = engine.summary();
+    for other in CODES {
+        let want = if other.rank() == code.rank() { 1 } else { 0 };
+        let found = summary.count(0, 2, other);
+        if found != want || summary.count(1, 2, other) != 0 || summary.count(0, 1, other) != 0 {
+            return false;
+        }
+    }
+    true
+}
+
+/// Gives an engine a scan at a moment, or where there is a verb an order for its alarm. It is given again where memory was refused.
+fn given(alloc: Global, engine: &mut Engine, verb: Option<Verb>, moment: u64) -> bool {
+    let Some(verb) = verb else {
+        let first = engine.scan(alloc, &[], moment).is_ok();
+        return first || engine.scan(alloc, &[], moment).is_ok();
+    };
+    let order = Order {
+        verb,
+        target: Some(0),
+    };
+    let first = engine.order(alloc, 1, order).is_ok();
+    first || engine.order(alloc, 1, order).is_ok()
+}
+
+// The alarm is counted under the code that each event leaves it, and under no other: also after an order that is refused.
+#[test]
+fn codes_are_counted_after_each_event(rt: HostRuntime) -> Result<(), Fail> {
+    let alloc = rt.alloc();
+    let mut engine = again(|| engine(alloc))?;
+    assert!(rt; is_counted(&engine, Code::Norm));
+    for (verb, moment, code) in [
+        (Some(Verb::Ack), 0, Code::Norm),
+        (None, 0, Code::Unack),
+        (Some(Verb::Ack), 0, Code::Acked),
+        (Some(Verb::Shelve(5000)), 0, Code::Shelved),
+        (Some(Verb::Ack), 0, Code::Shelved),
+        (None, 4999, Code::Shelved),
+        (None, 5000, Code::Unack),
+        (Some(Verb::Remove), 0, Code::Oos),
+        (None, 5001, Code::Oos),
+        (Some(Verb::PutBack), 0, Code::Unack),
+    ] {
+        assert!(rt; given(alloc, &mut engine, verb, moment));
+        assert!(rt; is_counted(&engine, code));
+    }
     Ok(())
 }

@@ -62,7 +62,7 @@ fn described(alloc: Global, typed: &Typed<'_>) -> Result<String, AllocError> {
 }
 
 /// What the programs of a source cost that keeps its limits.
-fn costs_of(alloc: Global, typed: &Typed<'_>) -> Result<Vec<u64>, AllocError> {
+pub fn costs_of(alloc: Global, typed: &Typed<'_>) -> Result<Vec<u64>, AllocError> {
     order_is_of_source();
     let _units = typed.units();
     let order = typed.order();

@@ -14,6 +14,8 @@ mod blocks;
 #[cfg(test)]
 mod commands;
 #[cfg(test)]
+mod costs;
+#[cfg(test)]
 mod engines;
 #[cfg(test)]
 mod example;

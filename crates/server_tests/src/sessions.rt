@@ -97,11 +97,31 @@ pub fn whole_sink(alloc: Global) -> Taken
 const SOURCE: &[u8] =
     b"VAR_GLOBAL a AT %ID0 : DINT; c : BOOL; END_VAR PROGRAM p c := 100 / a > 10; END_PROGRAM";
 
-/// The stored run and its answers.
-const INPUT: &[u8] = b"scan 0 a=5\nscan 10 a=0\nscan 20 a=50\nrestart 1 p\nscan 30 a=50\n";
+/// A session with each kind of event, and with both commands whose answers have many lines.
+const INPUT: &[u8] =
+    b"scan 0 a=5\nscan 10 a=0\nscan 20 a=50\nrestart 1 p\nscan 30 a=50\nlist\njournal\n";
 
-const OUTPUT: &[u8] =
-    b"ALARM 0 T1 NORM UNACK\nDONE 0 1\nFAULT 10 p 1 DIVZERO\nDONE 10 1\nDONE 20 0\nREPLY OK\nALARM 30 T1 UNACK RTNUN\nDONE 30 1\n";
+/// Its answers.
+const OUTPUT: &[u8] = b"ALARM 0 T1 NORM UNACK
+DONE 0 1
+FAULT 10 p 1 DIVZERO
+DONE 10 1
+DONE 20 0
+REPLY OK
+ALARM 30 T1 UNACK RTNUN
+DONE 30 1
+STATE T1 RTNUN 2
+COUNT north 2 RTNUN 1
+END 2
+1 2024-01-01T00:00:00.000Z ALARM T1 NORM UNACK
+2 2024-01-01T00:00:00.010Z FAULT p 1 DIVZERO
+3 2024-01-01T00:00:00.020Z ORDER 1 restart p OK
+4 2024-01-01T00:00:00.030Z ALARM T1 UNACK RTNUN
+END 4
+";
+
+/// How many lines of `OUTPUT` answer the first lines of `INPUT`: none of it, its first, its first two, and so on.
+const ANSWERED: [usize; 8] = [0, 2, 4, 5, 6, 8, 11, 16];
 
 /// The engine of the example plant.
 fn engine(alloc: Global) -> Result<Engine, AllocError> {
@@ -186,44 +206,79 @@ fn session<H: Wait>(
     (outcome, events, sink.bytes)
 }
 
-/// How many bytes a session writes that has this outcome, if they are a beginning of the stored run's answers. Where it has another
-/// outcome it is tried again: memory may have been refused.
+/// What a session writes that has this outcome, if it is a beginning of the answers to `INPUT`. Where it has another outcome it is tried
+/// again: memory may have been refused.
 fn written<H: Wait>(
     rt: &H,
     alloc: Global,
     ends: Ends,
     want: Result<(), ServeFault>,
-) -> Option<usize> {
+) -> Option<Vec<u8>> {
     let (mut outcome, _, mut text) = session(rt, alloc, INPUT, ends);
     if outcome != want {
         (outcome, _, text) = session(rt, alloc, INPUT, ends);
     }
     if outcome == want && OUTPUT.starts_with(text.as_slice()) {
-        Some(text.len())
+        Some(text)
     } else {
         None
     }
 }
 
-// Each read fails in turn, however many bytes a read gives.
+/// How many lines end in a text.
+fn line_ends(text: &[u8]) -> usize {
+    text.iter().filter(|byte| **byte == b'\n').count()
+}
+
+/// Whether what was written is whole lines, and as many as answer the first lines of `INPUT`.
+fn answers_first(wrote: Option<Vec<u8>>, lines: usize) -> bool {
+    let Some(text) = wrote else {
+        return false;
+    };
+    let is_whole = match text.as_slice().last() {
+        Some(byte) => *byte == b'\n',
+        None => true,
+    };
+    is_whole && ANSWERED.get(lines) == Some(&line_ends(text.as_slice()))
+}
+
+// Each read fails in turn, however many bytes a read gives: just the lines that have ended by then are answered, and these whole.
 #[test]
 fn a_feed_may_fail_at_each_read(rt: HostRuntime) {
     for read in [1, 5, 64] {
         for reads in 0..=INPUT.len().div_ceil(read) {
+            let (front, _) = INPUT.split_at(INPUT.len().min(read.saturating_mul(reads)));
             let wrote = written(&rt, rt.alloc(), feed(read, reads), Err(ServeFault::Read));
-            assert!(rt; wrote.is_some(), "{read} {reads}");
+            assert!(rt; answers_first(wrote, line_ends(front)), "{read} {reads}");
         }
     }
 }
 
-// Each write fails in turn, however many bytes a write takes.
+// Each write fails in turn, where a write takes the whole answer of a line.
 #[test]
-fn a_sink_may_fail_at_each_write(rt: HostRuntime) {
-    for (write, least) in [(1, OUTPUT.len()), (4, OUTPUT.len() / 4), (NO_LIMIT, 5)] {
-        for writes in 0..least {
-            let wrote = written(&rt, rt.alloc(), sink(write, writes), Err(ServeFault::Write));
-            assert!(rt; wrote.is_some(), "{write} {writes}");
-        }
+fn a_sink_may_fail_at_each_answer(rt: HostRuntime) {
+    for writes in 0..7 {
+        let wrote = written(
+            &rt,
+            rt.alloc(),
+            sink(NO_LIMIT, writes),
+            Err(ServeFault::Write),
+        );
+        assert!(rt; answers_first(wrote, writes), "{writes}");
+    }
+}
+
+/// Whether this many bytes were written.
+fn is_long(wrote: Option<Vec<u8>>, bytes: usize) -> bool {
+    wrote.is_some_and(|text| text.len() == bytes)
+}
+
+// Each write fails in turn, where a write takes one byte.
+#[test]
+fn a_sink_may_fail_at_each_byte(rt: HostRuntime) {
+    for writes in 0..OUTPUT.len() {
+        let wrote = written(&rt, rt.alloc(), sink(1, writes), Err(ServeFault::Write));
+        assert!(rt; is_long(wrote, writes), "{writes}");
     }
 }
 
@@ -237,7 +292,7 @@ fn streams_may_take_little(rt: HostRuntime) {
                 ..WHOLE
             };
             let wrote = written(&rt, rt.alloc(), little, Ok(()));
-            assert!(rt; wrote == Some(OUTPUT.len()), "{read} {write}");
+            assert!(rt; is_long(wrote, OUTPUT.len()), "{read} {write}");
         }
     }
 }

@@ -33,7 +33,7 @@ const COST: &[u8] =
     b"PROGRAM q VAR i, j : DINT; END_VAR FOR i := 1 TO 10000 DO FOR j := 1 TO 100 DO ; END_FOR; END_FOR; END_PROGRAM";
 
 /// The logic of a source, made ready; the limit that it is past.
-fn framed(alloc: Global, source: &[u8]) -> Result<Result<Framed, LimitFault>, AllocError> {
+pub fn framed(alloc: Global, source: &[u8]) -> Result<Result<Framed, LimitFault>, AllocError> {
     let Ok(units) = units(alloc, &[("p.st", source)]) else {
         return Err(AllocError);
     };
