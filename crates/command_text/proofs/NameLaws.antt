@@ -6,11 +6,11 @@ use Rattle.std.proofs.lemmas.Str.{IsUtf8-from_ascii}
 use Rattle.std.proofs.lemmas.Bool.Decides.{nat_tests}
 use Rattle.plant_types.specs.Words.{is_name, is_name_byte, is_letter}
 
-and_left : (a b : Bool) → (a && b) ≡ true → a ≡ true
+pub and_left : (a b : Bool) → (a && b) ≡ true → a ≡ true
 and_left true b e = cc
 and_left false b e = e
 
-and_rest : (a b : Bool) → (a && b) ≡ true → b ≡ true
+pub and_rest : (a b : Bool) → (a && b) ≡ true → b ≡ true
 and_rest true b e = e
 and_rest false b e = cc
 

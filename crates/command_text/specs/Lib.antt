@@ -1,4 +1,5 @@
 pub mod Words
+pub mod Cuts
 pub mod Numbers
 pub mod Given
 pub mod Commands

@@ -1,4 +1,4 @@
-ghost use Rattle.std.specs.Prelude.{◌≡◌, IfOk};
+ghost use Rattle.std.specs.Prelude.{◌≡◌, ◌∷◌, ℕ, List, IfOk};
 ghost use Rattle.command_text.specs.Words.{words_of};
 ghost use Rattle.command_text.specs.Commands.{scan_of, order_of, shelve_of, alone, verb_named, command_in, command_of, is_remark, plain_command};
 
@@ -112,18 +112,16 @@ fn verb_named(word: &[u8]) -> Option<Verb>
     }
 }
 
-/// Parses the words of a line: the first is the command's name. Fails only where memory was refused.
+/// Parses the words of a line, of which the first is the command's name. Fails only where memory was refused.
 #[tactic(auto, unfolding(crate::specs::Commands::command_in))]
 fn parse_words<'a>(
     alloc: Global,
     pool: &'a mut Pool,
-    words: &'a [u8],
+    first: &'a [u8],
+    others: &'a [u8],
 ) -> Result<Command<'a>, AllocError>
-    ensures { IfOk result (λ c. plain_command c ≡ command_in (words_of words.now)) }
+    ensures { IfOk result (λ c. plain_command c ≡ command_in (first.now ∷ words_of others.now)) }
 {
-    let Some((first, others)) = next_word(words) else {
-        return Ok(Command::Nothing);
-    };
     if first == b"scan".as_slice() {
         return parse_scan(alloc, pool, others);
     }
@@ -142,13 +140,10 @@ fn parse_words<'a>(
     }
 }
 
-/// Whether the first word of a line begins with `#`.
-fn is_remark(line: &[u8]) -> bool
-    ensures { result ≡ is_remark (words_of line.now) }
+/// Whether a line of which this is the first word is a remark: the word begins with `#`.
+fn is_remark(first: &[u8]) -> bool
+    ensures { (others : List (List ℕ)) → result ≡ is_remark (first.now ∷ others) }
 {
-    let Some((first, _)) = next_word(line) else {
-        return false;
-    };
     match first.split_first() {
         Some((byte, _)) => *byte == b'#',
         None => false,
@@ -157,7 +152,7 @@ fn is_remark(line: &[u8]) -> bool
 
 /// Parses a line, without its line end. A line of more than 1,048,576 bytes is no command. The pairs of a scan stand in the pool, in
 /// place of those of an earlier line. Fails if allocation fails.
-#[tactic(auto, unfolding(crate::specs::Commands::command_of))]
+#[tactic(auto, unfolding(crate::specs::Commands::command_of, crate::specs::Commands::command_in))]
 pub fn read_command<'a>(
     alloc: Global,
     pool: &'a mut Pool,
@@ -168,8 +163,11 @@ pub fn read_command<'a>(
     if line.len() > LONGEST_LINE {
         return Ok(Command::Unknown);
     }
-    if is_remark(line) {
+    let Some((first, others)) = next_word(line) else {
+        return Ok(Command::Nothing);
+    };
+    if is_remark(first) {
         return Ok(Command::Nothing);
     }
-    parse_words(alloc, pool, line)
+    parse_words(alloc, pool, first, others)
 }

@@ -1,5 +1,6 @@
-ghost use Rattle.std.specs.Prelude.{◌≡◌, ◌<◌, ◌≤◌, [], ◌∷◌, length, MatchOption, take, drop, false};
+ghost use Rattle.std.specs.Prelude.{◌≡◌, ◌+◌, ◌<◌, ◌≤◌, [], ◌∷◌, length, MatchOption, false};
 ghost use Rattle.command_text.specs.Words.{is_gap, at_gap, words_of};
+ghost use Rattle.command_text.specs.Cuts.{split_word};
 
 /// Whether a byte separates words: a space or a tab.
 fn is_gap(byte: u8) -> bool
@@ -9,7 +10,7 @@ fn is_gap(byte: u8) -> bool
 }
 
 /// Skips the spaces and tabs at the start of a line.
-fn trim_start(line: &[u8]) -> &[u8]
+pub(crate) fn trim_start(line: &[u8]) -> &[u8]
     ensures words { words_of result.now ≡ words_of line.now }
     ensures at_word { 0 < length result.now → at_gap result.now ≡ false }
     ensures shorter { length result.now ≤ length line.now }
@@ -24,19 +25,17 @@ fn trim_start(line: &[u8]) -> &[u8]
     rest
 }
 
-/// The number of bytes of the word with which a line begins.
-fn word_len(line: &[u8]) -> usize
-    requires some { 0 < length line.now }
-    requires at_word { at_gap line.now ≡ false }
-    ensures within { (0 < result) × (result ≤ length line.now) }
-    ensures words { words_of line.now ≡ take result line.now ∷ words_of (drop result line.now) }
+/// Splits a line at its first space or tab, into what is before it and the rest from there on; without one all is before it.
+pub(crate) fn split_word(line: &[u8]) -> (&[u8], &[u8])
+    ensures split { split_word line.now ≡ (result.0.now, result.1.now) }
+    ensures sizes { length result.0.now + length result.1.now ≡ length line.now }
 {
     for (i, byte) in line.iter().enumerate() {
         if is_gap(*byte) {
-            return i;
+            return line.split_at(i);
         }
     }
-    line.len()
+    line.split_at(line.len())
 }
 
 /// The first word of a line and the rest after it; `None` if there is no word.
@@ -47,6 +46,5 @@ pub(crate) fn next_word(line: &[u8]) -> Option<(&[u8], &[u8])>
     if line.is_empty() {
         return None;
     }
-    let n = word_len(line);
-    Some(line.split_at(n))
+    Some(split_word(line))
 }

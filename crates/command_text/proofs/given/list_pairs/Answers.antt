@@ -1,0 +1,26 @@
+use Rattle.std.proofs.Common.{◌≡◌, false, sym, ap, ◌∙◌}
+use Rattle.command_text.specs.Given.{pairs_of}
+use Rattle.command_text.specs.Words.{at_gap, words_of}
+use Rattle.command_text.proofs.PairLaws.{after_pairs, pair-next, pair-bad}
+use Rattle.command_text.proofs.WordLaws.{some_bytes}
+use Rattle.command_text.proofs.given.list_pairs.Goals as goal
+
+pub loop-rest-preserved : goal.loop-rest-preserved
+loop-rest-preserved c =
+    let rest = c.loop-rest.rest.now in
+    let after = c.in-Some.after.now in
+    let at_word : at_gap rest ≡ false = c.loop-rest.invariant.at_word (some_bytes rest (sym c.is_empty.ensures ∙ c.loop-rest-test.true)) in
+    record {
+      same =
+          c.loop-rest.invariant.same
+          ∙ pair-next rest after c.loop-rest.pool _ at_word c.in-Some.ensures.pair c.in-Some.ensures.after
+          ∙ ap (λ pool. after_pairs pool (pairs_of (words_of after))) (sym c.in_ok-push-in-Some.ensures.ok)
+          ∙ ap (λ words. after_pairs c.push.new.self (pairs_of words)) (sym c.trim_start-rest-in-Some.ensures.words);
+      at_word = c.trim_start-rest-in-Some.ensures.at_word;
+    }
+
+pub returns-in-None : goal.returns-in-None
+returns-in-None c =
+    let rest = c.loop-rest.rest.now in
+    let at_word : at_gap rest ≡ false = c.loop-rest.invariant.at_word (some_bytes rest (sym c.is_empty.ensures ∙ c.loop-rest-test.true)) in
+    c.loop-rest.invariant.same ∙ pair-bad rest c.loop-rest.pool at_word c.in-None.ensures.pair
