@@ -28,7 +28,7 @@ fn workers<'a>(alloc: Global) -> Arg<'a>
     Arg::new(alloc, "workers")
         .long("workers")
         .value_name("N")
-        .help("Number of workers")
+        .help("Number of workers: 1 is the only one as yet")
         .value_parser(value_parser!(u32).range(1..=i64::from(MOST_WORKERS)))
         .default_value("1")
 }
@@ -39,7 +39,9 @@ fn check<'a>(alloc: Global) -> Result<Command<'a>, AllocError>
     ensures local { IfOk result (λ c. (out-Command c).has_globals ≡ false) }
 {
     Command::new(alloc, "check")
-        .about("Tells whether a plant is accepted")
+        .about(
+            "Tells whether a plant is accepted (status 0), or why it is refused (status 3); docs/PLANT.md explains each CONFIG line",
+        )
         .arg(plant(alloc))
 }
 
@@ -49,7 +51,9 @@ fn run<'a>(alloc: Global) -> Result<Command<'a>, AllocError>
     ensures local { IfOk result (λ c. (out-Command c).has_globals ≡ false) }
 {
     Command::new(alloc, "run")
-        .about("Serves a plant: commands on the standard input, answers on the standard output")
+        .about(
+            "Serves a plant: commands on the standard input, answers on the standard output, until the input ends; docs/PROTOCOL.md has them all",
+        )
         .arg(plant(alloc))?
         .arg(workers(alloc))
 }
@@ -67,7 +71,7 @@ fn bare<'a>(alloc: Global) -> Command<'a>
 {
     Command::new(alloc, "alarmd")
         .about(
-            "An alarm server compiled from Structured Text. Without a command it serves its example plant",
+            "A plant alarm server, whose logic is Structured Text. Without a command it serves its example plant",
         )
         .no_binary_name(true)
         .subcommand_required(true)
