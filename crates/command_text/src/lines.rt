@@ -7,6 +7,8 @@ use plant_types::{Trap, Value};
 use std::alloc::AllocError;
 
 /// Appends the name and the fields of a line, each after a space, and LF. Where memory is refused a part of them may be appended.
+// Inlined into each kind of line, so that the compiler knows how many fields there are and unrolls the loop.
+#[inline(always)]
 fn add_words(out: &mut Vec<u8>, name: &str, fields: &[&str]) -> Result<(), AllocError>
     ensures ok { OnOk result (out.new.items ≡ out.old.items ++ line_of name.now (map (λ f. f.now) fields.now)) }
     ensures err { OnErr result (take (length out.old.items) out.new.items ≡ out.old.items) }
@@ -21,6 +23,7 @@ fn add_words(out: &mut Vec<u8>, name: &str, fields: &[&str]) -> Result<(), Alloc
 }
 
 /// Appends a line: its name, each field after a space, LF. Where memory is refused the text is unchanged.
+#[inline(always)]
 fn push_line(out: &mut Vec<u8>, name: &str, fields: &[&str]) -> Result<(), AllocError>
     ensures ok { OnOk result (out.new.items ≡ out.old.items ++ line_of name.now (map (λ f. f.now) fields.now)) }
     ensures err { OnErr result (out.new.items ≡ out.old.items) }
