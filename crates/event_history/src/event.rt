@@ -1,0 +1,18 @@
+use alarm_machine::Verb;
+use plant_types::{Items, Value};
+
+/// What an operator asks: a verb, and the number of an alarm, or of a program for a restart; `None` for one that isn't there.
+#[derive(Clone, Copy, Debug, PartialEq, Eq, Drop)]
+pub struct Order {
+    pub verb: Verb,
+    pub target: Option<u32>,
+}
+
+/// One event of the history.
+#[derive(Drop)]
+pub enum Event {
+    /// A scan: its image, inputs by number, and its moment in milliseconds.
+    Scan(Items<(u32, Value)>, u64),
+    /// An order, from the console of a number.
+    Order(u32, Order),
+}
