@@ -7,9 +7,9 @@ use Rattle.alarm_machine.specs.Alarms.{PlainAlarm}
 use Rattle.journal_core.specs.declared.row.Row.{Row}
 use Rattle.journal_core.specs.Rows.{PlainLog, after_entries, last_moment}
 use Rattle.plant_config.specs.Names.{globals_of}
-use Rattle.engine.specs.declared.event.Event.{Event}
-use Rattle.engine.specs.declared.event.Event.TheVariants as event
-use Rattle.engine.specs.declared.event.Order.{Order}
+use Rattle.event_history.specs.declared.event.Event.{Event}
+use Rattle.event_history.specs.declared.event.Event.TheVariants as event
+use Rattle.event_history.specs.declared.event.Order.{Order}
 use Rattle.engine.specs.declared.state.Effect.{Effect}
 use Rattle.alarm_machine.specs.Codes.{PlainChange}
 use Rattle.alarm_bank.specs.Moves.{changes_from}

@@ -14,8 +14,8 @@ use Rattle.plant_logic.specs.declared.logic.Variable.{Variable}
 use Rattle.plant_logic.specs.Names.{find_global}
 use Rattle.alarm_machine.specs.declared.limits.TheConstants.{LAST_MOMENT}
 use Rattle.engine.specs.declared.event.TheConstants.{MOST_EVENTS}
-use Rattle.engine.specs.declared.event.Event.{Event}
-use Rattle.engine.specs.declared.event.Event.TheVariants as event
+use Rattle.event_history.specs.declared.event.Event.{Event}
+use Rattle.event_history.specs.declared.event.Event.TheVariants as event
 use Rattle.engine.specs.declared.event.EngineFault.{EngineFault}
 use Rattle.engine.specs.declared.event.EngineFault.TheVariants as refusal
 use Rattle.engine.specs.declared.image.Input.{Input}
@@ -23,7 +23,7 @@ use Rattle.engine.specs.Image.{input_at, input_of, inputs_of, has_twin, values_o
 use Rattle.engine.specs.System.{taken_scan}
 
 -- an input, or a value, is that of a number below
-abbrev is_below : ℕ → Input → Type 0
+abbrev pub is_below : ℕ → Input → Type 0
 is_below n p = p.number < n
 
 abbrev pub has_number : ℕ → ℕ × Value → Type 0
@@ -46,7 +46,7 @@ input_within globals pair p h =
     (λ n found at. option_and_then_some (input_at n pair) (slice_get globals n) p at
     (λ g there is. subst (λ (q : Input). q.number < length globals) (chosen_input (is_input g.region) (record { number = n; kind = g.kind; given = pair.given }) p is) (slice_get_within globals n g there)))
 
-inputs_within : (globals : List Variable) (pairs : List PlainPair) (inputs : List Input) → inputs_of globals pairs ≡ Some inputs → All (is_below (length globals)) inputs
+pub inputs_within : (globals : List Variable) (pairs : List PlainPair) (inputs : List Input) → inputs_of globals pairs ≡ Some inputs → All (is_below (length globals)) inputs
 inputs_within globals [] inputs h = subst (All (is_below (length globals))) (same_some [] inputs h) (All-nil (is_below (length globals)))
 inputs_within globals (pair ∷ pairs) inputs h =
     let P = is_below (length globals) in
@@ -79,6 +79,10 @@ all_valued (Some values) image h = cc
 none_twice : (b : Bool) (o : Option (List (ℕ × Value))) (image : List (ℕ × Value)) → (if b then Err refusal.ImageName else by_values o) ≡ Ok image → o ≡ Some image
 none_twice true o image h = absurd (cc)
 none_twice false o image h = all_valued o image h
+
+no_twin : (b : Bool) (o : Option (List (ℕ × Value))) (image : List (ℕ × Value)) → (if b then Err refusal.ImageName else by_values o) ≡ Ok image → b ≡ false
+no_twin true o image h = absurd (cc)
+no_twin false o image h = refl
 
 image_of_inputs : (n : ℕ) (o : Option (List Input)) (image : List (ℕ × Value)) → ((inputs : List Input) → o ≡ Some inputs → All (is_below n) inputs) → by_inputs o ≡ Ok image → All (has_number n) image
 image_of_inputs n None image below h = absurd (cc)
@@ -127,15 +131,16 @@ unfolding taken_scan
 taken_when globals last events pairs t u image h =
     when_taken last events t u (nat_lt LAST_MOMENT t) (nat_lt t last) (nat_le MOST_EVENTS events) (image_of globals pairs) image refl refl refl h
 
--- the inputs of an image that is given, and its values
+-- the inputs of an image that is given, none of them named twice, and its values
 pub record GivenImage (globals : List Variable) (pairs : List PlainPair) (image : List (ℕ × Value)) : Type 0 where
   pub inputs : List Input
   pub inputs_are : inputs_of globals pairs ≡ Some inputs
+  pub distinct : has_twin inputs ≡ false
   pub values_are : values_of inputs ≡ Some image
 
 given_by : (globals : List Variable) (pairs : List PlainPair) (o : Option (List Input)) (image : List (ℕ × Value)) → inputs_of globals pairs ≡ o → by_inputs o ≡ Ok image → GivenImage globals pairs image
 given_by globals pairs None image is h = absurd (cc)
-given_by globals pairs (Some inputs) image is h = record { inputs = inputs; inputs_are = is; values_are = none_twice (has_twin inputs) (values_of inputs) image h }
+given_by globals pairs (Some inputs) image is h = record { inputs = inputs; inputs_are = is; distinct = no_twin (has_twin inputs) (values_of inputs) image h; values_are = none_twice (has_twin inputs) (values_of inputs) image h }
 
 image_given : (globals : List Variable) (pairs : List PlainPair) (image : List (ℕ × Value)) → image_of globals pairs ≡ Ok image → GivenImage globals pairs image
 unfolding image_of

@@ -31,8 +31,8 @@ use Rattle.plant_walk.proofs.Standing.{are_there}
 use Rattle.plant_walk.proofs.Ranges.{run_program_keeps, assigned_global_keeps, opening_in_range}
 use Rattle.plant_config.specs.Plants.{PlainPlant}
 use Rattle.plant_config.specs.Names.{globals_of}
-use Rattle.engine.specs.declared.event.Event.{Event}
-use Rattle.engine.specs.declared.event.Event.TheVariants as event
+use Rattle.event_history.specs.declared.event.Event.{Event}
+use Rattle.event_history.specs.declared.event.Event.TheVariants as event
 use Rattle.engine.specs.declared.image.Input.{Input}
 use Rattle.engine.specs.Image.{input_at, input_of, inputs_of, values_of, FitsGlobal}
 use Rattle.engine.specs.Programs.{Scanned, with_input, with_inputs, after_run, programs_from, world_after}

@@ -6,9 +6,9 @@ use Rattle.alarm_machine.specs.declared.limits.TheConstants.{LAST_MOMENT}
 use Rattle.plant_config.specs.Plants.{PlainPlant}
 use Rattle.plant_config.specs.Names.{globals_of}
 use Rattle.engine.specs.declared.event.TheConstants.{MOST_EVENTS}
-use Rattle.engine.specs.declared.event.Event.{Event}
-use Rattle.engine.specs.declared.event.Event.TheVariants as event
-use Rattle.engine.specs.declared.event.Order.{Order}
+use Rattle.event_history.specs.declared.event.Event.{Event}
+use Rattle.event_history.specs.declared.event.Event.TheVariants as event
+use Rattle.event_history.specs.declared.event.Order.{Order}
 use Rattle.engine.specs.declared.event.EngineFault.{EngineFault}
 use Rattle.engine.specs.declared.event.EngineFault.TheVariants as refusal
 use Rattle.engine.specs.System.{System, system, opening_system, after_event, order_event}

@@ -13,3 +13,5 @@ mod Shown
 mod Journals
 mod OrderRows
 mod Commits
+mod FewValues
+mod Rooms

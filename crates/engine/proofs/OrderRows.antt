@@ -16,7 +16,7 @@ use Rattle.journal_core.specs.declared.row.Entry.TheVariants as entry
 use Rattle.plant_config.specs.declared.rows.AlarmRow.{AlarmRow}
 use Rattle.plant_config.specs.Plants.{PlainPlant}
 use Rattle.plant_config.specs.Names.{programs_of}
-use Rattle.engine.specs.declared.event.Order.{Order}
+use Rattle.event_history.specs.declared.event.Order.{Order}
 use Rattle.engine.specs.declared.state.Effect.{Effect}
 use Rattle.engine.specs.declared.state.Effect.TheVariants as effect
 use Rattle.engine.specs.Orders.{is_restart, has_area, is_console, order_at, alarm_order, program_order, order_outcome, alarms_by, changed_by}

@@ -5,7 +5,7 @@ use Rattle.plant_walk.specs.Sound.{IsSound}
 use Rattle.journal_core.specs.declared.row.Row.{Row}
 use Rattle.plant_config.specs.Plants.{PlainPlant}
 use Rattle.plant_config.specs.Names.{globals_of, programs_of}
-use Rattle.engine.specs.declared.event.Event.{Event}
+use Rattle.event_history.specs.declared.event.Event.{Event}
 use Rattle.engine.specs.System.{system, outputs_from}
 use Rattle.engine.specs.Engines.{PlainState, IsEngine}
 use Rattle.engine.specs.Steps.{StandInRange}

@@ -26,9 +26,9 @@ use Rattle.journal_core.specs.declared.row.Row.{Row}
 use Rattle.plant_config.specs.declared.rows.AlarmRow.{AlarmRow}
 use Rattle.plant_config.specs.Plants.{PlainPlant, IsPlant, IsAlarmRow}
 use Rattle.engine.specs.declared.event.TheConstants.{MOST_EVENTS}
-use Rattle.engine.specs.declared.event.Event.{Event}
-use Rattle.engine.specs.declared.event.Event.TheVariants as event
-use Rattle.engine.specs.declared.event.Order.{Order}
+use Rattle.event_history.specs.declared.event.Event.{Event}
+use Rattle.event_history.specs.declared.event.Event.TheVariants as event
+use Rattle.event_history.specs.declared.event.Order.{Order}
 use Rattle.engine.specs.declared.event.EngineFault.{EngineFault}
 use Rattle.engine.specs.declared.event.EngineFault.TheVariants as refusal
 use Rattle.engine.specs.declared.state.Effect.{Effect}

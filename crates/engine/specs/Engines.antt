@@ -1,5 +1,5 @@
 -- What an engine shows, what a scan reports, and when something made ready fits an engine.
-use Rattle.std.specs.Prelude.{◌≡◌, ℕ, ◌+◌, ◌<◌, ◌≤◌, Bool, List, [], ◌∷◌, ◌++◌, length, map, All, Result, Ok, refl}
+use Rattle.std.specs.Prelude.{◌≡◌, ℕ, ◌+◌, ◌<◌, ◌≤◌, nat_le, Bool, List, [], ◌∷◌, ◌++◌, length, map, All, Result, Ok, refl, if◌then◌else◌}
 use Rattle.std.specs.Coded.{Coded, code_by, coded×, coded_list, coded_ℕ}
 use Rattle.plant_types.specs.Pairs.{PlainPair}
 use Rattle.plant_types.specs.declared.values.Value.{Value}
@@ -15,10 +15,11 @@ use Rattle.plant_config.specs.Plants.{PlainPlant, IsPlant}
 use Rattle.plant_config.specs.Code.{plant_code}
 use Rattle.plant_config.specs.Names.{globals_of, body_paths}
 use Rattle.alarm_machine.specs.declared.limits.TheConstants.{LAST_MOMENT}
-use Rattle.engine.specs.declared.event.Event.{Event}
-use Rattle.engine.specs.declared.event.Event.TheVariants as event
-use Rattle.engine.specs.contracts.event.Event as event_row
-use Rattle.engine.specs.declared.event.Order.{Order}
+use Rattle.event_history.specs.declared.event.Event.{Event}
+use Rattle.event_history.specs.declared.event.Event.TheVariants as event
+use Rattle.event_history.specs.contracts.event.Event as event_row
+use Rattle.event_history.specs.declared.event.Order.{Order}
+use Rattle.event_history.specs.Histories.{PlainHistory}
 use Rattle.engine.specs.declared.event.Reply.{Reply}
 use Rattle.engine.specs.declared.state.Effect.{Effect}
 use Rattle.engine.specs.Reports.{PlainReport}
@@ -32,6 +33,10 @@ pub record PlainEngine : Type 0 where
   pub history : List Event
   pub room : ℕ
   pub row_room : ℕ
+
+-- for how many more events a plant's history has room, whatever their images: for none before it has room for images of as many values as the plant has globals
+abbrev pub room_for : PlainPlant → PlainHistory → ℕ
+room_for plant history = if nat_le (length (globals_of plant)) history.width then history.room else 0
 
 -- the state of an engine's system
 abbrev pub state_of : PlainEngine → System

@@ -19,12 +19,12 @@ use Rattle.plant_config.specs.Plants.{PlainPlant}
 use Rattle.plant_config.specs.Names.{globals_of}
 use Rattle.alarm_bank.specs.Moves.{changes_from}
 use Rattle.alarm_machine.specs.declared.limits.TheConstants.{LAST_MOMENT}
-use Rattle.engine.specs.declared.event.Event.TheVariants as event
+use Rattle.event_history.specs.declared.event.Event.TheVariants as event
 use Rattle.engine.specs.Reports.{PlainReport}
 use Rattle.engine.specs.Programs.{Scanned, programs_from}
 use Rattle.engine.specs.System.{taken_scan, alarms_after, outputs_from, outs_from}
 use Rattle.engine.specs.Engines.{PlainState, PlainPrepared, PlainPreparedOrder, after_effect}
-use Rattle.engine.specs.declared.event.Order.{Order}
+use Rattle.event_history.specs.declared.event.Order.{Order}
 use Rattle.engine.specs.Orders.{order_outcome, reply_by}
 
 -- an output, with the value that it has now

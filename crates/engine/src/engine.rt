@@ -9,13 +9,15 @@ ghost use Rattle.engine.specs.Lawful.{IsLawfulHistory};
 ghost use Rattle.engine.specs.Journal.{IsJournal, IsLine, added_entries, journal_of};
 ghost use Rattle.engine.specs.Engines.{state_of, Fits, FitsOrder, IsReport, TakesScan};
 
-use crate::event::{EngineFault, Event, MOST_EVENTS, Order, Reply, Report};
+use crate::event::{EngineFault, MOST_EVENTS, Reply, Report};
+use crate::image::widest_image;
 use crate::journal::{line_text, push_order, push_scan, row_count};
 use crate::orders::{PreparedOrder, prepared_order};
 use crate::scan::{Prepared, Room, prepared_scan};
 use crate::state::{State, alarm_state, apply, apply_scan, opening_state};
 use alarm_bank::Summary;
 use alarm_machine::{AlarmState, Verb};
+use event_history::{Event, History, Order};
 use journal_core::Log;
 use plant_config::Plant;
 use plant_types::{Pair, Value};
@@ -27,25 +29,22 @@ use std::marker::Model;
 #[derive(Drop)]
 pub struct Engine {
     plant: Plant,
-    history: Vec<Event>,
+    history: History,
     log: Log,
     state: State,
     room: Room,
 }
 
 impl Model for Engine {
-    ghost use Rattle.std.specs.Prelude.{◌-◌, vec_len, vec_capacity};
-    ghost use Rattle.engine.specs.Engines.{PlainEngine, engine_code};
+    ghost use Rattle.engine.specs.Engines.{PlainEngine, IsEngine, engine_code, room_for};
 
     ghost Value = { PlainEngine };
 
     ghost coded = { engine_code };
 
-    ghost use Rattle.engine.specs.Engines.{IsEngine};
+    ghost view = { λ e. record { plant = e.plant; history = e.history.events; room = room_for e.plant e.history; row_room = e.log.room } };
 
-    ghost view = { λ e. record { plant = e.plant; history = e.history.items; room = vec_capacity e.history - vec_len e.history; row_room = e.log.room } };
-
-    ghost invariant = { λ e. IsEngine e.plant e.history.items e.log.rows e.state };
+    ghost invariant = { λ e. IsEngine e.plant e.history.events e.log.rows e.state };
 }
 
 impl Engine {
@@ -55,11 +54,12 @@ impl Engine {
         ensures { IfOk result (λ e. (e.plant ≡ plant) × (e.history ≡ [])) }
     {
         let state = opening_state(alloc, &plant)?;
-        let history = Vec::new(alloc);
+        let history = History::new(alloc);
         let log = Log::new(alloc);
         let room = Room {
             spare: None,
             inputs: Vec::new(alloc),
+            image: Vec::new(alloc),
             stack: Stack::new(alloc)?,
         };
         Ok(Engine {
@@ -140,7 +140,7 @@ impl Engine {
     /// The pairs name inputs, letter case ignored; the moment is in milliseconds. The refusals, in the order in which they are tested:
     /// `MomentRange` (E2) above 4,000,000,000,000, `MomentBack` (E1) before the last scan, `ImageName` (E3) for a name that is no input
     /// or comes twice, `ImageKind` (E4) for a value that doesn't fit its input, `HistoryFull` (E6) at 1,000,000 events. `Memory` comes
-    /// only if allocation fails: of the image, of room for its inputs and for what it leaves of the variables and outputs, of the alarms that it
+    /// only if allocation fails: of room for the image and its inputs, for what it leaves of the variables and outputs and for the alarms that it
     /// moves, of a flag for each global if the image has more than 16 inputs, of the report's lists and of its rows.
     pub fn prepare(
         &mut self,
@@ -156,21 +156,15 @@ impl Engine {
         ensures err { IfErr result (λ e. IsDue e (scan_event (state_of self.old) pairs.now moment)) }
     {
         let events = self.history.len();
-        let prepared = prepared_scan(
-            alloc,
-            &self.plant,
-            &self.state,
-            &mut self.room,
-            events,
-            pairs,
-            moment,
-        )?;
+        let room = &mut self.room;
+        let prepared = prepared_scan(alloc, &self.plant, &self.state, room, events, pairs, moment)?;
         self.log.reserve(row_count(&prepared.report))?;
-        self.history.reserve(1)?;
+        self.history.reserve(widest_image(&self.plant))?;
         Ok(prepared)
     }
 
     /// Adds a scan that was made ready to the history and its rows to the journal, and returns what it did. It allocates nothing and can't fail.
+    #[tactic(auto, using(crate::proofs::Rooms::room_taken))]
     pub fn commit(&mut self, prepared: Prepared) -> Report
         requires { Fits self.old prepared }
         ensures plant { self.new.plant ≡ self.old.plant }
@@ -180,12 +174,14 @@ impl Engine {
         ensures report { IsReport (state_of self.old) prepared.event result }
     {
         let Prepared {
-            event,
+            image,
+            moment,
             effect,
             report,
         } = prepared;
         push_scan(&mut self.log, &report);
-        self.history.push_reserved(event);
+        self.history.push_scan(image.as_slice(), moment);
+        self.room.image = image;
         self.room.spare = Some(apply_scan(effect, &mut self.state));
         report
     }
@@ -211,13 +207,14 @@ impl Engine {
         }
         let prepared = prepared_order(&self.plant, &self.state, console, order);
         self.log.reserve(2)?;
-        self.history.reserve(1)?;
+        self.history.reserve(widest_image(&self.plant))?;
         Ok(prepared)
     }
 
     /// Adds an order that was made ready to the history, does it, and returns the reply: the change of the alarm's code if there is one,
     /// or the refusal (O1 to O5). The order has a row in the journal, and so has that change. A refused order is in the history too, and
     /// changes no alarm and no program. It allocates nothing and can't fail.
+    #[tactic(auto, using(crate::proofs::Rooms::room_taken))]
     pub fn commit_order(&mut self, prepared: PreparedOrder) -> Reply
         requires { FitsOrder self.old prepared }
         ensures plant { self.new.plant ≡ self.old.plant }
@@ -234,7 +231,7 @@ impl Engine {
         } = prepared;
         push_order(&mut self.log, &self.state, console, order, &done);
         apply(&done, &mut self.state);
-        self.history.push_reserved(Event::Order(console, order));
+        self.history.push_order(console, order);
         reply
     }
 

@@ -1,27 +1,11 @@
-use alarm_machine::{Change, LAST_MOMENT, OrderFault, Verb};
-use plant_types::{Items, Place, Trap, Value};
+use alarm_machine::{Change, LAST_MOMENT, OrderFault};
+use plant_types::{Place, Trap, Value};
 use std::alloc::AllocError;
 use std::marker::Model;
 use thiserror::Error;
 
 /// How many events a history has at most (this profile).
 pub const MOST_EVENTS: usize = 1_000_000;
-
-/// What an operator asks: a verb, and the number of an alarm, or of a program for a restart; `None` for one that isn't there.
-#[derive(Clone, Copy, Debug, PartialEq, Eq, Drop)]
-pub struct Order {
-    pub verb: Verb,
-    pub target: Option<u32>,
-}
-
-/// One event of the history.
-#[derive(Drop)]
-pub enum Event {
-    /// A scan: its image, inputs by number, and its moment in milliseconds.
-    Scan(Items<(u32, Value)>, u64),
-    /// An order, from the console of a number.
-    Order(u32, Order),
-}
 
 /// The reply to an order.
 #[derive(Clone, Copy, Debug, PartialEq, Eq, Drop)]

@@ -5,12 +5,13 @@ ghost use Rattle.std.specs.List.{list_any};
 ghost use Rattle.plant_config.specs.Names.{globals_of};
 ghost use Rattle.engine.specs.Image.{input_of, inputs_of, has_twin, values_of, image_of, IsDue};
 ghost use Rattle.engine.specs.System.{taken_scan};
-ghost use Rattle.engine.specs.declared.event.Event.TheVariants.{Scan};
+ghost use Rattle.event_history.specs.declared.event.Event.TheVariants.{Scan};
 
 use crate::event::{EngineFault, MOST_EVENTS};
+use crate::scan::Room;
 use alarm_machine::LAST_MOMENT;
 use plant_config::Plant;
-use plant_types::{Given, Items, Kind, Pair, Region, Value, fitted};
+use plant_types::{Given, Kind, Pair, Region, Value, fitted};
 use std::alloc::{AllocError, Global};
 
 /// How many inputs are few: these are compared with each other.
@@ -22,6 +23,13 @@ pub struct Input {
     pub number: u32,
     pub kind: Kind,
     pub given: Given,
+}
+
+/// How many values an image has at most: one for each global.
+pub fn widest_image(plant: &Plant) -> u32
+    ensures { result ≡ length (globals_of plant.now) }
+{
+    plant.logic().globals().len() as u32
 }
 
 /// The input that a pair names, with what is given for it; `None` for a name of no input.
@@ -60,18 +68,18 @@ fn list_inputs(plant: &Plant, pairs: &[Pair], inputs: &mut Vec<Input>) -> Result
     Ok(true)
 }
 
-/// The values of inputs, in order; `None` if one doesn't fit its input's kind. Fails if allocation fails.
-fn values_of(alloc: Global, inputs: &[Input]) -> Result<Option<Items<(u32, Value)>>, AllocError>
-    ensures { IfOk result (λ values. values ≡ values_of inputs.now) }
+/// Lists the values of inputs, in order, in place of those listed before; false if one doesn't fit its input's kind. Fails if allocation fails.
+fn list_values(inputs: &[Input], values: &mut Vec<(u32, Value)>) -> Result<bool, AllocError>
+    ensures { IfOk result (λ all. values_of inputs.now ≡ (if all then Some values.new.items else None)) }
 {
-    let mut found = Vec::with_capacity(alloc, inputs.len())?;
+    values.clear();
     for input in inputs {
         match fitted(input.kind, input.given) {
-            Some(value) => found.push((input.number, value))?,
-            None => return Ok(None),
+            Some(value) => values.push((input.number, value))?,
+            None => return Ok(false),
         }
     }
-    Ok(Some(Items::from_vec(found)))
+    Ok(true)
 }
 
 /// Whether a number is that of one of the inputs.
@@ -114,42 +122,41 @@ fn has_twin(alloc: Global, globals: usize, inputs: &[Input]) -> Result<bool, All
     Ok(false)
 }
 
-/// The image that pairs give, or why it is refused. A list of inputs lends its room.
+/// Puts the image that pairs give in its room, or returns why it is refused.
 #[tactic(auto, unfolding(crate::specs::Image::image_of))]
 fn image_of(
     alloc: Global,
     plant: &Plant,
     pairs: &[Pair],
-    inputs: &mut Vec<Input>,
-) -> Result<Items<(u32, Value)>, EngineFault>
-    ensures ok { IfOk result (λ image. image_of (globals_of plant.now) pairs.now ≡ Ok image) }
+    room: &mut Room,
+) -> Result<(), EngineFault>
+    ensures ok { OnOk result (image_of (globals_of plant.now) pairs.now ≡ Ok room.new.image.items) }
     ensures err { IfErr result (λ e. IsDue e (image_of (globals_of plant.now) pairs.now)) }
 {
-    if !list_inputs(plant, pairs, inputs)? {
+    if !list_inputs(plant, pairs, &mut room.inputs)? {
         return Err(EngineFault::ImageName);
     }
-    let globals = plant.logic().globals().len();
-    if has_twin(alloc, globals, inputs.as_slice())? {
+    if has_twin(alloc, widest_image(plant) as usize, room.inputs.as_slice())? {
         return Err(EngineFault::ImageName);
     }
-    match values_of(alloc, inputs.as_slice())? {
-        Some(values) => Ok(values),
-        None => Err(EngineFault::ImageKind),
+    if !list_values(room.inputs.as_slice(), &mut room.image)? {
+        return Err(EngineFault::ImageKind);
     }
+    Ok(())
 }
 
-/// The image of a scan after a last moment and so many events, or why the scan is refused. A list of inputs lends its room.
+/// Puts the image of a scan after a last moment and so many events in its room, or returns why the scan is refused.
 #[tactic(auto, unfolding(crate::specs::System::taken_scan))]
 pub fn taken_image(
     alloc: Global,
     plant: &Plant,
-    inputs: &mut Vec<Input>,
+    room: &mut Room,
     last: u64,
     events: usize,
     pairs: &[Pair],
     moment: u64,
-) -> Result<Items<(u32, Value)>, EngineFault>
-    ensures ok { IfOk result (λ image. taken_scan (globals_of plant.now) last events pairs.now moment ≡ Ok (Scan image moment)) }
+) -> Result<(), EngineFault>
+    ensures ok { OnOk result (taken_scan (globals_of plant.now) last events pairs.now moment ≡ Ok (Scan room.new.image.items moment)) }
     ensures range { OnOk result (moment ≤ LAST_MOMENT) }
     ensures err { IfErr result (λ e. IsDue e (taken_scan (globals_of plant.now) last events pairs.now moment)) }
 {
@@ -159,9 +166,9 @@ pub fn taken_image(
     if moment < last {
         return Err(EngineFault::MomentBack);
     }
-    let image = image_of(alloc, plant, pairs, inputs)?;
+    image_of(alloc, plant, pairs, room)?;
     if events >= MOST_EVENTS {
         return Err(EngineFault::HistoryFull);
     }
-    Ok(image)
+    Ok(())
 }

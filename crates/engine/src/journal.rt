@@ -8,9 +8,10 @@ ghost use Rattle.journal_core.specs.Rows.{after_entries, last_moment};
 ghost use Rattle.engine.specs.Orders.{changed_by};
 ghost use Rattle.engine.specs.Journal.{refusal_of, scan_entries, order_entries, IsNamed, HasTarget, target_name, name_of};
 
-use crate::event::{Order, Report};
+use crate::event::Report;
 use crate::state::{Effect, State};
 use alarm_machine::{Alarm, Change, OrderFault, Verb};
+use event_history::Order;
 use journal_core::{Entry, Log, Row, row_text};
 use plant_config::Plant;
 use std::alloc::{AllocError, Global};

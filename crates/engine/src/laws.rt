@@ -2,7 +2,7 @@
 
 ghost use Rattle.std.specs.Prelude.{◌≡◌, ◌≤◌, List, length, All};
 ghost use Rattle.plant_config.specs.Plants.{PlainPlant, IsPlant};
-ghost use Rattle.engine.specs.declared.event.Event.{Event};
+ghost use Rattle.event_history.specs.declared.event.Event.{Event};
 ghost use Rattle.engine.specs.System.{system, outputs_of};
 ghost use Rattle.engine.specs.Lawful.{IsLawfulHistory, HasValuesInRange, IsOutputValue};
 

@@ -17,7 +17,8 @@ mod steps;
 mod watched;
 
 pub use engine::Engine;
-pub use event::{EngineFault, Event, Order, Reply, Report};
+pub use event::{EngineFault, Reply, Report};
+pub use event_history::{Event, Order};
 pub use laws::{
     lawful_history_is_short, lawful_history_stays_in_range, outputs_are_worth_their_numbers,
     system_keeps_its_plant,

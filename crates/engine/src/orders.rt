@@ -8,9 +8,10 @@ ghost use Rattle.engine.specs.Orders.{is_console, has_area, alarm_order, program
 ghost use Rattle.alarm_bank.specs.Moves.{change_from};
 ghost use Rattle.engine.specs.Steps.{IsPreparedOrder};
 
-use crate::event::{Order, Reply};
+use crate::event::Reply;
 use crate::state::{Effect, State};
 use alarm_machine::{Alarm, Change, OrderFault, Verb};
+use event_history::Order;
 use plant_config::Plant;
 use plant_file::Console;
 use std::marker::Model;

@@ -10,7 +10,7 @@ ghost use Rattle.engine.specs.System.{taken_scan, outputs_from};
 ghost use Rattle.engine.specs.Engines.{after_effect};
 ghost use Rattle.engine.specs.Steps.{ScanRan, IsPreparedScan, StandInRange};
 
-use crate::event::{EngineFault, Event, Report};
+use crate::event::{EngineFault, Report};
 use crate::image::{Input, taken_image};
 use crate::state::{ScanEffect, State, copied_cells, copied_flags, empty_effect};
 use crate::steps::{changed, renewed, run_programs, set_inputs, step_alarms};
@@ -19,21 +19,24 @@ use plant_types::{Pair, Value};
 use plant_walk::Stack;
 use std::alloc::{AllocError, Global};
 use std::marker::Model;
+use std::mem::replace;
 
 /// A scan that was made ready to be committed.
 #[derive(Drop)]
 pub struct Prepared {
-    pub(crate) event: Event,
+    pub(crate) image: Vec<(u32, Value)>,
+    pub(crate) moment: u64,
     pub(crate) effect: ScanEffect,
     pub(crate) report: Report,
 }
 
 impl Model for Prepared {
+    ghost use Rattle.event_history.specs.declared.event.Event.TheVariants.{Scan};
     ghost use Rattle.engine.specs.Engines.{PlainPrepared};
 
     ghost Value = { PlainPrepared };
 
-    ghost view = { λ p. record { event = p.event; effect = p.effect; report = p.report } };
+    ghost view = { λ p. record { event = Scan p.image.items p.moment; effect = p.effect; report = p.report } };
 }
 
 /// Memory that one scan after another uses. What it holds doesn't matter.
@@ -43,6 +46,8 @@ pub struct Room {
     pub spare: Option<ScanEffect>,
     /// For the inputs of an image.
     pub inputs: Vec<Input>,
+    /// For an image.
+    pub image: Vec<(u32, Value)>,
     /// For the programs' runs.
     pub stack: Stack,
 }
@@ -116,23 +121,15 @@ pub fn prepared_scan(
     ensures ok { IfOk result (IsPreparedScan plant.now old.now events pairs.now moment) }
     ensures err { IfErr result (λ e. IsDue e (taken_scan (globals_of plant.now) old.now.moment events pairs.now moment)) }
 {
-    let image = taken_image(
-        alloc,
-        plant,
-        &mut room.inputs,
-        old.bank.moment(),
-        events,
-        pairs,
-        moment,
-    )?;
-    let spare = match room.spare.take() {
-        Some(effect) => effect,
-        None => empty_effect(alloc),
-    };
+    taken_image(alloc, plant, room, old.bank.moment(), events, pairs, moment)?;
+    let spare = room.spare.take().unwrap_or(empty_effect(alloc));
+    let image = room.image.as_slice();
     let stack = &mut room.stack;
-    let (effect, report) = run_scan(alloc, plant, old, stack, spare, image.as_slice(), moment)?;
+    let (effect, report) = run_scan(alloc, plant, old, stack, spare, image, moment)?;
+    let image = replace(&mut room.image, Vec::new(alloc));
     Ok(Prepared {
-        event: Event::Scan(image, moment),
+        image,
+        moment,
         effect,
         report,
     })

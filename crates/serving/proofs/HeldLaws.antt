@@ -4,7 +4,7 @@ use Rattle.std.specs.Prelude.{OnOk, is_ok}
 use Rattle.std.specs.declared.result.Result.{Result}
 use Rattle.std.proofs.lemmas.List.{take_all, take-take, length-append, length-take}
 use Rattle.std.proofs.lemmas.Bool.Decides.{nat_tests}
-use Rattle.engine.specs.declared.event.Event.{Event}
+use Rattle.event_history.specs.declared.event.Event.{Event}
 use Rattle.engine.specs.Engines.{PlainEngine}
 use Rattle.plant_config.specs.Plants.{PlainPlant}
 use Rattle.command_text.specs.Commands.{command_of}

@@ -16,7 +16,7 @@ use Rattle.alarm_machine.specs.declared.states.OrderFault.TheVariants as fault
 use Rattle.alarm_machine.specs.declared.states.Verb.{Verb}
 use Rattle.command_text.specs.Lines.{row_line}
 use Rattle.plant_config.specs.Plants.{PlainPlant}
-use Rattle.engine.specs.declared.event.Event.{Event}
+use Rattle.event_history.specs.declared.event.Event.{Event}
 use Rattle.engine.specs.Journal.{named_entry, named_row, name_of, journal_of, IsLine}
 use Rattle.serving.specs.Listings.{HasListed, HasRow, text_of, entry_text, target_text, named_line}
 use Rattle.serving.proofs.AnswerLaws.{path_is}

@@ -5,7 +5,7 @@ use Rattle.std.proofs.lemmas.Grind.{flat_map-append}
 use Rattle.std.specs.Io.KnownBytes.{Appends}
 use Rattle.std.proofs.KnownBytes.{Appends-nil, Appends-trans}
 use Rattle.plant_config.specs.Plants.{PlainPlant}
-use Rattle.engine.specs.declared.event.Event.{Event}
+use Rattle.event_history.specs.declared.event.Event.{Event}
 use Rattle.engine.specs.Journal.{journal_of}
 use Rattle.serving.specs.Admits.{IsBegun}
 use Rattle.command_text.specs.Lines.{end_line}

@@ -19,7 +19,7 @@ use Rattle.alarm_bank.specs.Counts.{count_of}
 use Rattle.command_text.specs.Lines.{state_line, count_line, row_line, end_line}
 use Rattle.plant_config.specs.Plants.{PlainPlant}
 use Rattle.plant_config.specs.Names.{tag_of, area_of, priority_of}
-use Rattle.engine.specs.declared.event.Event.{Event}
+use Rattle.event_history.specs.declared.event.Event.{Event}
 use Rattle.engine.specs.Journal.{NamedEntry, NamedRow, FaultAt, ChangeOf, OrderBy, target_name, journal_of}
 use Rattle.engine.specs.System.{System, summary_of}
 use Rattle.serving.specs.declared.spilling.Half.{Half}

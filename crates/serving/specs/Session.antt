@@ -2,7 +2,7 @@
 use Rattle.std.specs.Prelude.{◌≡◌, ℕ, ◌≤◌, ◌⊎◌, ◌||◌, Bool, false, List, [], ◌++◌, length, take, Option, OnOk, OnErr}
 use Rattle.std.specs.declared.result.Result.{Result}
 use Rattle.std.specs.Io.KnownBytes.{Appends, IsAtEnd}
-use Rattle.engine.specs.declared.event.Event.{Event}
+use Rattle.event_history.specs.declared.event.Event.{Event}
 use Rattle.engine.specs.Engines.{PlainEngine}
 use Rattle.plant_config.specs.Plants.{PlainPlant}
 use Rattle.serving.specs.declared.fault.ServeFault.{ServeFault}

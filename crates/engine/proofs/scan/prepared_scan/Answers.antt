@@ -3,4 +3,4 @@ use Rattle.engine.proofs.scan.prepared_scan.Goals as goal
 
 pub run_scan-requires-clause-image : goal.run_scan-requires-clause-image
 run_scan-requires-clause-image c =
-    rw c.as_slice.ensures (taken_fits _ _ _ _ _ _ _ c.in_ok-image.ensures.ok)
+    rw c.as_slice-image.ensures.value (taken_fits _ _ _ _ _ _ _ c.in_ok-taken_image.ensures.ok)

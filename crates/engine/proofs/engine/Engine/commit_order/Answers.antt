@@ -1,19 +1,20 @@
 use Rattle.std.proofs.Common.{◌≡◌, ◌+◌, ℕ, ap, subst, length, arith}
 use Rattle.journal_core.specs.Rows.{PlainLog}
-use Rattle.engine.specs.declared.event.Event.TheVariants as event
+use Rattle.event_history.specs.declared.event.Event.TheVariants as event
 use Rattle.engine.specs.System.{system}
 use Rattle.engine.specs.Journal.{added_entries}
 use Rattle.engine.specs.Engines.{PlainEngine, PlainPreparedOrder, state_of}
 use Rattle.engine.proofs.Commits.{order_committed, order_until, order_room}
 use Rattle.engine.proofs.Journals.{last_below}
 use Rattle.engine.proofs.Lawful.{lawful_next}
+use Rattle.engine.proofs.Rooms.{room_there}
 use Rattle.engine.proofs.Systems.{order_agrees}
 use Rattle.engine.proofs.engine.Engine.commit_order.Goals as goal
 
 pub invariant_of-self : goal.invariant_of-self
 invariant_of-self c =
     let fits = rw (← c.self.view_is, ← c.prepared.view_is) at c.requires in
-    rw (c.push_reserved.ensures.items, c.apply.ensures, c.push_order.ensures) (record { state_is = order_agrees _ _ _ c.self.invariant.state_is fits; plant_is = c.self.invariant.plant_is; lawful = lawful_next _ _ _ c.self.invariant.lawful fits.taken; journal = order_committed _ _ _ c.self.inside.log c.self.invariant.state_is fits c.self.invariant.journal; until = order_until _ c.self.inside.log c.prepared.inside.console c.prepared.inside.order c.prepared.inside.done c.self.inside.state.alarms c.self.invariant.until })
+    rw (c.push_order-2.ensures.events, c.apply.ensures, c.push_order.ensures) (record { state_is = order_agrees _ _ _ c.self.invariant.state_is fits; plant_is = c.self.invariant.plant_is; lawful = lawful_next _ _ _ c.self.invariant.lawful fits.taken; journal = order_committed _ _ _ c.self.inside.log c.self.invariant.state_is fits c.self.invariant.journal; until = order_until _ c.self.inside.log c.prepared.inside.console c.prepared.inside.order c.prepared.inside.done c.self.inside.state.alarms c.self.invariant.until })
 
 pub push_order-requires-clause-in_order : goal.push_order-requires-clause-in_order
 push_order-requires-clause-in_order c = last_below c.self.inside.state.moment c.self.inside.log.rows c.self.invariant.until
@@ -23,12 +24,17 @@ push_order-requires-clause-room c =
     let fits = rw (← c.self.view_is, ← c.prepared.view_is) at c.requires in
     fits.row_room
 
+pub push_order-requires-2 : goal.push_order-requires-2
+push_order-requires-2 c =
+    let fits = rw (← c.self.view_is, ← c.prepared.view_is) at c.requires in
+    (room_there c.self.inside.plant c.self.inside.history fits.room).0
+
 pub returns-clause-row_room : goal.returns-clause-row_room
 returns-clause-row_room c =
     let fits = rw (← c.self.view_is, ← c.prepared.view_is) at c.requires in
     let own = c.self.inside in
     let left = order_room _ _ _ own.log c.self.invariant.state_is fits fits.row_room in
     let now = ap (λ (log : PlainLog). log.room) c.push_order.ensures in
-    let added : PlainPreparedOrder → ℕ = λ p. length (added_entries (system own.plant own.history.items) (event.Order p.console p.order)) in
+    let added : PlainPreparedOrder → ℕ = λ p. length (added_entries (system own.plant own.history.events) (event.Order p.console p.order)) in
     subst (λ (e : PlainEngine). c.push_order.new.log.room + length (added_entries (state_of e) (event.Order c.args.prepared.console c.args.prepared.order)) ≡ e.row_room) c.self.view_is
     (subst (λ (p : PlainPreparedOrder). c.push_order.new.log.room + added p ≡ own.log.room) c.prepared.view_is (omega (arith, left, now)))

@@ -10,7 +10,7 @@ use Rattle.engine.proofs.engine.Engine.line.Goals as goal
 pub returns : goal.returns
 returns c =
     let plant = c.self.inside.plant in
-    let history = c.self.inside.history.items in
+    let history = c.self.inside.history.events in
     let rows = c.self.inside.log.rows in
     let journal = c.self.invariant.journal in
     let row = c.index-rows-number.result in

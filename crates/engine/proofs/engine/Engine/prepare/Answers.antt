@@ -1,10 +1,11 @@
 use Rattle.std.proofs.Common.{◌≡◌, ◌+◌, ◌≤◌, length, Result, IfErr, rules, subst, sym, ◌∙◌, arith}
-use Rattle.engine.specs.declared.event.Event.{Event}
+use Rattle.event_history.specs.declared.event.Event.{Event}
 use Rattle.engine.specs.declared.event.EngineFault.{EngineFault}
 use Rattle.engine.specs.Image.{IsDue}
 use Rattle.engine.specs.System.{system}
 use Rattle.engine.specs.Engines.{IsState}
 use Rattle.engine.proofs.Ready.{ready}
+use Rattle.engine.proofs.Rooms.{room_made}
 use Rattle.engine.proofs.Systems.{scan_event_is, scan_fits}
 use Rattle.engine.proofs.engine.Engine.prepare.Goals as goal
 
@@ -16,18 +17,18 @@ prepared_scan-requires-clause-alarms c = (ready _ _ _ _ c.self.invariant).alarms
 
 pub returns-in_err-prepared-clause-err : goal.returns-in_err-prepared-clause-err
 returns-in_err-prepared-clause-err c =
-    let len : c.len-events.result ≡ length c.self.inside.history.items = search rules in
-    let due = scan_event_is c.self.inside.plant c.self.inside.history.items c.self.inside.state c.len-events.result c.args.pairs.now c.args.moment c.self.invariant.state_is len in
+    let len : c.len-events.result ≡ length c.self.inside.history.events = search rules in
+    let due = scan_event_is c.self.inside.plant c.self.inside.history.events c.self.inside.state c.len-events.result c.args.pairs.now c.args.moment c.self.invariant.state_is len in
     rw (← c.self.view_is) (subst (λ (x : Result Event EngineFault). IfErr c.from_residual.result (λ e. IsDue e x)) due (search rules))
 
 pub returns-clause-ok : goal.returns-clause-ok
 returns-clause-ok c =
     let made = c.in_ok-prepared.ensures.ok in
-    let len : c.len-events.result ≡ length c.self.inside.history.items = search rules in
-    let due = scan_event_is c.self.inside.plant c.self.inside.history.items c.self.inside.state c.len-events.result c.args.pairs.now c.args.moment c.self.invariant.state_is len in
-    let held : IsState (system c.self.inside.plant c.reserve-2.new.self.items) c.self.inside.state = rw c.in_ok-reserve-2.ensures.items c.self.invariant.state_is in
+    let len : c.len-events.result ≡ length c.self.inside.history.events = search rules in
+    let due = scan_event_is c.self.inside.plant c.self.inside.history.events c.self.inside.state c.len-events.result c.args.pairs.now c.args.moment c.self.invariant.state_is len in
+    let held : IsState (system c.self.inside.plant c.reserve-2.new.self.events) c.self.inside.state = rw c.in_ok-reserve-2.ensures.events c.self.invariant.state_is in
     let rows : length c.in_ok-prepared.prepared.report.faults + length c.in_ok-prepared.prepared.report.changes ≤ c.reserve.new.self.room = rw (← c.prepared.view_is) (omega (arith, c.row_count.ensures, c.in_ok-reserve.ensures.ok)) in
-    (scan_fits _ c.in_ok-prepared.prepared c.self.inside.state c.len-events.result c.args.pairs.now c.args.moment c.self.invariant.plant_is held made (rw c.in_ok-reserve-2.ensures.items len) (omega (arith, c.in_ok-reserve-2.ensures.ok)) rows, rw (← c.self.view_is) (sym due ∙ made.taken))
+    (scan_fits _ c.in_ok-prepared.prepared c.self.inside.state c.len-events.result c.args.pairs.now c.args.moment c.self.invariant.plant_is held made (rw c.in_ok-reserve-2.ensures.events len) (room_made c.self.inside.plant c.reserve-2.new.self c.in_ok-reserve-2.ensures.ok (omega (arith, c.in_ok-reserve-2.ensures.wide, c.widest_image.ensures))) rows, rw (← c.self.view_is) (sym due ∙ made.taken))
 
 pub prepared_scan-requires-clause-outputs : goal.prepared_scan-requires-clause-outputs
 prepared_scan-requires-clause-outputs c = (ready _ _ _ _ c.self.invariant).outputs
