@@ -24,7 +24,7 @@ impl Model for Shelf {
     ghost invariant = { λ s. IsTree s.tree.items s.count };
 }
 
-/// Sets the nodes above a place anew, from the lowest one up.
+/// Sets the nodes above a place anew, from the lowest one up to the first that keeps its number.
 fn mend(tree: &mut [u64], count: usize, place: usize)
     requires tree { IsTreeBut tree.old count place }
     requires place { (count ≤ place) × (place < 2 * count) }
@@ -35,7 +35,11 @@ fn mend(tree: &mut [u64], count: usize, place: usize)
     let mut at = place;
     while 1 < at {
         at /= 2;
-        tree[at] = tree[2 * at].min(tree[2 * at + 1]);
+        let least = tree[2 * at].min(tree[2 * at + 1]);
+        if tree[at] == least {
+            return;
+        }
+        tree[at] = least;
     }
 }
 
@@ -56,6 +60,9 @@ impl Shelf {
         ensures { self.new ≡ slice_set self.old at number }
     {
         let place = self.count + at;
+        if self.tree[place] == number {
+            return;
+        }
         self.tree[place] = number;
         mend(self.tree.as_mut_slice(), self.count, place);
     }
