@@ -284,7 +284,7 @@ impl Bank {
     ) -> Result<Vec<(u32, Change)>, AllocError>
         ensures { IfOk result (λ changes. (new : List PlainAlarm) → AreMoved 0 self.now.alarms new moved.now → changes.items ≡ changes_from 0 self.now.alarms new) }
     {
-        let mut changes = Vec::new(alloc);
+        let mut changes = Vec::with_capacity(alloc, moved.len())?;
         for (number, alarm) in moved {
             if let Some(change) = self.change_to(*number, alarm) {
                 changes.push((*number, change))?;
