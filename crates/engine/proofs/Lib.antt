@@ -15,3 +15,4 @@ mod OrderRows
 mod Commits
 mod FewValues
 mod Rooms
+mod Watches

@@ -7,6 +7,7 @@ use Rattle.plant_config.specs.Plants.{PlainPlant}
 use Rattle.plant_config.specs.Names.{globals_of, programs_of}
 use Rattle.event_history.specs.declared.event.Event.{Event}
 use Rattle.engine.specs.System.{system, outputs_from}
+use Rattle.engine.specs.Watches.{watches_of}
 use Rattle.engine.specs.Engines.{PlainState, IsEngine}
 use Rattle.engine.specs.Steps.{StandInRange}
 use Rattle.engine.proofs.InRange.{lawful_in_range}
@@ -17,6 +18,7 @@ pub record IsReady (plant : PlainPlant) (k : PlainState) : Type 0 where
   pub sound : IsSound plant.source
   pub programs : length k.faulted ≡ length (programs_of plant)
   pub alarms : length k.alarms ≡ length plant.alarms
+  pub watches : k.watches ≡ watches_of plant.alarms
   pub outputs : k.outputs ≡ outputs_from 0 (globals_of plant) (value_at k.cells)
   pub values : StandInRange plant.source k.cells
 
@@ -29,6 +31,7 @@ ready plant history rows k is =
       sound = holds.0;
       programs = kept_faulted plant history k is.state_is;
       alarms = kept_alarms plant history k is.state_is;
+      watches = is.state_is.watches_are;
       outputs = kept_outputs sys k is.state_is;
       values = record { world = sys.world; stands = is.state_is.world_stands; in_range = holds.1 };
     })

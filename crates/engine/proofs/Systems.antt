@@ -37,6 +37,7 @@ use Rattle.plant_config.specs.Names.{globals_of, programs_of, body_paths}
 use Rattle.engine.specs.Programs.{Scanned, opening_faulted, after_run, programs_from, with_inputs, global_in, world_after}
 use Rattle.engine.specs.Orders.{order_outcome, alarms_by, faulted_by, reply_by}
 use Rattle.engine.specs.System.{System, system, after_event, taken_scan, scan_event, order_event, opening_system, opening_alarm, scanned_by, after_scan_event, ordered, conditions, suppressions, alarms_after, sites_of, outputs_from, out_at, outs_from}
+use Rattle.engine.specs.Watches.{watches_of}
 use Rattle.engine.specs.Journal.{IsJournal}
 use Rattle.engine.specs.Lawful.{IsTaken, IsLawfulHistory}
 use Rattle.engine.specs.Reports.{PlainReport}
@@ -169,6 +170,7 @@ scan_agrees sys old new image t r is within held made =
       world_stands = runs.world_stands;
       faulted_is = runs.faulted_is;
       sites_are = made.sites_are ∙ held.sites_are;
+      watches_are = made.watches_are ∙ held.watches_are;
       alarms_are = made.alarms_are ∙ alarms_same plant (value_at new.cells) look t plant.alarms old.alarms now is.alarms ∙ ap (alarms_after look t plant.alarms) held.alarms_are;
       outputs_are = made.outputs_are ∙ outputs_stand plant.source (value_at new.cells) look now;
       moment_is = made.moment_is;
@@ -237,6 +239,7 @@ effect_anywhere sys next old k effect held keeps after = record {
   world_stands = after.world_stands;
   faulted_is = after.faulted_is;
   sites_are = keeps.sites_are ∙ sym held.sites_are ∙ after.sites_are;
+  watches_are = keeps.watches_are ∙ sym held.watches_are ∙ after.watches_are;
   alarms_are = ap (λ l. put_all l effect.moved) (keeps.alarms_are ∙ sym held.alarms_are) ∙ after.alarms_are;
   outputs_are = after.outputs_are;
   moment_is = after.moment_is;
@@ -277,6 +280,7 @@ order_agrees e p old held fits =
       world_stands = held.world_stands;
       faulted_is = ap (λ d. faulted_by d old.faulted) fits.done_is ∙ ap (faulted_by (ordered sys p.console p.order)) held.faulted_is;
       sites_are = held.sites_are;
+      watches_are = held.watches_are;
       alarms_are = ap (λ d. alarms_by d old.alarms) fits.done_is ∙ ap (alarms_by (ordered sys p.console p.order)) held.alarms_are;
       outputs_are = held.outputs_are;
       moment_is = held.moment_is;
@@ -300,13 +304,14 @@ sites_there plant is =
     (All-weaker (IsAlarmRow plant) (λ row. IsSite (length plant.areas) (site row)) (λ row there. record { area = there.area; lowest = there.lowest; highest = there.highest }) plant.alarms is.alarms)
 
 -- before the first event
-pub opening_agrees : (plant : PlainPlant) (k : PlainState) → IsPlant plant → StandFor plant.source k.cells (opening plant.source) → k.faulted ≡ opening_faulted (programs_of plant) → k.sites ≡ sites_of plant.alarms → k.alarms ≡ map opening_alarm plant.alarms → k.outputs ≡ outputs_from 0 plant.source.globals (value_at k.cells) → k.moment ≡ 0 → IsLawfulHistory plant [] → IsJournal plant [] [] → IsEngine plant [] [] k
-opening_agrees plant k is stands faulted sites alarms outputs moment lawful journal =
+pub opening_agrees : (plant : PlainPlant) (k : PlainState) → IsPlant plant → StandFor plant.source k.cells (opening plant.source) → k.faulted ≡ opening_faulted (programs_of plant) → k.sites ≡ sites_of plant.alarms → k.watches ≡ watches_of plant.alarms → k.alarms ≡ map opening_alarm plant.alarms → k.outputs ≡ outputs_from 0 plant.source.globals (value_at k.cells) → k.moment ≡ 0 → IsLawfulHistory plant [] → IsJournal plant [] [] → IsEngine plant [] [] k
+opening_agrees plant k is stands faulted sites watches alarms outputs moment lawful journal =
     record {
       state_is = subst (λ (s : System). IsState s k) (sym (system_none plant)) (record {
         world_stands = stands;
         faulted_is = faulted;
         sites_are = sites;
+        watches_are = watches;
         alarms_are = alarms;
         outputs_are = outputs ∙ outputs_stand plant.source (value_at k.cells) (global_in (globals_of plant) (opening plant.source)) (values_stand plant.source k.cells (opening plant.source) stands);
         moment_is = moment;

@@ -22,8 +22,10 @@ use Rattle.event_history.specs.declared.event.Order.{Order}
 use Rattle.event_history.specs.Histories.{PlainHistory}
 use Rattle.engine.specs.declared.event.Reply.{Reply}
 use Rattle.engine.specs.declared.state.Effect.{Effect}
+use Rattle.engine.specs.declared.watched.Watch.{Watch}
 use Rattle.engine.specs.Reports.{PlainReport}
 use Rattle.engine.specs.System.{System, system, after_event, scan_event, faults_of, changes_of, outs_of, outputs_of, sites_of, ordered, reply_to}
+use Rattle.engine.specs.Watches.{watches_of}
 use Rattle.engine.specs.Lawful.{IsTaken, IsLawfulHistory}
 use Rattle.engine.specs.Journal.{IsJournal}
 
@@ -48,11 +50,12 @@ engine_code =
     code_by (PlainPlant × (List Event × (ℕ × ℕ))) (coded× plant_code (coded× (coded_list event_row.the_row.coded) (coded× coded_ℕ coded_ℕ)))
     (λ e. (e.plant, (e.history, (e.room, e.row_room)))) (λ p. record { plant = p.0; history = p.1.0; room = p.1.1.0; row_room = p.1.1.1 }) (λ _. refl)
 
--- what an engine keeps beside its plant and its history: the cells of the variables and clocks, the faulted programs, the area and priority of each alarm, the alarms, the outputs and the last moment
+-- what an engine keeps beside its plant and its history: the cells of the variables and clocks, the faulted programs, the area and priority of each alarm and what it watches, the alarms, the outputs and the last moment
 pub record PlainState : Type 0 where
   pub cells : PlainCells
   pub faulted : List Bool
   pub sites : List Site
+  pub watches : List Watch
   pub alarms : List PlainAlarm
   pub outputs : List (ℕ × Value)
   pub moment : ℕ
@@ -62,6 +65,7 @@ pub record IsState (sys : System) (k : PlainState) : Type 0 where
   pub world_stands : StandFor sys.plant.source k.cells sys.world
   pub faulted_is : k.faulted ≡ sys.faulted
   pub sites_are : k.sites ≡ sites_of sys.plant.alarms
+  pub watches_are : k.watches ≡ watches_of sys.plant.alarms
   pub alarms_are : k.alarms ≡ sys.alarms
   pub outputs_are : k.outputs ≡ outputs_of sys
   pub moment_is : k.moment ≡ sys.moment

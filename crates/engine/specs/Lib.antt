@@ -2,6 +2,7 @@ pub mod Programs
 pub mod Image
 pub mod Orders
 pub mod System
+pub mod Watches
 pub mod Lawful
 pub mod Journal
 pub mod Reports

@@ -74,6 +74,7 @@ pub record ScanRan (plant : PlainPlant) (old : PlainState) (image : List (ℕ ×
   pub programs : (w : World) → StandFor plant.source (fold with_cell old.cells image) w → ProgramsRan plant.source (programs_from plant.source t 0 old.faulted w) new.cells new.faulted r.faults
   pub faults_within : All (λ f. f.0.path < length (paths_of plant.source)) r.faults
   pub sites_are : new.sites ≡ old.sites
+  pub watches_are : new.watches ≡ old.watches
   pub alarms_are : new.alarms ≡ alarms_after (value_at new.cells) t plant.alarms old.alarms
   pub changes_are : r.changes ≡ changes_from 0 old.alarms new.alarms
   pub outputs_are : new.outputs ≡ outputs_from 0 (globals_of plant) (value_at new.cells)

@@ -8,6 +8,7 @@ ghost use Rattle.plant_walk.specs.Sound.{IsSound};
 ghost use Rattle.engine.specs.Image.{IsDue, FitsGlobal};
 ghost use Rattle.engine.specs.System.{taken_scan, outputs_from};
 ghost use Rattle.engine.specs.Engines.{after_effect};
+ghost use Rattle.engine.specs.Watches.{watches_of};
 ghost use Rattle.engine.specs.Steps.{ScanRan, IsPreparedScan, StandInRange};
 
 use crate::event::{EngineFault, Report};
@@ -65,6 +66,7 @@ fn run_scan(
 ) -> Result<(ScanEffect, Report), AllocError>
     requires programs { length old.now.faulted ≡ length (programs_of plant.now) }
     requires alarms { length old.now.alarms ≡ length plant.now.alarms }
+    requires watches { old.now.watches ≡ watches_of plant.now.alarms }
     requires outputs { old.now.outputs ≡ outputs_from 0 (globals_of plant.now) (value_at old.now.cells) }
     requires range { moment ≤ LAST_MOMENT }
     requires sound { IsSound plant.now.source }
@@ -83,8 +85,8 @@ fn run_scan(
     set_inputs(image, &mut cells);
     let mut faulted = copied_flags(old.faulted.as_slice(), room_of_flags)?;
     let faults = run_programs(alloc, plant, moment, stack, &mut cells, &mut faulted)?;
-    let rows = plant.alarm_rows();
-    let (moved, changes) = step_alarms(alloc, rows, &cells, moment, &old.bank, room_of_moved)?;
+    let watches = old.watches.as_slice();
+    let (moved, changes) = step_alarms(alloc, watches, &cells, moment, &old.bank, room_of_moved)?;
     let outputs = renewed(old.outputs.as_slice(), &cells, room_of_outputs)?;
     let outs = changed(alloc, outputs.as_slice(), &old.cells, &cells)?;
     let effect = ScanEffect {
@@ -115,6 +117,7 @@ pub fn prepared_scan(
 ) -> Result<Prepared, EngineFault>
     requires programs { length old.now.faulted ≡ length (programs_of plant.now) }
     requires alarms { length old.now.alarms ≡ length plant.now.alarms }
+    requires watches { old.now.watches ≡ watches_of plant.now.alarms }
     requires outputs { old.now.outputs ≡ outputs_from 0 (globals_of plant.now) (value_at old.now.cells) }
     requires sound { IsSound plant.now.source }
     requires values { StandInRange plant.now.source old.now.cells }

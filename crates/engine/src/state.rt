@@ -8,6 +8,7 @@ ghost use Rattle.engine.specs.Orders.{alarms_by, faulted_by};
 ghost use Rattle.engine.specs.System.{opening_alarm, sites_of};
 
 use crate::steps::{opening_alarms, opening_sites, outputs};
+use crate::watched::{Watch, watches_of};
 use alarm_bank::Bank;
 use alarm_machine::{Alarm, AlarmState, OrderFault};
 use block_walk::Cells;
@@ -26,6 +27,8 @@ pub struct State {
     pub faulted: Vec<bool>,
     /// The alarms, in the order of the database, and the moment of the last scan.
     pub bank: Bank,
+    /// What each alarm watches.
+    pub watches: Vec<Watch>,
     /// The outputs and their values, in order of declaration.
     pub outputs: Vec<(u32, Value)>,
 }
@@ -35,7 +38,7 @@ impl Model for State {
 
     ghost Value = { PlainState };
 
-    ghost view = { λ s. record { cells = s.cells; faulted = s.faulted.items; sites = s.bank.sites; alarms = s.bank.alarms; outputs = s.outputs.items; moment = s.bank.moment } };
+    ghost view = { λ s. record { cells = s.cells; faulted = s.faulted.items; sites = s.bank.sites; watches = s.watches.items; alarms = s.bank.alarms; outputs = s.outputs.items; moment = s.bank.moment } };
 }
 
 /// What a scan does to a state.
@@ -89,11 +92,13 @@ pub fn opening_state(alloc: Global, plant: &Plant) -> Result<State, AllocError>
     let cells = logic.opening(alloc)?;
     let outputs = outputs(alloc, logic.globals(), &cells)?;
     let bank = opening_bank(alloc, plant)?;
+    let watches = watches_of(alloc, plant.alarm_rows())?;
     let faulted = vec![in alloc; false; plant.programs() as usize]?;
     Ok(State {
         cells,
         faulted,
         bank,
+        watches,
         outputs,
     })
 }

@@ -10,11 +10,12 @@ ghost use Rattle.block_frames.specs.Stands.{StandFor};
 ghost use Rattle.plant_walk.specs.Runs.{Agree, HasCells};
 ghost use Rattle.plant_config.specs.Names.{programs_of};
 ghost use Rattle.engine.specs.Programs.{programs_from};
-ghost use Rattle.engine.specs.System.{opening_alarm, sites_of, alarms_after, is_output, outputs_from};
+ghost use Rattle.engine.specs.System.{opening_alarm, sites_of, is_output, outputs_from};
+ghost use Rattle.engine.specs.Watches.{alarms_watched};
 ghost use Rattle.alarm_bank.specs.Moves.{put_all, changes_from};
 ghost use Rattle.engine.specs.Steps.{with_cell, run_by, ended_by, ProgramsRan, output_in, differs, IsShowable, AreShowable};
 
-use crate::watched::{Watched, value_at};
+use crate::watched::{Watch, Watched, value_at};
 use alarm_bank::{Bank, Site};
 use alarm_machine::{Alarm, Change};
 use block_walk::Cells;
@@ -118,17 +119,17 @@ pub fn opening_sites(alloc: Global, rows: &[AlarmRow]) -> Result<Vec<Site>, Allo
 /// order of the database. The bank stays. Fails if allocation fails.
 pub fn step_alarms(
     alloc: Global,
-    rows: &[AlarmRow],
+    watches: &[Watch],
     cells: &Cells,
     moment: u64,
     bank: &Bank,
     room: Vec<(u32, Alarm)>,
 ) -> Result<(Vec<(u32, Alarm)>, Vec<(u32, Change)>), AllocError>
-    requires { length bank.now.alarms ≡ length rows.now }
-    ensures alarms { IfOk result (λ r. put_all bank.now.alarms r.0.items ≡ alarms_after (value_at cells.now) moment rows.now bank.now.alarms) }
-    ensures changes { IfOk result (λ r. r.1.items ≡ changes_from 0 bank.now.alarms (alarms_after (value_at cells.now) moment rows.now bank.now.alarms)) }
+    requires { length bank.now.alarms ≡ length watches.now }
+    ensures alarms { IfOk result (λ r. put_all bank.now.alarms r.0.items ≡ alarms_watched (value_at cells.now) moment watches.now bank.now.alarms) }
+    ensures changes { IfOk result (λ r. r.1.items ≡ changes_from 0 bank.now.alarms (alarms_watched (value_at cells.now) moment watches.now bank.now.alarms)) }
 {
-    let signals = Watched { rows, cells };
+    let signals = Watched { watches, cells };
     let moved = bank.moved(room, &signals, moment)?;
     let changes = bank.changes(alloc, moved.as_slice())?;
     Ok((moved, changes))

@@ -1,19 +1,42 @@
 //! The globals that alarms watch.
 
-ghost use Rattle.std.specs.Prelude.{◌≡◌};
+ghost use Rattle.std.specs.Prelude.{◌≡◌, IfOk};
 ghost use Rattle.plant_types.specs.Values.{is_true};
 ghost use Rattle.block_walk.specs.Cells.{value_at};
 ghost use Rattle.engine.specs.System.{suppression};
+ghost use Rattle.engine.specs.Watches.{watches_of};
 
 use alarm_bank::Signals;
 use block_walk::Cells;
 use plant_config::AlarmRow;
+use std::alloc::{AllocError, Global};
+
+/// The globals that an alarm watches: its condition, and what suppresses it.
+#[derive(Clone, Copy, Drop)]
+pub struct Watch {
+    pub condition: u32,
+    pub suppress: Option<u32>,
+}
+
+/// What each alarm watches, in the order of the rows. Fails if allocation fails.
+pub fn watches_of(alloc: Global, rows: &[AlarmRow]) -> Result<Vec<Watch>, AllocError>
+    ensures { IfOk result (λ watches. watches.items ≡ watches_of rows.now) }
+{
+    let mut watches = Vec::new(alloc);
+    for row in rows {
+        watches.push(Watch {
+            condition: row.condition,
+            suppress: row.suppress,
+        })?;
+    }
+    Ok(watches)
+}
 
 /// The conditions and suppressions of alarms, by the values of their globals.
 #[derive(Clone, Copy)]
 pub struct Watched<'a> {
-    /// The alarms as they are configured.
-    pub rows: &'a [AlarmRow],
+    /// What each alarm watches.
+    pub watches: &'a [Watch],
     /// The values of the variables, by number, and the clocks of standard blocks.
     pub cells: &'a Cells,
 }
@@ -38,10 +61,10 @@ fn is_set(cells: &Cells, global: u32) -> bool
 }
 
 /// Whether an alarm is suppressed.
-fn is_suppressed(cells: &Cells, row: &AlarmRow) -> bool
-    ensures { result ≡ suppression (value_at cells.now) row.now.suppress }
+fn is_suppressed(cells: &Cells, watch: &Watch) -> bool
+    ensures { result ≡ suppression (value_at cells.now) watch.now.suppress }
 {
-    match row.suppress {
+    match watch.suppress {
         None => false,
         Some(global) => is_set(cells, global),
     }
@@ -49,17 +72,17 @@ fn is_suppressed(cells: &Cells, row: &AlarmRow) -> bool
 
 impl<'a> Signals for Watched<'a> {
     ghost use Rattle.block_walk.specs.Cells.{value_at};
-    ghost use Rattle.engine.specs.System.{conditions, suppressions};
+    ghost use Rattle.engine.specs.Watches.{watched_conditions, watched_suppressions};
 
-    ghost conditions = { λ w. conditions (value_at w.cells.now) w.rows.now };
+    ghost conditions = { λ w. watched_conditions (value_at w.cells.now) w.watches.now };
 
-    ghost suppressions = { λ w. suppressions (value_at w.cells.now) w.rows.now };
+    ghost suppressions = { λ w. watched_suppressions (value_at w.cells.now) w.watches.now };
 
     fn condition(&self, alarm: u32) -> bool {
-        is_set(self.cells, self.rows[alarm as usize].condition)
+        is_set(self.cells, self.watches[alarm as usize].condition)
     }
 
     fn suppression(&self, alarm: u32) -> bool {
-        is_suppressed(self.cells, &self.rows[alarm as usize])
+        is_suppressed(self.cells, &self.watches[alarm as usize])
     }
 }

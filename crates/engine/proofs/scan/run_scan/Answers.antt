@@ -7,6 +7,7 @@ use Rattle.engine.specs.Steps.{with_cell, output_in}
 use Rattle.engine.proofs.InRange.{inputs_have_cells, scan_stands}
 use Rattle.engine.proofs.Shown.{cells_showable, outputs_showable}
 use Rattle.engine.proofs.Outs.{outputs_renewed, outs_differ}
+use Rattle.engine.proofs.Watches.{step_watched}
 use Rattle.engine.proofs.scan.run_scan.Goals as goal
 
 pub returns : goal.returns
@@ -15,13 +16,16 @@ returns c =
     let before = value_at c.args.old.now.cells in
     let now = value_at c.run_programs.new.cells in
     let made = c.in_ok-outputs.ensures ∙ ap (map (output_in now)) (c.as_slice-2.ensures.value ∙ ap (λ (k : PlainState). k.outputs) c.old.view_is) in
+    let watches = c.as_slice-watches.ensures.value ∙ ap (λ (k : PlainState). k.watches) c.old.view_is ∙ c.requires.watches in
+    let stepped = step_watched now c.args.moment c.args.plant.now.alarms c.as_slice-watches.result.now c.args.old.now.alarms watches in
     let outputs : c.in_ok-outputs.outputs.items ≡ outputs_from 0 globals now = outputs_renewed globals before now c.args.old.now.outputs c.in_ok-outputs.outputs.items c.requires.outputs made in
     let outs : c.in_ok-outs.outs.items ≡ outs_from 0 globals before now = outs_differ globals before now c.in_ok-outputs.outputs.items c.in_ok-outs.outs.items outputs (search rules) in
     record {
       programs = search rules;
       faults_within = search rules;
       sites_are = search rules;
-      alarms_are = search rules;
+      watches_are = search rules;
+      alarms_are = search rules ∙ stepped;
       changes_are = search rules;
       outputs_are = outputs;
       outs_are = outs;

@@ -30,6 +30,9 @@ returns-clause-ok c =
     let rows : length c.in_ok-prepared.prepared.report.faults + length c.in_ok-prepared.prepared.report.changes ≤ c.reserve.new.self.room = rw (← c.prepared.view_is) (omega (arith, c.row_count.ensures, c.in_ok-reserve.ensures.ok)) in
     (scan_fits _ c.in_ok-prepared.prepared c.self.inside.state c.len-events.result c.args.pairs.now c.args.moment c.self.invariant.plant_is held made (rw c.in_ok-reserve-2.ensures.events len) (room_made c.self.inside.plant c.reserve-2.new.self c.in_ok-reserve-2.ensures.ok (omega (arith, c.in_ok-reserve-2.ensures.wide, c.widest_image.ensures))) rows, rw (← c.self.view_is) (sym due ∙ made.taken))
 
+pub prepared_scan-requires-clause-watches : goal.prepared_scan-requires-clause-watches
+prepared_scan-requires-clause-watches c = (ready _ _ _ _ c.self.invariant).watches
+
 pub prepared_scan-requires-clause-outputs : goal.prepared_scan-requires-clause-outputs
 prepared_scan-requires-clause-outputs c = (ready _ _ _ _ c.self.invariant).outputs
 
