@@ -5,10 +5,11 @@ use Rattle.std.proofs.KnownBytes.{Appends-trans}
 use Rattle.std.proofs.lemmas.Option.{none-some}
 use Rattle.plant_config.specs.Plants.{PlainPlant}
 use Rattle.plant_config.specs.Files.{Texts}
+use Rattle.plant_folder.specs.Fetches.{Finds}
+use Rattle.plant_folder.specs.Verdicts.{IsVerdict, IsFilesVerdict}
 use Rattle.serving.specs.declared.fault.ServeFault.{ServeFault}
 use Rattle.serving.specs.declared.runs.RunEnd.TheVariants as run_end
-use Rattle.serving.specs.Admits.{IsVerdict, IsFilesVerdict, IsTold}
-use Rattle.serving.specs.Fetches.{Finds}
+use Rattle.serving.specs.Admits.{IsTold}
 use Rattle.serving.specs.Runs.{IsServed, IsStopped, IsRun}
 use Rattle.serving.proofs.SessionLaws.{stopped-more}
 

@@ -1,5 +1,5 @@
 -- One part of a session after another.
-use Rattle.std.proofs.Common.{◌≡◌, ℕ, List, [], ◌∷◌, ◌++◌, ap, refl, sym, ◌∙◌, arith, ◌⊎◌, inl, inr, append_assoc, append-nil, subst, take, Option, None, Some, IfSome}
+use Rattle.std.proofs.Common.{◌≡◌, ◌<◌, ◌≤◌, ℕ, zero, suc, List, length, [], ◌∷◌, ◌++◌, ap, refl, sym, ◌∙◌, arith, ◌⊎◌, inl, inr, append_assoc, append-nil, subst, take, Option, None, Some, IfSome}
 use Rattle.std.proofs.lemmas.List.Sums.{fold-append}
 use Rattle.std.specs.Io.KnownBytes.{Appends, Consumes, IsAtEnd}
 use Rattle.std.proofs.KnownBytes.{Appends-nil, Appends-trans, Consumes-trans}
@@ -115,6 +115,12 @@ stopped-unwritten plant request line h₀ h₁ w e (inr h) = stopped-line plant 
 pub consumed_nothing : (a b c : Option (List ℕ)) (input buf : List ℕ) (n : ℕ) → n ≡ 0 → Consumes a b input → Consumes b c (take n buf) → Consumes a c input
 consumed_nothing a b c input buf n e p q =
     subst (Consumes a c) (append-nil input) (Consumes-trans a b c input [] p (subst (λ (k : ℕ). Consumes b c (take k buf)) e q))
+
+-- a read that gave a byte or more
+pub some_taken : (n : ℕ) (buf : List ℕ) → (n ≡ 0 → ⊥) → n ≤ length buf → 0 < length (take n buf)
+some_taken zero buf some bound = absurd (some refl)
+some_taken (suc n) [] some bound = omega (arith, bound)
+some_taken (suc n) (b ∷ buf) some bound = omega arith
 
 -- where the feed's bytes are known, and it is at its end, they are what was read
 known : (a b : Option (List ℕ)) (input : List ℕ) → Consumes a b input → IsAtEnd b → IfSome a (λ bytes. input ≡ bytes)

@@ -4,6 +4,5 @@ pub mod Answers
 pub mod Session
 pub mod Faults
 pub mod Laws
-pub mod Fetches
 pub mod Admits
 pub mod Runs

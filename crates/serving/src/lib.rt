@@ -7,22 +7,18 @@
 
 mod answer;
 mod fault;
-mod folder;
 mod laws;
 mod listings;
 mod runs;
 mod session;
 mod spilling;
-mod streams;
-mod texts;
 mod verdict;
 
 pub use answer::fault_number;
+pub use byte_streams::{Failed, Feed, Reading, Sink, Writing};
 pub use fault::ServeFault;
-pub use folder::{Disk, FileFault, Folder};
 pub use laws::requests_end_in_lf;
+pub use plant_folder::{Disk, FetchFault, Fetched, FileFault, Folder, SourceText, fetch};
 pub use runs::{RunEnd, run, run_from};
 pub use session::{Session, Step, put_all, serve};
-pub use streams::{Failed, Feed, Reading, Sink, Writing};
-pub use texts::{FetchFault, Fetched, SourceText, fetch};
 pub use verdict::{admit, admit_from, check_from};

@@ -2,17 +2,17 @@
 
 ghost use Rattle.std.specs.Prelude.{◌≡◌, ◌||◌, map, false, OnOk, OnErr};
 ghost use Rattle.plant_config.specs.Files.{texts_of};
-ghost use Rattle.serving.specs.Admits.{IsVerdict, IsFilesVerdict};
+ghost use Rattle.plant_folder.specs.Verdicts.{IsVerdict, IsFilesVerdict};
 ghost use Rattle.serving.specs.Faults.{is_read, is_write};
 ghost use Rattle.serving.specs.Runs.{IsServed, IsStopped, IsRun};
 
 use crate::fault::ServeFault;
-use crate::folder::Folder;
 use crate::session::serve;
-use crate::streams::{Feed, Sink};
 use crate::verdict::{admit, admit_from};
+use byte_streams::{Feed, Sink};
 use engine::Engine;
 use plant_config::Plant;
+use plant_folder::Folder;
 use std::alloc::Global;
 use std::sync::Wait;
 

@@ -1,5 +1,5 @@
-ghost use Rattle.std.specs.Prelude.{◌≡◌, ◌≤◌, ◌++◌, [], ◌∷◌, ◌||◌, is_err, vec_len, IfOk, IfErr, OnOk, OnErr, IsErrOf, MatchOption, IfSome, List, ℕ, length, take, false, ◌<◌};
-ghost use Rattle.std.specs.Io.KnownBytes.{Appends, Consumes, ReadConsumes, IsAtEnd};
+ghost use Rattle.std.specs.Prelude.{◌≡◌, ◌≤◌, ◌++◌, [], ◌∷◌, ◌||◌, IfOk, IfErr, OnOk, OnErr, IsErrOf, MatchOption, IfSome, List, ℕ, length, take, false, ◌<◌};
+ghost use Rattle.std.specs.Io.KnownBytes.{Appends, Consumes, IsAtEnd};
 ghost use Rattle.command_text.specs.Commands.{command_of};
 ghost use Rattle.serving.specs.Requests.{Request, asked_by, has_lf, without_cr, ended_by, last_request, ended_from, begun_from, ended_requests, requests_of};
 ghost use Rattle.serving.specs.Faults.{is_read, is_write};
@@ -8,16 +8,13 @@ ghost use Rattle.serving.specs.Session.{Answered, Stopped, Serves, Continues, Is
 use crate::answer::{Said, answer_line};
 use crate::fault::ServeFault;
 use crate::spilling::{write_journal, write_list};
-use crate::streams::{Failed, Feed, Sink};
+use byte_streams::{Feed, Sink, empty_piece, fill};
 use command_text::Pool;
 use engine::Engine;
 use memchr::memchr;
 use std::alloc::{AllocError, Global};
 use std::marker::Model;
 use std::sync::Wait;
-
-/// How many bytes are asked of the feed at once.
-const PIECE: usize = 65_536;
 
 /// How many bytes of a request are held at most: those of the longest line, one that shows that it is too long, and a CR.
 const HELD: usize = 1_048_578;
@@ -192,27 +189,10 @@ impl Lines {
     }
 }
 
-/// Allocates the buffer for a piece of the input.
-pub(crate) fn empty_piece(alloc: Global) -> Result<Vec<u8>, AllocError>
-    ensures { IfOk result (λ v. vec_len v ≡ 65536) }
-{
-    vec![in alloc; 0u8; PIECE]
-}
-
-/// Reads the next bytes into a buffer, and returns how many.
-pub(crate) fn fill<F: Feed>(feed: &mut F, piece: &mut Vec<u8>) -> Result<usize, Failed>
-    ensures len { vec_len piece.new ≡ vec_len piece.old }
-    ensures bound { IfOk result (λ n. n ≤ vec_len piece.new) }
-    ensures bytes { ReadConsumes (F.remaining feed.old) (F.remaining feed.new) result piece.new.items }
-    ensures broken { F.broken feed.new ≡ (F.broken feed.old || is_err result) }
-{
-    feed.read(piece.as_mut_slice())
-}
-
 /// How a step of a session went.
 #[derive(Clone, Copy, Debug, PartialEq, Eq, Drop)]
 pub enum Step {
-    /// Bytes were read, and the requests that ended in them were answered.
+    /// A byte or more was read, and the requests that ended in these bytes were answered.
     More,
     /// The input has ended, and its last request was answered.
     Ended,
@@ -265,7 +245,7 @@ impl Session {
         requires feed { F.broken feed.old ≡ false }
         requires sink { S.broken sink.old ≡ false }
         ensures plant { engine.new.plant ≡ engine.old.plant }
-        ensures more { IfOk result (λ step. step ≡ Step.More → (piece : List ℕ) × Consumes (F.remaining feed.old) (F.remaining feed.new) piece
+        ensures more { IfOk result (λ step. step ≡ Step.More → (piece : List ℕ) × (0 < length piece) × Consumes (F.remaining feed.old) (F.remaining feed.new) piece
             × Goes engine.old.plant piece self.old self.new engine.old.history engine.new.history (S.written sink.old) (S.written sink.new)) }
         ensures ended { IfOk result (λ step. step ≡ Step.Ended → Consumes (F.remaining feed.old) (F.remaining feed.new) [] × IsAtEnd (F.remaining feed.new) × (self.new ≡ [])
             × Ends engine.old.plant self.old engine.old.history engine.new.history (S.written sink.old) (S.written sink.new)) }

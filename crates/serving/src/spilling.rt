@@ -12,7 +12,7 @@ ghost use Rattle.serving.specs.Listings.{text_of, half_total, half_lines_of, hal
 use crate::fault::ServeFault;
 use crate::listings::{push_area, push_numbered, push_shown, row_total};
 use crate::session::put_all;
-use crate::streams::Sink;
+use byte_streams::Sink;
 use command_text::push_end;
 use engine::Engine;
 use plant_config::Plant;
@@ -24,6 +24,7 @@ const FULL: usize = 65_536;
 /// Writes what is held of an answer where it is much, and holds it no longer. Fails only if a write fails.
 fn spill<S: Sink>(sink: &mut S, text: &mut Vec<u8>) -> Result<(), ServeFault>
     ensures ok { OnOk result (IsPassed (S.written sink.old) (S.written sink.new) text.old.items text.new.items) }
+    ensures held { OnOk result (length text.new.items < 65536) }
     ensures err { OnErr result (IsBegun (S.written sink.old) (S.written sink.new) text.old.items) }
     ensures read { is_read result ≡ false }
     ensures write { S.broken sink.new ≡ (S.broken sink.old || is_write result) }
@@ -89,6 +90,7 @@ fn write_half<S: Sink>(
 ) -> Result<u64, ServeFault>
     ensures ok { IfOk result (λ n. HasPassed (S.written sink.old) (S.written sink.new) text.old.items text.new.items n (half_lines (state_of engine.now) half)) }
     ensures few { IfOk result (λ n. n < 2 ^ 40) }
+    ensures held { OnOk result (length text.old.items < 65536 → length text.new.items < 65536) }
     ensures err { OnErr result (IsBegun (S.written sink.old) (S.written sink.new) (text.old.items ++ text_of (half_lines (state_of engine.now) half))) }
     ensures read { is_read result ≡ false }
     ensures write { S.broken sink.new ≡ (S.broken sink.old || is_write result) }
@@ -128,6 +130,7 @@ fn write_rows<S: Sink>(
 ) -> Result<(), ServeFault>
     requires { rows ≡ length (journal_of engine.now.plant engine.now.history) }
     ensures ok { OnOk result (IsPassed (S.written sink.old) (S.written sink.new) (text.old.items ++ text_of (journal_lines engine.now.plant engine.now.history)) text.new.items) }
+    ensures held { OnOk result (length text.old.items < 65536 → length text.new.items < 65536) }
     ensures err { OnErr result (IsBegun (S.written sink.old) (S.written sink.new) (text.old.items ++ text_of (journal_lines engine.now.plant engine.now.history))) }
     ensures read { is_read result ≡ false }
     ensures write { S.broken sink.new ≡ (S.broken sink.old || is_write result) }

@@ -1,6 +1,6 @@
 use Rattle.std.proofs.Common.{map, false}
 use Rattle.plant_config.specs.Files.{texts_of}
-use Rattle.serving.specs.Admits.{IsVerdict}
+use Rattle.plant_folder.specs.Verdicts.{IsVerdict}
 use Rattle.serving.proofs.RunLaws.{quiet-texts, run-served, run-stopped}
 use Rattle.serving.proofs.runs.run.Goals as goal
 

@@ -1,5 +1,5 @@
 use Rattle.std.proofs.Common.{false}
-use Rattle.serving.specs.Admits.{IsFilesVerdict}
+use Rattle.plant_folder.specs.Verdicts.{IsFilesVerdict}
 use Rattle.serving.proofs.RunLaws.{quiet-files, run-served, run-stopped}
 use Rattle.serving.proofs.runs.run_from.Goals as goal
 

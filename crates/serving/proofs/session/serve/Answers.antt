@@ -23,7 +23,7 @@ loop-preserved g c =
     let goes = rw c.loop.invariant.plant at c.in_ok-step.ensures.more c.in-More.is in
     record {
       goes = (tt, tt);
-      so_far = (before.0 ++ goes.0, Consumes-trans _ _ _ _ _ before.1 goes.1, goes.2 before.0 _ _ before.2);
+      so_far = (before.0 ++ goes.0, Consumes-trans _ _ _ _ _ before.1 goes.2, goes.3 before.0 _ _ before.2);
       plant = c.in_ok-step.ensures.plant ∙ c.loop.invariant.plant;
       feed = c.in_ok-step.ensures.read;
       sink = c.in_ok-step.ensures.write;

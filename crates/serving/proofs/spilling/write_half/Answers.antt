@@ -7,12 +7,13 @@ use Rattle.serving.proofs.PassingLaws.{just_begun, half_none, half_begun, half_p
 use Rattle.serving.proofs.spilling.write_half.Goals as goal
 
 pub loop-number-init : goal.loop-number-init
-loop-number-init g c = record { passed = half_none (half_lines_of (state_of c.args.engine.now) c.args.half) _ _; few = omega arith; sink = refl }
+loop-number-init g c = record { passed = half_none (half_lines_of (state_of c.args.engine.now) c.args.half) _ _; few = omega arith; held = λ h. h; sink = refl }
 
 pub loop-number-preserved : goal.loop-number-preserved
 loop-number-preserved g c = record {
   passed = half_passed (half_lines_of (state_of c.args.engine.now) c.args.half) c.loop-number.number _ _ _ _ _ _ _ _ c.loop-number.invariant.passed c.in_ok-lines.ensures.listed _ c.in_ok-spill.ensures.ok;
   few = omega (arith, c.loop-number.invariant.few, c.in_ok-lines.ensures.few);
+  held = λ h. c.in_ok-spill.ensures.held;
   sink = c.in_ok-spill.ensures.write ∙ or-false _ ∙ c.loop-number.invariant.sink;
 }
 

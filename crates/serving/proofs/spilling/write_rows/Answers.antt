@@ -18,4 +18,5 @@ pub loop-row-preserved : goal.loop-row-preserved
 loop-row-preserved g c = (
   row_passed c.args.engine.now.plant c.args.engine.now.history c.loop-row.row c.args.text.now.items _ _ _ _ _ _ c.loop-row.invariant.0 c.in_ok-push_numbered.ensures c.in_ok-spill.ensures.ok,
   c.in_ok-spill.ensures.write ∙ or-false _ ∙ c.loop-row.invariant.1,
+  λ h. c.in_ok-spill.ensures.held,
 )

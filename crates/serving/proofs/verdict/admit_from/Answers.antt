@@ -1,5 +1,5 @@
 use Rattle.std.proofs.Common.{string_bytes}
-use Rattle.serving.specs.Admits.{IsFilesVerdict}
+use Rattle.plant_folder.specs.Verdicts.{IsFilesVerdict}
 use Rattle.serving.proofs.AdmitLaws.{told_of}
 use Rattle.serving.proofs.verdict.admit_from.Goals as goal
 

@@ -2,7 +2,7 @@ use Rattle.std.proofs.Common.{◌++◌, [], refl, take, arith, inl, inr, length,
 use Rattle.std.proofs.KnownBytes.{Consumes-nil, Consumes-kept}
 use Rattle.std.proofs.lemmas.Result.{err_from_is_err_and}
 use Rattle.serving.specs.Requests.{begun_request, ended_requests, requests_of}
-use Rattle.serving.proofs.SessionLaws.{consumed_nothing}
+use Rattle.serving.proofs.SessionLaws.{consumed_nothing, some_taken}
 use Rattle.serving.proofs.HeldLaws.{gone-more, gone-stopped, stopped-stays, answered-end, stopped-end}
 use Rattle.serving.proofs.session.Session.step.Goals as goal
 
@@ -55,6 +55,7 @@ pub returns-clause-more : goal.returns-clause-more
 returns-clause-more g c = λ e.
     rw (← c.self.view_is) (
       take c.in-Ok.n c.fill.new.piece.items,
+      some_taken c.in-Ok.n c.fill.new.piece.items c.if-n-eq0.false (omega (arith, c.in-Ok.ensures.bound, c.fill.new.piece.ok.0)),
       c.in-Ok.ensures.bytes.0,
       λ input h w before.
           let went = rw (c.split_at.ensures.front, c.as_slice.ensures.value) at c.in_ok-take_piece.ensures.ok (begun_request input) before.holds in

@@ -4,8 +4,8 @@ ghost use Rattle.std.specs.Prelude.{◌≡◌, ◌≢◌, map, string_bytes, Som
 ghost use Rattle.plant_file.specs.Read.{plant_file_in};
 ghost use Rattle.plant_config.specs.Files.{files_of};
 ghost use Rattle.plant_config.specs.Refusals.{IsFileFault};
-ghost use Rattle.serving.specs.Fetches.{beside, names_of, AreFound, AreTexts, AreMissed, IsFetchFault, IsMiss};
-ghost use Rattle.serving.specs.declared.texts.FetchFault.TheVariants as fault;
+ghost use Rattle.plant_folder.specs.Fetches.{beside, names_of, AreFound, AreTexts, AreMissed, IsFetchFault, IsMiss};
+ghost use Rattle.plant_folder.specs.declared.texts.FetchFault.TheVariants as fault;
 
 use crate::folder::{FileFault, Folder};
 use plant_config::{ConfigFault, Plant};

@@ -2,12 +2,12 @@
 use Rattle.std.proofs.Common.{◌≡◌, ℕ, suc, ◌+◌, ◌<◌, List, [], ◌∷◌, ◌++◌, length, map, take, drop, subst, append_assoc, inr, option_map, sym, ap, ◌∙◌, Some, None, get_or}
 use Rattle.std.proofs.lemmas.List.{map_push, take_more, take-append-drop}
 use Rattle.std.proofs.Math.Seq.{drop-cons}
-use Rattle.serving.specs.declared.texts.FetchFault.{FetchFault}
-use Rattle.serving.specs.declared.texts.FetchFault.TheVariants as fault
+use Rattle.plant_folder.specs.declared.texts.FetchFault.{FetchFault}
+use Rattle.plant_folder.specs.declared.texts.FetchFault.TheVariants as fault
 use Rattle.plant_file.specs.Read.{plant_file_in}
 use Rattle.plant_config.specs.declared.files.Files.{Files}
 use Rattle.plant_config.specs.Files.{files_of}
-use Rattle.serving.specs.Fetches.{Finds, AreFound, AreMissed, IsFetchFault, IsMiss, beside}
+use Rattle.plant_folder.specs.Fetches.{Finds, AreFound, AreMissed, IsFetchFault, IsMiss, beside}
 
 -- one more file is found
 pub found_more : (finds : Finds) (plant : List ℕ) (names texts : List (List ℕ)) (name text : List ℕ) → AreFound finds plant names texts → finds (beside plant name) (Some text) → AreFound finds plant (names ++ name ∷ []) (texts ++ text ∷ [])

@@ -1,6 +1,6 @@
 use Rattle.std.proofs.Common.{◌≡◌, ◌-◌, length}
 use Rattle.std.specs.Io.KnownBytes.{Consumes}
-use Rattle.serving.proofs.folder.read_whole.Given as goal
+use Rattle.plant_folder.proofs.folder.read_whole.Given as goal
 
 -- the bytes so far were read; the room stays
 abbrev pub invariant-reads : goal.invariant-reads

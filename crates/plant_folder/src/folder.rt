@@ -2,10 +2,9 @@
 
 ghost use Rattle.std.specs.Prelude.{◌≡◌, ◌≤◌, ◌⊎◌, length, true, IfOk, IsErrOf, Option, List, ℕ, Some, None};
 ghost use Rattle.std.specs.Io.KnownBytes.{Consumes, IsAtEnd};
-ghost use Rattle.serving.specs.Fetches.{HasMore};
+ghost use Rattle.plant_folder.specs.Fetches.{HasMore};
 
-use crate::session::{empty_piece, fill};
-use crate::streams::{Feed, Reading};
+use byte_streams::{Feed, Reading, empty_piece, fill};
 use std::alloc::{AllocError, Global};
 use std::fs;
 use std::rt::Files;
@@ -23,7 +22,7 @@ pub enum FileFault {
 }
 
 impl From<AllocError> for FileFault {
-    ghost use Rattle.serving.specs.declared.folder.FileFault.TheVariants.{Memory};
+    ghost use Rattle.plant_folder.specs.declared.folder.FileFault.TheVariants.{Memory};
 
     ghost from_gives = { λ _ e. e ≡ Memory };
 

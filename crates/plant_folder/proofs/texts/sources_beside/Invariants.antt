@@ -1,6 +1,6 @@
 use Rattle.std.proofs.Common.{◌≡◌, take, map}
-use Rattle.serving.specs.Fetches.{AreFound}
-use Rattle.serving.proofs.texts.sources_beside.Given as goal
+use Rattle.plant_folder.specs.Fetches.{AreFound}
+use Rattle.plant_folder.proofs.texts.sources_beside.Given as goal
 
 -- the names so far, whose files are found and have these texts
 abbrev pub invariant-loop-name : goal.invariant-loop-name

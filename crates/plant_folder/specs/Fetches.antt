@@ -7,8 +7,8 @@ use Rattle.plant_config.specs.declared.fault.ConfigFault.{ConfigFault}
 use Rattle.plant_config.specs.declared.fault.ConfigFault.TheVariants as config_fault
 use Rattle.plant_config.specs.Files.{Texts, files_of}
 use Rattle.plant_config.specs.Refusals.{IsFileFault}
-use Rattle.serving.specs.declared.texts.FetchFault.{FetchFault}
-use Rattle.serving.specs.declared.texts.FetchFault.TheVariants as fault
+use Rattle.plant_folder.specs.declared.texts.FetchFault.{FetchFault}
+use Rattle.plant_folder.specs.declared.texts.FetchFault.TheVariants as fault
 
 -- the path of a file that the plant file of a path names: its name, joined to the folder of that path
 abbrev pub beside : List ℕ → List ℕ → List ℕ

@@ -1,5 +1,5 @@
-use Rattle.serving.proofs.FetchLaws.{missed_at, sources_more}
-use Rattle.serving.proofs.texts.sources_beside.Goals as goal
+use Rattle.plant_folder.proofs.FetchLaws.{missed_at, sources_more}
+use Rattle.plant_folder.proofs.texts.sources_beside.Goals as goal
 
 pub returns-in-Err-clause-missed : goal.returns-in-Err-clause-missed
 returns-in-Err-clause-missed g c =

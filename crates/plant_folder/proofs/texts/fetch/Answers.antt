@@ -1,5 +1,5 @@
-use Rattle.serving.proofs.FetchLaws.{fetch_missed}
-use Rattle.serving.proofs.texts.fetch.Goals as goal
+use Rattle.plant_folder.proofs.FetchLaws.{fetch_missed}
+use Rattle.plant_folder.proofs.texts.fetch.Goals as goal
 
 pub returns-in-Err-sources_beside : goal.returns-in-Err-sources_beside
 returns-in-Err-sources_beside g c =

@@ -1,5 +1,5 @@
 use Rattle.std.proofs.Common.{◌≡◌, take, map}
-use Rattle.serving.proofs.verdict.pairs.Given as goal
+use Rattle.plant_folder.proofs.verdicts.pairs.Given as goal
 
 -- the pairs are those of the sources so far
 abbrev pub invariant-loop-source : goal.invariant-loop-source
