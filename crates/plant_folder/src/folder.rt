@@ -6,8 +6,8 @@ ghost use Rattle.plant_folder.specs.Fetches.{HasMore};
 
 use byte_streams::{Feed, Reading, empty_piece, fill};
 use std::alloc::{AllocError, Global};
-use std::fs;
 use std::rt::Files;
+use std::{fs, io};
 
 /// The most bytes that a file may have.
 const MOST_BYTES: usize = 16_777_217;
@@ -65,6 +65,15 @@ fn read_whole<F: Feed>(alloc: Global, feed: &mut F) -> Result<Vec<u8>, FileFault
     Err(FileFault::Missing)
 }
 
+/// Why a file that can't be opened isn't there: memory, or it is missing.
+fn unopened(error: &io::Error) -> FileFault {
+    if error.kind() == io::ErrorKind::OutOfMemory {
+        FileFault::Memory
+    } else {
+        FileFault::Missing
+    }
+}
+
 /// The files of the system. No contract can say what is found there.
 #[derive(Drop)]
 pub struct Disk<'a, R: Files> {
@@ -79,7 +88,7 @@ impl<'a, R: Files> Folder for Disk<'a, R> {
     fn contents(&self, alloc: Global, path: &str) -> Result<Vec<u8>, FileFault> {
         match fs::open(self.files, path) {
             Ok(file) => read_whole(alloc, &mut Reading::new(file)),
-            Err(_) => Err(FileFault::Missing),
+            Err(error) => Err(unopened(&error)),
         }
     }
 }
