@@ -1,16 +1,14 @@
 -- What is held of a line asks for the same as all of it.
-use Rattle.std.proofs.Common.{◌≡◌, ℕ, zero, suc, ◌≤◌, ◌+◌, true, false, List, [], ◌∷◌, ◌++◌, ap, refl, sym, ◌∙◌, arith, append_assoc, append-nil, length, subst, take, eqb, Option, Ok, Err, cond}
+use Rattle.std.proofs.Common.{◌≡◌, ℕ, zero, suc, ◌≤◌, ◌+◌, true, false, List, [], ◌∷◌, ◌++◌, ap, refl, sym, ◌∙◌, arith, append_assoc, length, subst, take, eqb, Option, Ok, Err, cond}
 use Rattle.std.specs.Prelude.{OnOk, is_ok}
 use Rattle.std.specs.declared.result.Result.{Result}
 use Rattle.std.proofs.lemmas.List.{take_all, take-take, length-append, length-take}
 use Rattle.std.proofs.lemmas.Bool.Decides.{nat_tests}
 use Rattle.event_history.specs.declared.event.Event.{Event}
-use Rattle.engine.specs.Engines.{PlainEngine}
 use Rattle.plant_config.specs.Plants.{PlainPlant}
 use Rattle.command_text.specs.Commands.{command_of}
 use Rattle.command_text.proofs.ShortLaws.{command_of-short}
 use Rattle.serving.specs.Requests.{Request, has_lf, without_cr, ended_by, last_request, ended_from, begun_from, begun_request, requests_of}
-use Rattle.serving.specs.declared.fault.ServeFault.{ServeFault}
 use Rattle.serving.specs.Session.{Answered, Stopped, IsHeld, HasGone, HasTaken}
 use Rattle.serving.proofs.RequestLaws.{ended_from-more, begun_from-more, ended_from-none, begun_from-none, ended_from-lf, begun_from-lf}
 use Rattle.serving.proofs.SessionLaws.{answered-none, answered-more, stopped-none, stopped-more, stopped-longer}

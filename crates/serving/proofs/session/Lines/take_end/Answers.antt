@@ -1,4 +1,4 @@
-use Rattle.std.proofs.Common.{List, ℕ, vec_len, arith, subst, sym, ◌∙◌, ap}
+use Rattle.std.proofs.Common.{List, vec_len, arith, subst, sym, ◌∙◌, ap}
 use Rattle.std.proofs.lemmas.Result.{err_from_is_err_and}
 use Rattle.command_text.specs.Commands.{command_of}
 use Rattle.serving.specs.Requests.{Request}
