@@ -8,6 +8,9 @@ use plant_types::Trap;
 use stamps::Epoch;
 use std::alloc::{AllocError, Global};
 
+/// How many bytes are reserved for a row beside those of its name: few rows have more.
+const ROOM: usize = 80;
+
 /// The word for why a program was faulted.
 fn trap_text(trap: Trap) -> &'static str
     ensures { result.now ≡ trap_text trap }
@@ -117,6 +120,7 @@ pub fn row_text(alloc: Global, epoch: &Epoch, row: &Row, name: &str) -> Result<S
     ensures { IfOk result (λ text. string_bytes text ≡ row_text epoch.now row.now name.now) }
 {
     let mut text = row.number.to_string(alloc)?;
+    text.reserve(name.len().saturating_add(ROOM))?;
     text.push_str(" ")?;
     text.push_str(&epoch.stamp(alloc, row.moment)?)?;
     text.push_str(" ")?;
