@@ -1,4 +1,4 @@
-ghost use Rattle.std.specs.Prelude.{◌≡◌, ◌<◌, ◌≤◌, IfOk, IfSome, MatchOption, None, Some, length, take, slice_index, true, false, codes, if◌then◌else◌};
+ghost use Rattle.std.specs.Prelude.{◌≡◌, ◌++◌, ◌∷◌, [], OnOk, ◌<◌, ◌≤◌, IfOk, IfSome, MatchOption, None, Some, length, take, slice_index, true, false, codes, if◌then◌else◌};
 ghost use Rattle.std.specs.List.{list_all};
 ghost use Rattle.plant_types.specs.Words.{is_name, is_name_byte, same_word};
 ghost use Rattle.command_text.specs.Given.{given_of, pair_of, pairs_of};
@@ -97,9 +97,10 @@ fn name_text(name: &[u8]) -> &str
 }
 
 /// Parses the word `NAME=VALUE` with which a line begins, and returns what is after the word too; `None` if it is any other word.
-fn pair(line: &[u8]) -> Option<(&str, Given, &[u8])>
+fn pair(line: &[u8]) -> Option<(&[u8], Given, &[u8])>
     requires { at_gap line.now ≡ false }
     ensures pair { MatchOption result (pair_of (split_word line.now).0 ≡ None) (λ r. pair_of (split_word line.now).0 ≡ Some (record { name = r.0.now; given = r.1 })) }
+    ensures name { IfSome result (λ r. is_name r.0.now ≡ true) }
     ensures after { IfSome result (λ r. r.2.now ≡ (split_word line.now).1) }
     ensures shorter { IfSome result (λ r. length r.2.now < length line.now) }
 {
@@ -109,7 +110,18 @@ fn pair(line: &[u8]) -> Option<(&str, Given, &[u8])>
     }
     let (value, after) = split_word(rest);
     let given = given(value)?;
-    Some((name_text(name), given, after))
+    Some((name, given, after))
+}
+
+/// Adds a pair to a pool. A name that stands in its place from an earlier line isn't copied again. Fails if allocation fails.
+fn add_pair(alloc: Global, pool: &mut Pool, name: &[u8], given: Given) -> Result<(), AllocError>
+    requires { is_name name.now ≡ true }
+    ensures { OnOk result (pool.new ≡ pool.old ++ (record { name = name.now; given = given }) ∷ []) }
+{
+    if pool.push_again(name, given) {
+        return Ok(());
+    }
+    pool.push(alloc, name_text(name), given)
 }
 
 /// Parses each word of a line as `NAME=VALUE`, and lists the pairs in a pool in place of those in it; false if one of the words isn't
@@ -122,7 +134,7 @@ pub(crate) fn list_pairs(alloc: Global, words: &[u8], pool: &mut Pool) -> Result
     while !rest.is_empty() {
         match pair(rest) {
             Some((name, given, after)) => {
-                pool.push(alloc, name, given)?;
+                add_pair(alloc, pool, name, given)?;
                 rest = trim_start(after);
             }
             None => return Ok(false),

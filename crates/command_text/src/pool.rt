@@ -1,6 +1,6 @@
 //! The pairs of a line, in room that each line uses again.
 
-ghost use Rattle.std.specs.Prelude.{◌≡◌, ◌++◌, ◌∷◌, [], OnOk, OnErr, IfOk};
+ghost use Rattle.std.specs.Prelude.{◌≡◌, ◌++◌, ◌∷◌, [], OnOk, OnErr, IfOk, true, false};
 
 use plant_types::{Given, Pair};
 use std::alloc::{AllocError, Global};
@@ -44,6 +44,20 @@ fn fill(pair: &mut Pair, name: &str, given: Given) -> Result<(), AllocError>
     Ok(())
 }
 
+/// Whether a pair has a name.
+fn has_name(pair: &Pair, name: &[u8]) -> bool
+    ensures { result ≡ true → pair.now.name ≡ name.now }
+{
+    pair.name.as_bytes() == name
+}
+
+/// Gives a pair another value.
+fn give(pair: &mut Pair, given: Given)
+    ensures { pair.new ≡ record { name = pair.old.name; given = given } }
+{
+    pair.given = given;
+}
+
 /// A pair with a copy of a name. Fails if allocation fails.
 fn new_pair(alloc: Global, name: &str, given: Given) -> Result<Pair, AllocError>
     ensures { IfOk result (λ pair. pair ≡ record { name = name.now; given = given }) }
@@ -80,6 +94,22 @@ impl Pool {
         ensures { result.now ≡ self.now }
     {
         &self.pairs.as_slice()[..self.used]
+    }
+
+    /// Adds a pair at the end where its name stands there from an earlier line, and returns whether it does; else nothing changes.
+    pub(crate) fn push_again(&mut self, name: &[u8], given: Given) -> bool
+        ensures added { result ≡ true → self.new ≡ self.old ++ (record { name = name.now; given = given }) ∷ [] }
+        ensures not_added { result ≡ false → self.new ≡ self.old }
+    {
+        let used = self.used;
+        if used >= self.pairs.len() || !has_name(&self.pairs[used], name) {
+            return false;
+        }
+        give(&mut self.pairs[used], given);
+        let bytes = name.len().saturating_add(PAIR);
+        self.bytes = self.bytes.saturating_add(bytes);
+        self.used = used + 1;
+        true
     }
 
     /// Adds a pair at the end. Fails if allocation fails, and then nothing changes.

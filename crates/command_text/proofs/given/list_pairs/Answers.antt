@@ -14,8 +14,8 @@ loop-rest-preserved c =
       same =
           c.loop-rest.invariant.same
           ∙ pair-next rest after c.loop-rest.pool _ at_word c.in-Some.ensures.pair c.in-Some.ensures.after
-          ∙ ap (λ pool. after_pairs pool (pairs_of (words_of after))) (sym c.in_ok-push-in-Some.ensures.ok)
-          ∙ ap (λ words. after_pairs c.push.new.self (pairs_of words)) (sym c.trim_start-rest-in-Some.ensures.words);
+          ∙ ap (λ pool. after_pairs pool (pairs_of (words_of after))) (sym c.in_ok-add_pair-in-Some.ensures)
+          ∙ ap (λ words. after_pairs c.add_pair.new.pool (pairs_of words)) (sym c.trim_start-rest-in-Some.ensures.words);
       at_word = c.trim_start-rest-in-Some.ensures.at_word;
     }
 

@@ -18,8 +18,7 @@ returns-in_err-given-clause-pair c =
 
 pub returns-clause-pair : goal.returns-clause-pair
 returns-clause-pair c =
-    rw c.name_text.ensures
-    (a_pair c.args.line.now c.in_ok-name.name.now c.in_ok-name.rest.now c.split_word.result.0.now c.split_word.result.1.now c.in_ok-given.given c.in_ok-name.ensures.cut (sym c.begins_name.ensures ∙ c.if-not-begins_name.false) c.split_word.ensures.split (sym c.given.ensures ∙ c.in_ok-given.was))
+    a_pair c.args.line.now c.in_ok-name.name.now c.in_ok-name.rest.now c.split_word.result.0.now c.split_word.result.1.now c.in_ok-given.given c.in_ok-name.ensures.cut (sym c.begins_name.ensures ∙ c.if-not-begins_name.false) c.split_word.ensures.split (sym c.given.ensures ∙ c.in_ok-given.was)
 
 pub returns-clause-after : goal.returns-clause-after
 returns-clause-after c = sym (after_pair c.args.line.now c.in_ok-name.name.now c.in_ok-name.rest.now c.split_word.result.0.now c.split_word.result.1.now c.in_ok-name.ensures.cut c.split_word.ensures.split)
