@@ -20,6 +20,7 @@
 
 mod answers;
 mod plants;
+mod scripts;
 mod table;
 
 use std::io;

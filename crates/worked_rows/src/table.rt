@@ -1,9 +1,7 @@
 //! The lines of the table.
 
-use crate::answers::{answers, push_accepted, push_seen};
-use crate::plants::{File, first_files, plant_of, push_file};
-use engine::Engine;
-use row_text::push_line;
+use crate::plants::{File, first_files, push_file};
+use crate::scripts::push_run;
 use std::alloc::{AllocError, Global};
 use std::sync::Wait;
 
@@ -18,10 +16,12 @@ struct Table {
     is_checked: bool,
     /// The sources that are handed in for it, where the table names them.
     handed: String,
-    /// The engine of the last plant, if it was accepted.
-    engine: Option<Engine>,
-    /// Commands that the engine hasn't been given yet.
-    commands: Vec<u8>,
+    /// Whether the plant is to be run.
+    is_run: bool,
+    /// The text in the gap of its files.
+    given: String,
+    /// The lines of its run so far.
+    script: String,
     /// What is printed.
     text: Vec<u8>,
 }
@@ -33,8 +33,9 @@ impl Table {
             is_open: false,
             is_checked: false,
             handed: String::new(alloc),
-            engine: None,
-            commands: Vec::new(alloc),
+            is_run: false,
+            given: String::new(alloc),
+            script: String::new(alloc),
             text: Vec::new(alloc),
         }
     }
@@ -46,13 +47,22 @@ impl Table {
         Ok(())
     }
 
-    /// Gives the engine its commands.
+    /// Runs the plant, if it is to be run, on the lines of its run.
     fn flush<H: Wait>(&mut self, rt: &H, alloc: Global) -> Result<(), AllocError> {
-        if let Some(engine) = &mut self.engine {
-            let answers = answers(rt, alloc, engine, self.commands.as_slice())?;
-            self.text.extend_from_slice(answers.as_slice())?;
+        if self.is_run {
+            push_run(
+                rt,
+                alloc,
+                &mut self.text,
+                &self.files,
+                self.handed.as_str(),
+                self.given.as_str(),
+                self.is_checked,
+                self.script.as_str(),
+            )?;
         }
-        self.commands.clear();
+        self.is_run = false;
+        self.script.clear();
         Ok(())
     }
 
@@ -61,32 +71,25 @@ impl Table {
         self.files = first_files(alloc)?;
         self.is_open = true;
         self.is_checked = false;
-        self.handed = String::new(alloc);
-        self.engine = None;
+        self.handed.clear();
         self.print(line)
     }
 
-    /// Reads the plant of the files, with a text in their gap.
-    fn read(&mut self, alloc: Global, given: &str) -> Result<(), AllocError> {
-        self.engine = None;
-        let handed = self.handed.as_str();
-        let Some(plant) = plant_of(alloc, &mut self.text, &self.files, handed, given)? else {
-            return Ok(());
-        };
-        if self.is_checked {
-            return push_accepted(alloc, &mut self.text, &plant);
-        }
-        self.engine = Some(Engine::new(alloc, plant)?);
+    /// Begins a run of the plant, with a text in the gap of its files.
+    fn begin(&mut self, given: &str) -> Result<(), AllocError> {
+        self.given.clear();
+        self.given.push_str(given)?;
+        self.is_run = true;
         Ok(())
     }
 
     /// Takes the end of the files.
-    fn end(&mut self, alloc: Global) -> Result<(), AllocError> {
+    fn end(&mut self) -> Result<(), AllocError> {
         self.is_open = false;
         if self.files.iter().any(|file| file.source.has_gap()) {
             return Ok(());
         }
-        self.read(alloc, "")
+        self.begin("")
     }
 
     /// Takes a line of a plant's files, or their end.
@@ -96,11 +99,11 @@ impl Table {
         }
         if let Some(words) = line.strip_prefix("check") {
             self.is_checked = true;
-            self.handed = String::from_str(alloc, words.trim_start())?;
-            return self.end(alloc);
+            self.handed.push_str(words.trim_start())?;
+            return self.end();
         }
         if line == "run" {
-            return self.end(alloc);
+            return self.end();
         }
         match self.files.last_mut() {
             Some(file) => file.source.add(line),
@@ -108,54 +111,11 @@ impl Table {
         }
     }
 
-    /// Prints what can be seen of the engine.
-    fn seen(&mut self, alloc: Global) -> Result<(), AllocError> {
-        match &self.engine {
-            Some(engine) => push_seen(alloc, &mut self.text, engine),
-            None => Ok(()),
-        }
-    }
-
-    /// Gives a command so many times, and prints the answer to the last.
-    fn repeat<H: Wait>(&mut self, rt: &H, alloc: Global, words: &str) -> Result<(), AllocError> {
-        let Some((times, command)) = words.split_once(" ") else {
-            return Ok(());
-        };
-        let times = times.parse::<u32>().unwrap_or(0);
-        let printed = self.text.len();
-        for _ in 1..times {
-            push_line(&mut self.commands, command)?;
-        }
-        self.flush(rt, alloc)?;
-        self.text.truncate(printed);
-        push_line(&mut self.commands, command)?;
-        self.flush(rt, alloc)
-    }
-
-    /// Takes a command, or a word of the table's own.
-    fn command_line<H: Wait>(
-        &mut self,
-        rt: &H,
-        alloc: Global,
-        line: &str,
-    ) -> Result<(), AllocError> {
-        if line == "seen" {
-            self.flush(rt, alloc)?;
-            return self.seen(alloc);
-        }
-        if let Some(words) = line.strip_prefix("repeat ") {
-            self.flush(rt, alloc)?;
-            return self.repeat(rt, alloc, words);
-        }
-        if let Some(given) = line.strip_prefix("with ") {
-            self.flush(rt, alloc)?;
-            self.print(line)?;
-            return self.read(alloc, given);
-        }
-        if line.is_empty() {
-            return Ok(());
-        }
-        push_line(&mut self.commands, line)
+    /// Adds a line to those of the run.
+    fn script_line(&mut self, line: &str) -> Result<(), AllocError> {
+        self.script.push_str(line)?;
+        self.script.push_str("\n")?;
+        Ok(())
     }
 
     /// Takes a line.
@@ -167,7 +127,12 @@ impl Table {
             self.flush(rt, alloc)?;
             return self.plant(alloc, line);
         }
-        self.command_line(rt, alloc, line)
+        if let Some(given) = line.strip_prefix("with ") {
+            self.flush(rt, alloc)?;
+            self.print(line)?;
+            return self.begin(given);
+        }
+        self.script_line(line)
     }
 
     /// Takes lines.
