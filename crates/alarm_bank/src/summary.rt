@@ -8,8 +8,8 @@ use alarm_machine::Code;
 use std::alloc::{AllocError, Global};
 use std::marker::Model;
 
-/// How many alarms of each area and priority have each code: kept as the codes change, and never counted anew. Contracts see the alarms
-/// as they are counted, in order.
+/// How many alarms of each area and priority have each code, kept as the codes change. Contracts see the alarms as they are counted, in
+/// order.
 #[derive(Drop)]
 pub struct Summary {
     rows: Vec<Counted>,

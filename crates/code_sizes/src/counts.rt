@@ -42,9 +42,9 @@ fn count_frame(table: &[Count], frame: &Frame) -> Result<Count, AllocError>
     })
 }
 
-/// Counts each frame of a table, once and for all that are made code. Takes time linear in the bodies of the frames. Fails if allocation fails,
-/// and if a frame has 2^32 or more instructions, words of stack or paths. No cost is refused: a frame may cost more than any program does
-/// that calls it, where the calls stand in a FOR of no turn.
+/// Counts each frame of a table, once and for all that are made code. Fails if allocation fails, and if a frame has 2^32 or more instructions,
+/// words of stack or paths. No cost is refused: a frame may cost more than any program does that calls it, where the calls stand in a FOR of
+/// no turn.
 pub fn count_frames(alloc: Global, frames: &[Frame]) -> Result<FrameCounts, AllocError>
     ensures { IfOk result (λ counts. AreCounts frames.now counts) }
 {

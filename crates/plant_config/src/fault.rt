@@ -62,13 +62,14 @@ pub enum ConfigFault {
         line: usize,
         column: usize,
     },
-    /// C6: a name that isn't declared, is declared twice (the later unit) or is a standard block's. A unit is a block or program by its name as
-    /// declared, or `VAR_GLOBAL`.
+    /// C6: a name that isn't declared, is declared twice (the later unit) or is a standard block's; an input of a call given twice, or an output
+    /// taken twice. A unit is a block or program by its name as declared, or `VAR_GLOBAL`.
     Name {
         file: Text,
         unit: Text,
     },
-    /// C7: something of another kind than it must have, or an assigned input.
+    /// C7: something of another kind than it must have, or an assigned input; an instance where a variable has to be, or among globals, inputs or
+    /// outputs; a call of what is no instance; an initial value of an instance or of a VAR_EXTERNAL.
     Kind {
         file: Text,
         unit: Text,

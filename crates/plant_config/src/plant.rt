@@ -369,7 +369,7 @@ impl Plant {
     }
 
     /// Adds the path of the body in which a trap occurred, as a fault prints it: the names of the program and of the instances below it, as
-    /// declared, with points between them. Fails if allocation fails.
+    /// declared, with points between them. Fails if allocation fails; what was added then is of no use.
     pub fn push_path(&self, path: u32, text: &mut String) -> Result<(), AllocError>
         requires { path < length (body_paths self.now) }
         ensures { IfOk result (λ _. string_bytes text.new ≡ string_bytes text.old ++ body_path self.now path) }

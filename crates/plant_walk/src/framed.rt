@@ -254,8 +254,8 @@ impl Framed {
         (walked(self.paths[program], ended), count)
     }
 
-    /// Adds the text of the path of a number: the names of the program and of the instances below it, as declared, with points between
-    /// them. Fails if allocation fails.
+    /// Adds the text of the path of a number: the names of the program and of the instances below it, as declared, with points between them.
+    /// Fails if allocation fails; what was added then is of no use.
     pub fn push_path(&self, path: u32, text: &mut String) -> Result<(), AllocError>
         requires { path < length (paths_of self.now) }
         ensures { IfOk result (λ _. string_bytes text.new ≡ string_bytes text.old ++ path_text (slice_index_or (paths_of self.now) path [])) }

@@ -30,8 +30,8 @@ pub fn walk(framed: &Framed, program: u32, cells: &mut Cells, moment: u64) -> Wa
     framed.walk(program as usize, cells, moment)
 }
 
-/// Runs the code of the program of a number, from 0, over the cells. It ends as `walk` does, and leaves the cells as `walk` does. The stack is
-/// memory for the run. It allocates nothing.
+/// Runs the code of the program of a number, from 0, over the cells. Where these stand for a world it ends as `walk` does, and what it leaves
+/// stands for the same world as what `walk` leaves. The stack is memory for the run. It allocates nothing.
 pub fn run(
     framed: &Framed,
     program: u32,

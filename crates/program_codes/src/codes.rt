@@ -46,9 +46,8 @@ fn code_of(
 /// The codes of the programs of a table, which are its frames from a number on, in their order. The rows have the numbers at which the values
 /// and the clocks of each program begin, and behind them where those of the last one end; the cells have so many of each in all.
 ///
-/// Takes time linear in the frames and the codes. Fails if allocation fails; and if a code can't be numbered in 32 bits, names a value or a
-/// clock that the cells don't have, or needs more words than a stack has, which is answered as refused memory too: no accepted source has such
-/// a program.
+/// Fails if allocation fails; and if a code can't be numbered in 32 bits, names a value or a clock that the cells don't have, or needs more
+/// words than a stack has, which is answered as refused memory too: no accepted source has such a program.
 pub fn codes_of(
     alloc: Global,
     frames: &[Frame],

@@ -85,7 +85,7 @@ module _ (units : List PlainUnit) (own : List PlainDeclared) where
 abbrev pub globals_misnamed : List PlainUnit → List PlainSection → Bool
 globals_misnamed units sections = not (list_all (declared_known units []) (declared_in sections))
 
--- a block or program declares a name twice, or names what isn't there
+-- a block or program declares a name twice, names what isn't there, or gives an input or takes an output of a call twice
 abbrev pub pou_misnamed : List PlainUnit → PlainPou → Bool
 pou_misnamed units p =
     let own = declared_in p.sections in

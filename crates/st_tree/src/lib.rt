@@ -22,7 +22,11 @@ pub use controls::{Span, count_turns, span_of};
 pub use copy::{Duplicate, copy_body, copy_expr, copy_labels};
 pub use kinds::{binary_kind, is_bit, resolved_binary, resolved_unary, unary_kind};
 pub use labels::labels_fit;
-pub use laws::{constant_of_is_value_of, control_values_count_to_bound, kind_of_expr_is_kind_in};
+pub use laws::{
+    constant_of_is_value_of, control_values_count_to_bound, control_values_stay_in_range,
+    kind_of_expr_is_kind_in, operators_stay_in_range, renamed_body_does_same, run_stays_in_range,
+    value_stays_in_range,
+};
 pub use operators::{eval_binary, eval_unary};
 pub use pass::{Pass, map_body, map_expr};
 pub use rules::{Rule, every};

@@ -8,9 +8,11 @@ use std::alloc::AllocError;
 pub enum TypeFault {
     /// Allocation failed.
     Memory,
-    /// C6: a name that isn't declared, or is declared twice (the later unit), or is a standard block's.
+    /// C6: a name that isn't declared, or is declared twice (the later unit), or is a standard block's; an input of a call given twice, or an output
+    /// taken twice.
     Name(UnitPlace),
-    /// C7: something of another kind than it must have, or an assigned input.
+    /// C7: something of another kind than it must have, or an assigned input; an instance where a variable has to be, or among globals, inputs or
+    /// outputs; a call of what is no instance; an initial value of an instance or of a VAR_EXTERNAL.
     Kind(UnitPlace),
     /// C8: a function block that contains itself, directly or through others.
     HoldsItself(UnitPlace),

@@ -30,7 +30,7 @@ abbrev pub was_on : List Call → Bool
 was_on [] = false
 was_on (c ∷ calls) = c.input || was_on calls
 
--- the moment of the first call of a run, whose calls after a later moment these are
+-- the moment of the first call of a run: these are its calls before the one at moment t, the latest first
 abbrev pub first_moment : ℕ → List Call → ℕ
 first_moment t [] = t
 first_moment t (c ∷ calls) = first_moment c.moment calls
