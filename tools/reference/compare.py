@@ -1,0 +1,127 @@
+#!/usr/bin/env python3
+"""Compares the server with a second reading of its rules, on random plants and commands.
+
+    python3 tools/reference/compare.py PROGRAM [FIRST_SEED [COUNT]]
+
+PROGRAM is the built server (crates/alarmd/out/alarmd). For each seed a plant and commands are made; the server answers them, and so does
+server.py, which was written from the pages on the language and the protocol, without a look at the server's code or its definitions. The
+first line in which the answers differ is printed with the seed. The exit status is 0 where all agree.
+"""
+
+import os
+import random
+import subprocess
+import sys
+import tempfile
+
+from language import BOOL, DINT, RANGES, TIME
+from plants import Maker, Writer
+from server import Server
+
+NO_COMMAND = ["scan", "ack 1", "list 1", "Scan 0", "scan 1 a", "scan 1 1a=2", "ack x T", "shelve 1 T", "restart", "scan -1"]
+NO_COMMAND += ["ack 1234567890 T", "scan 1 a=+1", "scan 1 a=1.5", "journal x"]
+NOTHING = ["", "  ", "# a remark"]
+
+
+class Commands:
+    """Random lines for a server, and what it has to answer."""
+
+    def __init__(self, some, plant):
+        self.some, self.plant, self.server = some, plant, Server(plant)
+        self.lines, self.answers = [], []
+        self.inputs = [(name, kind) for name, kind, region, _ in plant.globals if region == "I"]
+
+    def add(self):
+        pick = self.some.random()
+        if pick < 0.5:
+            self.add_scan()
+        elif pick < 0.9:
+            self.add_order()
+        elif pick < 0.95:
+            self.take("list", self.server.list())
+        elif pick < 0.97:
+            self.take("journal", self.server.journal())
+        elif pick < 0.98:
+            self.take(self.some.choice(NOTHING), [])
+        else:
+            self.take(self.some.choice(NO_COMMAND), ["REFUSED L1"])
+
+    def take(self, line, answer):
+        self.lines.append(line + self.some.choice(["", "", "", "\r"]))
+        self.answers += answer
+
+    def given(self, kind):
+        some = self.some
+        if some.random() < 0.02:
+            return some.choice(["2", "TRUE", "9223372036854775808", "2147483648"])
+        if kind == BOOL:
+            return some.choice(["0", "1", "1", "TRUE", "false"])
+        return str(some.choice([0, 1, -1, 5, 7, 10, *RANGES[kind], some.randrange(-20, 20)]))
+
+    def add_scan(self):
+        some = self.some
+        later = some.choice([0, 1, 5, 5, 5, 10, 10, 20, 30, 100])
+        moment = max(0, self.server.moment + (later if some.random() < 0.95 else -some.randrange(3)))
+        if some.random() < 0.01:
+            moment = 4_000_000_000_001
+        pairs = [(some.choice([name, name.upper(), name.lower()]), self.given(kind)) for name, kind in some.sample(self.inputs, some.randrange(len(self.inputs) + 1))]
+        if some.random() < 0.03:
+            pairs.append((some.choice([it[0] for it in self.plant.globals] + ["nothing"]), "1"))
+        gap = some.choice([" ", "\t"])
+        line = gap.join([f"scan {some.choice(['', '', '0'])}{moment}"] + [f"{name}={text}" for name, text in pairs])
+        self.take(line, self.server.scan(moment, pairs))
+
+    def add_order(self):
+        some, plant = self.some, self.plant
+        verb = some.choice(["ack", "ack", "reset", "shelve", "shelve", "unshelve", "remove", "return", "restart"])
+        console = some.choice([number for number, _ in plant.consoles] + [some.randrange(8)])
+        stopped = [it.name for it, faulted in zip(plant.programs, self.server.faulted) if faulted]
+        if stopped and some.random() < 0.5:
+            verb = "restart"
+        targets = (stopped or [it.name for it in plant.programs]) if verb == "restart" else [it.tag for it in plant.alarms]
+        target = some.choice(targets) if targets and some.random() < 0.97 else "nobody"
+        if verb == "restart" and some.random() < 0.3:
+            target = target.upper()
+        time = some.choice([1, 5, 20, 50, 100, 101, 0, 2_592_000_000]) if verb == "shelve" else None
+        line = f"{verb} {console} {target}" + ("" if time is None else f" {time}")
+        self.take(line, self.server.order(verb, console, target, time))
+
+
+def difference(program, seed, folder):
+    """Where the server's answers differ from those wanted, or None."""
+    some = random.Random(seed)
+    plant = Maker(some).made()
+    for name, text in Writer(some).files(plant).items():
+        with open(os.path.join(folder, name), "w", newline="", encoding="utf-8") as file:
+            file.write(text)
+    commands = Commands(some, plant)
+    for _ in range(some.choice([20, 60, 150])):
+        commands.add()
+    words = [program, "run", os.path.join(folder, "plant.toml")]
+    ran = subprocess.run(words, input="".join(f"{line}\n" for line in commands.lines).encode(), capture_output=True)
+    got, wanted = ran.stdout.decode().split("\n")[:-1], commands.answers
+    for at in range(max(len(got), len(wanted))):
+        one, other = (lines[at] if at < len(lines) else "nothing" for lines in (wanted, got))
+        if one != other:
+            return f"line {at + 1}: wanted {one}, got {other}"
+    return None if ran.returncode == 0 else f"status {ran.returncode}: {ran.stderr.decode().strip()}"
+
+
+def main(words):
+    program = os.path.abspath(words[0])
+    first, count = (int(word) for word in (words[1:] + ["1", "1000"][len(words) - 1 :])[:2])
+    differ = 0
+    with tempfile.TemporaryDirectory() as folder:
+        for seed in range(first, first + count):
+            found = difference(program, seed, folder)
+            if found:
+                differ += 1
+                print(f"seed {seed}: {found}", flush=True)
+    print(f"{count - differ} plants alike, {differ} not")
+    return 1 if differ else 0
+
+
+if __name__ == "__main__":
+    if len(sys.argv) < 2 or len(sys.argv) > 4:
+        sys.exit(__doc__)
+    sys.exit(main(sys.argv[1:]))

@@ -1,0 +1,288 @@
+"""What the server answers: a plant's state, scans, orders, `list` and `journal`, by docs/LANGUAGE.md and docs/PROTOCOL.md alone."""
+
+import datetime
+
+from language import BOOL, RANGES, STANDARD, Assign, Call, Case, For, If, Trap, numbers, value
+
+CODES = ["NORM", "UNACK", "ACKED", "RTNUN", "LATUN", "LATAK", "SHELVED", "SUPPR", "OOS"]
+LAST_MOMENT = 4_000_000_000_000
+
+
+def shown(calls, name):
+    """An output of a standard block, by the list of all its calls: (block type, IN or CLK, PT, moment)."""
+    if not calls:
+        return 0
+    block, on, preset, moment = calls[-1]
+    preset = max(preset, 0)
+    if block == "R_TRIG":
+        return int(on and not (len(calls) > 1 and calls[-2][1]))
+    if block == "TON":
+        if not on:
+            return 0
+        first = len(calls) - 1
+        while first > 0 and calls[first - 1][1]:
+            first -= 1
+        elapsed = moment - calls[first][3]
+        return int(elapsed >= preset) if name == "q" else min(elapsed, preset)
+    if on:
+        return int(name == "q")
+    times_on = [at for at, call in enumerate(calls) if call[1]]
+    if not times_on:
+        return 0
+    elapsed = moment - calls[times_on[-1] + 1][3]
+    return int(elapsed < preset) if name == "q" else min(elapsed, preset)
+
+
+def resumed(condition, suppressed):
+    return "SUPPR" if suppressed else "UNACK" if condition else "NORM"
+
+
+def after_scan(state, latching, end, condition, suppressed, moment):
+    """The table of transitions, its column for scans."""
+    if state == "OOS" or (state == "SHELVED" and moment < end):
+        return state
+    if state in ("SHELVED", "SUPPR"):
+        return resumed(condition, suppressed)
+    if suppressed:
+        return "SUPPR"
+    if condition:
+        return "ACKED" if state == "ACKED" else "UNACK"
+    if state == "UNACK":
+        return "LATUN" if latching else "RTNUN"
+    if state == "ACKED":
+        return "LATAK" if latching else "NORM"
+    return state
+
+
+class Alarm:
+    def __init__(self, row):
+        self.row, self.state, self.end, self.condition, self.suppressed = row, "NORM", 0, False, False
+
+    def ordered(self, verb, time, last):
+        """The state after an order, or the reply that refuses it."""
+        acknowledged = {"UNACK": "ACKED", "RTNUN": "NORM", "LATUN": "LATAK"}
+        back = resumed(self.condition, self.suppressed)
+        match verb:
+            case "ack" if self.state in acknowledged:
+                return acknowledged[self.state], None
+            case "reset" if self.state == "LATAK":
+                return "NORM", None
+            case "unshelve" if self.state == "SHELVED":
+                return back, None
+            case "return" if self.state == "OOS":
+                return back, None
+            case "remove" if self.state != "OOS":
+                return "OOS", None
+            case "shelve" if self.state not in ("SUPPR", "OOS"):
+                if not 1 <= time <= self.row.longest:
+                    return None, "O4"
+                self.end = last + time
+                return "SHELVED", None
+        return None, "O3"
+
+
+class Server:
+    """A plant that is served: what it holds after the commands so far."""
+
+    def __init__(self, plant):
+        self.plant, self.moment, self.rows = plant, 0, []
+        self.values, self.calls, self.numbers = {}, {}, {}
+        self.globals = {name.lower(): (name, kind, region) for name, kind, region, _ in plant.globals}
+        for name, _, _, initial in plant.globals:
+            self.values["global", name.lower()] = 0 if initial is None else value(initial, None)
+        for program in plant.programs:
+            self.open(program, (program.name.lower(),))
+        self.faulted = [False] * len(plant.programs)
+        self.alarms = [Alarm(row) for row in plant.alarms]
+
+    def open(self, routine, path):
+        """Gives the variables of a routine and of its instances their initial values."""
+        for name, _, _, initial in routine.variables:
+            self.values[path + (name.lower(),)] = 0 if initial is None else value(initial, None)
+        for name, block in routine.instances:
+            below = path + (name.lower(),)
+            if block in STANDARD:
+                self.calls[below] = []
+                for given, _ in STANDARD[block][0]:
+                    self.values[below + (given.lower(),)] = 0
+            else:
+                self.open(self.plant.blocks[block], below)
+
+    # ---- a program's run
+
+    def read(self, path, place):
+        if place[0] == "global":
+            return self.values[place]
+        below = path + place[1:2]
+        if place[0] == "own":
+            return self.values[below]
+        return shown(self.calls[below], place[2]) if below in self.calls else self.values[below + place[2:]]
+
+    def write(self, path, place, number):
+        self.values[place if place[0] == "global" else path + place[1:]] = number
+
+    def run(self, routine, path, printed, moment):
+        """Runs a body. A trap tells the path as declared and the number of its statement; what was assigned before it stands."""
+        if routine.name not in self.numbers:
+            self.numbers[routine.name] = numbers(routine.body)
+        self.run_all(routine, routine.body, path, printed, moment)
+
+    def run_all(self, routine, body, path, printed, moment):
+        for statement in body:
+            self.run_one(routine, statement, path, printed, moment)
+
+    def run_one(self, routine, statement, path, printed, moment):
+        def worth(expression):
+            try:
+                return value(expression, lambda place: self.read(path, place))
+            except Trap as trap:
+                trap.place = printed, self.numbers[routine.name][id(statement)]
+                raise
+
+        go = lambda body: self.run_all(routine, body or [], path, printed, moment)
+        if isinstance(statement, Assign):
+            self.write(path, statement.target.place, worth(statement.right))
+        elif isinstance(statement, If):
+            go(next((body for test, body in statement.branches if worth(test)), statement.otherwise))
+        elif isinstance(statement, Case):
+            number = worth(statement.selector)
+            fits = lambda labels: any(low <= number <= high for low, high in labels)
+            go(next((body for labels, body in statement.choices if fits(labels)), statement.otherwise))
+        elif isinstance(statement, For):
+            first, last = value(statement.first, None), value(statement.last, None)
+            step = 1 if statement.step is None else value(statement.step, None)
+            for number in range(first, last + (1 if step > 0 else -1), step):
+                self.write(path, statement.control.place, number)
+                go(statement.body)
+        elif isinstance(statement, Call):
+            self.call(routine, statement, path, printed, moment, worth)
+
+    def call(self, routine, statement, path, printed, moment, worth):
+        below = path + (statement.instance.lower(),)
+        for name, given in statement.arguments:
+            if not isinstance(given, tuple):
+                self.values[below + (name.lower(),)] = worth(given)
+        if statement.block in STANDARD:
+            on = "clk" if statement.block == "R_TRIG" else "in"
+            preset = self.values.get(below + ("pt",), 0)
+            self.calls[below].append((statement.block, bool(self.values[below + (on,)]), preset, moment))
+        else:
+            self.run(self.plant.blocks[statement.block], below, f"{printed}.{statement.instance}", moment)
+        for name, taken in statement.arguments:
+            if isinstance(taken, tuple):
+                output = self.read(path, ("output", statement.instance.lower(), name.lower()))
+                self.write(path, taken[0].place, output)
+
+    # ---- scans
+
+    def image(self, pairs):
+        """The inputs' numbers, or why they are refused: all names before all values."""
+        names = [name.lower() for name, _ in pairs]
+        if len(set(names)) < len(names) or any(self.globals.get(name, (0, 0, 0))[2] != "I" for name in names):
+            return "E3"
+        image = []
+        for name, text in pairs:
+            kind = self.globals[name.lower()][1]
+            truth = {"TRUE": 1, "FALSE": 0}.get(text.upper())
+            number = int(text) if truth is None else truth
+            fits = number in (0, 1) if kind == BOOL else truth is None and RANGES[kind][0] <= number <= RANGES[kind][1]
+            if not fits:
+                return "E4"
+            image.append((name.lower(), number))
+        return image
+
+    def scan(self, moment, pairs):
+        image = "E2" if moment > LAST_MOMENT else "E1" if moment < self.moment else self.image(pairs)
+        if isinstance(image, str):
+            return [f"REFUSED {image}"]
+        before = {name: self.values["global", name] for name in self.globals}
+        for name, number in image:
+            self.values["global", name] = number
+        lines = self.run_programs(moment)
+        self.moment = moment
+        lines += self.step_alarms(moment)
+        for name, (declared, kind, region) in self.globals.items():
+            now = self.values["global", name]
+            if region == "Q" and now != before[name]:
+                lines.append(f"OUT {moment} {declared} {('FALSE', 'TRUE')[now] if kind == BOOL else now}")
+        return lines + [f"DONE {moment} {len(lines)}"]
+
+    def run_programs(self, moment):
+        lines = []
+        for at, program in enumerate(self.plant.programs):
+            if self.faulted[at]:
+                continue
+            try:
+                self.run(program, (program.name.lower(),), program.name, moment)
+            except Trap as trap:
+                self.faulted[at] = True
+                path, statement = trap.place
+                lines.append(f"FAULT {moment} {path} {statement} {trap.kind}")
+                self.note(moment, f"FAULT {path} {statement} {trap.kind}")
+        return lines
+
+    def step_alarms(self, moment):
+        lines = []
+        for alarm in self.alarms:
+            row, old = alarm.row, alarm.state
+            alarm.condition = bool(self.values["global", row.condition.lower()])
+            alarm.suppressed = bool(row.suppress and self.values["global", row.suppress.lower()])
+            alarm.state = after_scan(old, row.latching, alarm.end, alarm.condition, alarm.suppressed, moment)
+            lines += self.changed(moment, row.tag, old, alarm.state)
+        return lines
+
+    def changed(self, moment, tag, old, new):
+        if old == new:
+            return []
+        self.note(moment, f"ALARM {tag} {old} {new}")
+        return [f"ALARM {moment} {tag} {old} {new}"]
+
+    # ---- orders and listings
+
+    def order(self, verb, console, target, time=None):
+        areas = dict(self.plant.consoles).get(console)
+        name, reply, lines = "?", "O1", []
+        if verb == "restart":
+            for at, program in enumerate(self.plant.programs):
+                if program.name.lower() == target.lower():
+                    name = program.name
+                    reply = "O2" if areas is None else "OK" if self.faulted[at] else "O5"
+                    self.faulted[at] = self.faulted[at] and reply != "OK"
+            self.note_order(console, verb, name, time, reply)
+            return [f"REPLY {reply}"]
+        for alarm in self.alarms:
+            if alarm.row.tag == target:
+                name, old, new = target, alarm.state, None
+                reply = "O2"
+                if areas is not None and alarm.row.area in areas:
+                    new, refused = alarm.ordered(verb, time, self.moment)
+                    reply = refused or "OK"
+                self.note_order(console, verb, name, time, reply)
+                if new is not None:
+                    alarm.state = new
+                    lines = self.changed(self.moment, target, old, new)
+                return [f"REPLY {reply}"] + lines
+        self.note_order(console, verb, name, time, reply)
+        return [f"REPLY {reply}"]
+
+    def note(self, moment, text):
+        begun = datetime.datetime.strptime(self.plant.epoch, "%Y-%m-%dT%H:%M:%SZ")
+        stamp = (begun + datetime.timedelta(milliseconds=moment)).isoformat(timespec="milliseconds")
+        self.rows.append(f"{len(self.rows) + 1} {stamp}Z {text}")
+
+    def note_order(self, console, verb, name, time, reply):
+        self.note(self.moment, " ".join(["ORDER", str(console), verb, name] + ([] if time is None else [str(time)]) + [reply]))
+
+    def journal(self):
+        return self.rows + [f"END {len(self.rows)}"]
+
+    def list(self):
+        lines = [f"STATE {it.row.tag} {it.state} {it.row.priority}" for it in self.alarms if it.state != "NORM"]
+        for area in self.plant.areas:
+            for priority in range(1, 5):
+                for code in CODES:
+                    is_one = lambda it: (it.row.area, it.row.priority, it.state) == (area, priority, code)
+                    count = sum(is_one(it) for it in self.alarms)
+                    if count:
+                        lines.append(f"COUNT {area} {priority} {code} {count}")
+        return lines + [f"END {len(lines)}"]
