@@ -1,4 +1,5 @@
 ghost use Rattle.std.specs.Prelude.{◌≡◌, ◌++◌, OnOk, OnErr, length, map, take, ◌∷◌, []};
+ghost use Rattle.alarm_machine.specs.Codes.{code_text};
 ghost use Rattle.command_text.specs.Lines.{line_of, trap_text, fault_line, alarm_line, out_line, done_line, reply_line, refused_line, state_line, count_line, row_line, end_line};
 
 use alarm_machine::{Change, Code, OrderFault};
@@ -44,19 +45,6 @@ fn push_one(out: &mut Vec<u8>, name: &str, field: &str) -> Result<(), AllocError
     ensures err { OnErr result (out.new.items ≡ out.old.items) }
 {
     push_line(out, name, &[field])
-}
-
-/// Appends the line of this name with two fields.
-fn push_two<'a>(
-    out: &mut Vec<u8>,
-    name: &str,
-    first: &'a str,
-    second: &'a str,
-) -> Result<(), AllocError>
-    ensures ok { OnOk result (out.new.items ≡ out.old.items ++ line_of name.now (first.now ∷ second.now ∷ [])) }
-    ensures err { OnErr result (out.new.items ≡ out.old.items) }
-{
-    push_line(out, name, &[first, second])
 }
 
 /// Appends the line of this name with three fields.
@@ -117,6 +105,86 @@ pub fn push_fault(
     push_four(out, "FAULT", moment, path, statement, trap_text(trap))
 }
 
+/// A code's text between two spaces.
+fn from_text(code: Code) -> &'static [u8]
+    ensures { result.now ≡ 32 ∷ code_text code ++ 32 ∷ [] }
+{
+    match code {
+        Code::Norm => b" NORM ",
+        Code::Unack => b" UNACK ",
+        Code::Acked => b" ACKED ",
+        Code::Rtnun => b" RTNUN ",
+        Code::Latun => b" LATUN ",
+        Code::Latak => b" LATAK ",
+        Code::Shelved => b" SHELVED ",
+        Code::Suppr => b" SUPPR ",
+        Code::Oos => b" OOS ",
+    }
+}
+
+/// A code's text at the end of a line.
+fn to_text(code: Code) -> &'static [u8]
+    ensures { result.now ≡ code_text code ++ 10 ∷ [] }
+{
+    match code {
+        Code::Norm => b"NORM\n",
+        Code::Unack => b"UNACK\n",
+        Code::Acked => b"ACKED\n",
+        Code::Rtnun => b"RTNUN\n",
+        Code::Latun => b"LATUN\n",
+        Code::Latak => b"LATAK\n",
+        Code::Shelved => b"SHELVED\n",
+        Code::Suppr => b"SUPPR\n",
+        Code::Oos => b"OOS\n",
+    }
+}
+
+/// Appends the parts of a line that begins with a moment: what is before its digits, these, and what is after them. Where memory is refused
+/// a part of them may be appended.
+#[inline(always)]
+fn add_parts(
+    out: &mut Vec<u8>,
+    name: &[u8],
+    moment: &str,
+    first: &[u8],
+    second: &[u8],
+    third: &[u8],
+) -> Result<(), AllocError>
+    ensures ok { OnOk result (out.new.items ≡ out.old.items ++ name.now ++ moment.now ++ 32 ∷ first.now ++ second.now ++ third.now) }
+    ensures err { OnErr result (take (length out.old.items) out.new.items ≡ out.old.items) }
+{
+    out.extend_from_slice(name)?;
+    out.extend_from_slice(moment.as_bytes())?;
+    out.extend_from_slice(b" ")?;
+    out.extend_from_slice(first)?;
+    out.extend_from_slice(second)?;
+    out.extend_from_slice(third)?;
+    Ok(())
+}
+
+/// Appends a line by its parts, as `add_parts`. Where memory is refused the text is unchanged.
+#[inline(always)]
+fn push_parts(
+    out: &mut Vec<u8>,
+    name: &[u8],
+    moment: &str,
+    first: &[u8],
+    second: &[u8],
+    third: &[u8],
+) -> Result<(), AllocError>
+    ensures ok { OnOk result (out.new.items ≡ out.old.items ++ name.now ++ moment.now ++ 32 ∷ first.now ++ second.now ++ third.now) }
+    ensures err { OnErr result (out.new.items ≡ out.old.items) }
+{
+    let start = out.len();
+    match add_parts(out, name, moment, first, second, third) {
+        Ok(()) => Ok(()),
+        Err(error) => {
+            out.truncate(start);
+            Err(error)
+        }
+    }
+}
+
 /// Appends `ALARM MOMENT TAG FROM TO`: this alarm's code changed. Where memory is refused the text is unchanged.
 #[tactic(auto, unfolding(crate::specs::Lines::alarm_line))]
 pub fn push_alarm(
@@ -130,13 +198,13 @@ pub fn push_alarm(
 {
     let mut digits = Buffer::new();
     let moment = digits.format(moment);
-    push_four(
+    push_parts(
         out,
-        "ALARM",
+        b"ALARM ",
         moment,
-        tag,
-        change.from().text(),
-        change.to().text(),
+        tag.as_bytes(),
+        from_text(change.from()),
+        to_text(change.to()),
     )
 }
 
@@ -165,19 +233,37 @@ pub fn push_done(out: &mut Vec<u8>, moment: u64, lines: u64) -> Result<(), Alloc
 {
     let mut digits = Buffer::new();
     let mut count = Buffer::new();
-    push_two(out, "DONE", digits.format(moment), count.format(lines))
+    push_parts(
+        out,
+        b"DONE ",
+        digits.format(moment),
+        count.format(lines).as_bytes(),
+        b"\n",
+        b"",
+    )
+}
+
+/// The line with the reply to an order, as `REPLY OK`.
+#[tactic(auto, unfolding(crate::specs::Lines::reply_line))]
+fn reply_line(refused: Option<OrderFault>) -> &'static [u8]
+    ensures { result.now ≡ reply_line refused }
+{
+    match refused {
+        None => b"REPLY OK\n",
+        Some(OrderFault::UnknownTarget) => b"REPLY O1\n",
+        Some(OrderFault::NotYourArea) => b"REPLY O2\n",
+        Some(OrderFault::WrongState) => b"REPLY O3\n",
+        Some(OrderFault::ShelveTime) => b"REPLY O4\n",
+        Some(OrderFault::NotFaulted) => b"REPLY O5\n",
+    }
 }
 
 /// Appends `REPLY OK`, or `REPLY` and the number of the order's refusal. Where memory is refused the text is unchanged.
-#[tactic(auto, unfolding(crate::specs::Lines::reply_line))]
 pub fn push_reply(out: &mut Vec<u8>, refused: Option<OrderFault>) -> Result<(), AllocError>
     ensures ok { OnOk result (out.new.items ≡ out.old.items ++ reply_line refused) }
     ensures err { OnErr result (out.new.items ≡ out.old.items) }
 {
-    match refused {
-        None => push_one(out, "REPLY", "OK"),
-        Some(fault) => push_one(out, "REPLY", fault.text()),
-    }
+    out.extend_from_slice(reply_line(refused))
 }
 
 /// Appends `REFUSED` and the number of the refusal of a line or an event. Where memory is refused the text is unchanged.
