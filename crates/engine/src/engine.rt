@@ -130,8 +130,8 @@ impl Engine {
         requires last { number ≤ length (journal_of self.now.plant self.now.history) }
         ensures { IfOk result (λ text. IsLine self.now.plant self.now.history number (string_bytes text)) }
     {
-        let row = &self.log.rows()[(number - 1) as usize];
-        line_text(alloc, &self.plant, row)
+        let row = self.log.row(number);
+        line_text(alloc, &self.plant, &row)
     }
 
     /// Makes a scan ready: runs the programs on copies, and allocates all that `commit` needs, room for the rows of the journal too. It

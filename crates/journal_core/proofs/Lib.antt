@@ -1,2 +1,3 @@
 mod RowLaws
+pub mod KeptLaws
 mod Examples

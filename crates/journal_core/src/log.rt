@@ -1,4 +1,5 @@
-ghost use Rattle.std.specs.Prelude.{◌≡◌, ◌<◌, ◌≤◌, [], length, map, OnOk};
+ghost use Rattle.std.specs.Prelude.{◌≡◌, ◌<◌, ◌≤◌, ◌-◌, [], length, map, slice_get, Some, OnOk};
+ghost use Rattle.journal_core.specs.Kept.{entry_of, HasPlace};
 ghost use Rattle.journal_core.specs.Rows.{after_entry, after_entries, fault_entry, change_entry, last_moment, AreNumbered, AreInOrder};
 
 use crate::row::{Entry, Row};
@@ -7,22 +8,55 @@ use plant_types::{Place, Trap};
 use std::alloc::{AllocError, Global};
 use std::marker::Model;
 
+/// How many entries are kept apart at most.
+const MOST_APART: usize = 4_294_967_296;
+
+/// The entry of a row as it is kept: the change of an alarm's code, or the place of another entry in the list of these.
+#[derive(Clone, Copy, Drop)]
+enum KeptEntry {
+    Alarm(u32, Change),
+    Apart(u32),
+}
+
+/// A row as it is kept, in less memory: its number is its place.
+#[derive(Clone, Copy, Drop)]
+struct KeptRow {
+    moment: u64,
+    entry: KeptEntry,
+}
+
 /// The rows of a journal, numbered from 1 in their order; their moments never go back. Contracts see the rows, and for how many more
 /// there is room.
 #[derive(Drop)]
 pub struct Log {
-    rows: Vec<Row>,
+    rows: Vec<KeptRow>,
+    /// The entries that aren't the change of an alarm's code.
+    apart: Vec<Entry>,
+    /// For how many more rows there is room, whatever their entries are.
+    room: usize,
 }
 
 impl Model for Log {
-    ghost use Rattle.std.specs.Prelude.{◌-◌, vec_len, vec_capacity};
-    ghost use Rattle.journal_core.specs.Rows.{PlainLog, IsLog};
+    ghost use Rattle.std.specs.Prelude.{vec_len, vec_capacity};
+    ghost use Rattle.journal_core.specs.Rows.{PlainLog};
+    ghost use Rattle.journal_core.specs.Kept.{rows_of, IsKept};
 
     ghost Value = { PlainLog };
 
-    ghost view = { λ l. record { rows = l.rows.items; room = vec_capacity l.rows - vec_len l.rows } };
+    ghost view = { λ l. record { rows = rows_of l.apart.items 0 l.rows.items; room = l.room } };
 
-    ghost invariant = { λ l. IsLog l.rows.items };
+    ghost invariant = { λ l. IsKept l.rows.items l.apart.items l.room (vec_capacity l.rows) (vec_capacity l.apart) };
+}
+
+/// The entry of a row that is kept, with the list of those that are kept apart.
+fn entry_of(apart: &[Entry], kept: &KeptEntry) -> Entry
+    requires { HasPlace (length apart.now) kept.now }
+    ensures { result ≡ entry_of apart.now kept.now }
+{
+    match kept {
+        KeptEntry::Alarm(alarm, change) => Entry::Alarm(*alarm, *change),
+        KeptEntry::Apart(place) => apart[*place as usize],
+    }
 }
 
 impl Log {
@@ -32,16 +66,35 @@ impl Log {
     {
         Log {
             rows: Vec::new(alloc),
+            apart: Vec::new(alloc),
+            room: 0,
         }
     }
 
-    /// The rows, in their order.
-    pub fn rows(&self) -> &[Row]
-        ensures rows { result.now ≡ self.now.rows }
-        ensures numbered { AreNumbered result.now }
-        ensures in_order { AreInOrder result.now }
+    /// How many rows there are.
+    #[tactic(auto, using(crate::proofs::KeptLaws::rows_length))]
+    pub fn len(&self) -> usize
+        ensures count { result ≡ length self.now.rows }
+        ensures numbered { AreNumbered self.now.rows }
+        ensures in_order { AreInOrder self.now.rows }
     {
-        self.rows.as_slice()
+        self.rows.len()
+    }
+
+    /// The row of a number, from 1.
+    #[tactic(auto, using(crate::proofs::KeptLaws::rows_length))]
+    pub fn row(&self, number: u64) -> Row
+        requires first { 1 ≤ number }
+        requires last { number ≤ length self.now.rows }
+        ensures { slice_get self.now.rows (number - 1) ≡ Some result }
+    {
+        let kept = &self.rows[(number - 1) as usize];
+        let entry = entry_of(self.apart.as_slice(), &kept.entry);
+        Row {
+            number,
+            moment: kept.moment,
+            entry,
+        }
     }
 
     /// Makes room for so many more rows. Fails if allocation fails; the rows stay as they are, and no room is lost.
@@ -50,23 +103,57 @@ impl Log {
         ensures ok { OnOk result (count ≤ self.new.room) }
         ensures room { self.old.room ≤ self.new.room }
     {
-        self.rows.reserve(count)
+        if count <= self.room {
+            return Ok(());
+        }
+        if count > MOST_APART - self.apart.len() {
+            return Err(AllocError);
+        }
+        self.rows.reserve(count)?;
+        self.apart.reserve(count)?;
+        self.room = count;
+        Ok(())
+    }
+
+    /// Adds the row of an alarm whose code changed, as `push`.
+    fn push_change(&mut self, moment: u64, alarm: u32, change: Change)
+        requires room { 0 < self.old.room }
+        requires in_order { last_moment self.old.rows ≤ moment }
+        ensures { self.new ≡ after_entry moment self.old (change_entry (alarm, change)) }
+    {
+        self.rows.push_reserved(KeptRow {
+            moment,
+            entry: KeptEntry::Alarm(alarm, change),
+        });
+        self.room -= 1;
+    }
+
+    /// Adds a row whose entry is kept apart, as `push`.
+    fn push_apart(&mut self, moment: u64, entry: Entry)
+        requires room { 0 < self.old.room }
+        requires in_order { last_moment self.old.rows ≤ moment }
+        ensures { self.new ≡ after_entry moment self.old entry }
+    {
+        let place = self.apart.len() as u32;
+        self.apart.push_reserved(entry);
+        self.rows.push_reserved(KeptRow {
+            moment,
+            entry: KeptEntry::Apart(place),
+        });
+        self.room -= 1;
     }
 
     /// Adds a row with the next number, for which there is room: it allocates nothing and can't fail. The moment is not before that of
     /// the last row.
-    #[tactic(auto, using(crate::proofs::RowLaws::numbered_more, crate::proofs::RowLaws::in_order_more))]
     pub fn push(&mut self, moment: u64, entry: Entry)
         requires room { 0 < self.old.room }
         requires in_order { last_moment self.old.rows ≤ moment }
         ensures { self.new ≡ after_entry moment self.old entry }
     {
-        let number = self.rows.len() as u64 + 1;
-        self.rows.push_reserved(Row {
-            number,
-            moment,
-            entry,
-        });
+        match entry {
+            Entry::Alarm(alarm, change) => self.push_change(moment, alarm, change),
+            _ => self.push_apart(moment, entry),
+        }
     }
 
     /// Adds a row for each fault of a scan, in their order. There is room for them, and the moment is not before that of the last row.
