@@ -23,7 +23,7 @@ rows_length apart rows = length_at apart 0 rows
 
 -- an entry of a place stays where one more is kept apart
 entry_stays : (apart : List Entry) (entry : Entry) (k : KeptEntry) → HasPlace (length apart) k → entry_of (apart ++ entry ∷ []) k ≡ entry_of apart k
-entry_stays apart entry (kept.Alarm alarm change) has = refl
+entry_stays apart entry (kept.Alarm change alarm) has = refl
 entry_stays apart entry (kept.Apart place) has = get_or_append_left apart (entry ∷ []) no_entry place has
 
 rows_stay : (apart : List Entry) (entry : Entry) (n : ℕ) (rows : List KeptRow) → HavePlaces (length apart) rows → rows_of (apart ++ entry ∷ []) n rows ≡ rows_of apart n rows
@@ -51,7 +51,7 @@ rows_more apart rows row =
     more_at apart 0 rows row ∙ ap (λ k. rows_of apart 0 rows ++ seen apart k row ∷ []) same
 
 place_more : (n : ℕ) (k : KeptEntry) → HasPlace n k → HasPlace (n + 1) k
-place_more n (kept.Alarm alarm change) has = tt
+place_more n (kept.Alarm change alarm) has = tt
 place_more n (kept.Apart place) has = omega (arith, has)
 
 places_more : (n : ℕ) (rows : List KeptRow) → HavePlaces n rows → HavePlaces (n + 1) rows
@@ -73,9 +73,9 @@ with_entry rows moment entry = rows ++ record { number = length rows + 1; moment
 
 -- one more row, whose entry stands in it
 pub change_seen : (apart : List Entry) (rows : List KeptRow) (moment alarm : ℕ) (change : PlainChange) →
-    rows_of apart 0 (rows ++ record { moment = moment; entry = kept.Alarm alarm change } ∷ []) ≡ with_entry (rows_of apart 0 rows) moment (entry.Alarm alarm change)
+    rows_of apart 0 (rows ++ record { moment = moment; entry = kept.Alarm change alarm } ∷ []) ≡ with_entry (rows_of apart 0 rows) moment (entry.Alarm alarm change)
 change_seen apart rows moment alarm change =
-    let row : KeptRow = record { moment = moment; entry = kept.Alarm alarm change } in
+    let row : KeptRow = record { moment = moment; entry = kept.Alarm change alarm } in
     rows_more apart rows row ∙ ap (λ n. rows_of apart 0 rows ++ seen apart n row ∷ []) (sym (rows_length apart rows))
 
 -- one more row, whose entry is kept apart
@@ -98,9 +98,9 @@ more_is_log rows moment e log late = record {
 }
 
 pub change_kept : (rows : List KeptRow) (apart : List Entry) (room m n moment alarm : ℕ) (change : PlainChange) → IsKept rows apart room m n → 0 < room → last_moment (rows_of apart 0 rows) ≤ moment →
-    IsKept (rows ++ record { moment = moment; entry = kept.Alarm alarm change } ∷ []) apart (room - 1) m n
+    IsKept (rows ++ record { moment = moment; entry = kept.Alarm change alarm } ∷ []) apart (room - 1) m n
 change_kept rows apart room m n moment alarm change is some late =
-    let row : KeptRow = record { moment = moment; entry = kept.Alarm alarm change } in
+    let row : KeptRow = record { moment = moment; entry = kept.Alarm change alarm } in
     let long = length_push rows row in
     record {
       log = rw (change_seen apart rows moment alarm change) (more_is_log _ moment (entry.Alarm alarm change) is.log late);

@@ -15,7 +15,7 @@ no_entry = entry.Order 0 verb.Ack None None
 
 -- the entry of a row that is kept
 abbrev pub entry_of : List Entry → KeptEntry → Entry
-entry_of apart (kept.Alarm alarm change) = entry.Alarm alarm change
+entry_of apart (kept.Alarm change alarm) = entry.Alarm alarm change
 entry_of apart (kept.Apart place) = get_or apart place no_entry
 
 -- rows that are kept, numbered on from n
@@ -25,7 +25,7 @@ rows_of apart n (row ∷ rows) = record { number = n + 1; moment = row.moment; e
 
 -- the list apart is longer than the place of an entry
 abbrev pub HasPlace : ℕ → KeptEntry → Type 0
-HasPlace n (kept.Alarm alarm change) = Unit {0}
+HasPlace n (kept.Alarm change alarm) = Unit {0}
 HasPlace n (kept.Apart place) = place < n
 
 -- each row finds its entry

@@ -12,9 +12,10 @@ use std::marker::Model;
 const MOST_APART: usize = 4_294_967_296;
 
 /// The entry of a row as it is kept: the change of an alarm's code, or the place of another entry in the list of these.
+// The small field stands first, so that the tag and it fill the word before the number: 8 bytes in all.
 #[derive(Clone, Copy, Drop)]
 enum KeptEntry {
-    Alarm(u32, Change),
+    Alarm(Change, u32),
     Apart(u32),
 }
 
@@ -54,7 +55,7 @@ fn entry_of(apart: &[Entry], kept: &KeptEntry) -> Entry
     ensures { result ≡ entry_of apart.now kept.now }
 {
     match kept {
-        KeptEntry::Alarm(alarm, change) => Entry::Alarm(*alarm, *change),
+        KeptEntry::Alarm(change, alarm) => Entry::Alarm(*alarm, *change),
         KeptEntry::Apart(place) => apart[*place as usize],
     }
 }
@@ -123,7 +124,7 @@ impl Log {
     {
         self.rows.push_reserved(KeptRow {
             moment,
-            entry: KeptEntry::Alarm(alarm, change),
+            entry: KeptEntry::Alarm(change, alarm),
         });
         self.room -= 1;
     }
