@@ -18,7 +18,7 @@ use Rattle.alarm_bank.specs.declared.event.BankEvent.TheVariants as event
 use Rattle.alarm_bank.specs.declared.rows.Site.{Site}
 use Rattle.alarm_bank.specs.declared.rows.Counted.{Counted}
 use Rattle.alarm_bank.specs.Counts.{with_code, HasCell}
-use Rattle.alarm_bank.specs.Banks.{PlainBank, IsSite, counted, scan_each, order_one, after_event, told, reply_of, end_or_never, IsBank, IsNextEnd, NoneShelved}
+use Rattle.alarm_bank.specs.Banks.{PlainBank, IsSite, counted, scan_each, order_one, after_event, told, reply_of, end_or_never, IsBank, IsNextEnd, NoneShelved, IsSettled}
 
 pub counted_length : (ps : List Site) (xs : List PlainAlarm) → length ps ≡ length xs → length (counted ps xs) ≡ length xs
 counted_length [] xs e = e
@@ -56,15 +56,16 @@ counted_all ps xs rows i le each so_far =
     let none : drop i ps ≡ [] = drop_all i ps (omega arith) in
     sym (append-nil rows) ∙ ap (λ l. rows ++ counted l (drop i xs)) (sym none) ∙ so_far
 
-pub bank_put : (ps : List Site) (xs : List PlainAlarm) (moment : ℕ) (rows : List Counted) (ends : List ℕ) → IsBank ps xs moment rows ends → (at : ℕ) (a : PlainAlarm) → at < length xs → EndsInRange a.state →
+pub bank_put : (ps : List Site) (xs : List PlainAlarm) (moment : ℕ) (rows : List Counted) (ends : List ℕ) → IsBank ps xs moment rows ends → (at : ℕ) (a : PlainAlarm) → at < length xs → EndsInRange a.state → IsSettled a →
     IsBank ps (slice_set xs at a) moment (with_code at (code_of a.state) rows) (slice_set ends at (end_or_never (end_of a.state)))
-bank_put ps xs moment rows ends b at a h r = record {
+bank_put ps xs moment rows ends b at a h r s = record {
   each = b.each ∙ sym (length-set xs at a);
   few = rw (length-set xs at a) b.few;
   in_range = b.in_range;
   rows_are = ap (with_code at (code_of a.state)) b.rows_are ∙ sym (counted_set ps xs at a b.each h);
   ends_are = ap (λ es. slice_set es at (end_or_never (end_of a.state))) b.ends_are ∙ sym (map-set (λ (x : PlainAlarm). end_or_never (end_of x.state)) xs at a);
   in_time = All-set (λ (x : PlainAlarm). EndsInRange x.state) xs at a r b.in_time;
+  settled = All-set IsSettled xs at a s b.settled;
 }
 
 told_is : (r : Result PlainAlarm OrderFault) (old new : PlainAlarm) (res : Result (Option PlainChange) OrderFault) → AnswersOrder r old new res → res ≡ told old r
@@ -156,6 +157,22 @@ scan_each_at (c ∷ cs) [] t (x ∷ xs) k d cl sl h = absurd (omega arith)
 scan_each_at (c ∷ cs) (s ∷ ss) t (x ∷ xs) zero d cl sl h = refl
 scan_each_at (c ∷ cs) (s ∷ ss) t (x ∷ xs) (suc k) d cl sl h = scan_each_at cs ss t xs k d (omega arith) (omega arith) (omega arith)
 
+-- the conditions and the suppressions of the alarms after a scan are those that it gave them
+pub conditions_scanned : (cs ss : List Bool) (t : ℕ) (xs : List PlainAlarm) → length cs ≡ length xs → length ss ≡ length xs → map (λ (a : PlainAlarm). a.condition) (scan_each cs ss t xs) ≡ cs
+conditions_scanned [] ss t [] cl sl = refl
+conditions_scanned [] ss t (x ∷ xs) cl sl = absurd (omega (arith, cl))
+conditions_scanned (c ∷ cs) ss t [] cl sl = absurd (omega (arith, cl))
+conditions_scanned (c ∷ cs) [] t (x ∷ xs) cl sl = absurd (omega (arith, sl))
+conditions_scanned (c ∷ cs) (s ∷ ss) t (x ∷ xs) cl sl = ap (λ l. c ∷ l) (conditions_scanned cs ss t xs (omega (arith, cl)) (omega (arith, sl)))
+
+pub suppressions_scanned : (cs ss : List Bool) (t : ℕ) (xs : List PlainAlarm) → length cs ≡ length xs → length ss ≡ length xs → map (λ (a : PlainAlarm). a.suppressed) (scan_each cs ss t xs) ≡ ss
+suppressions_scanned [] [] t [] cl sl = refl
+suppressions_scanned [] (s ∷ ss) t [] cl sl = absurd (omega (arith, sl))
+suppressions_scanned [] ss t (x ∷ xs) cl sl = absurd (omega (arith, cl))
+suppressions_scanned (c ∷ cs) ss t [] cl sl = absurd (omega (arith, cl))
+suppressions_scanned (c ∷ cs) [] t (x ∷ xs) cl sl = absurd (omega (arith, sl))
+suppressions_scanned (c ∷ cs) (s ∷ ss) t (x ∷ xs) cl sl = ap (λ l. s ∷ l) (suppressions_scanned cs ss t xs (omega (arith, cl)) (omega (arith, sl)))
+
 -- the ends of the alarms' shelves up to one place, and one more
 pub ends_more : (alarms : List PlainAlarm) (ends : List ℕ) (i n : ℕ) (d : PlainAlarm) → i < length alarms → length ends ≡ length alarms
     → n ≡ end_or_never (end_of (slice_index_or alarms i d).state)
@@ -175,6 +192,18 @@ ends_all alarms ends i le count h =
     let within : length ends ≤ i = omega arith in
     let within_too : length (map (λ (x : PlainAlarm). end_or_never (end_of x.state)) alarms) ≤ i = rw length-map le in
     sym (take_all i ends within) ∙ h ∙ take_all i (map (λ (x : PlainAlarm). end_or_never (end_of x.state)) alarms) within_too
+
+-- the alarms up to one place are settled, and so is the one there
+pub settled_more : (alarms : List PlainAlarm) (i : ℕ) (r : PlainAlarm) → i < length alarms → r ≡ slice_index_or alarms i r → IsSettled r
+    → ((k : ℕ) (d : PlainAlarm) → k < i → IsSettled (slice_index_or alarms k d)) → (k : ℕ) (d : PlainAlarm) → k < i + 1 → IsSettled (slice_index_or alarms k d)
+settled_more alarms i r lt is here below k d h =
+    elim (cases_lt k i) [
+      | inl less ↦ below k d less
+      | inr last ↦
+          let e : k ≡ i = omega arith in
+          let same : r ≡ slice_index_or alarms k d = is ∙ get_or_default alarms i r d lt ∙ ap (λ j. slice_index_or alarms j d) (sym e) in
+          rw (← same) here
+    ]
 
 -- the ends of shelves up to one place are in range, and so is the one there
 pub time_more : (alarms : List PlainAlarm) (i : ℕ) (r : PlainAlarm) → i < length alarms → r ≡ slice_index_or alarms i r → EndsInRange r.state

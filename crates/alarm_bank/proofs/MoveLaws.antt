@@ -1,14 +1,22 @@
 -- The alarms that a scan moves: how the list of them grows, and what it makes of the bank and of the changes.
-use Rattle.std.proofs.Common.{◌≡◌, ◌≢◌, ℕ, ◌+◌, ◌<◌, ◌≤◌, inl, inr, Bool, true, Option, Some, None, List, [], ◌∷◌, ◌++◌, length, drop, slice_get, slice_index_or, arith, refl, ap, sym, ◌∙◌}
+use Rattle.std.proofs.Common.{◌≡◌, All, ◌≢◌, ℕ, ◌+◌, ◌<◌, ◌≤◌, inl, inr, Bool, true, false, Option, Some, None, List, [], ◌∷◌, ◌++◌, length, drop, slice_get, slice_index_or, arith, refl, ap, sym, ◌∙◌}
 use Rattle.std.proofs.lemmas.List.{drop_more, drop_all, append-nil, append_assoc, set_at, get_or_at, length_push, length-append}
 use Rattle.std.proofs.lemmas.Bool.Decides.{nat_tests}
+use Rattle.std.specs.Prelude.{nat_le}
+use Rattle.std.proofs.lemmas.List.Elements.{All-get_or}
 use Rattle.std.proofs.lemmas.Option.{slice_get-get_or, get_or_from_slice_get}
 use Rattle.alarm_machine.specs.declared.states.Code.{Code}
 use Rattle.alarm_machine.specs.Codes.{PlainChange, code_of, same_code, change_between}
-use Rattle.alarm_machine.specs.Alarms.{PlainAlarm, after_scan}
+use Rattle.alarm_machine.specs.declared.states.AlarmState.{AlarmState}
+use Rattle.alarm_machine.specs.declared.states.AlarmState.TheVariants as state
+use Rattle.alarm_machine.specs.Transitions.{on_scan}
+use Rattle.alarm_machine.specs.Alarms.{PlainAlarm, new_alarm, after_scan, end_of, is_settled}
 use Rattle.alarm_bank.specs.declared.rows.Site.{Site}
-use Rattle.alarm_bank.specs.Banks.{PlainBank, scan_each}
-use Rattle.alarm_bank.specs.Moves.{AreMoved, put_all, changes_from, change_from, changes_by}
+use Rattle.alarm_bank.specs.Banks.{PlainBank, scan_each, IsSettled}
+use Rattle.alarm_bank.specs.Moves.{AreMoved, IsMove, IsMoveAt, UnmarkedStay, NoShelfEnds, put_all, changes_from, change_from, changes_by}
+
+no_alarm : PlainAlarm
+no_alarm = new_alarm false 0
 
 -- a scan of the alarms from a place on
 abbrev scan_rest : ℕ → List Bool → List Bool → ℕ → List PlainAlarm → List PlainAlarm
@@ -60,6 +68,68 @@ pub moves_all : (i : ℕ) (cs ss : List Bool) (t : ℕ) (xs : List PlainAlarm) (
 moves_all i cs ss t xs moved le so_far =
     let none : drop i xs ≡ [] = drop_all i xs le in
     rw (append-nil moved) at (so_far [] (rw (none, scan_none (drop i cs) (drop i ss) t) refl))
+
+-- what is listed of an alarm: nothing if it rests
+abbrev pub listed : ℕ → Option PlainAlarm → List (ℕ × PlainAlarm)
+listed i None = []
+listed i (Some b) = (i, b) ∷ []
+
+-- the list after one alarm more, by what a scan makes of it
+pub one_next : (i : ℕ) (cs ss : List Bool) (t : ℕ) (xs : List PlainAlarm) (moved : List (ℕ × PlainAlarm)) (r : Option PlainAlarm)
+    → i < length xs → length cs ≡ length xs → length ss ≡ length xs → IsMoveAt i cs ss t xs r → MovesOn i cs ss t xs moved → MovesOn (i + 1) cs ss t xs (moved ++ listed i r)
+one_next i cs ss t xs moved r h ce se move so_far =
+    let c = slice_index_or cs i false in
+    let s = slice_index_or ss i false in
+    let a = slice_index_or xs i no_alarm in
+    let c_is : slice_get cs i ≡ Some c = slice_get-get_or cs i false (omega arith) in
+    let s_is : slice_get ss i ≡ Some s = slice_get-get_or ss i false (omega arith) in
+    let a_is : slice_get xs i ≡ Some a = slice_get-get_or xs i no_alarm h in
+    by_move r (move c s a c_is s_is a_is) c_is s_is (sym (get_or_from_slice_get xs i a a a_is))
+  where
+    by_move : (r : Option PlainAlarm) → IsMove (slice_index_or cs i false) (slice_index_or ss i false) t (slice_index_or xs i no_alarm) r → slice_get cs i ≡ Some (slice_index_or cs i false) → slice_get ss i ≡ Some (slice_index_or ss i false)
+        → slice_index_or xs i no_alarm ≡ slice_index_or xs i (slice_index_or xs i no_alarm) → MovesOn (i + 1) cs ss t xs (moved ++ listed i r)
+    by_move None rests c_is s_is a_is = rw (append-nil moved) (rests_next i cs ss t xs moved _ _ _ h ce se c_is s_is a_is rests so_far)
+    by_move (Some b) moves c_is s_is a_is = moves_next i cs ss t xs moved _ _ _ b h ce se c_is s_is a_is moves.1 moves.0 so_far
+
+-- a state that a scan can leave stays in another one with the same condition and suppression, unless a shelf ends
+stays : (l : Bool) (x : AlarmState) (c s : Bool) (t : ℕ) → is_settled x c s ≡ true → ((e : ℕ) → end_of x ≡ Some e → t < e) → on_scan l x c s t ≡ x
+stays l state.Norm false false t h later = refl
+stays l state.Norm true s t h later = absurd (cc h)
+stays l state.Norm false true t h later = absurd (cc h)
+stays l state.Unack true false t h later = refl
+stays l state.Unack false s t h later = absurd (cc h)
+stays l state.Unack true true t h later = absurd (cc h)
+stays l state.Acked true false t h later = refl
+stays l state.Acked false s t h later = absurd (cc h)
+stays l state.Acked true true t h later = absurd (cc h)
+stays l state.Rtnun false false t h later = refl
+stays l state.Rtnun true s t h later = absurd (cc h)
+stays l state.Rtnun false true t h later = absurd (cc h)
+stays l state.Latun false false t h later = refl
+stays l state.Latun true s t h later = absurd (cc h)
+stays l state.Latun false true t h later = absurd (cc h)
+stays l state.Latak false false t h later = refl
+stays l state.Latak true s t h later = absurd (cc h)
+stays l state.Latak false true t h later = absurd (cc h)
+stays l (state.Shelved e) c s t h later = let before : t < e = later e refl in let test : nat_le e t ≡ false = grind (arith, nat_tests) in rw test refl
+stays l state.Suppr c true t h later = refl
+stays l state.Suppr c false t h later = absurd (cc h)
+stays l state.Oos c s t h later = refl
+
+-- so an alarm rests
+settled_rests : (a : PlainAlarm) (t : ℕ) → IsSettled a → ((e : ℕ) → end_of a.state ≡ Some e → t < e) → after_scan a.condition a.suppressed t a ≡ a
+settled_rests a t h later = ap (λ (x : AlarmState). record a { state = x }) (stays a.latching a.state a.condition a.suppressed t h later)
+
+-- one that isn't marked rests, where no shelf ends
+pub unmarked_next : (marks : List Bool) (i : ℕ) (cs ss : List Bool) (t : ℕ) (xs : List PlainAlarm) (moved : List (ℕ × PlainAlarm))
+    → i < length xs → length cs ≡ length xs → length ss ≡ length xs → slice_get marks i ≡ Some false → UnmarkedStay marks cs ss xs → All IsSettled xs → NoShelfEnds t xs
+    → MovesOn i cs ss t xs moved → MovesOn (i + 1) cs ss t xs moved
+unmarked_next marks i cs ss t xs moved h ce se unmarked stay settled later so_far =
+    let a = slice_index_or xs i no_alarm in
+    let a_is : slice_get xs i ≡ Some a = slice_get-get_or xs i no_alarm h in
+    let same = stay i a unmarked a_is in
+    let here : IsSettled a = All-get_or IsSettled xs i no_alarm h settled in
+    rests_next i cs ss t xs moved a.condition a.suppressed a h ce se same.0 same.1 (sym (get_or_from_slice_get xs i a a a_is)) (settled_rests a t here (λ e. later i a e a_is)) so_far
 
 -- the alarms that moved, put in their places after others that stand before them, give the new alarms
 put_after : (n : ℕ) (before old new : List PlainAlarm) (moved : List (ℕ × PlainAlarm)) → length before ≡ n → AreMoved n old new moved → put_all (before ++ old) moved ≡ before ++ new

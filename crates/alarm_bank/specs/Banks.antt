@@ -1,12 +1,12 @@
 -- All alarms together: each takes its step by itself.
-use Rattle.std.specs.Prelude.{◌≡◌, ℕ, ◌^◌, ◌<◌, ◌≤◌, ◌==◌, Bool, ◌&&◌, if◌then◌else◌, nat_le, Option, Some, None, Ok, Err, List, [], ◌∷◌, length, map, All, slice_get, slice_set}
+use Rattle.std.specs.Prelude.{◌≡◌, ℕ, ◌^◌, ◌<◌, ◌≤◌, ◌==◌, Bool, true, ◌&&◌, if◌then◌else◌, nat_le, Option, Some, None, Ok, Err, List, [], ◌∷◌, length, map, All, slice_get, slice_set}
 use Rattle.std.specs.declared.result.Result.{Result}
 use Rattle.alarm_machine.specs.declared.limits.TheConstants.{LAST_MOMENT}
 use Rattle.alarm_machine.specs.declared.states.Verb.{Verb}
 use Rattle.alarm_machine.specs.declared.states.OrderFault.{OrderFault}
 use Rattle.alarm_machine.specs.declared.states.OrderFault.TheVariants as fault
 use Rattle.alarm_machine.specs.Codes.{PlainChange, code_of, change_between}
-use Rattle.alarm_machine.specs.Alarms.{PlainAlarm, after_scan, after_order, end_of, EndsInRange}
+use Rattle.alarm_machine.specs.Alarms.{PlainAlarm, after_scan, after_order, end_of, EndsInRange, is_settled}
 use Rattle.alarm_bank.specs.declared.event.BankEvent.{BankEvent}
 use Rattle.alarm_bank.specs.declared.event.BankEvent.TheVariants as event
 use Rattle.alarm_bank.specs.declared.rows.Site.{Site}
@@ -67,6 +67,10 @@ abbrev pub end_or_never : Option ℕ → ℕ
 end_or_never (Some e) = e
 end_or_never None = 18446744073709551615
 
+-- an alarm's state is one that a scan with its last condition and suppression can leave
+abbrev pub IsSettled : PlainAlarm → Type 0
+IsSettled a = is_settled a.state a.condition a.suppressed ≡ true
+
 -- what is kept beside the alarms
 pub record IsBank (sites : List Site) (alarms : List PlainAlarm) (moment : ℕ) (rows : List Counted) (ends : List ℕ) : Type 0 where
   pub each : length sites ≡ length alarms
@@ -75,6 +79,7 @@ pub record IsBank (sites : List Site) (alarms : List PlainAlarm) (moment : ℕ) 
   pub rows_are : rows ≡ counted sites alarms
   pub ends_are : ends ≡ map (λ a. end_or_never (end_of a.state)) alarms
   pub in_time : All (λ a. EndsInRange a.state) alarms
+  pub settled : All IsSettled alarms
 
 -- the least end of the alarms that are shelved
 pub record IsNextEnd (e : ℕ) (alarms : List PlainAlarm) : Type 0 where

@@ -1,7 +1,7 @@
 -- What a scan moves: the alarms that it leaves otherwise than they were, and the changes of their codes.
-use Rattle.std.specs.Prelude.{◌≡◌, ◌≢◌, ℕ, ◌+◌, ◌⊎◌, Option, Some, None, List, [], ◌∷◌, fold, slice_get, slice_set}
+use Rattle.std.specs.Prelude.{◌≡◌, ◌≢◌, ℕ, ◌+◌, ◌<◌, ◌⊎◌, Bool, false, Option, Some, None, List, [], ◌∷◌, fold, slice_get, slice_set}
 use Rattle.alarm_machine.specs.Codes.{PlainChange, code_of, change_between}
-use Rattle.alarm_machine.specs.Alarms.{PlainAlarm}
+use Rattle.alarm_machine.specs.Alarms.{PlainAlarm, after_scan, end_of}
 
 -- the alarms that aren't what they were, from a number on, in order, each with what it is now; those that rest are passed over
 abbrev pub AreMoved : ℕ → List PlainAlarm → List PlainAlarm → List (ℕ × PlainAlarm) → Type 0
@@ -11,6 +11,23 @@ AreMoved n (a ∷ old) [] moved = ⊥
 AreMoved n (a ∷ old) (b ∷ new) moved =
     ((b ≡ a) × AreMoved (n + 1) old new moved)
     ⊎ ((b ≢ a) × (rest : List (ℕ × PlainAlarm)) × (moved ≡ (n, b) ∷ rest) × AreMoved (n + 1) old new rest)
+
+-- what a scan with condition c, suppression s and moment t makes of an alarm, if it doesn't rest
+abbrev pub IsMove : Bool → Bool → ℕ → PlainAlarm → Option PlainAlarm → Type 0
+IsMove c s t a None = after_scan c s t a ≡ a
+IsMove c s t a (Some b) = (b ≡ after_scan c s t a) × (after_scan c s t a ≢ a)
+
+-- the same of the alarm of a number, by the conditions and suppressions of all
+abbrev pub IsMoveAt : ℕ → List Bool → List Bool → ℕ → List PlainAlarm → Option PlainAlarm → Type 0
+IsMoveAt n cs ss t alarms moved = (c s : Bool) (a : PlainAlarm) → slice_get cs n ≡ Some c → slice_get ss n ≡ Some s → slice_get alarms n ≡ Some a → IsMove c s t a moved
+
+-- an alarm that isn't marked has in a scan the condition and the suppression that it had in the last one
+abbrev pub UnmarkedStay : List Bool → List Bool → List Bool → List PlainAlarm → Type 0
+UnmarkedStay marks cs ss alarms = (n : ℕ) (a : PlainAlarm) → slice_get marks n ≡ Some false → slice_get alarms n ≡ Some a → (slice_get cs n ≡ Some a.condition) × (slice_get ss n ≡ Some a.suppressed)
+
+-- no shelf ends by moment t
+abbrev pub NoShelfEnds : ℕ → List PlainAlarm → Type 0
+NoShelfEnds t alarms = (n : ℕ) (a : PlainAlarm) (e : ℕ) → slice_get alarms n ≡ Some a → end_of a.state ≡ Some e → t < e
 
 -- an alarm is put in the place of its number
 abbrev pub put : List PlainAlarm → ℕ × PlainAlarm → List PlainAlarm

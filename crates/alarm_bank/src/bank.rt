@@ -1,10 +1,10 @@
 //! The alarms of a plant.
 
-ghost use Rattle.std.specs.Prelude.{◌≡◌, ◌≤◌, ◌<◌, ◌^◌, List, length, slice_get, IfSome, IfNone, IfOk, OnOk, All, Some, slice_set, map};
+ghost use Rattle.std.specs.Prelude.{◌≡◌, ◌≤◌, ◌<◌, ◌^◌, List, length, slice_get, IfSome, IfNone, IfOk, OnOk, All, Some, slice_set, map, false};
 ghost use Rattle.alarm_machine.specs.declared.limits.TheConstants.{LAST_MOMENT};
 ghost use Rattle.alarm_machine.specs.Alarms.{PlainAlarm, end_of, EndsInRange};
-ghost use Rattle.alarm_bank.specs.Banks.{IsSite, scan_each, after_event, reply_of, counted, end_or_never, IsNextEnd, NoneShelved};
-ghost use Rattle.alarm_bank.specs.Moves.{AreMoved, put_all, changes_from, change_from};
+ghost use Rattle.alarm_bank.specs.Banks.{IsSite, scan_each, after_event, reply_of, counted, end_or_never, IsNextEnd, NoneShelved, IsSettled};
+ghost use Rattle.alarm_bank.specs.Moves.{AreMoved, IsMoveAt, UnmarkedStay, NoShelfEnds, put_all, changes_from, change_from};
 
 use crate::event::BankEvent;
 use crate::rows::{Counted, Site};
@@ -40,6 +40,7 @@ impl Model for Bank {
 fn end_or_never(alarm: &Alarm) -> u64
     ensures end { result ≡ end_or_never (end_of alarm.now.state) }
     ensures in_range { EndsInRange alarm.now.state }
+    ensures settled { IsSettled alarm.now }
 {
     match alarm.end() {
         Some(end) => end,
@@ -52,6 +53,7 @@ fn shelf_of(alloc: Global, alarms: &[Alarm]) -> Result<Shelf, AllocError>
     requires { length alarms.now < 2 ^ 32 }
     ensures ends { IfOk result (λ shelf. shelf ≡ map (λ a. end_or_never (end_of a.state)) alarms.now) }
     ensures in_time { OnOk result (All (λ a. EndsInRange a.state) alarms.now) }
+    ensures settled { OnOk result (All IsSettled alarms.now) }
 {
     let mut shelf = Shelf::new(alloc, alarms.len())?;
     for at in 0..alarms.len() {
@@ -238,6 +240,33 @@ impl Bank {
         }
     }
 
+    /// Whether a shelf ends by a moment.
+    fn shelf_ends(&self, moment: u64) -> bool
+        ensures { result ≡ false → NoShelfEnds moment self.now.alarms }
+    {
+        match self.next_end() {
+            Some(end) => end <= moment,
+            None => false,
+        }
+    }
+
+    /// The alarm of a number as a scan leaves it, unless it rests.
+    fn moved_one<S: Signals>(&self, number: u32, signals: &S, moment: u64) -> Option<Alarm>
+        requires there { number < length self.now.alarms }
+        requires conditions { length (S.conditions signals.now) ≡ length self.now.alarms }
+        requires suppressions { length (S.suppressions signals.now) ≡ length self.now.alarms }
+        ensures { IsMoveAt number (S.conditions signals.now) (S.suppressions signals.now) moment self.now.alarms result }
+    {
+        let condition = signals.condition(number);
+        let suppression = signals.suppression(number);
+        let mut alarm = self.alarms[number as usize];
+        if alarm.rests(condition, suppression, moment) {
+            return None;
+        }
+        let _ = alarm.scan(condition, suppression, moment);
+        Some(alarm)
+    }
+
     /// Lists the alarms that a scan moves, in order, each by its number and as the scan leaves it; those that rest are passed over. The
     /// bank stays as it is. The list is made in the room of another one, and takes memory only where it grows beyond that. Fails if
     /// allocation fails.
@@ -255,12 +284,39 @@ impl Bank {
         moved.clear();
         for at in 0..self.alarms.len() {
             let number = at as u32;
-            let condition = signals.condition(number);
-            let suppression = signals.suppression(number);
-            let mut alarm = self.alarms[at];
-            if !alarm.rests(condition, suppression, moment) {
-                let _ = alarm.scan(condition, suppression, moment);
+            if let Some(alarm) = self.moved_one(number, signals, moment) {
                 moved.push((number, alarm))?;
+            }
+        }
+        Ok(moved)
+    }
+
+    /// Lists the alarms that a scan moves as `moved` does. It looks at the marked alarms alone, unless a shelf ends by the scan's moment:
+    /// each of the others has the condition and the suppression that it had in the last scan. Fails if allocation fails.
+    pub fn moved_among<S: Signals>(
+        &self,
+        room: Vec<(u32, Alarm)>,
+        marks: &[bool],
+        signals: &S,
+        moment: u64,
+    ) -> Result<Vec<(u32, Alarm)>, AllocError>
+        requires marks { length marks.now ≡ length self.now.alarms }
+        requires unmarked { UnmarkedStay marks.now (S.conditions signals.now) (S.suppressions signals.now) self.now.alarms }
+        requires conditions { length (S.conditions signals.now) ≡ length self.now.alarms }
+        requires suppressions { length (S.suppressions signals.now) ≡ length self.now.alarms }
+        ensures { IfOk result (λ moved. AreMoved 0 self.now.alarms (scan_each (S.conditions signals.now) (S.suppressions signals.now) moment self.now.alarms) moved.items) }
+    {
+        if self.shelf_ends(moment) {
+            return self.moved(room, signals, moment);
+        }
+        let mut moved = room;
+        moved.clear();
+        for at in 0..self.alarms.len() {
+            if marks[at] {
+                let number = at as u32;
+                if let Some(alarm) = self.moved_one(number, signals, moment) {
+                    moved.push((number, alarm))?;
+                }
             }
         }
         Ok(moved)

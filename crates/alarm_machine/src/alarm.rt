@@ -120,10 +120,12 @@ impl Alarm {
         self.suppressed
     }
 
-    /// The moment at which the shelf ends, in milliseconds; `None` unless the alarm is shelved.
+    /// The moment at which the shelf ends, in milliseconds; `None` unless the alarm is shelved. The state is one that a scan with the last
+    /// condition and suppression can leave.
     pub fn end(&self) -> Option<u64>
         ensures end { result ≡ end_of self.now.state }
         ensures in_range { EndsInRange self.now.state }
+        ensures settled { is_settled self.now.state self.now.condition self.now.suppressed ≡ true }
     {
         self.state.end()
     }

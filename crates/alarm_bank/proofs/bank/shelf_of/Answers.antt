@@ -1,7 +1,7 @@
 use Rattle.std.proofs.Common.{◌≡◌, ◌<◌, ◌∙◌, ap, arith, length, length-set, slice_index_or}
 use Rattle.alarm_machine.specs.Alarms.{PlainAlarm, end_of}
 use Rattle.alarm_bank.specs.Banks.{end_or_never}
-use Rattle.alarm_bank.proofs.BankLaws.{ends_more, time_more}
+use Rattle.alarm_bank.proofs.BankLaws.{ends_more, time_more, settled_more}
 use Rattle.alarm_bank.proofs.bank.shelf_of.Goals as goal
 
 pub loop-at-preserved : goal.loop-at-preserved
@@ -13,4 +13,5 @@ loop-at-preserved c =
       ends = rw c.put.ensures (ends_more c.args.alarms.now c.loop-at.shelf c.loop-at.at c.end_or_never-end.result c.index-alarms-at.result within c.loop-at.invariant.count end c.loop-at.invariant.ends);
       count = rw c.put.ensures (length-set c.loop-at.shelf c.loop-at.at c.end_or_never-end.result ∙ c.loop-at.invariant.count);
       in_time = time_more c.args.alarms.now c.loop-at.at c.index-alarms-at.result within c.index-alarms-at.is c.end_or_never-end.ensures.in_range c.loop-at.invariant.in_time;
+      settled = settled_more c.args.alarms.now c.loop-at.at c.index-alarms-at.result within c.index-alarms-at.is c.end_or_never-end.ensures.settled c.loop-at.invariant.settled;
     }

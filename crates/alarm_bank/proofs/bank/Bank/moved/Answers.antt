@@ -1,20 +1,16 @@
-use Rattle.std.proofs.Common.{◌≡◌, ◌<◌, ◌≤◌, ◌∙◌, length, slice_index_or, arith, ap}
+use Rattle.std.proofs.Common.{◌<◌, ◌≤◌, length, Some, None, arith, ap}
+use Rattle.std.proofs.lemmas.List.{append-nil}
 use Rattle.alarm_bank.specs.Banks.{PlainBank}
-use Rattle.alarm_bank.proofs.MoveLaws.{rests_next, moves_next, moves_all}
+use Rattle.alarm_bank.proofs.MoveLaws.{one_next, moves_all}
 use Rattle.alarm_bank.proofs.bank.Bank.moved.Goals as goal
-use Rattle.alarm_bank.proofs.bank.Bank.moved.Goals.{then-not-rests+in_ok-push, else-not-rests}
+use Rattle.alarm_bank.proofs.bank.Bank.moved.Goals.{in-Some+in_ok-push, in_default}
 
 pub loop-at-preserved : goal.loop-at-preserved
 loop-at-preserved g c =
     let within : c.loop-at.at < length c.args.self.now.alarms = omega (arith, ap (λ (b : PlainBank). length b.alarms) c.self.view_is) in
-    let alarm : c.index.result.now ≡ slice_index_or c.args.self.now.alarms c.loop-at.at c.index.result.now =
-    c.index.ensures ∙ ap (λ (b : PlainBank). slice_index_or b.alarms c.loop-at.at c.index.result.now) c.self.view_is in
-    elim c.if-not-rests.branch [
-      | then-not-rests+in_ok-push w ↦
-          rw (w.moved-is, w.in_ok-push.ensures.items)
-          (moves_next _ _ _ _ _ _ _ _ _ _ within c.requires.conditions c.requires.suppressions c.condition-condition.ensures c.suppression-suppression.ensures alarm (λ same. absurd (cc (c.rests.ensures.1 same, w.if-not-rests.true))) w.scan.ensures.alarm c.loop-at.invariant)
-      | else-not-rests w ↦
-          rw w.moved-is (rests_next _ _ _ _ _ _ _ _ _ within c.requires.conditions c.requires.suppressions c.condition-condition.ensures c.suppression-suppression.ensures alarm (c.rests.ensures.0 w.if-not-rests.false) c.loop-at.invariant)
+    elim c.match-moved_one.branch [
+      | in-Some+in_ok-push w ↦ rw (w.moved-is, w.in_ok-push.ensures.items) (one_next _ _ _ _ _ _ (Some w.in-Some.alarm) within c.requires.conditions c.requires.suppressions w.in-Some.ensures c.loop-at.invariant)
+      | in_default w ↦ rw w.moved-is (rw (append-nil c.loop-at.moved.items) at (one_next _ _ _ _ _ c.loop-at.moved.items None within c.requires.conditions c.requires.suppressions w.in_default.ensures c.loop-at.invariant))
     ]
 
 pub returns : goal.returns
