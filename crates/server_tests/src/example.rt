@@ -25,6 +25,16 @@ pub fn example(alloc: Global, source: &[u8]) -> Result<Plant, AllocError> {
     }
 }
 
+/// The plant of a source, or a copy of it.
+pub fn plant_of(alloc: Global, source: &[u8], is_copy: bool) -> Result<Plant, AllocError> {
+    let plant = example(alloc, source)?;
+    if is_copy {
+        plant.copy(alloc)
+    } else {
+        Ok(plant)
+    }
+}
+
 /// The names of its files, each after a space.
 fn listed(alloc: Global) -> Result<String, AllocError> {
     let Ok(files) = Plant::files(alloc, PLANT) else {

@@ -10,7 +10,11 @@ mod again;
 #[cfg(test)]
 mod alarms;
 #[cfg(test)]
+mod banks;
+#[cfg(test)]
 mod blocks;
+#[cfg(test)]
+mod codes;
 #[cfg(test)]
 mod commands;
 #[cfg(test)]
@@ -37,3 +41,5 @@ mod trees;
 mod values;
 #[cfg(test)]
 mod walks;
+#[cfg(test)]
+mod words;

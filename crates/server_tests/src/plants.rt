@@ -1,8 +1,8 @@
-//! What a plant shows by each of its calls (`plant_config`), and its refusals' names of limits.
+//! What a plant and its copy show by each of their calls (`plant_config`), and the refusals' names of limits.
 
 use crate::again::again;
-use crate::example::example;
-use plant_config::{ConfigFault, Limit, Plant};
+use crate::example::plant_of;
+use plant_config::{AlarmRow, ConfigFault, Limit, Plant};
 use plant_file::Console;
 use plant_types::{Kind, Region};
 use plant_walk::{Framed, Walked, walk};
@@ -72,9 +72,9 @@ fn push_names(text: &mut String, plant: &Plant) -> Result<(), AllocError> {
     Ok(())
 }
 
-/// All names of the plant of `SOURCE`.
-fn described(alloc: Global) -> Result<String, AllocError> {
-    let plant = example(alloc, SOURCE)?;
+/// All names of the plant of `SOURCE`, or of its copy.
+fn described(alloc: Global, is_copy: bool) -> Result<String, AllocError> {
+    let plant = plant_of(alloc, SOURCE, is_copy)?;
     let mut text = String::new(alloc);
     push_variables(&mut text, plant.logic())?;
     push_names(&mut text, &plant)?;
@@ -85,7 +85,9 @@ fn described(alloc: Global) -> Result<String, AllocError> {
 fn plants_show_their_names(rt: HostRuntime) -> Result<(), Fail> {
     let want =
         b"Feed %I DINT, b BOOL, C BOOL, x %Q TIME, m %M DINT, y TIME, z DINT, Pump y BOOL, Fill  T1 second north south Feed ratio high Pump Fill";
-    assert!(rt; again(|| described(rt.alloc()))?.as_bytes() == want.as_slice());
+    for is_copy in [false, true] {
+        assert!(rt; again(|| described(rt.alloc(), is_copy))?.as_bytes() == want.as_slice());
+    }
     Ok(())
 }
 
@@ -109,9 +111,14 @@ fn console(console: &Console) -> (u32, Option<u32>) {
     (console.number, console.areas.as_slice().first().copied())
 }
 
+/// Whether an alarm is the one of the example, on the global `C`.
+fn is_example_alarm(row: &AlarmRow) -> bool {
+    (row.area, row.priority, row.condition) == (0, 2, 2)
+        && (row.max_shelve_ms, row.latching, row.suppress) == (5000, false, None)
+}
+
 #[test]
 fn plants_show_their_numbers(rt: HostRuntime) -> Result<(), Fail> {
-    let plant = again(|| example(rt.alloc(), SOURCE))?;
     let want = [
         Some(0),
         None,
@@ -123,23 +130,25 @@ fn plants_show_their_numbers(rt: HostRuntime) -> Result<(), Fail> {
         Some(2),
         Some(1),
     ];
-    assert!(rt; numbers(&plant) == want);
-    assert!(rt; plant.epoch().seconds() == 1_704_067_200);
-    for (shown, want) in plant.consoles().iter().zip([(1, Some(0)), (2, Some(1))]) {
-        assert!(rt; console(shown) == want);
-    }
-    for row in plant.alarm_rows() {
-        assert!(rt; (row.area, row.priority, row.condition) == (0, 2, 2));
-        assert!(rt; (row.max_shelve_ms, row.latching, row.suppress) == (5000, false, None));
+    for is_copy in [false, true] {
+        let plant = again(|| plant_of(rt.alloc(), SOURCE, is_copy))?;
+        assert!(rt; numbers(&plant) == want);
+        assert!(rt; plant.epoch().seconds() == 1_704_067_200);
+        for (shown, want) in plant.consoles().iter().zip([(1, Some(0)), (2, Some(1))]) {
+            assert!(rt; console(shown) == want);
+        }
+        for row in plant.alarm_rows() {
+            assert!(rt; is_example_alarm(row));
+        }
     }
     Ok(())
 }
 
-/// The path at which the first program of a plant stops in its first scan; none where it doesn't stop.
-fn stopped(alloc: Global) -> Result<String, AllocError> {
+/// The path at which the first program of a plant, or of its copy, stops in its first scan; none where it doesn't stop.
+fn stopped(alloc: Global, is_copy: bool) -> Result<String, AllocError> {
     let source =
         b"VAR_GLOBAL c : BOOL; n : DINT; END_VAR FUNCTION_BLOCK F n := 1 / n; END_FUNCTION_BLOCK PROGRAM Pump VAR Of_It : F; END_VAR Of_it(); END_PROGRAM";
-    let plant = example(alloc, source)?;
+    let plant = plant_of(alloc, source, is_copy)?;
     let mut path = String::new(alloc);
     let mut cells = plant.logic().opening(alloc)?;
     if plant.logic().programs().is_empty() {
@@ -153,7 +162,10 @@ fn stopped(alloc: Global) -> Result<String, AllocError> {
 
 #[test]
 fn a_plant_names_paths(rt: HostRuntime) -> Result<(), Fail> {
-    assert!(rt; again(|| stopped(rt.alloc()))?.as_bytes() == b"Pump.Of_It".as_slice());
+    for is_copy in [false, true] {
+        let path = again(|| stopped(rt.alloc(), is_copy))?;
+        assert!(rt; path.as_bytes() == b"Pump.Of_It".as_slice());
+    }
     Ok(())
 }
 
