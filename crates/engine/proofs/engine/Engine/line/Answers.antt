@@ -1,4 +1,4 @@
-use Rattle.std.proofs.Common.{◌≡◌, ◌-◌, ◌<◌, ◌≤◌, ◌∙◌, length, get_or, Some, arith, ap, sym, subst}
+use Rattle.std.proofs.Common.{◌≡◌, ◌-◌, ◌<◌, length, get_or, Some, arith, sym, subst}
 use Rattle.std.specs.Prelude.{slice_get}
 use Rattle.std.proofs.lemmas.Result.{IfOk-weaker}
 use Rattle.std.proofs.lemmas.Option.{slice_get-get_or, slice_get_within}
@@ -8,8 +8,8 @@ use Rattle.engine.specs.Journal.{IsNamed}
 use Rattle.engine.proofs.Journals.{as_many_rows, row_at}
 use Rattle.engine.proofs.engine.Engine.line.Goals as goal
 
-pub row-requires-clause-last : goal.row-requires-clause-last
-row-requires-clause-last c =
+pub row-row-requires-clause-last : goal.row-row-requires-clause-last
+row-row-requires-clause-last c =
     let many = as_many_rows c.self.inside.plant c.self.inside.history.events c.self.inside.log.rows c.self.invariant.journal in
     let last = rw (← c.self.view_is) at c.requires.last in
     omega (arith, many, last)
@@ -20,9 +20,9 @@ returns c =
     let history = c.self.inside.history.events in
     let rows = c.self.inside.log.rows in
     let journal = c.self.invariant.journal in
-    let row = c.row.result in
+    let row = c.row-row.result in
     let k = c.args.number - 1 in
-    let at : slice_get rows k ≡ Some row = c.row.ensures in
+    let at : slice_get rows k ≡ Some row = c.row-row.ensures in
     let within : k < length rows = slice_get_within rows k row at in
     let is : row ≡ get_or rows k row = let f = slice_get-get_or rows k row within in cc in
     let Named : Row → Type 0 = λ r. IsNamed plant r.entry in
