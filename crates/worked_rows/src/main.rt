@@ -14,11 +14,17 @@
 //! - `repeat 5 ack 1 T1` gives a command five times, and prints the answer to the last;
 //! - `with y := 1;` begins the plant anew, with this text in place of the line `..` of one of its files.
 //!
+//! Beside the served engine the plant's programs take the same scans and restarts once more, by their codes and as the source is read, each
+//! over cells of its own. A scan after which these cells differ prints `WALK AND CODE DIFFER` and its moment; an input after which the engine
+//! has another number of events, another moment or another output than they have prints `WALK AND SERVER DIFFER`. The file `stdout` has no
+//! such line.
+//!
 //! Texts are spelled as the crate row_text says. Each run of commands, up to a word of the table, is an input of its own: where its
 //! last line ends in a backslash, the input ends without a line feed.
 #![tactic(auto)]
 
 mod answers;
+mod beside;
 mod plants;
 mod scripts;
 mod table;
