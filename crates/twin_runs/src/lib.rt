@@ -3,6 +3,8 @@
 //! Nothing here is part of the server. Row programs use it to see that both ways end alike and leave the same, scan by scan.
 #![tactic(auto)]
 
+mod scans;
 mod twin;
 
+pub use scans::{Scanned, TwinScans};
 pub use twin::Twin;

@@ -1,0 +1,169 @@
+//! The scans of a plant, as a server takes them.
+
+ghost use Rattle.std.specs.Prelude.{◌≡◌, ◌<◌, length};
+
+use crate::twin::Twin;
+use plant_types::{Pair, Region, Value, fitted};
+use plant_walk::{Framed, Walked};
+use std::alloc::{AllocError, Global};
+
+/// The last moment of all.
+const LAST_MOMENT: u64 = 4_000_000_000_000;
+
+/// How many events a server takes.
+const MOST_EVENTS: u64 = 1_000_000;
+
+/// What became of a scan.
+#[derive(Clone, Copy, PartialEq, Eq, Drop)]
+pub enum Scanned {
+    /// It was refused, and changed nothing.
+    Refused,
+    /// Both ways of each program ended alike, and left the same.
+    Alike,
+    /// They didn't.
+    Apart,
+}
+
+/// The programs of a plant beside a server: they run in both ways in each scan that the server takes. Which scans these are is judged here
+/// anew.
+#[derive(Drop)]
+pub struct TwinScans {
+    twin: Twin,
+    /// Which programs are stopped.
+    stopped: Vec<bool>,
+    /// The moment of the last scan.
+    moment: u64,
+    /// How many scans and orders were taken.
+    events: u64,
+}
+
+/// The input that a pair names and its new value; `None` if the pair names no input, or if its value doesn't fit.
+fn given_input(framed: &Framed, pair: &Pair) -> Option<(usize, i64)> {
+    let number = framed.find_global(pair.name.as_str())?;
+    let global = framed.globals().get(number)?;
+    match global.region {
+        Some(Region::Input) => Some((number, fitted(global.kind, pair.given)?.worth())),
+        _ => None,
+    }
+}
+
+/// The inputs that pairs name and their new values; `None` where a server refuses one of the pairs.
+fn image_of(
+    alloc: Global,
+    framed: &Framed,
+    pairs: &[Pair],
+) -> Result<Option<Vec<(usize, i64)>>, AllocError> {
+    let mut image: Vec<(usize, i64)> = Vec::new(alloc);
+    for pair in pairs {
+        let Some((number, value)) = given_input(framed, pair) else {
+            return Ok(None);
+        };
+        if image.iter().any(|named| named.0 == number) {
+            return Ok(None);
+        }
+        image.push((number, value))?;
+    }
+    Ok(Some(image))
+}
+
+/// Gives inputs their new values.
+fn set_inputs(twin: &mut Twin, image: &[(usize, i64)])
+    ensures { twin.new ≡ twin.old }
+{
+    for (number, value) in image {
+        twin.set(*number, *value);
+    }
+}
+
+/// Runs a program in both ways, unless it is stopped. False if they end apart.
+fn run_program(twin: &mut Twin, stopped: &mut [bool], program: u32, moment: u64) -> bool
+    requires { program < length twin.old.programs }
+    ensures { twin.new ≡ twin.old }
+{
+    let Some(is_stopped) = stopped.get_mut(program as usize) else {
+        return true;
+    };
+    if *is_stopped {
+        return true;
+    }
+    match twin.run(program, moment) {
+        Some(Walked::Done) => true,
+        Some(Walked::Trapped(_, _)) => {
+            *is_stopped = true;
+            true
+        }
+        None => false,
+    }
+}
+
+/// Runs the programs that aren't stopped, in order. False if both ways of one end apart, or leave something else.
+fn run_programs(twin: &mut Twin, stopped: &mut [bool], moment: u64) -> bool
+    ensures { twin.new ≡ twin.old }
+{
+    let mut is_alike = true;
+    for program in 0..twin.programs() {
+        if !run_program(twin, stopped, program, moment) {
+            is_alike = false;
+        }
+    }
+    is_alike && twin.is_alike()
+}
+
+impl TwinScans {
+    /// The programs before the first scan. Fails if allocation fails.
+    pub fn new(alloc: Global, framed: Framed) -> Result<TwinScans, AllocError> {
+        let stopped = vec![in alloc; false; framed.programs().len()]?;
+        let twin = Twin::new(alloc, framed)?;
+        Ok(TwinScans {
+            twin,
+            stopped,
+            moment: 0,
+            events: 0,
+        })
+    }
+
+    /// Takes a scan, if a server takes it. The pairs give inputs their values, by name. Fails if allocation fails.
+    pub fn scan(
+        &mut self,
+        alloc: Global,
+        pairs: &[Pair],
+        moment: u64,
+    ) -> Result<Scanned, AllocError> {
+        if moment > LAST_MOMENT || moment < self.moment || self.events >= MOST_EVENTS {
+            return Ok(Scanned::Refused);
+        }
+        let Some(image) = image_of(alloc, self.twin.framed(), pairs)? else {
+            return Ok(Scanned::Refused);
+        };
+        self.events += 1;
+        self.moment = moment;
+        set_inputs(&mut self.twin, image.as_slice());
+        if run_programs(&mut self.twin, self.stopped.as_mut_slice(), moment) {
+            Ok(Scanned::Alike)
+        } else {
+            Ok(Scanned::Apart)
+        }
+    }
+
+    /// Takes an order, if a server takes it. It may restart a program, given by its number.
+    pub fn order(&mut self, restarted: Option<u32>) {
+        if self.events >= MOST_EVENTS {
+            return;
+        }
+        self.events += 1;
+        if let Some(program) = restarted {
+            if let Some(is_stopped) = self.stopped.get_mut(program as usize) {
+                *is_stopped = false;
+            }
+        }
+    }
+
+    /// Whether a server has taken so many events, its last scan had this moment, and its outputs, by their numbers, have the values that the
+    /// walks have left.
+    pub fn shows(&self, events: u64, moment: u64, outputs: &[(u32, Value)]) -> bool {
+        let values = self.twin.values();
+        self.events == events
+            && self.moment == moment
+            && outputs.iter().all(|output| values.get(output.0 as usize) == Some(&output.1.worth()))
+    }
+}
