@@ -1,0 +1,43 @@
+-- Chains of alarms by global: each links to the one before it that has the same global. A link is one more than the alarm's number, and 0 for none.
+use Rattle.std.specs.Prelude.{◌≡◌, ℕ, ◌+◌, ◌<◌, ◌≤◌, ℤ, Bool, false, Option, Some, None, List, length, map, slice_get, slice_index, slice_index_or}
+use Rattle.alarm_watch.specs.declared.watched.Watch.{Watch}
+
+-- each link goes to an earlier alarm
+abbrev pub GoesDown : List ℕ → Type 0
+GoesDown next = (e : ℕ) → e < length next → slice_index next e ≤ e
+
+-- each chain begins at an alarm that is there
+abbrev pub HaveTops : List ℕ → List ℕ → Type 0
+HaveTops first next = (g : ℕ) → slice_index first g ≤ length next
+
+-- an alarm has a global
+abbrev pub HasKey : List (Option ℕ) → ℕ → ℕ → Type 0
+HasKey keys n g = slice_index_or keys n None ≡ Some g
+
+-- a global's chain begins at the last of its alarms, and each alarm links to the one before it that has the same global
+pub record AreChains (keys : List (Option ℕ)) (first next : List ℕ) : Type 0 where
+  pub size : length next ≡ length keys
+  pub down : GoesDown next
+  pub tops : HaveTops first next
+  pub last : (g n : ℕ) → HasKey keys n g → n < slice_index first g
+  pub begins : (g e : ℕ) → slice_index first g ≡ e + 1 → HasKey keys e g
+  pub before : (g e n : ℕ) → HasKey keys e g → HasKey keys n g → n < e → n < slice_index next e
+  pub links : (g e d : ℕ) → HasKey keys e g → slice_index next e ≡ d + 1 → HasKey keys d g
+
+-- an alarm that isn't marked has a global whose value is what it was
+abbrev pub ChangesAreMarked : List (Option ℕ) → (ℕ → ℤ) → (ℕ → ℤ) → List Bool → Type 0
+ChangesAreMarked keys before now marks = (n g : ℕ) → HasKey keys n g → slice_get marks n ≡ Some false → before g ≡ now g
+
+-- the globals of alarms' conditions
+abbrev pub condition_keys : List Watch → List (Option ℕ)
+condition_keys watches = map (λ watch. Some watch.condition) watches
+
+-- the globals that suppress alarms, if they have one
+abbrev pub suppress_keys : List Watch → List (Option ℕ)
+suppress_keys watches = map (λ watch. watch.suppress) watches
+
+-- the chains by condition and by suppression are those of what alarms watch
+pub record IsIndex (watches : List Watch) (first_condition next_condition first_suppress next_suppress : List ℕ) : Type 0 where
+  pub few : length watches < 4294967296
+  pub conditions : AreChains (condition_keys watches) first_condition next_condition
+  pub suppressions : AreChains (suppress_keys watches) first_suppress next_suppress

@@ -1,0 +1,28 @@
+-- What each alarm watches, and the step of all alarms by that.
+use Rattle.std.specs.Prelude.{◌≡◌, ℕ, ℤ, Bool, false, Option, Some, None, List, map}
+use Rattle.plant_types.specs.Values.{is_true}
+use Rattle.alarm_machine.specs.Alarms.{PlainAlarm}
+use Rattle.alarm_bank.specs.Banks.{scan_each}
+use Rattle.alarm_watch.specs.declared.watched.Watch.{Watch}
+
+-- whether an alarm is suppressed, by the globals' values; one without a suppressing global never is
+abbrev pub suppression : (ℕ → ℤ) → Option ℕ → Bool
+suppression now None = false
+suppression now (Some n) = is_true (now n)
+
+-- the conditions of alarms by what they watch
+abbrev pub watched_conditions : (ℕ → ℤ) → List Watch → List Bool
+watched_conditions now watches = map (λ watch. is_true (now watch.condition)) watches
+
+-- their suppressions
+abbrev pub watched_suppressions : (ℕ → ℤ) → List Watch → List Bool
+watched_suppressions now watches = map (λ watch. suppression now watch.suppress) watches
+
+-- each alarm takes its step by what it watches
+abbrev pub alarms_watched : (ℕ → ℤ) → ℕ → List Watch → List PlainAlarm → List PlainAlarm
+alarms_watched now t watches alarms = scan_each (watched_conditions now watches) (watched_suppressions now watches) t alarms
+
+-- the condition and the suppression of each alarm's last scan are those that its globals have now
+pub record Follow (now : ℕ → ℤ) (watches : List Watch) (alarms : List PlainAlarm) : Type 0 where
+  pub conditions : map (λ a. a.condition) alarms ≡ watched_conditions now watches
+  pub suppressions : map (λ a. a.suppressed) alarms ≡ watched_suppressions now watches

@@ -1,0 +1,137 @@
+//! What all alarms watch, and the alarms that a scan moves.
+
+ghost use Rattle.std.specs.Prelude.{◌≡◌, ◌<◌, ◌^◌, ℕ, true, false, Some, length, map, slice_get, IfOk};
+ghost use Rattle.block_walk.specs.Cells.{value_at};
+ghost use Rattle.alarm_bank.specs.Moves.{AreMoved, UnmarkedStay};
+ghost use Rattle.alarm_watch.specs.Chains.{condition_keys, suppress_keys, ChangesAreMarked};
+ghost use Rattle.alarm_watch.specs.Watched.{alarms_watched, Follow};
+
+use crate::chains::{chains_of, mark_changed};
+use crate::watched::{Watch, Watched};
+use alarm_bank::Bank;
+use alarm_machine::Alarm;
+use block_walk::Cells;
+use std::alloc::{AllocError, Global};
+use std::marker::Model;
+
+/// What each alarm watches, in the order of the alarms, and by each global the alarms that watch it.
+#[derive(Drop)]
+pub struct Watches {
+    watches: Vec<Watch>,
+    first_condition: Vec<u32>,
+    next_condition: Vec<u32>,
+    first_suppress: Vec<u32>,
+    next_suppress: Vec<u32>,
+}
+
+impl Model for Watches {
+    ghost use Rattle.std.specs.Prelude.{List};
+    ghost use Rattle.alarm_watch.specs.declared.watched.Watch.{Watch};
+    ghost use Rattle.alarm_watch.specs.Chains.{IsIndex};
+
+    ghost Value = { List Watch };
+
+    ghost view = { λ w. w.watches.items };
+
+    ghost invariant = { λ w. IsIndex w.watches.items w.first_condition.items w.next_condition.items w.first_suppress.items w.next_suppress.items };
+}
+
+/// The global of each alarm's condition. Fails if allocation fails.
+fn condition_keys(alloc: Global, watches: &[Watch]) -> Result<Vec<Option<u32>>, AllocError>
+    ensures { IfOk result (λ keys. keys.items ≡ condition_keys watches.now) }
+{
+    let mut keys = Vec::new(alloc);
+    for watch in watches {
+        keys.push(Some(watch.condition))?;
+    }
+    Ok(keys)
+}
+
+/// The global that suppresses each alarm, if it has one. Fails if allocation fails.
+fn suppress_keys(alloc: Global, watches: &[Watch]) -> Result<Vec<Option<u32>>, AllocError>
+    ensures { IfOk result (λ keys. keys.items ≡ suppress_keys watches.now) }
+{
+    let mut keys = Vec::new(alloc);
+    for watch in watches {
+        keys.push(watch.suppress)?;
+    }
+    Ok(keys)
+}
+
+/// So many flags, none of them set, in the room of other flags. Fails if allocation fails.
+fn clear_marks(alloc: Global, marks: &mut Vec<bool>, count: usize) -> Result<(), AllocError>
+    ensures { IfOk result (λ r. length marks.new.items ≡ count) }
+{
+    if marks.len() != count {
+        *marks = vec![in alloc; false; count]?;
+        return Ok(());
+    }
+    for mark in marks.iter_mut() {
+        *mark = false;
+    }
+    Ok(())
+}
+
+impl Watches {
+    /// Makes an index of what each alarm watches. Fails if allocation fails.
+    pub fn new(alloc: Global, watches: Vec<Watch>) -> Result<Watches, AllocError>
+        requires { length watches.items < 2 ^ 32 }
+        ensures { IfOk result (λ made. made ≡ watches.items) }
+    {
+        let conditions = condition_keys(alloc, watches.as_slice())?;
+        let (first_condition, next_condition) = chains_of(alloc, conditions.as_slice())?;
+        let suppressions = suppress_keys(alloc, watches.as_slice())?;
+        let (first_suppress, next_suppress) = chains_of(alloc, suppressions.as_slice())?;
+        Ok(Watches {
+            watches,
+            first_condition,
+            next_condition,
+            first_suppress,
+            next_suppress,
+        })
+    }
+
+    /// Marks the alarms one of whose globals holds another number in other cells.
+    fn mark(&self, before: &Cells, now: &Cells, marks: &mut [bool])
+        requires { length marks.old ≡ length self.now }
+        ensures conditions { ChangesAreMarked (condition_keys self.now) (value_at before.now) (value_at now.now) marks.new }
+        ensures suppressions { ChangesAreMarked (suppress_keys self.now) (value_at before.now) (value_at now.now) marks.new }
+    {
+        let first = self.first_condition.as_slice();
+        mark_changed(first, self.next_condition.as_slice(), before, now, marks);
+        let first = self.first_suppress.as_slice();
+        mark_changed(first, self.next_suppress.as_slice(), before, now, marks);
+    }
+
+    /// Lists the alarms of a bank that a scan moves, in order, as `Bank::moved` does; `now` is what the scan's programs leave. Where the
+    /// alarms follow the cells `before`, it looks only at the alarms one of whose globals changed, or at all if a shelf ends. The marks
+    /// are for their room. Fails if allocation fails.
+    pub fn moved(
+        &self,
+        alloc: Global,
+        bank: &Bank,
+        follows: bool,
+        before: &Cells,
+        now: &Cells,
+        moment: u64,
+        marks: &mut Vec<bool>,
+        room: Vec<(u32, Alarm)>,
+    ) -> Result<Vec<(u32, Alarm)>, AllocError>
+        requires each { length bank.now.alarms ≡ length self.now }
+        requires follow { follows ≡ true → Follow (value_at before.now) self.now bank.now.alarms }
+        ensures { IfOk result (λ moved. AreMoved 0 bank.now.alarms (alarms_watched (value_at now.now) moment self.now bank.now.alarms) moved.items) }
+    {
+        let watches = self.watches.as_slice();
+        let signals = Watched {
+            watches,
+            cells: now,
+        };
+        if !follows {
+            return bank.moved(room, &signals, moment);
+        }
+        clear_marks(alloc, marks, watches.len())?;
+        let marks = marks.as_mut_slice();
+        self.mark(before, now, marks);
+        bank.moved_among(room, marks, &signals, moment)
+    }
+}
