@@ -18,7 +18,8 @@ use Rattle.plant_config.specs.declared.rows.AlarmRow.{AlarmRow}
 use Rattle.plant_config.specs.Plants.{PlainPlant, IsAlarmRow, IsBoolGlobal}
 use Rattle.engine.specs.Programs.{global_in, with_input, with_inputs}
 use Rattle.alarm_bank.specs.Banks.{scan_each}
-use Rattle.engine.specs.System.{suppression, conditions, suppressions, alarms_after, is_output, outputs_from, outs_from}
+use Rattle.alarm_watch.specs.Watched.{suppression}
+use Rattle.engine.specs.System.{conditions, suppressions, alarms_after, is_output, outputs_from, outs_from}
 use Rattle.engine.specs.Steps.{with_cell}
 use Rattle.engine.proofs.Images.{has_number}
 

@@ -16,3 +16,4 @@ mod Commits
 mod FewValues
 mod Rooms
 mod Watches
+mod Follows

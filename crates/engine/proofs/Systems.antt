@@ -37,6 +37,8 @@ use Rattle.plant_config.specs.Names.{globals_of, programs_of, body_paths}
 use Rattle.engine.specs.Programs.{Scanned, opening_faulted, after_run, programs_from, with_inputs, global_in, world_after}
 use Rattle.engine.specs.Orders.{order_outcome, alarms_by, faulted_by, reply_by}
 use Rattle.engine.specs.System.{System, system, after_event, taken_scan, scan_event, order_event, opening_system, opening_alarm, scanned_by, after_scan_event, ordered, conditions, suppressions, alarms_after, sites_of, outputs_from, out_at, outs_from}
+use Rattle.alarm_watch.specs.declared.watched.Watch.{Watch}
+use Rattle.alarm_watch.specs.Watched.{Follow}
 use Rattle.engine.specs.Watches.{watches_of}
 use Rattle.engine.specs.Journal.{IsJournal}
 use Rattle.engine.specs.Lawful.{IsTaken, IsLawfulHistory}
@@ -44,6 +46,7 @@ use Rattle.engine.specs.Reports.{PlainReport}
 use Rattle.engine.specs.Engines.{PlainEngine, PlainState, PlainScanEffect, PlainPrepared, PlainPreparedOrder, after_effect, Fits, FitsOrder, IsState, IsEngine, IsReport, state_of}
 use Rattle.engine.specs.Steps.{ProgramsRan, ScanRan, IsPreparedScan, IsPreparedOrder}
 use Rattle.engine.proofs.CellWorlds.{inputs_stand, values_stand, alarms_same, outputs_stand, outs_stand}
+use Rattle.engine.proofs.Follows.{follow_order}
 use Rattle.engine.proofs.Images.{has_number, taken_within}
 
 event_holds : (s : System) (e : Event) → (after_event s e).plant ≡ s.plant
@@ -171,6 +174,7 @@ scan_agrees sys old new image t r is within held made =
       faulted_is = runs.faulted_is;
       sites_are = made.sites_are ∙ held.sites_are;
       watches_are = made.watches_are ∙ held.watches_are;
+      follow = λ _. made.follow;
       alarms_are = made.alarms_are ∙ alarms_same plant (value_at new.cells) look t plant.alarms old.alarms now is.alarms ∙ ap (alarms_after look t plant.alarms) held.alarms_are;
       outputs_are = made.outputs_are ∙ outputs_stand plant.source (value_at new.cells) look now;
       moment_is = made.moment_is;
@@ -240,6 +244,9 @@ effect_anywhere sys next old k effect held keeps after = record {
   faulted_is = after.faulted_is;
   sites_are = keeps.sites_are ∙ sym held.sites_are ∙ after.sites_are;
   watches_are = keeps.watches_are ∙ sym held.watches_are ∙ after.watches_are;
+  follow = λ _.
+      subst (λ (watches : List Watch). Follow (value_at effect.cells) watches (put_all k.alarms effect.moved)) (held.watches_are ∙ sym keeps.watches_are)
+      (subst (λ (alarms : List PlainAlarm). Follow (value_at effect.cells) old.watches (put_all alarms effect.moved)) (held.alarms_are ∙ sym keeps.alarms_are) (after.follow refl));
   alarms_are = ap (λ l. put_all l effect.moved) (keeps.alarms_are ∙ sym held.alarms_are) ∙ after.alarms_are;
   outputs_are = after.outputs_are;
   moment_is = after.moment_is;
@@ -281,6 +288,7 @@ order_agrees e p old held fits =
       faulted_is = ap (λ d. faulted_by d old.faulted) fits.done_is ∙ ap (faulted_by (ordered sys p.console p.order)) held.faulted_is;
       sites_are = held.sites_are;
       watches_are = held.watches_are;
+      follow = λ is. follow_order (value_at old.cells) old.watches sys.plant old.alarms sys.faulted sys.moment p.console p.order p.done (fits.done_is ∙ ap (λ l. order_outcome sys.plant l sys.faulted sys.moment p.console p.order) (sym held.alarms_are)) (held.follow is);
       alarms_are = ap (λ d. alarms_by d old.alarms) fits.done_is ∙ ap (alarms_by (ordered sys p.console p.order)) held.alarms_are;
       outputs_are = held.outputs_are;
       moment_is = held.moment_is;
@@ -304,14 +312,15 @@ sites_there plant is =
     (All-weaker (IsAlarmRow plant) (λ row. IsSite (length plant.areas) (site row)) (λ row there. record { area = there.area; lowest = there.lowest; highest = there.highest }) plant.alarms is.alarms)
 
 -- before the first event
-pub opening_agrees : (plant : PlainPlant) (k : PlainState) → IsPlant plant → StandFor plant.source k.cells (opening plant.source) → k.faulted ≡ opening_faulted (programs_of plant) → k.sites ≡ sites_of plant.alarms → k.watches ≡ watches_of plant.alarms → k.alarms ≡ map opening_alarm plant.alarms → k.outputs ≡ outputs_from 0 plant.source.globals (value_at k.cells) → k.moment ≡ 0 → IsLawfulHistory plant [] → IsJournal plant [] [] → IsEngine plant [] [] k
-opening_agrees plant k is stands faulted sites watches alarms outputs moment lawful journal =
+pub opening_agrees : (plant : PlainPlant) (k : PlainState) → IsPlant plant → StandFor plant.source k.cells (opening plant.source) → k.faulted ≡ opening_faulted (programs_of plant) → k.sites ≡ sites_of plant.alarms → k.watches ≡ watches_of plant.alarms → k.follows ≡ false → k.alarms ≡ map opening_alarm plant.alarms → k.outputs ≡ outputs_from 0 plant.source.globals (value_at k.cells) → k.moment ≡ 0 → IsLawfulHistory plant [] → IsJournal plant [] [] → IsEngine plant [] [] k
+opening_agrees plant k is stands faulted sites watches never alarms outputs moment lawful journal =
     record {
       state_is = subst (λ (s : System). IsState s k) (sym (system_none plant)) (record {
         world_stands = stands;
         faulted_is = faulted;
         sites_are = sites;
         watches_are = watches;
+        follow = λ is. absurd (let both : true ≡ false = sym is ∙ never in cc);
         alarms_are = alarms;
         outputs_are = outputs ∙ outputs_stand plant.source (value_at k.cells) (global_in (globals_of plant) (opening plant.source)) (values_stand plant.source k.cells (opening plant.source) stands);
         moment_is = moment;

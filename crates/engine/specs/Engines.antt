@@ -1,9 +1,9 @@
 -- What an engine shows, what a scan reports, and when something made ready fits an engine.
-use Rattle.std.specs.Prelude.{◌≡◌, ℕ, ◌+◌, ◌<◌, ◌≤◌, nat_le, Bool, List, [], ◌∷◌, ◌++◌, length, map, All, Result, Ok, refl, if◌then◌else◌}
+use Rattle.std.specs.Prelude.{◌≡◌, ℕ, ◌+◌, ◌<◌, ◌≤◌, nat_le, Bool, true, List, [], ◌∷◌, ◌++◌, length, map, All, Result, Ok, refl, if◌then◌else◌}
 use Rattle.std.specs.Coded.{Coded, code_by, coded×, coded_list, coded_ℕ}
 use Rattle.plant_types.specs.Pairs.{PlainPair}
 use Rattle.plant_types.specs.declared.values.Value.{Value}
-use Rattle.block_walk.specs.Cells.{PlainCells}
+use Rattle.block_walk.specs.Cells.{PlainCells, value_at}
 use Rattle.block_frames.specs.Stands.{StandFor}
 use Rattle.plant_walk.specs.Runs.{place_spot}
 use Rattle.journal_core.specs.declared.row.Row.{Row}
@@ -22,7 +22,8 @@ use Rattle.event_history.specs.declared.event.Order.{Order}
 use Rattle.event_history.specs.Histories.{PlainHistory}
 use Rattle.engine.specs.declared.event.Reply.{Reply}
 use Rattle.engine.specs.declared.state.Effect.{Effect}
-use Rattle.engine.specs.declared.watched.Watch.{Watch}
+use Rattle.alarm_watch.specs.declared.watched.Watch.{Watch}
+use Rattle.alarm_watch.specs.Watched.{Follow}
 use Rattle.engine.specs.Reports.{PlainReport}
 use Rattle.engine.specs.System.{System, system, after_event, scan_event, faults_of, changes_of, outs_of, outputs_of, sites_of, ordered, reply_to}
 use Rattle.engine.specs.Watches.{watches_of}
@@ -50,12 +51,13 @@ engine_code =
     code_by (PlainPlant × (List Event × (ℕ × ℕ))) (coded× plant_code (coded× (coded_list event_row.the_row.coded) (coded× coded_ℕ coded_ℕ)))
     (λ e. (e.plant, (e.history, (e.room, e.row_room)))) (λ p. record { plant = p.0; history = p.1.0; room = p.1.1.0; row_room = p.1.1.1 }) (λ _. refl)
 
--- what an engine keeps beside its plant and its history: the cells of the variables and clocks, the faulted programs, the area and priority of each alarm and what it watches, the alarms, the outputs and the last moment
+-- what an engine keeps beside its plant and its history: the cells of the variables and clocks, the faulted programs, the area and priority of each alarm and what it watches, whether there was a scan, so that the alarms follow the cells, the alarms, the outputs and the last moment
 pub record PlainState : Type 0 where
   pub cells : PlainCells
   pub faulted : List Bool
   pub sites : List Site
   pub watches : List Watch
+  pub follows : Bool
   pub alarms : List PlainAlarm
   pub outputs : List (ℕ × Value)
   pub moment : ℕ
@@ -66,6 +68,7 @@ pub record IsState (sys : System) (k : PlainState) : Type 0 where
   pub faulted_is : k.faulted ≡ sys.faulted
   pub sites_are : k.sites ≡ sites_of sys.plant.alarms
   pub watches_are : k.watches ≡ watches_of sys.plant.alarms
+  pub follow : k.follows ≡ true → Follow (value_at k.cells) k.watches k.alarms
   pub alarms_are : k.alarms ≡ sys.alarms
   pub outputs_are : k.outputs ≡ outputs_of sys
   pub moment_is : k.moment ≡ sys.moment
@@ -99,7 +102,7 @@ pub record PlainScanEffect : Type 0 where
 -- a state after that: the alarms that moved are put in their places, the others rest
 abbrev pub after_effect : PlainScanEffect → PlainState → PlainState
 after_effect effect k =
-    record k { cells = effect.cells; faulted = effect.faulted; alarms = put_all k.alarms effect.moved; outputs = effect.outputs; moment = effect.moment }
+    record k { cells = effect.cells; faulted = effect.faulted; follows = true; alarms = put_all k.alarms effect.moved; outputs = effect.outputs; moment = effect.moment }
 
 -- a scan that was made ready: its event, what it does and what it reports
 pub record PlainPrepared : Type 0 where

@@ -25,6 +25,7 @@ use Rattle.engine.specs.Programs.{Scanned, programs_from}
 use Rattle.engine.specs.System.{taken_scan, alarms_after, outputs_from, outs_from}
 use Rattle.engine.specs.Engines.{PlainState, PlainPrepared, PlainPreparedOrder, after_effect}
 use Rattle.event_history.specs.declared.event.Order.{Order}
+use Rattle.alarm_watch.specs.Watched.{Follow}
 use Rattle.engine.specs.Orders.{order_outcome, reply_by}
 
 -- an output, with the value that it has now
@@ -75,6 +76,7 @@ pub record ScanRan (plant : PlainPlant) (old : PlainState) (image : List (ℕ ×
   pub faults_within : All (λ f. f.0.path < length (paths_of plant.source)) r.faults
   pub sites_are : new.sites ≡ old.sites
   pub watches_are : new.watches ≡ old.watches
+  pub follow : Follow (value_at new.cells) new.watches new.alarms
   pub alarms_are : new.alarms ≡ alarms_after (value_at new.cells) t plant.alarms old.alarms
   pub changes_are : r.changes ≡ changes_from 0 old.alarms new.alarms
   pub outputs_are : new.outputs ≡ outputs_from 0 (globals_of plant) (value_at new.cells)

@@ -17,6 +17,7 @@ use Rattle.alarm_bank.specs.declared.rows.Site.{Site}
 use Rattle.alarm_bank.specs.declared.rows.Counted.{Counted}
 use Rattle.alarm_bank.specs.Banks.{scan_each, counted}
 use Rattle.alarm_bank.specs.Moves.{changes_from}
+use Rattle.alarm_watch.specs.Watched.{suppression}
 use Rattle.plant_config.specs.declared.rows.AlarmRow.{AlarmRow}
 use Rattle.plant_config.specs.Plants.{PlainPlant}
 use Rattle.plant_config.specs.Names.{globals_of, programs_of}
@@ -56,11 +57,6 @@ opening_system plant = record {
   moment = 0;
   events = 0;
 }
-
--- whether an alarm is suppressed, by the globals' values; one without a suppressing global never is
-abbrev pub suppression : (ℕ → ℤ) → Option ℕ → Bool
-suppression now None = false
-suppression now (Some n) = is_true (now n)
 
 -- the conditions of alarms, by the globals' values
 abbrev pub conditions : (ℕ → ℤ) → List AlarmRow → List Bool

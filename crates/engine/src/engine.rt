@@ -61,6 +61,7 @@ impl Engine {
             inputs: Vec::new(alloc),
             image: Vec::new(alloc),
             stack: Stack::new(alloc)?,
+            marks: Vec::new(alloc),
         };
         Ok(Engine {
             plant,
@@ -141,7 +142,7 @@ impl Engine {
     /// `MomentRange` (E2) above 4,000,000,000,000, `MomentBack` (E1) before the last scan, `ImageName` (E3) for a name that is no input
     /// or comes twice, `ImageKind` (E4) for a value that doesn't fit its input, `HistoryFull` (E6) at 1,000,000 events. `Memory` comes
     /// only if allocation fails: of room for the image and its inputs, for what it leaves of the variables and outputs and for the alarms that it
-    /// moves, of a flag for each global if the image has more than 16 inputs, of the report's lists and of its rows.
+    /// moves, of a mark for each alarm, of a flag for each global if the image has more than 16 inputs, of the report's lists and of its rows.
     pub fn prepare(
         &mut self,
         alloc: Global,

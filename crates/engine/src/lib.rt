@@ -14,7 +14,6 @@ mod orders;
 mod scan;
 mod state;
 mod steps;
-mod watched;
 
 pub use engine::Engine;
 pub use event::{EngineFault, Reply, Report};

@@ -1,6 +1,6 @@
 //! How a scan is made ready.
 
-ghost use Rattle.std.specs.Prelude.{◌≡◌, ◌≤◌, length, All, IfOk, IfErr};
+ghost use Rattle.std.specs.Prelude.{◌≡◌, ◌≤◌, true, length, All, IfOk, IfErr};
 ghost use Rattle.alarm_machine.specs.declared.limits.TheConstants.{LAST_MOMENT};
 ghost use Rattle.plant_config.specs.Names.{globals_of, programs_of};
 ghost use Rattle.block_walk.specs.Cells.{value_at};
@@ -8,6 +8,7 @@ ghost use Rattle.plant_walk.specs.Sound.{IsSound};
 ghost use Rattle.engine.specs.Image.{IsDue, FitsGlobal};
 ghost use Rattle.engine.specs.System.{taken_scan, outputs_from};
 ghost use Rattle.engine.specs.Engines.{after_effect};
+ghost use Rattle.alarm_watch.specs.Watched.{Follow};
 ghost use Rattle.engine.specs.Watches.{watches_of};
 ghost use Rattle.engine.specs.Steps.{ScanRan, IsPreparedScan, StandInRange};
 
@@ -51,6 +52,8 @@ pub struct Room {
     pub image: Vec<(u32, Value)>,
     /// For the programs' runs.
     pub stack: Stack,
+    /// For the marks of the alarms that may move.
+    pub marks: Vec<bool>,
 }
 
 /// Runs a scan on copies of what a state has, and returns what it does to the state, in the room of another's, and what it reports. Fails if
@@ -60,6 +63,7 @@ fn run_scan(
     plant: &Plant,
     old: &State,
     stack: &mut Stack,
+    marks: &mut Vec<bool>,
     room: ScanEffect,
     image: &[(u32, Value)],
     moment: u64,
@@ -67,6 +71,7 @@ fn run_scan(
     requires programs { length old.now.faulted ≡ length (programs_of plant.now) }
     requires alarms { length old.now.alarms ≡ length plant.now.alarms }
     requires watches { old.now.watches ≡ watches_of plant.now.alarms }
+    requires follow { old.now.follows ≡ true → Follow (value_at old.now.cells) old.now.watches old.now.alarms }
     requires outputs { old.now.outputs ≡ outputs_from 0 (globals_of plant.now) (value_at old.now.cells) }
     requires range { moment ≤ LAST_MOMENT }
     requires sound { IsSound plant.now.source }
@@ -85,8 +90,7 @@ fn run_scan(
     set_inputs(image, &mut cells);
     let mut faulted = copied_flags(old.faulted.as_slice(), room_of_flags)?;
     let faults = run_programs(alloc, plant, moment, stack, &mut cells, &mut faulted)?;
-    let watches = old.watches.as_slice();
-    let (moved, changes) = step_alarms(alloc, watches, &cells, moment, &old.bank, room_of_moved)?;
+    let (moved, changes) = step_alarms(alloc, old, &cells, moment, marks, room_of_moved)?;
     let outputs = renewed(old.outputs.as_slice(), &cells, room_of_outputs)?;
     let outs = changed(alloc, outputs.as_slice(), &old.cells, &cells)?;
     let effect = ScanEffect {
@@ -118,6 +122,7 @@ pub fn prepared_scan(
     requires programs { length old.now.faulted ≡ length (programs_of plant.now) }
     requires alarms { length old.now.alarms ≡ length plant.now.alarms }
     requires watches { old.now.watches ≡ watches_of plant.now.alarms }
+    requires follow { old.now.follows ≡ true → Follow (value_at old.now.cells) old.now.watches old.now.alarms }
     requires outputs { old.now.outputs ≡ outputs_from 0 (globals_of plant.now) (value_at old.now.cells) }
     requires sound { IsSound plant.now.source }
     requires values { StandInRange plant.now.source old.now.cells }
@@ -128,7 +133,8 @@ pub fn prepared_scan(
     let spare = room.spare.take().unwrap_or(empty_effect(alloc));
     let image = room.image.as_slice();
     let stack = &mut room.stack;
-    let (effect, report) = run_scan(alloc, plant, old, stack, spare, image, moment)?;
+    let marks = &mut room.marks;
+    let (effect, report) = run_scan(alloc, plant, old, stack, marks, spare, image, moment)?;
     let image = replace(&mut room.image, Vec::new(alloc));
     Ok(Prepared {
         image,

@@ -6,11 +6,12 @@ ghost use Rattle.alarm_machine.specs.declared.limits.TheConstants.{LAST_MOMENT};
 ghost use Rattle.engine.specs.Engines.{IsEngine, after_effect};
 ghost use Rattle.engine.specs.Orders.{alarms_by, faulted_by};
 ghost use Rattle.engine.specs.System.{opening_alarm, sites_of};
+ghost use Rattle.engine.specs.Watches.{watches_of};
 
-use crate::steps::{opening_alarms, opening_sites, outputs};
-use crate::watched::{Watch, watches_of};
+use crate::steps::{opening_alarms, opening_sites, outputs, watches_of};
 use alarm_bank::Bank;
 use alarm_machine::{Alarm, AlarmState, OrderFault};
+use alarm_watch::Watches;
 use block_walk::Cells;
 use plant_config::Plant;
 use plant_types::Value;
@@ -28,7 +29,9 @@ pub struct State {
     /// The alarms, in the order of the database, and the moment of the last scan.
     pub bank: Bank,
     /// What each alarm watches.
-    pub watches: Vec<Watch>,
+    pub watches: Watches,
+    /// Whether there was a scan: then each alarm's last condition and suppression are what its globals hold in the cells.
+    pub follows: bool,
     /// The outputs and their values, in order of declaration.
     pub outputs: Vec<(u32, Value)>,
 }
@@ -38,7 +41,7 @@ impl Model for State {
 
     ghost Value = { PlainState };
 
-    ghost view = { λ s. record { cells = s.cells; faulted = s.faulted.items; sites = s.bank.sites; watches = s.watches.items; alarms = s.bank.alarms; outputs = s.outputs.items; moment = s.bank.moment } };
+    ghost view = { λ s. record { cells = s.cells; faulted = s.faulted.items; sites = s.bank.sites; watches = s.watches; follows = s.follows; alarms = s.bank.alarms; outputs = s.outputs.items; moment = s.bank.moment } };
 }
 
 /// What a scan does to a state.
@@ -83,6 +86,14 @@ fn opening_bank(alloc: Global, plant: &Plant) -> Result<Bank, AllocError>
     Bank::new(alloc, plant.areas(), sites, alarms)
 }
 
+/// What the alarms of a plant watch. Fails if allocation fails.
+fn opening_watches(alloc: Global, plant: &Plant) -> Result<Watches, AllocError>
+    ensures { IfOk result (λ watches. watches ≡ watches_of plant.now.alarms) }
+{
+    let watches = watches_of(alloc, plant.alarm_rows())?;
+    Watches::new(alloc, watches)
+}
+
 /// The state before the first event: each variable has its initial value, no program is faulted, and each alarm is normal. Fails if
 /// allocation fails.
 pub fn opening_state(alloc: Global, plant: &Plant) -> Result<State, AllocError>
@@ -92,13 +103,14 @@ pub fn opening_state(alloc: Global, plant: &Plant) -> Result<State, AllocError>
     let cells = logic.opening(alloc)?;
     let outputs = outputs(alloc, logic.globals(), &cells)?;
     let bank = opening_bank(alloc, plant)?;
-    let watches = watches_of(alloc, plant.alarm_rows())?;
+    let watches = opening_watches(alloc, plant)?;
     let faulted = vec![in alloc; false; plant.programs() as usize]?;
     Ok(State {
         cells,
         faulted,
         bank,
         watches,
+        follows: false,
         outputs,
     })
 }
@@ -157,6 +169,7 @@ pub fn apply_scan(effect: ScanEffect, state: &mut State) -> ScanEffect
         moment,
     } = effect;
     state.bank.apply(moved.as_slice(), moment);
+    state.follows = true;
     ScanEffect {
         cells: replace(&mut state.cells, cells),
         faulted: replace(&mut state.faulted, faulted),

@@ -1,6 +1,6 @@
 //! The parts of a scan: inputs, programs, alarms and outputs.
 
-ghost use Rattle.std.specs.Prelude.{◌≡◌, ◌<◌, ◌^◌, length, fold, map, IfOk, IfSome, All, ◌≤◌};
+ghost use Rattle.std.specs.Prelude.{◌≡◌, ◌<◌, ◌^◌, true, length, fold, map, IfOk, IfSome, All, ◌≤◌};
 ghost use Rattle.std.specs.List.{filter};
 ghost use Rattle.alarm_machine.specs.declared.limits.TheConstants.{LONGEST_SHELVE_MS};
 ghost use Rattle.plant_logic.specs.Worlds.{World};
@@ -11,13 +11,15 @@ ghost use Rattle.plant_walk.specs.Runs.{Agree, HasCells};
 ghost use Rattle.plant_config.specs.Names.{programs_of};
 ghost use Rattle.engine.specs.Programs.{programs_from};
 ghost use Rattle.engine.specs.System.{opening_alarm, sites_of, is_output, outputs_from};
-ghost use Rattle.engine.specs.Watches.{alarms_watched};
+ghost use Rattle.engine.specs.Watches.{watches_of};
+ghost use Rattle.alarm_watch.specs.Watched.{alarms_watched, Follow};
 ghost use Rattle.alarm_bank.specs.Moves.{put_all, changes_from};
 ghost use Rattle.engine.specs.Steps.{with_cell, run_by, ended_by, ProgramsRan, output_in, differs, IsShowable, AreShowable};
 
-use crate::watched::{Watch, Watched, value_at};
-use alarm_bank::{Bank, Site};
+use crate::state::State;
+use alarm_bank::Site;
 use alarm_machine::{Alarm, Change};
+use alarm_watch::{Watch, value_at};
 use block_walk::Cells;
 use plant_config::{AlarmRow, Plant};
 use plant_logic::Variable;
@@ -115,22 +117,40 @@ pub fn opening_sites(alloc: Global, rows: &[AlarmRow]) -> Result<Vec<Site>, Allo
     Ok(sites)
 }
 
-/// The alarms that a scan moves, each as the scan leaves it, listed in the room of another list, and the changes of their codes in the
-/// order of the database. The bank stays. Fails if allocation fails.
+/// What each alarm watches, one for each row. Fails if allocation fails.
+pub fn watches_of(alloc: Global, rows: &[AlarmRow]) -> Result<Vec<Watch>, AllocError>
+    ensures { IfOk result (λ watches. watches.items ≡ watches_of rows.now) }
+{
+    let mut watches = Vec::new(alloc);
+    for row in rows {
+        watches.push(Watch {
+            condition: row.condition,
+            suppress: row.suppress,
+        })?;
+    }
+    Ok(watches)
+}
+
+/// The alarms of a state that a scan moves which leaves these cells, each as it leaves it, listed in the room of another list, and the changes
+/// of their codes in the order of the database. The state stays. Fails if allocation fails.
 pub fn step_alarms(
     alloc: Global,
-    watches: &[Watch],
+    old: &State,
     cells: &Cells,
     moment: u64,
-    bank: &Bank,
+    marks: &mut Vec<bool>,
     room: Vec<(u32, Alarm)>,
 ) -> Result<(Vec<(u32, Alarm)>, Vec<(u32, Change)>), AllocError>
-    requires { length bank.now.alarms ≡ length watches.now }
-    ensures alarms { IfOk result (λ r. put_all bank.now.alarms r.0.items ≡ alarms_watched (value_at cells.now) moment watches.now bank.now.alarms) }
-    ensures changes { IfOk result (λ r. r.1.items ≡ changes_from 0 bank.now.alarms (alarms_watched (value_at cells.now) moment watches.now bank.now.alarms)) }
+    requires each { length old.now.alarms ≡ length old.now.watches }
+    requires follow { old.now.follows ≡ true → Follow (value_at old.now.cells) old.now.watches old.now.alarms }
+    ensures alarms { IfOk result (λ r. put_all old.now.alarms r.0.items ≡ alarms_watched (value_at cells.now) moment old.now.watches old.now.alarms) }
+    ensures changes { IfOk result (λ r. r.1.items ≡ changes_from 0 old.now.alarms (alarms_watched (value_at cells.now) moment old.now.watches old.now.alarms)) }
 {
-    let signals = Watched { watches, cells };
-    let moved = bank.moved(room, &signals, moment)?;
+    let bank = &old.bank;
+    let before = &old.cells;
+    let moved = old
+        .watches
+        .moved(alloc, bank, old.follows, before, cells, moment, marks, room)?;
     let changes = bank.changes(alloc, moved.as_slice())?;
     Ok((moved, changes))
 }

@@ -7,7 +7,8 @@ use Rattle.engine.specs.Steps.{with_cell, output_in}
 use Rattle.engine.proofs.InRange.{inputs_have_cells, scan_stands}
 use Rattle.engine.proofs.Shown.{cells_showable, outputs_showable}
 use Rattle.engine.proofs.Outs.{outputs_renewed, outs_differ}
-use Rattle.engine.proofs.Watches.{step_watched}
+use Rattle.alarm_watch.proofs.WatchLaws.{follow_after}
+use Rattle.engine.proofs.Watches.{step_watched, each_watched}
 use Rattle.engine.proofs.scan.run_scan.Goals as goal
 
 pub returns : goal.returns
@@ -16,8 +17,9 @@ returns c =
     let before = value_at c.args.old.now.cells in
     let now = value_at c.run_programs.new.cells in
     let made = c.in_ok-outputs.ensures ∙ ap (map (output_in now)) (c.as_slice-2.ensures.value ∙ ap (λ (k : PlainState). k.outputs) c.old.view_is) in
-    let watches = c.as_slice-watches.ensures.value ∙ ap (λ (k : PlainState). k.watches) c.old.view_is ∙ c.requires.watches in
-    let stepped = step_watched now c.args.moment c.args.plant.now.alarms c.as_slice-watches.result.now c.args.old.now.alarms watches in
+    let old = c.args.old.now in
+    let stepped = step_watched now c.args.moment c.args.plant.now.alarms old.watches old.alarms c.requires.watches in
+    let each = each_watched c.args.plant.now.alarms old.watches old.alarms c.requires.watches c.requires.alarms in
     let outputs : c.in_ok-outputs.outputs.items ≡ outputs_from 0 globals now = outputs_renewed globals before now c.args.old.now.outputs c.in_ok-outputs.outputs.items c.requires.outputs made in
     let outs : c.in_ok-outs.outs.items ≡ outs_from 0 globals before now = outs_differ globals before now c.in_ok-outputs.outputs.items c.in_ok-outs.outs.items outputs (search rules) in
     record {
@@ -25,6 +27,7 @@ returns c =
       faults_within = search rules;
       sites_are = search rules;
       watches_are = search rules;
+      follow = rw (c.in_ok-moved.ensures.alarms) (follow_after now c.args.moment old.watches old.alarms each);
       alarms_are = search rules ∙ stepped;
       changes_are = search rules;
       outputs_are = outputs;
@@ -47,3 +50,6 @@ run_programs-requires-clause-cells c =
     let source = c.args.plant.now.source in
     let set : c.set_inputs.new.cells ≡ fold with_cell c.args.old.now.cells c.args.image.now = search rules in
     subst (HasCells source) (sym set) (inputs_have_cells source c.args.old.now.cells c.args.image.now c.requires.sound c.requires.image c.requires.values)
+
+pub step_alarms-requires-clause-each : goal.step_alarms-requires-clause-each
+step_alarms-requires-clause-each c = each_watched c.args.plant.now.alarms c.args.old.now.watches c.args.old.now.alarms c.requires.watches c.requires.alarms

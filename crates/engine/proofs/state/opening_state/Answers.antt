@@ -1,9 +1,8 @@
-use Rattle.std.proofs.Common.{◌∙◌, ap, subst}
+use Rattle.std.proofs.Common.{◌∙◌, ap, subst, refl}
 use Rattle.alarm_bank.specs.Banks.{PlainBank}
 use Rattle.plant_logic.specs.Source.{Source}
 use Rattle.plant_logic.specs.Worlds.{opening}
 use Rattle.block_frames.specs.Stands.{StandFor}
-use Rattle.engine.specs.Watches.{watches_of}
 use Rattle.engine.proofs.InRange.{opening_stands}
 use Rattle.engine.proofs.Journals.{journal_empty}
 use Rattle.engine.proofs.Lawful.{lawful_none}
@@ -19,7 +18,8 @@ returns c =
     (subst (λ (s : Source). StandFor s c.in_ok-cells.cells (opening s)) c.logic-logic.ensures.source c.in_ok-cells.ensures)
     (opening_flags _ _ _ c.programs.ensures.count (c.in_ok-faulted.ensures.items_if_clones_equal (λ y same. same)))
     (ap (λ (b : PlainBank). b.sites) c.in_ok-bank.ensures)
-    (c.in_ok-watches.ensures ∙ ap watches_of c.alarm_rows.ensures.rows)
+    c.in_ok-watches.ensures
+    refl
     (ap (λ (b : PlainBank). b.alarms) c.in_ok-bank.ensures)
     (rw globals at c.in_ok-outputs.ensures)
     (ap (λ (b : PlainBank). b.moment) c.in_ok-bank.ensures)

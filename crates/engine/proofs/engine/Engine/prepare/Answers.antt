@@ -41,3 +41,6 @@ prepared_scan-requires-clause-sound c = c.self.invariant.plant_is.sound
 
 pub prepared_scan-requires-clause-values : goal.prepared_scan-requires-clause-values
 prepared_scan-requires-clause-values c = (ready _ _ _ _ c.self.invariant).values
+
+pub prepared_scan-requires-clause-follow : goal.prepared_scan-requires-clause-follow
+prepared_scan-requires-clause-follow c = (ready _ _ _ _ c.self.invariant).follow
