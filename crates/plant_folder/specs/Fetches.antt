@@ -12,7 +12,7 @@ use Rattle.plant_folder.specs.declared.texts.FetchFault.TheVariants as fault
 
 -- the path of a file that the plant file of a path names: its name, joined to the folder of that path
 abbrev pub beside : List ℕ → List ℕ → List ℕ
-beside plant name = path_join (unwrap_or (path_parent plant) []) name
+beside plant_path name = path_join (unwrap_or (path_parent plant_path) []) name
 
 -- the names of the files of a plant, in the order in which they are read
 abbrev pub names_of : Files → List (List ℕ)
@@ -29,19 +29,19 @@ Finds = List ℕ → Option (List ℕ) → Type 0
 
 -- files of these names are found beside a plant file, and have these texts, one after another
 abbrev pub AreFound : Finds → List ℕ → List (List ℕ) → List (List ℕ) → Type 0
-AreFound finds plant [] [] = ⊤
-AreFound finds plant [] (text ∷ texts) = ⊥
-AreFound finds plant (name ∷ names) [] = ⊥
-AreFound finds plant (name ∷ names) (text ∷ texts) = finds (beside plant name) (Some text) × AreFound finds plant names texts
+AreFound finds plant_path [] [] = ⊤
+AreFound finds plant_path [] (text ∷ texts) = ⊥
+AreFound finds plant_path (name ∷ names) [] = ⊥
+AreFound finds plant_path (name ∷ names) (text ∷ texts) = finds (beside plant_path name) (Some text) × AreFound finds plant_path names texts
 
 -- of files of these names, beside a plant file, one isn't found, and those before it are
-pub record IsFirstMissing (finds : Finds) (plant : List ℕ) (names : List (List ℕ)) (missing : List ℕ) : Type 0 where
+pub record IsFirstMissing (finds : Finds) (plant_path : List ℕ) (names : List (List ℕ)) (missing : List ℕ) : Type 0 where
   pub before : List (List ℕ)
   pub after : List (List ℕ)
   pub texts : List (List ℕ)
   pub cut : names ≡ before ++ missing ∷ after
-  pub found : AreFound finds plant before texts
-  pub none : finds (beside plant missing) None
+  pub found : AreFound finds plant_path before texts
+  pub none : finds (beside plant_path missing) None
 
 -- the plant file of a path is found, and names these files
 pub record NamesFiles (finds : Finds) (path text : List ℕ) (files : Files) : Type 0 where
@@ -80,6 +80,6 @@ IsMiss finds path name (fault.Config refused) = ⊥
 
 -- why files of these names aren't there, Memory apart
 abbrev pub AreMissed : Finds → List ℕ → List (List ℕ) → FetchFault → Type 0
-AreMissed finds plant names fault.Memory = ⊤
-AreMissed finds plant names (fault.File missing) = IsFirstMissing finds plant names missing
-AreMissed finds plant names (fault.Config refused) = ⊥
+AreMissed finds plant_path names fault.Memory = ⊤
+AreMissed finds plant_path names (fault.File missing) = IsFirstMissing finds plant_path names missing
+AreMissed finds plant_path names (fault.Config refused) = ⊥

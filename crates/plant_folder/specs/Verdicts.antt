@@ -39,11 +39,11 @@ HasLine (fetch_fault.Config refused) = refused ≢ config_fault.Memory
 
 -- what is answered to texts, and the line that is due: the plant, with its line where that is asked for; or none, with the line of the refusal
 abbrev pub IsVerdict : Texts → Bool → Option PlainPlant → List ℕ → Type 0
-IsVerdict texts accepted (Some plant) line = Accepted texts plant × (line ≡ (if accepted then accepted_line plant else []))
-IsVerdict texts accepted None line = (refused : ConfigFault) × (refused ≢ config_fault.Memory) × IsRefused texts refused × (line ≡ refusal_line refused)
+IsVerdict texts says_accepted (Some plant) line = Accepted texts plant × (line ≡ (if says_accepted then accepted_line plant else []))
+IsVerdict texts says_accepted None line = (refused : ConfigFault) × (refused ≢ config_fault.Memory) × IsRefused texts refused × (line ≡ refusal_line refused)
 
 -- the same for the files of a plant: the verdict on their texts; or none, with the line of the file that isn't found, or of the plant file's refusal
 abbrev pub IsFilesVerdict : Finds → List ℕ → Bool → Option PlainPlant → List ℕ → Type 0
-IsFilesVerdict finds path accepted answer line =
-    ((texts : Texts) × AreTexts finds path texts × IsVerdict texts accepted answer line)
+IsFilesVerdict finds path says_accepted answer line =
+    ((texts : Texts) × AreTexts finds path texts × IsVerdict texts says_accepted answer line)
     ⊎ ((lack : FetchFault) × HasLine lack × IsFetchFault finds path lack × (answer ≡ None) × (line ≡ fetch_line lack))

@@ -1,13 +1,15 @@
 //! Where files are found by their paths.
 
-ghost use Rattle.std.specs.Prelude.{◌≡◌, ◌≤◌, ◌⊎◌, length, true, IfOk, IsErrOf, Option, List, ℕ, Some, None};
+ghost use Rattle.std.specs.Prelude.{◌≡◌, ◌≤◌, ◌⊎◌, ◌↔◌, length, true, false, IfOk, IsErrOf, Option, List, ℕ, Some, None};
 ghost use Rattle.std.specs.Io.KnownBytes.{Consumes, IsAtEnd};
+ghost use Rattle.std.specs.IoError.{error_kind};
 ghost use Rattle.plant_folder.specs.Fetches.{HasMore};
 
 use byte_streams::{Feed, Reading, empty_piece, fill};
 use std::alloc::{AllocError, Global};
+use std::fs;
+use std::io::{self, ErrorKind};
 use std::rt::Files;
-use std::{fs, io};
 
 /// The most bytes that a file may have.
 const MOST_BYTES: usize = 16_777_217;
@@ -49,6 +51,7 @@ fn read_whole<F: Feed>(alloc: Global, feed: &mut F) -> Result<Vec<u8>, FileFault
     ensures whole { IfOk result (λ v. IsAtEnd (F.remaining feed.new)) }
     ensures size { IfOk result (λ v. length v.items ≤ 16777217) }
     ensures missing { IsErrOf result FileFault.Missing → (F.broken feed.new ≡ true) ⊎ HasMore 16777217 (F.remaining feed.old) }
+    ensures failed { F.broken feed.old ≡ false → F.broken feed.new ≡ true → IsErrOf result FileFault.Missing }
 {
     let mut piece = empty_piece(alloc)?;
     let mut bytes = Vec::new(alloc);
@@ -66,8 +69,10 @@ fn read_whole<F: Feed>(alloc: Global, feed: &mut F) -> Result<Vec<u8>, FileFault
 }
 
 /// Why a file that can't be opened isn't there: memory, or it is missing.
-fn unopened(error: &io::Error) -> FileFault {
-    if error.kind() == io::ErrorKind::OutOfMemory {
+fn unopened(error: &io::Error) -> FileFault
+    ensures { (result ≡ FileFault.Memory) ↔ (error_kind error.now ≡ ErrorKind.OutOfMemory) }
+{
+    if error.kind() == ErrorKind::OutOfMemory {
         FileFault::Memory
     } else {
         FileFault::Missing

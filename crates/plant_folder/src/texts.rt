@@ -66,11 +66,11 @@ impl<T: Drop> From<AllocFailed<T>> for FetchFault {
 }
 
 /// The path of a file that a plant file names: its name joined to the folder of the plant file's path. Fails if allocation fails.
-fn beside(alloc: Global, plant: &str, name: &str) -> Result<String, AllocError>
-    ensures { IfOk result (λ path. string_bytes path ≡ beside plant.now name.now) }
+fn beside(alloc: Global, plant_path: &str, name: &str) -> Result<String, AllocError>
+    ensures { IfOk result (λ path. string_bytes path ≡ beside plant_path.now name.now) }
 {
-    let folder = Path::new(plant).parent().unwrap_or(Path::new(""));
-    let path = folder.join(alloc, name)?;
+    let parent = Path::new(plant_path).parent().unwrap_or(Path::new(""));
+    let path = parent.join(alloc, name)?;
     Ok(path.into_string())
 }
 
@@ -94,12 +94,12 @@ fn file_at<F: Folder>(
 fn file_beside<F: Folder>(
     alloc: Global,
     folder: &F,
-    plant: &str,
+    plant_path: &str,
     name: &str,
 ) -> Result<Vec<u8>, FetchFault>
-    ensures { MatchResult result (λ v. F.finds folder.now (beside plant.now name.now) (Some v.items)) (IsMiss (F.finds folder.now) (beside plant.now name.now) name.now) }
+    ensures { MatchResult result (λ v. F.finds folder.now (beside plant_path.now name.now) (Some v.items)) (IsMiss (F.finds folder.now) (beside plant_path.now name.now) name.now) }
 {
-    let path = beside(alloc, plant, name)?;
+    let path = beside(alloc, plant_path, name)?;
     file_at(alloc, folder, path.as_str(), name)
 }
 
@@ -107,16 +107,16 @@ fn file_beside<F: Folder>(
 fn sources_beside<F: Folder>(
     alloc: Global,
     folder: &F,
-    plant: &str,
+    plant_path: &str,
     names: &[Text],
 ) -> Result<Vec<SourceText>, FetchFault>
     ensures names { IfOk result (λ v. map (λ s. s.name) v.items ≡ names.now) }
-    ensures texts { IfOk result (λ v. AreFound (F.finds folder.now) plant.now names.now (map (λ s. s.text.items) v.items)) }
-    ensures missed { IfErr result (AreMissed (F.finds folder.now) plant.now names.now) }
+    ensures texts { IfOk result (λ v. AreFound (F.finds folder.now) plant_path.now names.now (map (λ s. s.text.items) v.items)) }
+    ensures missed { IfErr result (AreMissed (F.finds folder.now) plant_path.now names.now) }
 {
     let mut sources = Vec::new(alloc);
     for name in names {
-        match file_beside(alloc, folder, plant, name.as_str()) {
+        match file_beside(alloc, folder, plant_path, name.as_str()) {
             Ok(text) => {
                 let name = name.copy(alloc)?;
                 sources.push(SourceText { name, text })?;

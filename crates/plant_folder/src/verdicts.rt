@@ -25,10 +25,10 @@ fn accepted_line(alloc: Global, plant: &Plant) -> Result<String, AllocError>
 }
 
 /// The line that is due for an accepted plant: none but where it is asked for. Fails if allocation fails.
-fn due_line(alloc: Global, plant: &Plant, accepted: bool) -> Result<String, AllocError>
-    ensures { IfOk result (λ line. string_bytes line ≡ (if accepted then accepted_line plant.now else [])) }
+fn due_line(alloc: Global, plant: &Plant, says_accepted: bool) -> Result<String, AllocError>
+    ensures { IfOk result (λ line. string_bytes line ≡ (if says_accepted then accepted_line plant.now else [])) }
 {
-    if accepted {
+    if says_accepted {
         accepted_line(alloc, plant)
     } else {
         Ok(String::new(alloc))
@@ -56,19 +56,19 @@ fn missing_line(alloc: Global, name: &str) -> Result<String, AllocError>
 }
 
 /// Reads a plant from its texts, each source with its name. There is none where it is refused. With it comes the line that is due, empty where
-/// there is nothing to say: the line of an accepted plant is due only where it is asked for (`accepted`). Fails if allocation fails.
+/// there is nothing to say: the line of an accepted plant is due only where it is asked for (`says_accepted`). Fails if allocation fails.
 pub fn verdict(
     alloc: Global,
     plant: &[u8],
     sources: &[(&str, &[u8])],
     alarms: &[u8],
-    accepted: bool,
+    says_accepted: bool,
 ) -> Result<(Option<Plant>, String), AllocError>
-    ensures { IfOk result (λ v. IsVerdict (texts_of plant.now (map (λ s. s.0.now) sources.now) (map (λ s. s.1.now) sources.now) alarms.now) accepted v.0 (string_bytes v.1)) }
+    ensures { IfOk result (λ v. IsVerdict (texts_of plant.now (map (λ s. s.0.now) sources.now) (map (λ s. s.1.now) sources.now) alarms.now) says_accepted v.0 (string_bytes v.1)) }
 {
     match Plant::read(alloc, plant, sources, alarms) {
         Ok(plant) => {
-            let line = due_line(alloc, &plant, accepted)?;
+            let line = due_line(alloc, &plant, says_accepted)?;
             Ok((Some(plant), line))
         }
         Err(ConfigFault::Memory) => Err(AllocError),
@@ -112,9 +112,9 @@ pub fn files_verdict<F: Folder>(
     alloc: Global,
     folder: &F,
     path: &str,
-    accepted: bool,
+    says_accepted: bool,
 ) -> Result<(Option<Plant>, String), AllocError>
-    ensures { IfOk result (λ v. IsFilesVerdict (F.finds folder.now) path.now accepted v.0 (string_bytes v.1)) }
+    ensures { IfOk result (λ v. IsFilesVerdict (F.finds folder.now) path.now says_accepted v.0 (string_bytes v.1)) }
 {
     match fetch(alloc, folder, path) {
         Ok(texts) => {
@@ -124,7 +124,7 @@ pub fn files_verdict<F: Folder>(
                 texts.plant.as_slice(),
                 sources.as_slice(),
                 texts.alarms.as_slice(),
-                accepted,
+                says_accepted,
             )
         }
         Err(FetchFault::Memory) => Err(AllocError),
