@@ -1,8 +1,8 @@
 -- How chains grow by one alarm, and what marking along them leaves.
-use Rattle.std.proofs.Common.{◌≡◌, ◌≢◌, ℕ, zero, suc, ◌+◌, ◌<◌, ◌≤◌, ◌==◌, ℤ, inl, inr, ◌⊎◌, Bool, true, false, Option, Some, None, List, [], ◌∷◌, ◌++◌, length, slice_get, slice_index, slice_index_or, slice_set, if◌then◌else◌, arith, refl, ap, sym, ◌∙◌, length-append}
+use Rattle.std.proofs.Common.{◌≡◌, ◌≢◌, ℕ, zero, suc, ◌+◌, ◌<◌, ◌≤◌, ◌==◌, ℤ, inl, inr, ◌⊎◌, Bool, true, false, Option, Some, None, List, [], ◌∷◌, ◌++◌, length, slice_get, slice_index, slice_set, if◌then◌else◌, arith, refl, ap, sym, ◌∙◌, length-append}
 use Rattle.std.proofs.lemmas.Bool.{cases_lt}
-use Rattle.std.proofs.lemmas.Bool.Decides.{nat_tests, eqb_tells}
-use Rattle.alarm_watch.specs.Chains.{GoesDown, HaveTops, HasKey, AreChains, ChangesAreMarked}
+use Rattle.std.proofs.lemmas.Bool.Decides.{eqb_tells}
+use Rattle.alarm_watch.specs.Chains.{GoesDown, HasKey, AreChains, ChangesAreMarked}
 
 -- an alarm with a global among some and one more is one of them, or that one
 key_cases : (keys : List (Option ℕ)) (k : Option ℕ) (n g : ℕ) → HasKey (keys ++ k ∷ []) n g → ((n < length keys) × HasKey keys n g) ⊎ ((n ≡ length keys) × (k ≡ Some g))

@@ -1,5 +1,5 @@
 -- Alarms follow their globals: a scan makes it so, and those of unchanged globals are then given their last conditions and suppressions again.
-use Rattle.std.proofs.Common.{◌≡◌, ℕ, ◌<◌, ℤ, Bool, false, Option, Some, None, List, length, map, slice_get, slice_index_or, arith, refl, ap, sym, ◌∙◌}
+use Rattle.std.proofs.Common.{◌≡◌, ℕ, ◌<◌, ℤ, Bool, Option, Some, None, List, length, map, slice_get, slice_index_or, arith, refl, ap, sym, ◌∙◌}
 use Rattle.std.specs.Option.{option_map}
 use Rattle.std.proofs.lemmas.List.{length-map}
 use Rattle.std.proofs.lemmas.Option.{slice_get-map, slice_get_within, slice_get-get_or, get_or_from_slice_get}

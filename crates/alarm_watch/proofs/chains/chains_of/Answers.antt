@@ -1,6 +1,5 @@
-use Rattle.std.proofs.Common.{◌≡◌, ◌+◌, ◌++◌, [], ◌∷◌, Option, ℕ, Some, None, length, take, slice_index_or, arith, ap, refl, ◌∙◌, sym}
+use Rattle.std.proofs.Common.{◌≡◌, ◌+◌, ◌++◌, [], ◌∷◌, Option, ℕ, Some, None, take, arith, ap, ◌∙◌}
 use Rattle.std.proofs.lemmas.List.{take_more, length-take}
-use Rattle.alarm_watch.specs.Chains.{AreChains}
 use Rattle.alarm_watch.proofs.ChainLaws.{chains_with, chains_without}
 use Rattle.alarm_watch.proofs.chains.chains_of.Goals as goal
 use Rattle.alarm_watch.proofs.chains.chains_of.Goals.{in-Some+in_ok-before-in-Some, in-None}
