@@ -1,6 +1,6 @@
 -- An order keeps the condition and the suppression of each alarm's last scan, so the alarms go on following the cells.
-use Rattle.std.proofs.Common.{◌≡◌, ℕ, ℤ, Bool, true, false, if◌then◌else◌, List, length, map, Option, Some, None, Ok, Err, refl, ap, sym, ◌∙◌, subst}
-use Rattle.std.specs.Prelude.{slice_get, slice_set}
+use Rattle.std.proofs.Common.{◌≡◌, ℕ, ℤ, Bool, true, false, if◌then◌else◌, List, map, Option, Some, None, Ok, Err, refl, ap, sym, ◌∙◌}
+use Rattle.std.specs.Prelude.{slice_get}
 use Rattle.std.specs.List.{list_any}
 use Rattle.std.specs.declared.result.Result.{Result}
 use Rattle.std.proofs.Math.Seq.{map-set_same}
@@ -9,7 +9,7 @@ use Rattle.alarm_machine.specs.declared.states.AlarmState.{AlarmState}
 use Rattle.alarm_machine.specs.declared.states.Verb.{Verb}
 use Rattle.alarm_machine.specs.declared.states.OrderFault.{OrderFault}
 use Rattle.alarm_machine.specs.declared.states.OrderFault.TheVariants as fault
-use Rattle.alarm_machine.specs.Alarms.{PlainAlarm, on_order, after_order}
+use Rattle.alarm_machine.specs.Alarms.{PlainAlarm, on_order}
 use Rattle.alarm_watch.specs.declared.watched.Watch.{Watch}
 use Rattle.alarm_watch.specs.Watched.{Follow}
 use Rattle.plant_config.specs.declared.rows.AlarmRow.{AlarmRow}

@@ -148,9 +148,7 @@ pub fn step_alarms(
 {
     let bank = &old.bank;
     let before = &old.cells;
-    let moved = old
-        .watches
-        .moved(alloc, bank, old.follows, before, cells, moment, marks, room)?;
+    let moved = old.watches.moved(alloc, bank, old.follows, before, cells, moment, marks, room)?;
     let changes = bank.changes(alloc, moved.as_slice())?;
     Ok((moved, changes))
 }
