@@ -3,6 +3,7 @@ pub mod Lengths
 pub mod Steps
 pub mod Exprs
 pub mod Longer
+pub mod Pairs
 pub mod Loops
 pub mod Bodies
 pub mod Statements

@@ -1,2 +1,4 @@
+pub mod Lines
+pub mod Pairs
 pub mod Codes
 pub mod Emission

@@ -11,6 +11,7 @@
 mod arguments;
 mod emission;
 mod expressions;
+mod joining;
 mod laws;
 mod lines;
 mod named;

@@ -13,6 +13,13 @@ fn values_past(instr: Instr) -> usize
         Instr::Load(slot) | Instr::Store(slot) | Instr::BinarySlot(_, slot) => slot as usize + 1,
         Instr::Begin { slot, .. } | Instr::Turn { slot, .. } => slot as usize + 1,
         Instr::Enter { input, .. } => input as usize + 1,
+        Instr::LoadBinaryLiteral(_, slot, _) | Instr::PushLoad(slot) => slot as usize + 1,
+        Instr::BinaryLiteralStore(_, _, slot) | Instr::BinarySlotJump(_, slot, _) => {
+            slot as usize + 1
+        }
+        Instr::LoadBinarySlot(_, one, other) | Instr::BinarySlotStore(_, one, other) => {
+            (one as usize + 1).max(other as usize + 1)
+        }
         _ => 0,
     }
 }
