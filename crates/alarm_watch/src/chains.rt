@@ -56,7 +56,7 @@ fn mark_chain(next: &[u32], from: u32, marks: &mut [bool])
 }
 
 /// Marks the alarms whose global holds another number in other cells.
-// A loop of its own: among what stands around it, its values wouldn't stay in registers.
+// It stands by itself: among what stands around it, what its loop needs would not stay in registers.
 #[inline(never)]
 pub fn mark_changed(first: &[u32], next: &[u32], before: &Cells, now: &Cells, marks: &mut [bool])
     requires down { GoesDown next.now }

@@ -97,6 +97,9 @@ impl Watches {
         ensures conditions { ChangesAreMarked (condition_keys self.now) (value_at before.now) (value_at now.now) marks.new }
         ensures suppressions { ChangesAreMarked (suppress_keys self.now) (value_at before.now) (value_at now.now) marks.new }
     {
+        if before.as_slice() == now.as_slice() {
+            return;
+        }
         let first = self.first_condition.as_slice();
         mark_changed(first, self.next_condition.as_slice(), before, now, marks);
         let first = self.first_suppress.as_slice();
