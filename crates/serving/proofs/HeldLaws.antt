@@ -1,15 +1,19 @@
 -- What is held of a line asks for the same as all of it.
-use Rattle.std.proofs.Common.{◌≡◌, ℕ, zero, suc, ◌≤◌, ◌+◌, true, false, List, [], ◌∷◌, ◌++◌, ap, refl, sym, ◌∙◌, arith, append_assoc, length, subst, take, eqb, Option, Ok, Err, cond}
+use Rattle.std.proofs.Common.{◌≡◌, ℕ, zero, suc, ◌≤◌, ◌+◌, true, false, List, [], ◌∷◌, ◌++◌, ap, refl, sym, ◌∙◌, arith, append_assoc, append-nil, length, subst, take, eqb, Option, Ok, Err, cond}
 use Rattle.std.specs.Prelude.{OnOk, is_ok}
 use Rattle.std.specs.declared.result.Result.{Result}
 use Rattle.std.proofs.lemmas.List.{take_all, take-take, length-append, length-take}
 use Rattle.std.proofs.lemmas.Bool.Decides.{nat_tests}
+use Rattle.std.specs.Io.KnownBytes.{Consumes}
+use Rattle.std.proofs.KnownBytes.{Consumes-trans}
 use Rattle.event_history.specs.declared.event.Event.{Event}
 use Rattle.plant_config.specs.Plants.{PlainPlant}
 use Rattle.command_text.specs.Commands.{command_of}
 use Rattle.command_text.proofs.ShortLaws.{command_of-short}
-use Rattle.serving.specs.Requests.{Request, has_lf, without_cr, ended_by, last_request, ended_from, begun_from, begun_request, requests_of}
-use Rattle.serving.specs.Session.{Answered, Stopped, IsHeld, HasGone, HasTaken}
+use Rattle.serving.specs.declared.fault.ServeFault.{ServeFault}
+use Rattle.serving.specs.declared.fault.ServeFault.TheVariants as fault
+use Rattle.serving.specs.Requests.{Request, has_lf, without_cr, ended_by, last_request, ended_from, begun_from, begun_request, ended_requests, requests_of}
+use Rattle.serving.specs.Session.{Answered, Stopped, AreRead, StoppedBy, IsHeld, HasGone, HasTaken, Stops}
 use Rattle.serving.proofs.RequestLaws.{ended_from-more, begun_from-more, ended_from-none, begun_from-none, ended_from-lf, begun_from-lf}
 use Rattle.serving.proofs.SessionLaws.{answered-none, answered-more, stopped-none, stopped-more, stopped-longer}
 
@@ -153,3 +157,26 @@ full_vec n xs e h = ap (λ (k : ℕ). eqb k 0) (sym e) ∙ h
 
 pub empty_vec : (n : ℕ) (xs : List ℕ) → n ≡ length xs → eqb n 0 ≡ true → eqb (length xs) 0 ≡ true
 empty_vec n xs e h = ap (λ (k : ℕ). eqb k 0) (sym e) ∙ h
+
+-- ---- a step that failed
+
+-- what a session had taken, and what a step then left that failed by a fault
+module _ (plant : PlainPlant) (input held : List ℕ) (r₀ r₁ r₂ : Option (List ℕ)) (h₀ h₁ h₂ : List Event) (w₀ w₁ w₂ : Option (List ℕ)) (read : Consumes r₀ r₁ input) (before : HasTaken plant input held h₀ h₁ w₀ w₁) where
+  -- the step read a piece, and stopped within the requests that were read
+  stopped-within : (piece : List ℕ) × Consumes r₁ r₂ piece × Stops plant piece r₂ held h₁ h₂ w₁ w₂
+      → (all : List ℕ) × Consumes r₀ r₂ all × ((requests : List Request) × AreRead r₂ all requests × Stopped plant requests h₀ h₂ w₀ w₂)
+  stopped-within s = (input ++ s.0, Consumes-trans r₀ r₁ r₂ input s.0 read s.1, s.2 input h₀ w₀ before)
+
+  -- the step read nothing, and nothing took effect
+  stopped-unread : Consumes r₁ r₂ [] × (h₂ ≡ h₁) × (w₂ ≡ w₁) → (all : List ℕ) × Consumes r₀ r₂ all × Answered plant (ended_requests all) h₀ h₂ w₀ w₂
+  stopped-unread s = (
+    input,
+    subst (Consumes r₀ r₂) (append-nil input) (Consumes-trans r₀ r₁ r₂ input [] read s.0),
+    subst (λ (h : List Event). Answered plant (ended_requests input) h₀ h w₀ w₂) (sym s.1) (subst (λ (w : Option (List ℕ)). Answered plant (ended_requests input) h₀ h₁ w₀ w) (sym s.2) before.answered),
+  )
+
+  pub stopped-by : (e : ServeFault) → (piece : List ℕ) × Consumes r₁ r₂ piece × Stops plant piece r₂ held h₁ h₂ w₁ w₂ → (e ≡ fault.Read → Consumes r₁ r₂ [] × (h₂ ≡ h₁) × (w₂ ≡ w₁))
+      → (all : List ℕ) × Consumes r₀ r₂ all × StoppedBy e plant r₂ all h₀ h₂ w₀ w₂
+  stopped-by fault.Read within unread = stopped-unread (unread refl)
+  stopped-by fault.Write within unread = stopped-within within
+  stopped-by fault.Memory within unread = stopped-within within

@@ -12,7 +12,7 @@ use Rattle.journal_core.specs.declared.row.Entry.{Entry}
 use Rattle.journal_core.specs.declared.row.Entry.TheVariants as entry
 use Rattle.journal_core.specs.declared.row.Row.{Row}
 use Rattle.alarm_machine.specs.declared.states.OrderFault.{OrderFault}
-use Rattle.alarm_machine.specs.declared.states.OrderFault.TheVariants as fault
+use Rattle.alarm_machine.specs.declared.states.OrderFault.TheVariants as order_fault
 use Rattle.alarm_machine.specs.declared.states.Verb.{Verb}
 use Rattle.command_text.specs.Lines.{row_line}
 use Rattle.plant_config.specs.Plants.{PlainPlant}
@@ -48,15 +48,15 @@ listed_take f xs i x old mid new n m within is p q = rw (← flat_take f xs i x 
 target_same : (plant : PlainPlant) (console : ℕ) (verb : Verb) (target : Option ℕ) (refused : Option OrderFault) → name_of plant (entry.Order console verb target refused) ≡ target_text plant verb target refused
 target_same plant console verb None None = refl
 target_same plant console verb (Some n) None = refl
-target_same plant console verb target (Some fault.UnknownTarget) = refl
-target_same plant console verb None (Some fault.NotYourArea) = refl
-target_same plant console verb (Some n) (Some fault.NotYourArea) = refl
-target_same plant console verb None (Some fault.WrongState) = refl
-target_same plant console verb (Some n) (Some fault.WrongState) = refl
-target_same plant console verb None (Some fault.ShelveTime) = refl
-target_same plant console verb (Some n) (Some fault.ShelveTime) = refl
-target_same plant console verb None (Some fault.NotFaulted) = refl
-target_same plant console verb (Some n) (Some fault.NotFaulted) = refl
+target_same plant console verb target (Some order_fault.UnknownTarget) = refl
+target_same plant console verb None (Some order_fault.NotYourArea) = refl
+target_same plant console verb (Some n) (Some order_fault.NotYourArea) = refl
+target_same plant console verb None (Some order_fault.WrongState) = refl
+target_same plant console verb (Some n) (Some order_fault.WrongState) = refl
+target_same plant console verb None (Some order_fault.ShelveTime) = refl
+target_same plant console verb (Some n) (Some order_fault.ShelveTime) = refl
+target_same plant console verb None (Some order_fault.NotFaulted) = refl
+target_same plant console verb (Some n) (Some order_fault.NotFaulted) = refl
 
 -- the body of a row, by its place and by its path
 entry_same : (plant : PlainPlant) (e : Entry) → body_text e (name_of plant e) ≡ entry_text plant (named_entry plant.source e)

@@ -9,7 +9,7 @@ use Rattle.event_history.specs.declared.event.Event.{Event}
 use Rattle.engine.specs.Journal.{journal_of}
 use Rattle.serving.specs.Admits.{IsBegun}
 use Rattle.command_text.specs.Lines.{end_line}
-use Rattle.serving.specs.Listings.{HasListed, HasRow, text_of, ended, lines_below, named_line, journal_lines, IsPassed, HasPassed}
+use Rattle.serving.specs.Listings.{HasListed, HasRow, text_of, with_end, lines_below, named_line, journal_lines, IsPassed, HasPassed}
 use Rattle.serving.proofs.ListingLaws.{rows_more}
 
 -- nothing is written yet
@@ -90,13 +90,13 @@ row_begun plant history i old t₁ t₂ w₀ w₁ w₂ p r q =
 
 -- after lines that are passed their end is written, or a part of it
 module _ (w₀ w₁ w₂ : Option (List ℕ)) (lines : List (List ℕ)) (held : List ℕ) (n : ℕ) (count : n ≡ length lines) (p : IsPassed w₀ w₁ (text_of lines) held) where
-  pub ended_written : Appends w₁ w₂ (held ++ end_line n) → Appends w₀ w₂ (ended lines)
+  pub ended_written : Appends w₁ w₂ (held ++ end_line n) → Appends w₀ w₂ (with_end lines)
   ended_written a =
       let last = end_line (length lines) in
       subst (Appends w₀ w₂) (sym (append_assoc p.0 held last) ∙ ap (λ (t : List ℕ). t ++ last) (sym p.1))
       (Appends-trans w₀ w₁ w₂ p.0 (held ++ last) p.2 (subst (λ (k : ℕ). Appends w₁ w₂ (held ++ end_line k)) count a))
 
-  pub ended_begun : IsBegun w₁ w₂ (held ++ end_line n) → IsBegun w₀ w₂ (ended lines)
+  pub ended_begun : IsBegun w₁ w₂ (held ++ end_line n) → IsBegun w₀ w₂ (with_end lines)
   ended_begun b = begun_more w₀ w₁ w₂ (text_of lines) held (end_line (length lines)) p (subst (λ (k : ℕ). IsBegun w₁ w₂ (held ++ end_line k)) count b)
 
 -- what is begun is begun of a longer text too
@@ -159,7 +159,7 @@ module _ (w₀ w₁ : Option (List ℕ)) (held : List ℕ) (s : ℕ) (states cou
   both_are = sym (flat_map-append (λ (line : List ℕ). line) states counts)
 
   -- after the states a part of the counts is written
-  pub list_cut : (w₂ : Option (List ℕ)) → IsBegun w₁ w₂ (held ++ text_of counts) → IsBegun w₀ w₂ (ended (states ++ counts))
+  pub list_cut : (w₂ : Option (List ℕ)) → IsBegun w₁ w₂ (held ++ text_of counts) → IsBegun w₀ w₂ (with_end (states ++ counts))
   list_cut w₂ b =
       begun_longer w₀ w₂ (text_of (states ++ counts)) (end_line (length (states ++ counts)))
       (subst (IsBegun w₀ w₂) both_are (begun_more w₀ w₁ w₂ (text_of states) held (text_of counts) p.passed b))
@@ -172,14 +172,14 @@ module _ (w₀ w₁ : Option (List ℕ)) (held : List ℕ) (s : ℕ) (states cou
     count_both : s + c ≡ length (states ++ counts)
     count_both = ap (λ (k : ℕ). k + c) p.count_is ∙ ap (λ (k : ℕ). length states + k) q.count_is ∙ sym (length-append states counts)
 
-    pub list_written : Appends w₂ w₃ (left ++ end_line (s + c)) → Appends w₀ w₃ (ended (states ++ counts))
+    pub list_written : Appends w₂ w₃ (left ++ end_line (s + c)) → Appends w₀ w₃ (with_end (states ++ counts))
     list_written a = ended_written w₀ w₂ w₃ (states ++ counts) left (s + c) count_both both_passed a
 
-    pub list_begun : IsBegun w₂ w₃ (left ++ end_line (s + c)) → IsBegun w₀ w₃ (ended (states ++ counts))
+    pub list_begun : IsBegun w₂ w₃ (left ++ end_line (s + c)) → IsBegun w₀ w₃ (with_end (states ++ counts))
     list_begun b = ended_begun w₀ w₂ w₃ (states ++ counts) left (s + c) count_both both_passed b
 
 -- of the states a part is written
-pub list_first : (w₀ w₁ : Option (List ℕ)) (states counts : List (List ℕ)) → IsBegun w₀ w₁ (text_of states) → IsBegun w₀ w₁ (ended (states ++ counts))
+pub list_first : (w₀ w₁ : Option (List ℕ)) (states counts : List (List ℕ)) → IsBegun w₀ w₁ (text_of states) → IsBegun w₀ w₁ (with_end (states ++ counts))
 list_first w₀ w₁ states counts b =
     begun_longer w₀ w₁ (text_of (states ++ counts)) (end_line (length (states ++ counts)))
     (subst (IsBegun w₀ w₁) (sym (flat_map-append (λ (line : List ℕ). line) states counts)) (begun_longer w₀ w₁ (text_of states) (text_of counts) b))

@@ -3,15 +3,26 @@ use Rattle.std.proofs.Common.{◌≡◌, ℕ, false, List, [], subst, refl, sym,
 use Rattle.std.specs.Io.KnownBytes.{Appends}
 use Rattle.std.proofs.KnownBytes.{Appends-trans}
 use Rattle.std.proofs.lemmas.Option.{none-some}
+use Rattle.event_history.specs.declared.event.Event.{Event}
 use Rattle.plant_config.specs.Plants.{PlainPlant}
 use Rattle.plant_config.specs.Files.{Texts}
 use Rattle.plant_folder.specs.Fetches.{Finds}
 use Rattle.plant_folder.specs.Verdicts.{IsVerdict, IsFilesVerdict}
 use Rattle.serving.specs.declared.fault.ServeFault.{ServeFault}
+use Rattle.serving.specs.declared.fault.ServeFault.TheVariants as fault
 use Rattle.serving.specs.declared.runs.RunEnd.TheVariants as run_end
+use Rattle.serving.specs.Requests.{ended_requests}
+use Rattle.serving.specs.Session.{StoppedBy}
 use Rattle.serving.specs.Admits.{IsTold}
 use Rattle.serving.specs.Runs.{IsServed, IsStopped, IsRun}
-use Rattle.serving.proofs.SessionLaws.{stopped-more}
+use Rattle.serving.proofs.SessionLaws.{answered-more, stopped-more}
+
+-- a session that a fault stopped, where nothing was written before it
+stopped-after : (e : ServeFault) (plant : PlainPlant) (remaining : Option (List ℕ)) (input : List ℕ) (history : List Event) (w₀ w w₁ : Option (List ℕ)) → Appends w₀ w []
+    → StoppedBy e plant remaining input [] history w w₁ → StoppedBy e plant remaining input [] history w₀ w₁
+stopped-after fault.Read plant remaining input history w₀ w w₁ none s = answered-more plant [] (ended_requests input) [] [] history w₀ w w₁ (record { history_is = refl; wrote = none }) s
+stopped-after fault.Write plant remaining input history w₀ w w₁ none s = (s.0, s.1, stopped-more plant [] s.0 [] [] history w₀ w w₁ (record { history_is = refl; wrote = none }) s.2)
+stopped-after fault.Memory plant remaining input history w₀ w w₁ none s = (s.0, s.1, stopped-more plant [] s.0 [] [] history w₀ w w₁ (record { history_is = refl; wrote = none }) s.2)
 
 -- a verdict has no line beside a plant
 abbrev pub IsQuiet : (Option PlainPlant → List ℕ → Type 0) → Type 0
@@ -39,8 +50,8 @@ module _ (verdict : Option PlainPlant → List ℕ → Type 0) (quiet : IsQuiet 
         },
       )
 
-  -- the plant was told of, and its session stopped
-  pub run-stopped : (e : ServeFault) → IsStopped plant r₀ r₁ w w₁ → IsRun verdict r₀ r₁ w₀ w₁ (Err e)
+  -- the plant was told of, and a fault stopped its session
+  pub run-stopped : (e : ServeFault) → IsStopped e plant r₀ r₁ w w₁ → IsRun verdict r₀ r₁ w₀ w₁ (Err e)
   run-stopped e s =
       let bare = quiet plant told.0 told.1 in
       inr (
@@ -48,10 +59,8 @@ module _ (verdict : Option PlainPlant → List ℕ → Type 0) (quiet : IsQuiet 
         subst (verdict (Some plant)) bare told.1,
         record {
           input = s.input;
-          requests = s.requests;
           history = s.history;
           read = s.read;
-          are_read = s.are_read;
-          stopped = stopped-more plant [] s.requests [] [] s.history w₀ w w₁ (record { history_is = refl; wrote = subst (Appends w₀ w) bare told.2 }) s.stopped;
+          stopped = stopped-after e plant r₁ s.input s.history w₀ w w₁ (subst (Appends w₀ w) bare told.2) s.stopped;
         },
       )

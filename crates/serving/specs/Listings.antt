@@ -11,7 +11,7 @@ use Rattle.alarm_machine.specs.declared.states.AlarmState.{AlarmState}
 use Rattle.alarm_machine.specs.declared.states.Code.{Code}
 use Rattle.alarm_machine.specs.declared.states.Code.TheVariants as code
 use Rattle.alarm_machine.specs.declared.states.OrderFault.{OrderFault}
-use Rattle.alarm_machine.specs.declared.states.OrderFault.TheVariants as fault
+use Rattle.alarm_machine.specs.declared.states.OrderFault.TheVariants as order_fault
 use Rattle.alarm_machine.specs.declared.states.Verb.{Verb}
 use Rattle.alarm_machine.specs.Codes.{code_of, same_code}
 use Rattle.alarm_bank.specs.declared.rows.Counted.{Counted}
@@ -30,8 +30,8 @@ abbrev pub text_of : List (List ℕ) → List ℕ
 text_of lines = flat_map (λ line. line) lines
 
 -- lines, and then END with how many they are
-abbrev pub ended : List (List ℕ) → List ℕ
-ended lines = text_of lines ++ end_line (length lines)
+abbrev pub with_end : List (List ℕ) → List ℕ
+with_end lines = text_of lines ++ end_line (length lines)
 
 -- the lines for each of the numbers below one, in their order
 abbrev pub lines_below : (ℕ → List (List ℕ)) → ℕ → List (List ℕ)
@@ -80,7 +80,7 @@ count_lines plant counted = lines_below (area_lines plant counted) (length plant
 
 -- the answer to `list`
 unfoldable pub list_text : System → List ℕ
-list_text sys = ended (state_lines sys ++ count_lines sys.plant (summary_of sys))
+list_text sys = with_end (state_lines sys ++ count_lines sys.plant (summary_of sys))
 
 -- how many numbers a half of the list has lines for: those of the alarms, or of the areas
 abbrev pub half_total : PlainPlant → Half → ℕ
@@ -100,7 +100,7 @@ half_lines sys half = lines_below (half_lines_of sys half) (half_total sys.plant
 
 -- the target of an order as a row has it: its name as declared, `?` where it was refused because there is none
 abbrev pub target_text : PlainPlant → Verb → Option ℕ → Option OrderFault → List ℕ
-target_text plant verb target (Some fault.UnknownTarget) = codes "?"
+target_text plant verb target (Some order_fault.UnknownTarget) = codes "?"
 target_text plant verb None refused = codes "?"
 target_text plant verb (Some n) refused = target_name plant verb n
 
@@ -120,7 +120,7 @@ journal_lines plant history = map (named_line plant) (journal_of plant history)
 
 -- the answer to `journal`
 unfoldable pub journal_text : PlainPlant → List Event → List ℕ
-journal_text plant history = ended (journal_lines plant history)
+journal_text plant history = with_end (journal_lines plant history)
 
 -- ---- so far
 

@@ -7,8 +7,7 @@ use Rattle.plant_config.specs.Plants.{PlainPlant}
 use Rattle.serving.specs.declared.fault.ServeFault.{ServeFault}
 use Rattle.serving.specs.declared.runs.RunEnd.{RunEnd}
 use Rattle.serving.specs.declared.runs.RunEnd.TheVariants as run_end
-use Rattle.serving.specs.Requests.{Request}
-use Rattle.serving.specs.Session.{AreRead, Stopped, out_text}
+use Rattle.serving.specs.Session.{StoppedBy, out_text}
 use Rattle.serving.specs.Admits.{IsTold}
 
 -- all of the input was read, and what was written is the text that belongs to the plant and to its bytes
@@ -18,17 +17,15 @@ pub record IsServed (plant : PlainPlant) (r₀ r₁ w₀ w₁ : Option (List ℕ
   pub at_end : IsAtEnd r₁
   pub wrote : Appends w₀ w₁ (out_text plant input)
 
--- the session of the plant stopped within the requests that were read
-pub record IsStopped (plant : PlainPlant) (r₀ r₁ w₀ w₁ : Option (List ℕ)) : Type 0 where
+-- a fault stopped the session of the plant, which came as far in the input as it says
+pub record IsStopped (fault : ServeFault) (plant : PlainPlant) (r₀ r₁ w₀ w₁ : Option (List ℕ)) : Type 0 where
   pub input : List ℕ
-  pub requests : List Request
   pub history : List Event
   pub read : Consumes r₀ r₁ input
-  pub are_read : AreRead r₁ input requests
-  pub stopped : Stopped plant requests [] history w₀ w₁
+  pub stopped : StoppedBy fault plant r₁ input [] history w₀ w₁
 
 -- what a run did, by the verdict on the plant: it served the plant; or nothing was read, and what was written is the line of the refusal; or it failed, before the session or within it
 abbrev pub IsRun : (Option PlainPlant → List ℕ → Type 0) → (r₀ r₁ w₀ w₁ : Option (List ℕ)) → Result RunEnd ServeFault → Type 0
 IsRun verdict r₀ r₁ w₀ w₁ (Ok run_end.Served) = (plant : PlainPlant) × verdict (Some plant) [] × IsServed plant r₀ r₁ w₀ w₁
 IsRun verdict r₀ r₁ w₀ w₁ (Ok run_end.Refused) = (line : List ℕ) × verdict None line × (r₁ ≡ r₀) × Appends w₀ w₁ line
-IsRun verdict r₀ r₁ w₀ w₁ (Err e) = ((r₁ ≡ r₀) × IsTold verdict w₀ w₁ (Err e)) ⊎ ((plant : PlainPlant) × verdict (Some plant) [] × IsStopped plant r₀ r₁ w₀ w₁)
+IsRun verdict r₀ r₁ w₀ w₁ (Err e) = ((r₁ ≡ r₀) × IsTold verdict w₀ w₁ (Err e)) ⊎ ((plant : PlainPlant) × verdict (Some plant) [] × IsStopped e plant r₀ r₁ w₀ w₁)

@@ -1,6 +1,6 @@
 //! A run: a plant is read, and its session served.
 
-ghost use Rattle.std.specs.Prelude.{◌≡◌, ◌||◌, map, false, OnOk, OnErr};
+ghost use Rattle.std.specs.Prelude.{◌≡◌, ◌||◌, map, false, OnOk, IfErr};
 ghost use Rattle.plant_config.specs.Files.{texts_of};
 ghost use Rattle.plant_folder.specs.Verdicts.{IsVerdict, IsFilesVerdict};
 ghost use Rattle.serving.specs.Faults.{is_read, is_write};
@@ -36,7 +36,7 @@ fn serve_plant<H: Wait, F: Feed, S: Sink>(
     requires feed { F.broken feed.old ≡ false }
     requires sink { S.broken sink.old ≡ false }
     ensures ok { OnOk result (IsServed plant (F.remaining feed.old) (F.remaining feed.new) (S.written sink.old) (S.written sink.new)) }
-    ensures err { OnErr result (IsStopped plant (F.remaining feed.old) (F.remaining feed.new) (S.written sink.old) (S.written sink.new)) }
+    ensures err { IfErr result (λ e. IsStopped e plant (F.remaining feed.old) (F.remaining feed.new) (S.written sink.old) (S.written sink.new)) }
     ensures read { F.broken feed.new ≡ is_read result }
     ensures write { S.broken sink.new ≡ is_write result }
 {
@@ -53,7 +53,8 @@ fn serve_plant<H: Wait, F: Feed, S: Sink>(
 ///
 /// After `Served` what was written is exactly the text that belongs to the plant and to the bytes that were read, and after `Refused`
 /// exactly the line of the refusal. Returns `Memory` only where an allocation failed, and `Read` and `Write` only where the feed or the
-/// sink failed in this call. It returns only where `serve` does.
+/// sink failed in this call. After an error either nothing was read and at most a part of the line was written, or the session came as
+/// far as `serve` says. It returns only where `serve` does.
 pub fn run<H: Wait, F: Feed, S: Sink>(
     rt: &H,
     alloc: Global,

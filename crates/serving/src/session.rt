@@ -1,9 +1,9 @@
 ghost use Rattle.std.specs.Prelude.{◌≡◌, ◌≤◌, ◌++◌, [], ◌∷◌, ◌||◌, IfOk, IfErr, OnOk, OnErr, IsErrOf, MatchOption, IfSome, List, ℕ, length, take, false, ◌<◌};
 ghost use Rattle.std.specs.Io.KnownBytes.{Appends, Consumes, IsAtEnd};
 ghost use Rattle.command_text.specs.Commands.{command_of};
-ghost use Rattle.serving.specs.Requests.{Request, asked_by, has_lf, without_cr, ended_by, last_request, ended_from, begun_from, ended_requests, requests_of};
+ghost use Rattle.serving.specs.Requests.{Request, asked_by, has_lf, without_cr, ended_by, last_request, ended_from, begun_from, requests_of};
 ghost use Rattle.serving.specs.Faults.{is_read, is_write};
-ghost use Rattle.serving.specs.Session.{Answered, Stopped, Serves, Continues, IsHeld, HasGone, AreRead, Goes, Ends, Stops, out_text};
+ghost use Rattle.serving.specs.Session.{Answered, Stopped, Serves, Continues, IsHeld, HasGone, StoppedBy, Goes, Ends, Stops, out_text};
 
 use crate::answer::{Said, answer_line};
 use crate::fault::ServeFault;
@@ -294,13 +294,10 @@ pub fn serve<H: Wait, F: Feed, S: Sink>(
     // Before the first event: what was written is the text that belongs to the plant and to the bytes of the feed.
     ensures text { OnOk result (engine.old.history ≡ [] → IfSome (F.remaining feed.old) (λ bytes. Appends (S.written sink.old) (S.written sink.new) (out_text engine.old.plant bytes))) }
 
-    // A beginning of the requests took effect, and all their answers were written but for a part of the last one's.
-    ensures err { OnErr result ((input : List ℕ) × (requests : List Request) × Consumes (F.remaining feed.old) (F.remaining feed.new) input × AreRead (F.remaining feed.new) input requests
-        × Stopped engine.old.plant requests engine.old.history engine.new.history (S.written sink.old) (S.written sink.new)) }
-
-    // Where a read fails, just the requests that had ended took effect, and all their answers were written.
-    ensures cut { IsErrOf result ServeFault.Read → (input : List ℕ) × Consumes (F.remaining feed.old) (F.remaining feed.new) input
-        × Answered engine.old.plant (ended_requests input) engine.old.history engine.new.history (S.written sink.old) (S.written sink.new) }
+    // After an error: how far it came by the time of this fault. Where a read failed, all requests that had ended are answered; where a write
+    // or an allocation failed, a beginning of those that were read took effect, and all their answers were written but for a part of the last one's.
+    ensures err { IfErr result (λ e. (input : List ℕ) × Consumes (F.remaining feed.old) (F.remaining feed.new) input
+        × StoppedBy e engine.old.plant (F.remaining feed.new) input engine.old.history engine.new.history (S.written sink.old) (S.written sink.new)) }
     ensures read { F.broken feed.new ≡ is_read result }
     ensures write { S.broken sink.new ≡ is_write result }
 {

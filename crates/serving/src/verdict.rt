@@ -39,14 +39,14 @@ pub fn admit<S: Sink>(
     plant: &[u8],
     sources: &[(&str, &[u8])],
     alarms: &[u8],
-    accepted: bool,
+    says_accepted: bool,
     sink: &mut S,
 ) -> Result<Option<Plant>, ServeFault>
     requires { S.broken sink.old ≡ false }
-    ensures told { IsTold (IsVerdict (texts_of plant.now (map (λ s. s.0.now) sources.now) (map (λ s. s.1.now) sources.now) alarms.now) accepted) (S.written sink.old) (S.written sink.new) result }
+    ensures told { IsTold (IsVerdict (texts_of plant.now (map (λ s. s.0.now) sources.now) (map (λ s. s.1.now) sources.now) alarms.now) says_accepted) (S.written sink.old) (S.written sink.new) result }
     ensures write { S.broken sink.new ≡ is_write result }
 {
-    match verdict(alloc, plant, sources, alarms, accepted) {
+    match verdict(alloc, plant, sources, alarms, says_accepted) {
         Ok((plant, line)) => told(sink, plant, line.as_str()),
         Err(_) => Err(ServeFault::Memory),
     }
@@ -60,14 +60,14 @@ pub fn admit_from<F: Folder, S: Sink>(
     alloc: Global,
     folder: &F,
     path: &str,
-    accepted: bool,
+    says_accepted: bool,
     sink: &mut S,
 ) -> Result<Option<Plant>, ServeFault>
     requires { S.broken sink.old ≡ false }
-    ensures told { IsTold (IsFilesVerdict (F.finds folder.now) path.now accepted) (S.written sink.old) (S.written sink.new) result }
+    ensures told { IsTold (IsFilesVerdict (F.finds folder.now) path.now says_accepted) (S.written sink.old) (S.written sink.new) result }
     ensures write { S.broken sink.new ≡ is_write result }
 {
-    match files_verdict(alloc, folder, path, accepted) {
+    match files_verdict(alloc, folder, path, says_accepted) {
         Ok((plant, line)) => told(sink, plant, line.as_str()),
         Err(_) => Err(ServeFault::Memory),
     }

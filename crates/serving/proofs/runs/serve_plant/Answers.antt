@@ -1,6 +1,6 @@
 use Rattle.std.proofs.Common.{[], refl, inl}
 use Rattle.std.proofs.KnownBytes.{Consumes-nil}
-use Rattle.std.proofs.lemmas.Result.{on_ok_weaker, on_err_weaker}
+use Rattle.std.proofs.lemmas.Result.{on_ok_weaker, IfErr-weaker}
 use Rattle.serving.proofs.SessionLaws.{stopped-none}
 use Rattle.serving.proofs.runs.serve_plant.Goals as goal
 
@@ -12,7 +12,7 @@ returns-in-Ok-clause-ok g c =
 pub returns-in-Ok-clause-err : goal.returns-in-Ok-clause-err
 returns-in-Ok-clause-err g c =
     let cut = rw (c.in-Ok.ensures.0, c.in-Ok.ensures.1) at c.serve.ensures.err in
-    on_err_weaker c.serve.result (λ a. record { input = a.0; requests = a.1; history = c.serve.new.engine.history; read = a.2; are_read = a.3; stopped = a.4 }) cut
+    IfErr-weaker c.serve.result _ _ (λ e a. record { input = a.0; history = c.serve.new.engine.history; read = a.1; stopped = a.2 }) cut
 
 pub returns-in-Err-clause-err : goal.returns-in-Err-clause-err
-returns-in-Err-clause-err g c = record { input = []; requests = []; history = []; read = Consumes-nil _; are_read = inl refl; stopped = stopped-none _ _ _ _ _ refl }
+returns-in-Err-clause-err g c = record { input = []; history = []; read = Consumes-nil _; stopped = ([], inl refl, stopped-none _ _ _ _ _ refl) }
