@@ -4,7 +4,7 @@
     python3 tools/reference/compare.py PROGRAM [FIRST_SEED [COUNT]]
 
 PROGRAM is the built server (crates/alarmd/out/alarmd). For each seed a plant and commands are made; the server answers them, and so does
-server.py, which was written from the pages on the language and the protocol, without a look at the server's code or its definitions. The
+server.py, which was written from the rules of the language and the protocol, and not from the server's code or its definitions. The
 first line in which the answers differ is printed with the seed. The exit status is 0 where all agree.
 """
 

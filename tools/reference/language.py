@@ -1,7 +1,7 @@
 """The language of a plant's sources: operators, expressions and statements, and what they do.
 
-Written from docs/LANGUAGE.md alone, without a look at the server's code, so that a rule which the server's definitions and its code both
-misread shows as a difference. Numbers are Python's: BOOL is 0 or 1, TIME is in milliseconds.
+Written from the rules of docs/LANGUAGE.md and not from the server's code or its definitions, so that a rule which both of these misread
+shows as a difference. Numbers are Python's: BOOL is 0 or 1, TIME is in milliseconds.
 """
 
 from dataclasses import dataclass, field

@@ -1,4 +1,4 @@
-"""What the server answers: a plant's state, scans, orders, `list` and `journal`, by docs/LANGUAGE.md and docs/PROTOCOL.md alone."""
+"""What the server answers: a plant's state, scans, orders, `list` and `journal`, by the rules of docs/LANGUAGE.md and docs/PROTOCOL.md."""
 
 import datetime
 
