@@ -137,7 +137,8 @@ def faulty(seed):
     writer.sections = {}
     if some.random() < 0.7:
         refusal, text = some.choice(faults.statements())
-        place = some.choice(lists_of(routine.body))
+        # (inside a FOR it might assign that FOR's control variable, which is C9 and comes first)
+        place = routine.body if refusal == "C10 TURNS" else some.choice(lists_of(routine.body))
         place.insert(some.randrange(len(place) + 1), Text(text))
     else:
         refusal, text = some.choice(faults.sections())
