@@ -3,7 +3,7 @@
 ghost use Rattle.std.specs.Prelude.{◌≡◌, false};
 
 use crate::again::again;
-use crate::example::{example, plant_of};
+use crate::example::example;
 use engine::{Engine, EngineFault};
 use serving::{Failed, Feed, Reading, ServeFault, Sink, Writing, fault_number, serve};
 use std::alloc::{AllocError, Global};
@@ -379,10 +379,9 @@ fn lines_have_a_longest(rt: HostRuntime) -> Result<(), Fail> {
     Ok(())
 }
 
-/// The answers of the example plant, or of its copy, to bytes in memory, which std reads and writes.
-fn in_memory<H: Wait>(rt: &H, alloc: Global, is_copy: bool) -> Result<Vec<u8>, AllocError> {
-    let plant = plant_of(alloc, SOURCE, is_copy)?;
-    let mut engine = Engine::new(alloc, plant)?;
+/// The answers to bytes in memory, which std reads and writes.
+fn in_memory<H: Wait>(rt: &H, alloc: Global) -> Result<Vec<u8>, AllocError> {
+    let mut engine = engine(alloc)?;
     let mut feed = Reading::new(INPUT);
     let mut sink = Writing::new(Vec::new(alloc));
     match serve(rt, alloc, &mut engine, &mut feed, &mut sink) {
@@ -393,10 +392,7 @@ fn in_memory<H: Wait>(rt: &H, alloc: Global, is_copy: bool) -> Result<Vec<u8>, A
 
 #[test]
 fn std_gives_feeds_and_sinks(rt: HostRuntime) -> Result<(), Fail> {
-    for is_copy in [false, true] {
-        let text = again(|| in_memory(&rt, rt.alloc(), is_copy))?;
-        assert!(rt; text.as_slice() == OUTPUT);
-    }
+    assert!(rt; again(|| in_memory(&rt, rt.alloc()))?.as_slice() == OUTPUT);
     Ok(())
 }
 
