@@ -6,9 +6,11 @@
 
 mod code;
 mod instr;
+mod own;
 mod run;
 mod step;
 mod words;
 
 pub use code::Code;
 pub use instr::{Instr, Place};
+pub use own::{Own, Shared};
