@@ -12,6 +12,7 @@ pub mod Runs
 pub mod Emitting
 pub mod Ends
 pub mod Places
+pub mod Within
 pub mod Sound
 pub mod Made
 pub mod Sizes

@@ -1,0 +1,70 @@
+-- Whether cells have what a frame names.
+use Rattle.std.specs.Prelude.{◌≡◌, ◌≤◌, ℕ, ◌+◌, Bool, true, ◌&&◌, nat_lt, if◌then◌else◌, List, length, Option, Some, None, slice_get}
+use Rattle.st_tree.specs.View.{view_body}
+use Rattle.st_tree.specs.Mapping.{Known, body_known}
+use Rattle.block_walk.specs.declared.clock.Standard.{Standard}
+use Rattle.block_walk.specs.declared.clock.Standard.TheVariants as standard
+use Rattle.block_walk.specs.declared.frame.SeatOf.{SeatOf}
+use Rattle.block_walk.specs.declared.frame.SeatOf.TheVariants as seat_of
+use Rattle.block_walk.specs.declared.frame.Seat.{Seat}
+use Rattle.block_walk.specs.declared.frame.Base.{Base}
+use Rattle.block_walk.specs.declared.frame.Frame.{Frame}
+use Rattle.block_walk.specs.Frames.{of_first}
+use Rattle.block_walk.specs.Walks.{slot_of, member_slot, base_of}
+use Rattle.acc_vm.specs.Codes.{PlainCode}
+
+-- in cells of so many values and clocks
+module _ (values clocks : ℕ) where
+  -- an input of an instance is there
+  abbrev pub has_input : Option Seat → Base → ℕ → Bool
+  has_input None base name = true
+  has_input (Some seat) base name = nat_lt (member_slot base seat name) values
+
+  -- an output is: the clock of a standard block, or a value of a frame's instance
+  abbrev pub has_shown : SeatOf → Base → Seat → ℕ → Bool
+  has_shown (seat_of.Standard of) base seat name = nat_lt (base.clocks + seat.clocks) clocks
+  has_shown (seat_of.Frame k) base seat name = nat_lt (member_slot base seat name) values
+
+  abbrev pub has_output : Option Seat → Base → ℕ → Bool
+  has_output None base name = true
+  has_output (Some seat) base name = has_shown seat.of base seat name
+
+  -- PT of a standard block is; R_TRIG has none
+  abbrev pub has_pt : Standard → Base → Seat → Bool
+  has_pt standard.Ton base seat = nat_lt (member_slot base seat 1) values
+  has_pt standard.Tof base seat = nat_lt (member_slot base seat 1) values
+  has_pt standard.RTrig base seat = true
+
+  -- what a call of an instance names is, where whether what each frame names is there is given
+  abbrev pub has_called : (ℕ → Base → Bool) → SeatOf → Base → Seat → Bool
+  has_called inner (seat_of.Standard of) base seat = nat_lt (base.clocks + seat.clocks) clocks && (nat_lt (member_slot base seat 0) values && has_pt of base seat)
+  has_called inner (seat_of.Frame k) base seat = if seat.is_called then inner k (base_of base seat) else true
+
+  abbrev pub has_instance : (ℕ → Base → Bool) → Option Seat → Base → Bool
+  has_instance inner None base = true
+  has_instance inner (Some seat) base = has_called inner seat.of base seat
+
+  module _ (globals : ℕ) where
+    -- which names of a routine at a base stand for what is there
+    abbrev pub there : (ℕ → Base → Bool) → List Seat → Base → Known ℕ
+    there inner seats base = record {
+      has_variable = λ v. nat_lt (slot_of globals base v) values;
+      has_instance = λ instance. has_instance inner (slice_get seats instance) base;
+      has_input = λ instance name. has_input (slice_get seats instance) base name;
+      has_output = λ instance name. has_output (slice_get seats instance) base name;
+    }
+
+    abbrev pub routine_there : (ℕ → Base → Bool) → Frame → Base → Bool
+    routine_there inner frame base = body_known (there inner frame.seats.items base) (view_body frame.body.items)
+
+    -- what the frame of a number among so many first ones names at a base is there, and what the frames name that it comes to call
+    abbrev pub frame_there : List Frame → (limit k : ℕ) → Base → Bool
+    frame_there frames = of_first (λ base. true) routine_there frames
+
+-- cells of so many values and clocks have what the frame of a number names as a program at a base
+abbrev pub IsThere : (values clocks globals : ℕ) → List Frame → (first : ℕ) → Base → Type 0
+IsThere values clocks globals frames first base = frame_there values clocks globals frames (length frames) first base ≡ true
+
+-- cells that have what a frame names as a program have what code names
+abbrev pub NamesAsFrame : List Frame → (globals first : ℕ) → Base → PlainCode → Type 0
+NamesAsFrame frames globals first base code = (values clocks : ℕ) → IsThere values clocks globals frames first base → (code.values ≤ values) × (code.clocks ≤ clocks)
