@@ -3,6 +3,7 @@ use Rattle.std.proofs.Common.{◌≡◌, refl, ℕ, ◌≤◌, arith}
 use Rattle.st_tree.specs.Plain.{PlainBody}
 use Rattle.st_tree.specs.View.{view_body}
 use Rattle.st_tree.specs.Costs.{body_cost}
+use Rattle.st_tree.specs.Mapping.{Known, body_known}
 use Rattle.st_tree.specs.Meaning.{Space, run_all}
 use Rattle.block_walk.specs.declared.frame.Frame.{Frame}
 use Rattle.block_walk.specs.Cells.{PlainCells}
@@ -25,12 +26,17 @@ DoesSame = (space : Space ℕ PlainCells) (body : PlainBody ℕ) (w : PlainCells
 abbrev pub CostsLess : Type 0
 CostsLess = (called : ℕ → ℕ) (body : PlainBody ℕ) → body_cost frame_turns called (folded_body body) ≤ body_cost frame_turns called body
 
-pub folding_keeps : DoesSame → KeepsConstants → CostsLess → IsKept folded_view
-folding_keeps same constants less = record {
+-- a folded body has the names of the body
+abbrev pub KeepsNames : Type 0
+KeepsNames = (known : Known ℕ) (body : PlainBody ℕ) → body_known known (folded_body body) ≡ body_known known body
+
+pub folding_keeps : DoesSame → KeepsConstants → CostsLess → KeepsNames → IsKept folded_view
+folding_keeps same constants less names = record {
   seats = λ f. refl;
   runs = λ space f w. same space (view_body f.body.items) w;
   steady = λ f h. body_steady constants (view_body f.body.items) h;
   costs = λ called f. less called (view_body f.body.items);
+  names = λ known f. names known (view_body f.body.items);
 }
 
 pub copying_keeps : IsKept view_frame
@@ -39,4 +45,5 @@ copying_keeps = record {
   runs = λ space f w. refl;
   steady = λ f h. h;
   costs = λ called f. omega arith;
+  names = λ known f. refl;
 }

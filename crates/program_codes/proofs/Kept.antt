@@ -1,7 +1,8 @@
 -- Frames that are seen as others, whose bodies do the same, run as these do, are numbered as they are, and have their codes.
-use Rattle.std.proofs.Common.{◌≡◌, ◌∙◌, ap, sym, subst, ℕ, ◌≤◌, ◌++◌, List, [], length, map, arith}
+use Rattle.std.proofs.Common.{◌≡◌, ◌∙◌, ap, sym, subst, true, ℕ, ◌≤◌, ◌++◌, List, [], length, map, arith}
 use Rattle.st_tree.specs.View.{view_body}
 use Rattle.st_tree.specs.Costs.{body_cost}
+use Rattle.st_tree.specs.Mapping.{Known, body_known}
 use Rattle.st_tree.specs.Meaning.{Space, Done, run_all}
 use Rattle.block_walk.specs.declared.frame.Base.{Base}
 use Rattle.block_walk.specs.declared.frame.Frame.{Frame}
@@ -14,16 +15,18 @@ use Rattle.code_sizes.specs.Sizes.{called_cost, frame_turns, routine_cost, frame
 use Rattle.acc_vm.specs.Machine.{Over}
 use Rattle.acc_vm.specs.Codes.{PlainCode, run_of}
 use Rattle.codegen.specs.Codes.{SteadyBody, AreSteady, paths_at, RunsFrame}
+use Rattle.codegen.specs.Within.{there, routine_there, frame_there, IsThere}
 use Rattle.program_codes.specs.Codes.{IsCodeOf, AreCodes}
 use Rattle.program_codes.proofs.Tables.{AreSeen, first_holds, first_alike, at_place, found, same_length}
 use Rattle.program_codes.proofs.Costs.{body_less, called_less}
 
--- what a view keeps of each frame: its instances, what its body does, that it is steady, and that it costs no more
+-- what a view keeps of each frame: its instances, what its body does, that it is steady, that it costs no more, and its names
 pub record IsKept (view : Frame → PlainFrame) : Type 0 where
   pub seats : (f : Frame) → (view f).seats ≡ f.seats.items
   pub runs : (space : Space ℕ PlainCells) (f : Frame) (w : PlainCells) → run_all space (view f).body w ≡ run_all space (view_body f.body.items) w
   pub steady : (f : Frame) → SteadyBody (view_body f.body.items) → SteadyBody (view f).body
   pub costs : (called : ℕ → ℕ) (f : Frame) → body_cost frame_turns called (view f).body ≤ body_cost frame_turns called (view_body f.body.items)
+  pub names : (known : Known ℕ) (f : Frame) → body_known known (view f).body ≡ body_known known (view_body f.body.items)
 
 module _ (view : Frame → PlainFrame) (kept : IsKept view) (fs gs : List Frame) (seen : AreSeen view fs gs) where
   same_seats : (f g : Frame) → view_frame g ≡ view f → g.seats.items ≡ f.seats.items
@@ -63,6 +66,16 @@ module _ (view : Frame → PlainFrame) (kept : IsKept view) (fs gs : List Frame)
       let names : paths_at fs first path ≡ paths_at gs first path = λ i. map (λ way. way ++ path) (sym (all_paths first) i) in
       (run.0, ap (λ (l : List Path). run_of t l code cells) names ∙ run.1 ∙ (λ i. Over (all_runs t globals first i base path cells) run.0))
 
+  module _ (values clocks globals : ℕ) where
+    there_same : (limit k : ℕ) → frame_there values clocks globals gs limit k ≡ frame_there values clocks globals fs limit k
+    there_same =
+        first_alike view (λ base. true) (routine_there values clocks globals)
+        (λ inner f g e i base. ((λ j. body_known (there values clocks globals inner (same_seats f g e j) base) (e j).body) ∙ kept.names (there values clocks globals inner f.seats.items base) f) i)
+        fs gs (at_place view fs gs seen)
+
+    there_kept : (first : ℕ) (base : Base) → IsThere values clocks globals fs first base → IsThere values clocks globals gs first base
+    there_kept first base h = ap (λ n. frame_there values clocks globals gs n first base) (same_length view fs gs seen) ∙ (λ i. there_same (length fs) first i base) ∙ h
+
   routine_less : (inner outer : ℕ → ℕ) → ((k : ℕ) → inner k ≤ outer k) → (f g : Frame) → view_frame g ≡ view f → routine_cost inner g ≤ routine_cost outer f
   routine_less inner outer before f g e =
       let is : routine_cost inner g ≡ body_cost frame_turns (called_cost inner f.seats.items) (view f).body = λ i. body_cost frame_turns (called_cost inner (same_seats f g e i)) (e i).body in
@@ -80,18 +93,17 @@ module _ (view : Frame → PlainFrame) (kept : IsKept view) (fs gs : List Frame)
   all_costs first = subst (λ n. frame_cost gs n first ≤ frame_cost fs (length fs) first) (sym (same_length view fs gs seen)) (cost_less (length fs) first)
 
   -- the code of a frame that is seen as another is that of the other
-  pub code_kept : (globals first : ℕ) (base : Base) (values clocks : ℕ) (code : PlainCode) → IsCodeOf gs globals first base values clocks code → IsCodeOf fs globals first base values clocks code
-  code_kept globals first base values clocks code is = record {
+  pub code_kept : (globals first : ℕ) (base : Base) (code : PlainCode) → IsCodeOf gs globals first base code → IsCodeOf fs globals first base code
+  code_kept globals first base code is = record {
     runs = runs_kept globals first base code is.runs;
     paths = is.paths ∙ ap (λ (l : List Path). length l) (all_paths first);
-    values = is.values;
-    clocks = is.clocks;
+    within = λ values clocks h. is.within values clocks (there_kept values clocks globals first base h);
     stack = is.stack;
     cost = let most = all_costs first in let own = is.cost in omega arith;
   }
 
-  pub codes_kept : (globals first : ℕ) (values clocks : List ℕ) (all_values all_clocks : ℕ) (codes : List PlainCode) → AreCodes gs globals first values clocks all_values all_clocks codes → AreCodes fs globals first values clocks all_values all_clocks codes
-  codes_kept globals first values clocks all_values all_clocks codes are = record {
+  pub codes_kept : (globals first : ℕ) (values clocks : List ℕ) (codes : List PlainCode) → AreCodes gs globals first values clocks codes → AreCodes fs globals first values clocks codes
+  codes_kept globals first values clocks codes are = record {
     long = are.long;
-    each = λ n code at. code_kept globals _ _ all_values all_clocks code (are.each n code at);
+    each = λ n code at. code_kept globals _ _ code (are.each n code at);
   }

@@ -17,14 +17,14 @@ last_or (a ∷ xs) y x (suc n) at =
       | inr last ↦ inr (ap suc last.0, last.1)
     ]
 
-pub none_yet : (frames : List Frame) (globals first : ℕ) (values clocks : List ℕ) (all_values all_clocks : ℕ) (codes : List PlainCode) → codes ≡ [] → EachIsCode frames globals first values clocks all_values all_clocks codes
-none_yet frames globals first values clocks all_values all_clocks codes e n code at = absurd (none-some code (ap (λ (l : List PlainCode). slice_get l n) (sym e) ∙ at))
+pub none_yet : (frames : List Frame) (globals first : ℕ) (values clocks : List ℕ) (codes : List PlainCode) → codes ≡ [] → EachIsCode frames globals first values clocks codes
+none_yet frames globals first values clocks codes e n code at = absurd (none-some code (ap (λ (l : List PlainCode). slice_get l n) (sym e) ∙ at))
 
-pub one_more : (frames : List Frame) (globals first : ℕ) (values clocks : List ℕ) (all_values all_clocks : ℕ) (codes after : List PlainCode) (code : PlainCode) → after ≡ codes ++ code ∷ []
-    → EachIsCode frames globals first values clocks all_values all_clocks codes → IsCodeOf frames globals (first + length codes) (base_in values clocks (length codes)) all_values all_clocks code
-    → EachIsCode frames globals first values clocks all_values all_clocks after
-one_more frames globals first values clocks all_values all_clocks codes after code e before is n c at =
+pub one_more : (frames : List Frame) (globals first : ℕ) (values clocks : List ℕ) (codes after : List PlainCode) (code : PlainCode) → after ≡ codes ++ code ∷ []
+    → EachIsCode frames globals first values clocks codes → IsCodeOf frames globals (first + length codes) (base_in values clocks (length codes)) code
+    → EachIsCode frames globals first values clocks after
+one_more frames globals first values clocks codes after code e before is n c at =
     elim (last_or codes code c n (ap (λ (l : List PlainCode). slice_get l n) (sym e) ∙ at)) [
       | inl old ↦ before n c old
-      | inr last ↦ subst (λ m. IsCodeOf frames globals (first + m) (base_in values clocks m) all_values all_clocks c) (sym last.0) (subst (IsCodeOf frames globals (first + length codes) (base_in values clocks (length codes)) all_values all_clocks) last.1 is)
+      | inr last ↦ subst (λ m. IsCodeOf frames globals (first + m) (base_in values clocks m) c) (sym last.0) (subst (IsCodeOf frames globals (first + length codes) (base_in values clocks (length codes))) last.1 is)
     ]

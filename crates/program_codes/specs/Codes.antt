@@ -6,17 +6,17 @@ use Rattle.block_walk.specs.Frames.{frame_paths}
 use Rattle.code_sizes.specs.Sizes.{frame_cost}
 use Rattle.acc_vm.specs.Codes.{PlainCode}
 use Rattle.codegen.specs.Codes.{RunsFrame}
+use Rattle.codegen.specs.Within.{NamesAsFrame}
 
 -- how many words of stack there are for a run. Statements nest at most 64 deep, expressions 128 and blocks 16: a FOR takes two words and each operator at most one, so no accepted source needs more than 17 * 2 * 64 + 128 words
 abbrev pub stack_words : ℕ
 stack_words = 8192
 
--- code is that of the frame of a number as a program, at a base, in cells of so many values and clocks: it runs as the frame does, has the frame's paths, names nothing that isn't there, finds room on the stack, and costs no more than the frame
-pub record IsCodeOf (frames : List Frame) (globals first : ℕ) (base : Base) (all_values all_clocks : ℕ) (code : PlainCode) : Type 0 where
+-- code is that of the frame of a number as a program, at a base: it runs as the frame does, has the frame's paths, names nothing that cells don't have which have what the frame names, finds room on the stack, and costs no more than the frame
+pub record IsCodeOf (frames : List Frame) (globals first : ℕ) (base : Base) (code : PlainCode) : Type 0 where
   pub runs : RunsFrame frames globals first base code
   pub paths : code.paths ≡ length (frame_paths frames (length frames) first)
-  pub values : code.values ≤ all_values
-  pub clocks : code.clocks ≤ all_clocks
+  pub within : NamesAsFrame frames globals first base code
   pub stack : code.stack ≤ stack_words
   pub cost : code.cost ≤ frame_cost frames (length frames) first
 
@@ -25,11 +25,11 @@ abbrev pub base_in : (values clocks : List ℕ) → (n : ℕ) → Base
 base_in values clocks n = record { values = get_or values n 0; clocks = get_or clocks n 0 }
 
 -- each of the codes is that of its program: the programs are the frames from one on
-abbrev pub EachIsCode : (frames : List Frame) → (globals first : ℕ) → (values clocks : List ℕ) → (all_values all_clocks : ℕ) → List PlainCode → Type 0
-EachIsCode frames globals first values clocks all_values all_clocks codes =
-    (n : ℕ) (code : PlainCode) → slice_get codes n ≡ Some code → IsCodeOf frames globals (first + n) (base_in values clocks n) all_values all_clocks code
+abbrev pub EachIsCode : (frames : List Frame) → (globals first : ℕ) → (values clocks : List ℕ) → List PlainCode → Type 0
+EachIsCode frames globals first values clocks codes =
+    (n : ℕ) (code : PlainCode) → slice_get codes n ≡ Some code → IsCodeOf frames globals (first + n) (base_in values clocks n) code
 
 -- codes are those of the programs, of which the rows tell where each begins, and behind them where the last one ends
-pub record AreCodes (frames : List Frame) (globals first : ℕ) (values clocks : List ℕ) (all_values all_clocks : ℕ) (codes : List PlainCode) : Type 0 where
+pub record AreCodes (frames : List Frame) (globals first : ℕ) (values clocks : List ℕ) (codes : List PlainCode) : Type 0 where
   pub long : length codes + 1 ≡ length values
-  pub each : EachIsCode frames globals first values clocks all_values all_clocks codes
+  pub each : EachIsCode frames globals first values clocks codes

@@ -13,7 +13,10 @@ use acc_vm::Code;
 use block_walk::{Cells, Frame};
 use code_sizes::{FrameCounts, count_frames};
 use codegen::compile_counted;
-use const_fold::{folded_body_costs_at_most, folded_body_does_same, folded_constants_are_literals};
+use const_fold::{
+    folded_body_costs_at_most, folded_body_does_same, folded_constants_are_literals,
+    folded_names_stay,
+};
 use std::alloc::{AllocError, Global};
 
 /// The code of a program, by the folded frames of a table. Fails as `codes_of` does.
@@ -25,18 +28,14 @@ fn code_of(
     first: usize,
     values: usize,
     clocks: usize,
-    all_values: usize,
-    all_clocks: usize,
 ) -> Result<Code, AllocError>
     requires there { first < length folded.now }
     requires counted { AreCounts folded.now counts.now }
     requires in_turn { AreInTurn folded.now }
     requires steady { AreSteady folded.now }
-    ensures { IfOk result (IsCodeOf folded.now globals first (record { values = values; clocks = clocks }) all_values all_clocks) }
+    ensures { IfOk result (IsCodeOf folded.now globals first (record { values = values; clocks = clocks })) }
 {
-    let code = compile_counted(
-        alloc, folded, counts, globals, first, values, clocks, all_values, all_clocks,
-    )?;
+    let code = compile_counted(alloc, folded, counts, globals, first, values, clocks)?;
     if code.stack() > STACK_WORDS {
         return Err(AllocError);
     }
@@ -44,10 +43,10 @@ fn code_of(
 }
 
 /// The codes of the programs of a table, which are its frames from a number on, in their order. The rows have the numbers at which the values
-/// and the clocks of each program begin, and behind them where those of the last one end; the cells have so many of each in all.
+/// and the clocks of each program begin, and behind them where those of the last one end.
 ///
-/// Fails if allocation fails; and if a code can't be numbered in 32 bits, names a value or a clock that the cells don't have, or needs more
-/// words than a stack has, which is answered as refused memory too: no accepted source has such a program.
+/// Fails if allocation fails; and if a code can't be numbered in 32 bits, or needs more words than a stack has, which is answered as refused
+/// memory too: no accepted source has such a program.
 pub fn codes_of(
     alloc: Global,
     frames: &[Frame],
@@ -55,19 +54,18 @@ pub fn codes_of(
     first: usize,
     values: &[usize],
     clocks: &[usize],
-    all_values: usize,
-    all_clocks: usize,
 ) -> Result<Vec<Code>, AllocError>
     requires in_turn { AreInTurn frames.now }
     requires steady { AreSteady frames.now }
     requires values { length frames.now + 1 ≡ first + length values.now }
     requires clocks { length clocks.now ≡ length values.now }
     requires there { first ≤ length frames.now }
-    ensures { IfOk result (λ codes. AreCodes frames.now globals first values.now clocks.now all_values all_clocks codes.items) }
+    ensures { IfOk result (λ codes. AreCodes frames.now globals first values.now clocks.now codes.items) }
 {
     folded_body_does_same::<usize, Cells>();
     folded_constants_are_literals::<usize>();
     folded_body_costs_at_most::<usize>();
+    folded_names_stay::<usize>();
     let folded = fold_frames(alloc, frames)?;
     let counts = count_frames(alloc, &folded)?;
     let programs = values.len() - 1;
@@ -81,8 +79,6 @@ pub fn codes_of(
             first + n,
             values[n],
             clocks[n],
-            all_values,
-            all_clocks,
         )?;
         codes.push(code)?;
     }

@@ -13,4 +13,4 @@ mod running;
 
 pub use codes::{codes_of, copy_codes};
 pub use laws::copied_frames_have_codes;
-pub use running::{Stack, run_code, run_code_counted};
+pub use running::{Stack, run_code_counted};

@@ -1,13 +1,13 @@
 //! Runs codes, with one memory for the stack of all runs.
 
-ghost use Rattle.std.specs.Prelude.{◌≡◌, ◌≤◌, ◌<◌, ◌+◌, ◌*◌, ◌-◌, ℕ, List, length, IfOk, IfErr};
+ghost use Rattle.std.specs.Prelude.{◌≡◌, ◌≤◌, ◌<◌, ◌+◌, ◌*◌, ◌-◌, List, length, IfOk, IfErr};
 ghost use Rattle.block_walk.specs.Frames.{Path};
 ghost use Rattle.block_walk.specs.Walks.{ended};
 ghost use Rattle.acc_vm.specs.Machine.{Over};
 ghost use Rattle.acc_vm.specs.Codes.{SameShape, run_of};
 ghost use Rattle.program_codes.specs.Codes.{stack_words};
 
-use acc_vm::Code;
+use acc_vm::{Code, Own, Shared};
 use block_walk::{Cells, Stop};
 use std::alloc::{AllocError, Global};
 use std::marker::Model;
@@ -42,19 +42,7 @@ impl Stack {
     }
 }
 
-/// Runs code over cells at a moment, as `Code::run` does. It allocates nothing.
-pub fn run_code(code: &Code, stack: &mut Stack, cells: &mut Cells, moment: u64) -> Result<(), Stop>
-    requires values { code.now.values ≤ length cells.old.values }
-    requires clocks { code.now.clocks ≤ length cells.old.clocks }
-    requires room { code.now.stack ≤ stack_words }
-    ensures ran { (names : List Path) → (left : ℕ) × (run_of moment names code.now cells.old ≡ Over (ended names result cells.new) left) }
-    ensures path { IfErr result (λ stop. stop.path < code.now.paths) }
-    ensures shape { SameShape cells.new cells.old }
-{
-    code.run(stack.words.as_mut_slice(), cells, moment)
-}
-
-/// Runs code as `run_code` does, and tells how many instructions it did.
+/// Runs code over cells at a moment, as `Code::run_counted` does: it tells how many instructions it did. It allocates nothing.
 pub fn run_code_counted(
     code: &Code,
     stack: &mut Stack,
@@ -69,5 +57,9 @@ pub fn run_code_counted(
     ensures path { IfErr result.0 (λ stop. stop.path < code.now.paths) }
     ensures shape { SameShape cells.new cells.old }
 {
-    code.run_counted(stack.words.as_mut_slice(), cells, moment)
+    let mut own = Own {
+        cells,
+        stack: stack.words.as_mut_slice(),
+    };
+    code.run_counted(&mut own, &Shared, moment)
 }

@@ -10,8 +10,7 @@ returns c =
     record {
       runs = made.runs;
       paths = ap (λ (k : PlainCode). k.paths) made.is;
-      values = made.values;
-      clocks = made.clocks;
+      within = made.within;
       stack = omega arith;
       cost = omega (arith, cost);
     }

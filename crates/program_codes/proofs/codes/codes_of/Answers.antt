@@ -20,18 +20,18 @@ code_of-requires-clause-there c =
 
 pub code_of-requires-clause-in_turn : goal.code_of-requires-clause-in_turn
 code_of-requires-clause-in_turn c =
-    let kept : IsKept folded_view = folding_keeps c.folded_body_does_same.ensures c.folded_constants_are_literals.ensures.constants (λ called body. c.folded_body_costs_at_most.ensures frame_turns turns_by_constants called body) in
+    let kept : IsKept folded_view = folding_keeps c.folded_body_does_same.ensures c.folded_constants_are_literals.ensures.constants (λ called body. c.folded_body_costs_at_most.ensures frame_turns turns_by_constants called body) c.folded_names_stay.ensures in
     subst AreInTurn (sym c.deref-in-loop-n.ensures.value) (in_turn_kept folded_view kept c.args.frames.now c.in_ok-folded.folded.items c.in_ok-folded.ensures c.requires.in_turn)
 
 pub code_of-requires-clause-steady : goal.code_of-requires-clause-steady
 code_of-requires-clause-steady c =
-    let kept : IsKept folded_view = folding_keeps c.folded_body_does_same.ensures c.folded_constants_are_literals.ensures.constants (λ called body. c.folded_body_costs_at_most.ensures frame_turns turns_by_constants called body) in
+    let kept : IsKept folded_view = folding_keeps c.folded_body_does_same.ensures c.folded_constants_are_literals.ensures.constants (λ called body. c.folded_body_costs_at_most.ensures frame_turns turns_by_constants called body) c.folded_names_stay.ensures in
     subst AreSteady (sym c.deref-in-loop-n.ensures.value) (steady_kept folded_view kept c.args.frames.now c.in_ok-folded.folded.items c.in_ok-folded.ensures c.requires.steady)
 
 pub loop-n-init : goal.loop-n-init
 loop-n-init c = record {
   many = ap length c.in_ok-codes.ensures.items;
-  each = none_yet c.args.frames.now c.args.globals c.args.first c.args.values.now c.args.clocks.now c.args.all_values c.args.all_clocks c.in_ok-codes.codes.items c.in_ok-codes.ensures.items;
+  each = none_yet c.args.frames.now c.args.globals c.args.first c.args.values.now c.args.clocks.now c.in_ok-codes.codes.items c.in_ok-codes.ensures.items;
 }
 
 pub loop-n-preserved : goal.loop-n-preserved
@@ -44,20 +44,20 @@ loop-n-preserved c =
     let codes = c.loop-n.codes.items in
     let code = c.in_ok-code.code in
     let many = c.loop-n.invariant.many in
-    let kept : IsKept folded_view = folding_keeps c.folded_body_does_same.ensures c.folded_constants_are_literals.ensures.constants (λ called body. c.folded_body_costs_at_most.ensures frame_turns turns_by_constants called body) in
+    let kept : IsKept folded_view = folding_keeps c.folded_body_does_same.ensures c.folded_constants_are_literals.ensures.constants (λ called body. c.folded_body_costs_at_most.ensures frame_turns turns_by_constants called body) c.folded_names_stay.ensures in
     let pushed : c.push.new.self.items ≡ codes ++ code ∷ [] = search rules in
-    let made : IsCodeOf folded c.args.globals (c.args.first + n) (base_in values clocks n) c.args.all_values c.args.all_clocks code =
-    subst (λ fs. IsCodeOf fs c.args.globals (c.args.first + n) (base_in values clocks n) c.args.all_values c.args.all_clocks code) c.deref-in-loop-n.ensures.value c.in_ok-code.ensures
+    let made : IsCodeOf folded c.args.globals (c.args.first + n) (base_in values clocks n) code =
+    subst (λ fs. IsCodeOf fs c.args.globals (c.args.first + n) (base_in values clocks n) code) c.deref-in-loop-n.ensures.value c.in_ok-code.ensures
     in
-    let is : IsCodeOf frames c.args.globals (c.args.first + n) (base_in values clocks n) c.args.all_values c.args.all_clocks code =
-    code_kept folded_view kept frames folded c.in_ok-folded.ensures c.args.globals (c.args.first + n) (base_in values clocks n) c.args.all_values c.args.all_clocks code made
+    let is : IsCodeOf frames c.args.globals (c.args.first + n) (base_in values clocks n) code =
+    code_kept folded_view kept frames folded c.in_ok-folded.ensures c.args.globals (c.args.first + n) (base_in values clocks n) code made
     in
-    let last : IsCodeOf frames c.args.globals (c.args.first + length codes) (base_in values clocks (length codes)) c.args.all_values c.args.all_clocks code =
-    subst (λ m. IsCodeOf frames c.args.globals (c.args.first + m) (base_in values clocks m) c.args.all_values c.args.all_clocks code) (sym many) is
+    let last : IsCodeOf frames c.args.globals (c.args.first + length codes) (base_in values clocks (length codes)) code =
+    subst (λ m. IsCodeOf frames c.args.globals (c.args.first + m) (base_in values clocks m) code) (sym many) is
     in
     let long = ap length pushed in
     let sum = length-append codes (code ∷ []) in
     record {
       many = omega (arith, long, sum, many);
-      each = one_more frames c.args.globals c.args.first values clocks c.args.all_values c.args.all_clocks codes c.push.new.self.items code pushed c.loop-n.invariant.each last;
+      each = one_more frames c.args.globals c.args.first values clocks codes c.push.new.self.items code pushed c.loop-n.invariant.each last;
     }

@@ -5,5 +5,5 @@ use Rattle.program_codes.proofs.codes.codes_of.Given as goal
 abbrev pub invariant-loop-n : goal.invariant-loop-n
 invariant-loop-n l = record {
   many : length l.codes.items ≡ l.n;
-  each : EachIsCode l.frames l.globals l.first l.values l.clocks l.all_values l.all_clocks l.codes.items;
+  each : EachIsCode l.frames l.globals l.first l.values l.clocks l.codes.items;
 }

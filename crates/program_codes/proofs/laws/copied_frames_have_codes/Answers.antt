@@ -6,4 +6,4 @@ use Rattle.program_codes.proofs.laws.copied_frames_have_codes.Goals as goal
 
 -- frames are copies of their copies
 pub returns : goal.returns
-returns c = λ frames copies same globals first values clocks all_values all_clocks codes are. codes_kept view_frame copying_keeps copies frames (sym same) globals first values clocks all_values all_clocks codes are
+returns c = λ frames copies same globals first values clocks codes are. codes_kept view_frame copying_keeps copies frames (sym same) globals first values clocks codes are
