@@ -2,7 +2,7 @@
 use Rattle.std.proofs.Common.{◌≡◌, ◌≢◌, ℕ, zero, suc, ◌+◌, ◌<◌, ◌≤◌, ◌==◌, ℤ, inl, inr, ◌⊎◌, Bool, true, false, Option, Some, None, List, [], ◌∷◌, ◌++◌, length, slice_get, slice_index, slice_set, if◌then◌else◌, arith, refl, ap, sym, ◌∙◌, length-append}
 use Rattle.std.proofs.lemmas.Bool.{cases_lt}
 use Rattle.std.proofs.lemmas.Bool.Decides.{eqb_tells}
-use Rattle.alarm_watch.specs.Chains.{GoesDown, HasKey, AreChains, ChangesAreMarked}
+use Rattle.alarm_watch.specs.Chains.{GoesDown, HasKey, AreChains, ChangesAreMarked, ChangesOfAreMarked}
 
 -- an alarm with a global among some and one more is one of them, or that one
 key_cases : (keys : List (Option ℕ)) (k : Option ℕ) (n g : ℕ) → HasKey (keys ++ k ∷ []) n g → ((n < length keys) × HasKey keys n g) ⊎ ((n ≡ length keys) × (k ≡ Some g))
@@ -189,27 +189,34 @@ marked_next next from link at before marks down link_is same m =
       own = λ keys first g e a from_is to. a.links g at e (m.own keys first g at a from_is link_is) to;
     }
 
--- the alarms of the globals below one are marked where the global changed
-pub record MarkedBelow (first next : List ℕ) (old new : ℕ → ℤ) (i : ℕ) (before marks : List Bool) : Type 0 where
+-- the alarms of some globals, from one up to before another, are marked where the global changed
+pub record MarkedFrom (first next : List ℕ) (old new : ℕ → ℤ) (from to : ℕ) (before marks : List Bool) : Type 0 where
   pub size : length marks ≡ length next
   pub kept : (n : ℕ) → slice_get marks n ≡ Some false → slice_get before n ≡ Some false
-  pub marked : (keys : List (Option ℕ)) → AreChains keys first next → (n g : ℕ) → g < i → HasKey keys n g → slice_get marks n ≡ Some false → old g ≡ new g
+  pub marked : (keys : List (Option ℕ)) → AreChains keys first next → ChangesOfAreMarked from to keys old new marks
 
-pub below_none : (first next : List ℕ) (old new : ℕ → ℤ) (marks : List Bool) → length marks ≡ length next → MarkedBelow first next old new 0 marks marks
-below_none first next old new marks size = record { size = size; kept = λ n h. h; marked = λ keys a n g less has unmarked. absurd (omega (arith, less)) }
+pub from_none : (first next : List ℕ) (old new : ℕ → ℤ) (from : ℕ) (marks : List Bool) → length marks ≡ length next → MarkedFrom first next old new from from marks marks
+from_none first next old new from marks size = record { size = size; kept = λ n h. h; marked = λ keys a n g low less has unmarked. absurd (omega (arith, low, less)) }
 
--- one global more, whose alarms are marked if it changed
-pub below_next : (first next : List ℕ) (old new : ℕ → ℤ) (i : ℕ) (before marks after : List Bool) → length after ≡ length next → ((n : ℕ) → slice_get after n ≡ Some false → slice_get marks n ≡ Some false)
-    → ((keys : List (Option ℕ)) (n : ℕ) → AreChains keys first next → HasKey keys n i → slice_get after n ≡ Some false → old i ≡ new i)
-    → MarkedBelow first next old new i before marks → MarkedBelow first next old new (i + 1) before after
-below_next first next old new i before marks after size kept here m = record {
+-- some globals more, whose alarms are marked if they changed
+pub from_more : (first next : List ℕ) (old new : ℕ → ℤ) (from i j : ℕ) (before marks after : List Bool) → length after ≡ length next → ((n : ℕ) → slice_get after n ≡ Some false → slice_get marks n ≡ Some false)
+    → ((keys : List (Option ℕ)) → AreChains keys first next → ChangesOfAreMarked i j keys old new after)
+    → MarkedFrom first next old new from i before marks → MarkedFrom first next old new from j before after
+from_more first next old new from i j before marks after size kept here m = record {
   size = size;
   kept = λ n h. m.kept n (kept n h);
-  marked = λ keys a n g less has unmarked. elim (cases_lt g i) [
-    | inl low ↦ m.marked keys a n g low has (kept n unmarked)
-    | inr high ↦ let g_is : g ≡ i = omega (arith, less, high) in rw g_is (here keys n a (rw g_is at has) unmarked)
+  marked = λ keys a n g low less has unmarked. elim (cases_lt g i) [
+    | inl below ↦ m.marked keys a n g low below has (kept n unmarked)
+    | inr high ↦ here keys a n g (omega (arith, high)) less has unmarked
   ];
 }
+
+-- one global more
+pub from_next : (first next : List ℕ) (old new : ℕ → ℤ) (from i : ℕ) (before marks after : List Bool) → length after ≡ length next → ((n : ℕ) → slice_get after n ≡ Some false → slice_get marks n ≡ Some false)
+    → ((keys : List (Option ℕ)) (n : ℕ) → AreChains keys first next → HasKey keys n i → slice_get after n ≡ Some false → old i ≡ new i)
+    → MarkedFrom first next old new from i before marks → MarkedFrom first next old new from (i + 1) before after
+from_next first next old new from i before marks after size kept here m =
+    from_more first next old new from i (i + 1) before marks after size kept (λ keys a n g low less has unmarked. let g_is : g ≡ i = omega (arith, less, low) in rw g_is (here keys n a (rw g_is at has) unmarked)) m
 
 -- a global beyond all chains has no alarm
 past : (first : List ℕ) (g : ℕ) → length first ≤ g → slice_index first g ≡ 0
@@ -217,10 +224,27 @@ past [] g h = refl
 past (x ∷ first) zero h = absurd (omega (arith, h))
 past (x ∷ first) (suc g) h = past first g (omega (arith, h))
 
-pub below_all : (first next : List ℕ) (old new : ℕ → ℤ) (i : ℕ) (before marks : List Bool) → length first ≤ i → MarkedBelow first next old new i before marks
-    → (keys : List (Option ℕ)) → AreChains keys first next → ChangesAreMarked keys old new marks
-below_all first next old new i before marks all m keys a n g has unmarked =
+-- those beyond the last chain need no mark
+pub from_all : (first next : List ℕ) (old new : ℕ → ℤ) (from i end : ℕ) (before marks : List Bool) → ((end ≤ i) ⊎ (length first ≤ i)) → MarkedFrom first next old new from i before marks
+    → (keys : List (Option ℕ)) → AreChains keys first next → ChangesOfAreMarked from end keys old new marks
+from_all first next old new from i end before marks all m keys a n g low less has unmarked =
     elim (cases_lt g i) [
-      | inl low ↦ m.marked keys a n g low has unmarked
-      | inr high ↦ let none = past first g (omega (arith, all, high)) in let low = a.last g n has in absurd (omega (arith, none, low))
+      | inl below ↦ m.marked keys a n g low below has unmarked
+      | inr high ↦ elim all [
+        | inl ended ↦ absurd (omega (arith, high, ended, less))
+        | inr past_all ↦ let none = past first g (omega (arith, past_all, high)) in let top = a.last g n has in absurd (omega (arith, none, top))
+      ]
+    ]
+
+-- the globals below one and those from it on are all
+pub all_marked : (first next : List ℕ) (old new : ℕ → ℤ) (i end : ℕ) (before marks after : List Bool) → length first ≤ end → MarkedFrom first next old new 0 i before marks
+    → ((n : ℕ) → slice_get after n ≡ Some false → slice_get marks n ≡ Some false) → ((keys : List (Option ℕ)) → AreChains keys first next → ChangesOfAreMarked i end keys old new after)
+    → (keys : List (Option ℕ)) → AreChains keys first next → ChangesAreMarked keys old new after
+all_marked first next old new i end before marks after long m kept here keys a n g has unmarked =
+    elim (cases_lt g i) [
+      | inl below ↦ m.marked keys a n g (omega arith) below has (kept n unmarked)
+      | inr high ↦ elim (cases_lt g end) [
+        | inl less ↦ here keys a n g (omega (arith, high)) less has unmarked
+        | inr beyond ↦ let none = past first g (omega (arith, long, beyond)) in let top = a.last g n has in absurd (omega (arith, none, top))
+      ]
     ]

@@ -28,6 +28,10 @@ pub record AreChains (keys : List (Option ℕ)) (first next : List ℕ) : Type 0
 abbrev pub ChangesAreMarked : List (Option ℕ) → (ℕ → ℤ) → (ℕ → ℤ) → List Bool → Type 0
 ChangesAreMarked keys before now marks = (n g : ℕ) → HasKey keys n g → slice_get marks n ≡ Some false → before g ≡ now g
 
+-- the same of the globals from one up to before another
+abbrev pub ChangesOfAreMarked : ℕ → ℕ → List (Option ℕ) → (ℕ → ℤ) → (ℕ → ℤ) → List Bool → Type 0
+ChangesOfAreMarked from end keys before now marks = (n g : ℕ) → from ≤ g → g < end → HasKey keys n g → slice_get marks n ≡ Some false → before g ≡ now g
+
 -- the globals of alarms' conditions
 abbrev pub condition_keys : List Watch → List (Option ℕ)
 condition_keys watches = map (λ watch. Some watch.condition) watches

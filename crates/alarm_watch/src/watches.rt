@@ -6,7 +6,7 @@ ghost use Rattle.alarm_bank.specs.Moves.{AreMoved, UnmarkedStay};
 ghost use Rattle.alarm_watch.specs.Chains.{condition_keys, suppress_keys, ChangesAreMarked};
 ghost use Rattle.alarm_watch.specs.Watched.{alarms_watched, Follow};
 
-use crate::chains::{chains_of, mark_changed};
+use crate::chains::{Chains, chains_of, mark_changed};
 use crate::watched::{Watch, Watched};
 use alarm_bank::Bank;
 use alarm_machine::Alarm;
@@ -18,10 +18,8 @@ use std::marker::Model;
 #[derive(Drop)]
 pub struct Watches {
     watches: Vec<Watch>,
-    first_condition: Vec<u32>,
-    next_condition: Vec<u32>,
-    first_suppress: Vec<u32>,
-    next_suppress: Vec<u32>,
+    conditions: Chains,
+    suppressions: Chains,
 }
 
 impl Model for Watches {
@@ -33,7 +31,7 @@ impl Model for Watches {
 
     ghost view = { λ w. w.watches.items };
 
-    ghost invariant = { λ w. IsIndex w.watches.items w.first_condition.items w.next_condition.items w.first_suppress.items w.next_suppress.items };
+    ghost invariant = { λ w. IsIndex w.watches.items w.conditions.first.items w.conditions.next.items w.suppressions.first.items w.suppressions.next.items };
 }
 
 /// The global of each alarm's condition. Fails if allocation fails.
@@ -78,16 +76,14 @@ impl Watches {
         requires { length watches.items < 2 ^ 32 }
         ensures { IfOk result (λ made. made ≡ watches.items) }
     {
-        let conditions = condition_keys(alloc, watches.as_slice())?;
-        let (first_condition, next_condition) = chains_of(alloc, conditions.as_slice())?;
-        let suppressions = suppress_keys(alloc, watches.as_slice())?;
-        let (first_suppress, next_suppress) = chains_of(alloc, suppressions.as_slice())?;
+        let keys = condition_keys(alloc, watches.as_slice())?;
+        let conditions = chains_of(alloc, keys.as_slice())?;
+        let keys = suppress_keys(alloc, watches.as_slice())?;
+        let suppressions = chains_of(alloc, keys.as_slice())?;
         Ok(Watches {
             watches,
-            first_condition,
-            next_condition,
-            first_suppress,
-            next_suppress,
+            conditions,
+            suppressions,
         })
     }
 
@@ -100,10 +96,7 @@ impl Watches {
         if before.as_slice() == now.as_slice() {
             return;
         }
-        let first = self.first_condition.as_slice();
-        mark_changed(first, self.next_condition.as_slice(), before, now, marks);
-        let first = self.first_suppress.as_slice();
-        mark_changed(first, self.next_suppress.as_slice(), before, now, marks);
+        mark_changed(&self.conditions, &self.suppressions, before, now, marks);
     }
 
     /// Lists the alarms of a bank that a scan moves, in order, as `Bank::moved` does; `now` is what the scan's programs leave. Where the

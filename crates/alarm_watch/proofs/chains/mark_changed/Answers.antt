@@ -1,9 +1,24 @@
-use Rattle.std.proofs.Common.{arith}
+use Rattle.std.proofs.Common.{◌*◌, arith}
 use Rattle.block_walk.specs.Cells.{value_at}
-use Rattle.alarm_watch.proofs.ChainLaws.{below_all}
+use Rattle.alarm_watch.proofs.ChainLaws.{all_marked}
 use Rattle.alarm_watch.proofs.chains.mark_changed.Goals as goal
 
-pub returns-clause-marked : goal.returns-clause-marked
-returns-clause-marked c =
-    let end = c.loop-at-test.false in
-    below_all c.args.first.now c.args.next.now (value_at c.args.before.now) (value_at c.args.now.now) c.loop-at.at c.args.marks.now c.loop-at.marks (omega (arith, end)) c.loop-at.invariant
+pub returns-clause-conditions : goal.returns-clause-conditions
+returns-clause-conditions c =
+    let past_all = c.loop-block-test.false in
+    let most = c.max-end.ensures in
+    let first = c.args.conditions.now.first.items in
+    all_marked first c.args.conditions.now.next.items (value_at c.args.before.now) (value_at c.args.now.now) (c.loop-block.block * 8) c.max-end.result c.args.marks.now c.loop-block.marks c.mark_globals-3.new.marks
+    (omega (arith, most)) c.loop-block.invariant.conditions
+    (λ n h. c.mark_globals-2.ensures.kept n (c.mark_globals-3.ensures.kept n h))
+    (λ keys a n g low less has unmarked. c.mark_globals-2.ensures.marked keys a n g (omega (arith, past_all, low)) less has (c.mark_globals-3.ensures.kept n unmarked))
+
+pub returns-clause-suppressions : goal.returns-clause-suppressions
+returns-clause-suppressions c =
+    let past_all = c.loop-block-test.false in
+    let most = c.max-end.ensures in
+    let first = c.args.suppressions.now.first.items in
+    all_marked first c.args.suppressions.now.next.items (value_at c.args.before.now) (value_at c.args.now.now) (c.loop-block.block * 8) c.max-end.result c.args.marks.now c.loop-block.marks c.mark_globals-3.new.marks
+    (omega (arith, most)) c.loop-block.invariant.suppressions
+    (λ n h. c.mark_globals-2.ensures.kept n (c.mark_globals-3.ensures.kept n h))
+    (λ keys a n g low less has unmarked. c.mark_globals-3.ensures.marked keys a n g (omega (arith, past_all, low)) less has unmarked)
