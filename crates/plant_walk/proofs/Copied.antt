@@ -1,7 +1,6 @@
 -- A copy of what is ready to run is ready to run.
 use Rattle.std.proofs.Common.{◌≡◌, ◌∙◌, ap, sym, subst, ℕ, List, [], ◌∷◌, length, map}
 use Rattle.plant_logic.specs.Source.{Source}
-use Rattle.plant_logic.specs.Layout.{cell_paths, all_clocks}
 use Rattle.block_walk.specs.declared.clock.Standard.{Standard}
 use Rattle.block_walk.specs.declared.frame.Frame.{Frame}
 use Rattle.block_walk.specs.Plain.{view_frame}
@@ -19,7 +18,7 @@ start_kept source table copies law same h =
 
 -- the same with other frames
 pub framed_with : (source : Source) (order : List ℕ) (frames start : List Frame) (names : List (List ℕ)) (standards : List Standard) (values clocks paths : List ℕ) (codes : List PlainCode) → IsFramed source order frames start names standards values clocks paths codes
-    → (copies begun : List Frame) → IsFrames source order copies → HasStart source begun → AreCodes copies (length source.globals) (length order) values clocks (length (cell_paths source)) (length (all_clocks source)) codes
+    → (copies begun : List Frame) → IsFrames source order copies → HasStart source begun → AreCodes copies (length source.globals) (length order) values clocks codes
     → IsFramed source order copies begun names standards values clocks paths codes
 framed_with source order frames start names standards values clocks paths codes h copies begun are has have = record {
   sound = h.sound;

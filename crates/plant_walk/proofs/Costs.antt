@@ -36,7 +36,7 @@ use Rattle.plant_walk.proofs.Weighed.{body_less}
 abbrev pub TypesCost : List PlainRoutine → List ℕ → Type 0
 TypesCost blocks order = AreBelow blocks order → (n : ℕ) (r : PlainRoutine) → slice_get blocks n ≡ Some r → type_cost blocks n ≡ limits.routine_cost (type_cost blocks) r
 
-element : {A : Type 0} (xs : List A) (n : ℕ) → n < length xs → (x : A) × (slice_get xs n ≡ Some x)
+pub element : {A : Type 0} (xs : List A) (n : ℕ) → n < length xs → (x : A) × (slice_get xs n ≡ Some x)
 element [] n less = absurd (omega arith)
 element (x ∷ xs) zero less = (x, refl)
 element (x ∷ xs) (suc n) less = element xs n (omega (arith, less))
@@ -50,7 +50,7 @@ place_by order m (Some j) is less =
     let same : get_or order j 0 ≡ m = grind (arith, nat_tests) in
     slice_get-get_or order j 0 less ∙ ap Some same
 
-place_at : (order : List ℕ) (m : ℕ) → place_in order m < length order → slice_get order (place_in order m) ≡ Some m
+pub place_at : (order : List ℕ) (m : ℕ) → place_in order m < length order → slice_get order (place_in order m) ≡ Some m
 place_at order m less = place_by order m (position (nat_eq m) order) refl less
 
 -- a number that is listed has its place
@@ -66,7 +66,7 @@ listed_within (a ∷ order) m here =
     later a m order isnt (inl same) = absurd (let other = isnt in grind (arith, nat_tests))
     later a m order isnt (inr more) = more
 
-place_within : (order : List ℕ) (m : ℕ) → Among order m → place_in order m < length order
+pub place_within : (order : List ℕ) (m : ℕ) → Among order m → place_in order m < length order
 place_within order m here =
     let within = listed_within order m here in
     let is : nat_lt (position_or_len (nat_eq m) order) (length order) ≡ true = grind (arith, nat_tests) in

@@ -11,5 +11,7 @@ mod Walks
 mod Coded
 mod Weighed
 mod Costs
+mod Known
+mod Within
 pub mod Steady
 mod Copied

@@ -3,7 +3,7 @@ use Rattle.std.specs.Prelude.{◌≡◌, ◌<◌, ◌^◌, ℕ, List, [], ◌∷
 use Rattle.plant_logic.specs.declared.logic.Variable.{Variable}
 use Rattle.plant_logic.specs.Source.{Source}
 use Rattle.plant_logic.specs.Blocks.{AreBelow}
-use Rattle.plant_logic.specs.Layout.{ClockAt, cell_paths, all_clocks}
+use Rattle.plant_logic.specs.Layout.{ClockAt, all_clocks}
 use Rattle.plant_logic.specs.Seats.{program_values_base, program_clocks_base}
 use Rattle.block_walk.specs.declared.clock.Standard.{Standard}
 use Rattle.block_walk.specs.declared.frame.Frame.{Frame}
@@ -40,4 +40,4 @@ pub record IsFramed (source : Source) (order : List ℕ) (frames start : List Fr
   pub clocks_begin : AreBases (program_clocks_base source) (length source.programs) clocks
   pub paths_begin : AreBases (program_paths_base source) (length source.programs) paths
   pub paths_fit : program_paths_base source (length source.programs) < 2 ^ 32
-  pub codes_are : AreCodes frames (length source.globals) (length order) values clocks (length (cell_paths source)) (length (all_clocks source)) codes
+  pub codes_are : AreCodes frames (length source.globals) (length order) values clocks codes

@@ -85,8 +85,6 @@ fn ready(alloc: Global, logic: Logic, order: Vec<usize>) -> Result<Framed, Alloc
         order.len(),
         &values,
         &standards.bases,
-        values[logic.programs.len()],
-        standards.list.len(),
     )?;
     Ok(Framed {
         logic,

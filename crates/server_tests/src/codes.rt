@@ -5,6 +5,7 @@ ghost use Rattle.st_tree.specs.View.{view_body};
 ghost use Rattle.codegen.specs.Codes.{SteadyBody};
 
 use crate::again::again;
+use acc_vm::{Own, Shared};
 use block_walk::{Cells, Frame};
 use codegen::compile;
 use plant_types::Trap;
@@ -37,15 +38,20 @@ fn ran(alloc: Global, values: [i64; 2]) -> Result<(Option<(u32, Trap)>, [i64; 2]
         has_starts: false,
         clocks: 0,
     }];
-    let code = compile(alloc, &frames, 2, 0, 2, 0, 2, 0)?;
+    let code = compile(alloc, &frames, 2, 0, 2, 0)?;
     let mut cells = Cells::zeros(alloc, 2, &[])?;
     cells.set(0, values[0]);
     cells.set(1, values[1]);
     let mut stack = [7; 16];
-    if code.stack() > stack.len() {
+    let has_values = code.values() <= cells.len() && code.clocks() <= cells.clock_count();
+    if !has_values || code.stack() > stack.len() {
         return Err(AllocError);
     }
-    let trap = match code.run(&mut stack, &mut cells, 0) {
+    let mut own = Own {
+        cells: &mut cells,
+        stack: &mut stack,
+    };
+    let trap = match code.run(&mut own, &Shared, 0) {
         Ok(()) => None,
         Err(stop) => Some((stop.statement, stop.trap)),
     };

@@ -1,14 +1,10 @@
-use Rattle.std.proofs.Common.{◌≡◌, ◌∙◌, ap, sym, subst, length, get_or, arith}
-use Rattle.std.proofs.lemmas.List.{length-map, get_or_default}
+use Rattle.std.proofs.Common.{◌≡◌, ◌∙◌, ap, sym, subst, length, arith}
 use Rattle.st_names.specs.Taken.{repeats}
-use Rattle.plant_logic.specs.Source.{view_routine, source_of}
-use Rattle.plant_logic.specs.Layout.{ClockAt, cell_paths, all_clocks}
+use Rattle.plant_logic.specs.Source.{source_of}
 use Rattle.plant_logic.specs.Names.{global_words}
 use Rattle.block_frames.specs.Frames.{IsFrames}
-use Rattle.block_frames.specs.Stands.{standard_of}
 use Rattle.codegen.specs.Codes.{AreSteady}
 use Rattle.plant_walk.specs.Framed.{global_names}
-use Rattle.plant_walk.proofs.Bases.{values_end}
 use Rattle.plant_walk.proofs.Coded.{sound_steady, codes_same}
 use Rattle.plant_walk.proofs.Small.{sound_named, sound_types}
 use Rattle.plant_walk.proofs.Started.{one_frame}
@@ -51,21 +47,6 @@ invariant_of-result c =
     let order_ok = c.args.order.ok in
     let order_len = c.len-2.ensures in
     let order_is : c.len-2.result ≡ length order = omega (arith, order_ok.0, order_len) in
-    let many = length-map logic.programs.items view_routine in
-    let programs_ok = logic.programs.ok in
-    let programs_len = c.len-3.ensures in
-    let count : c.len-3.result ≡ length source.programs = omega (arith, many, programs_ok.0, programs_len) in
-    let begin = c.in_ok-values.ensures in
-    let long = begin.long in
-    let all : c.index.result.now ≡ length (cell_paths source) =
-    c.index.ensures ∙ get_or_default values c.len-3.result c.index.result.now 0 (omega (arith, count, long)) ∙ ap (λ n. get_or values n 0) count
-    ∙ begin.each (length source.programs) (omega arith) ∙ values_end source
-    in
-    let list_ok = c.in_ok-standards.standards.list.ok in
-    let list_len = c.len-4.ensures in
-    let list_is = ap length c.in_ok-standards.ensures.list in
-    let kinds = length-map (all_clocks source) (λ (x : ClockAt). standard_of x.of) in
-    let clocks : c.len-4.result ≡ length (all_clocks source) = omega (arith, list_ok.0, list_len, list_is, kinds) in
     record {
       sound = c.requires.sound;
       below = c.requires.below;
@@ -81,6 +62,6 @@ invariant_of-result c =
       clocks_begin = c.in_ok-standards.ensures.bases;
       paths_begin = c.in_ok-paths.ensures.bases;
       paths_fit = c.in_ok-paths.ensures.fit;
-      codes_are = codes_same c.deref-8.result.now frames c.len.result (length source.globals) c.len-2.result (length order) c.deref-9.result.now values c.deref-10.result.now c.in_ok-standards.standards.bases.items c.index.result.now (length (cell_paths source)) c.len-4.result (length (all_clocks source))
-          c.in_ok-codes.codes.items c.deref-8.ensures.value globals_are order_is c.deref-9.ensures.value c.deref-10.ensures.value all clocks c.in_ok-codes.ensures;
+      codes_are = codes_same c.deref-8.result.now frames c.len.result (length source.globals) c.len-2.result (length order) c.deref-9.result.now values c.deref-10.result.now c.in_ok-standards.standards.bases.items c.in_ok-codes.codes.items
+          c.deref-8.ensures.value globals_are order_is c.deref-9.ensures.value c.deref-10.ensures.value c.in_ok-codes.ensures;
     }
