@@ -1,5 +1,5 @@
 -- Runs over cells, and runs in the worlds that they stand for.
-use Rattle.std.specs.Prelude.{◌≡◌, ◌<◌, ◌+◌, ℕ, [], length, slice_index_or, Result, Ok, Err}
+use Rattle.std.specs.Prelude.{◌≡◌, ◌<◌, ◌+◌, ℕ, List, [], length, slice_index_or, Result, Ok, Err}
 use Rattle.plant_types.specs.declared.values.Place.{Place}
 use Rattle.st_tree.specs.Meaning.{Spot, Ran, Done, Trapped}
 use Rattle.plant_logic.specs.Source.{Source}
@@ -8,7 +8,12 @@ use Rattle.plant_logic.specs.Layout.{cell_paths, all_clocks}
 use Rattle.plant_logic.specs.Paths.{paths_of}
 use Rattle.block_walk.specs.declared.walker.Stop.{Stop}
 use Rattle.block_walk.specs.Cells.{PlainCells}
+use Rattle.block_walk.specs.declared.frame.Frame.{Frame}
+use Rattle.block_frames.specs.Frames.{IsFrames, program_base}
 use Rattle.block_frames.specs.Stands.{StandFor}
+use Rattle.acc_vm.specs.Machine.{Over}
+use Rattle.acc_vm.specs.Codes.{PlainCode, fuel_of, run_of}
+use Rattle.program_codes.specs.Codes.{IsMade}
 use Rattle.plant_walk.specs.declared.walking.Walked.{Walked}
 use Rattle.plant_walk.specs.declared.walking.Walked.TheVariants as walked
 
@@ -42,3 +47,15 @@ Agree source (Trapped w spot trap) (Trapped cells other kind) = StandFor source 
 pub record HasCells (source : Source) (cells : PlainCells) : Type 0 where
   pub values : length cells.values ≡ length (cell_paths source)
   pub clocks : length cells.clocks ≡ length (all_clocks source)
+
+-- by the machine, a run of the code that is made of the program of a number takes so many instructions from cells
+pub record TakesInstructions (source : Source) (n t : ℕ) (cells : PlainCells) (count : ℕ) : Type 0 where
+  pub order : List ℕ
+  pub frames : List Frame
+  pub are_frames : IsFrames source order frames
+  pub code : PlainCode
+  pub made : IsMade frames (length source.globals) (length order + n) (program_base source n) code
+  pub result : Ran PlainCells
+  pub left : ℕ
+  pub runs : run_of t [] code cells ≡ Over result left
+  pub count_is : count + left ≡ fuel_of code

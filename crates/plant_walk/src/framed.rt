@@ -11,7 +11,7 @@ ghost use Rattle.plant_limits.specs.Counts.{program_costs};
 ghost use Rattle.plant_limits.specs.Limits.{KeepsLimits, IsLimitFault};
 ghost use Rattle.block_frames.specs.Stands.{StandFor};
 ghost use Rattle.plant_walk.specs.Sound.{IsSound};
-ghost use Rattle.plant_walk.specs.Runs.{Agree, HasCells, IsWithin, ran, walked_by};
+ghost use Rattle.plant_walk.specs.Runs.{Agree, HasCells, IsWithin, TakesInstructions, ran, walked_by};
 
 use crate::names::global_names;
 use crate::opening::start_programs;
@@ -242,7 +242,8 @@ impl Framed {
         ensures ran { (w : World) → StandFor self.now cells.old w → Agree self.now (run_program self.now program moment w) (ran self.now result.0 cells.new) }
         ensures within { IsWithin self.now result.0 }
         ensures shape { HasCells self.now cells.new }
-        ensures count { result.1 ≤ 4 * get_or (program_costs self.now) program 0 + 4 }
+        ensures count { TakesInstructions self.now program moment cells.old result.1 }
+        ensures cost { result.1 ≤ 4 * get_or (program_costs self.now) program 0 + 4 }
     {
         block_type_counts();
         frames_agree();

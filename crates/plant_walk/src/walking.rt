@@ -4,7 +4,7 @@ ghost use Rattle.std.specs.Prelude.{◌<◌, ◌≤◌, ◌+◌, ◌*◌, get_or
 ghost use Rattle.plant_limits.specs.Counts.{program_costs};
 ghost use Rattle.plant_logic.specs.Worlds.{World, run_program};
 ghost use Rattle.block_frames.specs.Stands.{StandFor};
-ghost use Rattle.plant_walk.specs.Runs.{ran, IsWithin, HasCells, Agree};
+ghost use Rattle.plant_walk.specs.Runs.{ran, IsWithin, HasCells, Agree, TakesInstructions};
 
 use crate::framed::Framed;
 use block_walk::Cells;
@@ -49,8 +49,8 @@ pub fn run(
     walked
 }
 
-/// Runs the code of a program as `run` does, and tells how many instructions it did: at most four for each unit of what the program costs by
-/// the rule of the limit on a scan's steps, and four.
+/// Runs the code of a program as `run` does, and tells how many instructions it did, a pair counted once: at most four for each unit of what the
+/// program costs by the rule of the limit on a scan's steps, and four.
 pub fn run_counted(
     framed: &Framed,
     program: u32,
@@ -63,7 +63,8 @@ pub fn run_counted(
     ensures ran { (w : World) → StandFor framed.now cells.old w → Agree framed.now (run_program framed.now program moment w) (ran framed.now result.0 cells.new) }
     ensures within { IsWithin framed.now result.0 }
     ensures shape { HasCells framed.now cells.new }
-    ensures count { result.1 ≤ 4 * get_or (program_costs framed.now) program 0 + 4 }
+    ensures count { TakesInstructions framed.now program moment cells.old result.1 }
+    ensures cost { result.1 ≤ 4 * get_or (program_costs framed.now) program 0 + 4 }
 {
     framed.run_counted(program as usize, stack, cells, moment)
 }

@@ -16,7 +16,7 @@ use Rattle.acc_vm.specs.Machine.{Over}
 use Rattle.acc_vm.specs.Codes.{PlainCode, run_of}
 use Rattle.codegen.specs.Codes.{SteadyBody, AreSteady, paths_at, RunsFrame}
 use Rattle.codegen.specs.Within.{there, routine_there, frame_there, IsThere}
-use Rattle.program_codes.specs.Codes.{IsCodeOf, AreCodes}
+use Rattle.program_codes.specs.Codes.{IsCodeOf, IsMade, AreCodes}
 use Rattle.program_codes.proofs.Tables.{AreSeen, first_holds, first_alike, at_place, found, same_length}
 use Rattle.program_codes.proofs.Costs.{body_less, called_less}
 
@@ -102,8 +102,10 @@ module _ (view : Frame → PlainFrame) (kept : IsKept view) (fs gs : List Frame)
     cost = let most = all_costs first in let own = is.cost in omega arith;
   }
 
-  pub codes_kept : (globals first : ℕ) (values clocks : List ℕ) (codes : List PlainCode) → AreCodes gs globals first values clocks codes → AreCodes fs globals first values clocks codes
-  codes_kept globals first values clocks codes are = record {
+  pub codes_kept : (globals first : ℕ) (values clocks : List ℕ) (codes : List PlainCode) → ((n : ℕ) (base : Base) (code : PlainCode) → IsMade gs globals n base code → IsMade fs globals n base code)
+      → AreCodes gs globals first values clocks codes → AreCodes fs globals first values clocks codes
+  codes_kept globals first values clocks codes made are = record {
     long = are.long;
     each = λ n code at. code_kept globals _ _ code (are.each n code at);
+    made = λ n code at. made _ _ code (are.made n code at);
   }

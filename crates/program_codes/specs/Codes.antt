@@ -5,8 +5,9 @@ use Rattle.block_walk.specs.declared.frame.Frame.{Frame}
 use Rattle.block_walk.specs.Frames.{frame_paths}
 use Rattle.code_sizes.specs.Sizes.{frame_cost}
 use Rattle.acc_vm.specs.Codes.{PlainCode}
-use Rattle.codegen.specs.Codes.{RunsFrame}
+use Rattle.codegen.specs.Codes.{code_of, RunsFrame}
 use Rattle.codegen.specs.Within.{NamesAsFrame}
+use Rattle.program_codes.specs.Folded.{AreFolded}
 
 -- how many words of stack there are for a run. Statements nest at most 64 deep, expressions 128 and blocks 16: a FOR takes two words and each operator at most one, so no accepted source needs more than 17 * 2 * 64 + 128 words
 abbrev pub stack_words : ℕ
@@ -29,7 +30,19 @@ abbrev pub EachIsCode : (frames : List Frame) → (globals first : ℕ) → (val
 EachIsCode frames globals first values clocks codes =
     (n : ℕ) (code : PlainCode) → slice_get codes n ≡ Some code → IsCodeOf frames globals (first + n) (base_in values clocks n) code
 
+-- code is what is made of the frame of a number as a program, at a base, with the constants of all frames folded
+pub record IsMade (frames : List Frame) (globals first : ℕ) (base : Base) (code : PlainCode) : Type 0 where
+  pub folded : List Frame
+  pub are_folded : AreFolded frames folded
+  pub is : code ≡ code_of globals folded first base
+
+-- each of the codes is what is made of its program
+abbrev pub EachIsMade : (frames : List Frame) → (globals first : ℕ) → (values clocks : List ℕ) → List PlainCode → Type 0
+EachIsMade frames globals first values clocks codes =
+    (n : ℕ) (code : PlainCode) → slice_get codes n ≡ Some code → IsMade frames globals (first + n) (base_in values clocks n) code
+
 -- codes are those of the programs, of which the rows tell where each begins, and behind them where the last one ends
 pub record AreCodes (frames : List Frame) (globals first : ℕ) (values clocks : List ℕ) (codes : List PlainCode) : Type 0 where
   pub long : length codes + 1 ≡ length values
   pub each : EachIsCode frames globals first values clocks codes
+  pub made : EachIsMade frames globals first values clocks codes

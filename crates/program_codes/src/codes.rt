@@ -3,7 +3,7 @@
 ghost use Rattle.std.specs.Prelude.{◌≡◌, ◌+◌, ◌<◌, ◌≤◌, get_or, length, IfOk};
 ghost use Rattle.block_walk.specs.Frames.{AreInTurn};
 ghost use Rattle.code_sizes.specs.Counts.{AreCounts};
-ghost use Rattle.codegen.specs.Codes.{AreSteady};
+ghost use Rattle.codegen.specs.Codes.{code_of, AreSteady};
 ghost use Rattle.program_codes.specs.Folded.{AreFolded};
 ghost use Rattle.program_codes.specs.Codes.{IsCodeOf, AreCodes};
 
@@ -33,7 +33,8 @@ fn code_of(
     requires counted { AreCounts folded.now counts.now }
     requires in_turn { AreInTurn folded.now }
     requires steady { AreSteady folded.now }
-    ensures { IfOk result (IsCodeOf folded.now globals first (record { values = values; clocks = clocks })) }
+    ensures runs { IfOk result (IsCodeOf folded.now globals first (record { values = values; clocks = clocks })) }
+    ensures is { IfOk result (λ code. code ≡ code_of globals folded.now first (record { values = values; clocks = clocks })) }
 {
     let code = compile_counted(alloc, folded, counts, globals, first, values, clocks)?;
     if code.stack() > STACK_WORDS {

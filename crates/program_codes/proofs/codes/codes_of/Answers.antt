@@ -1,8 +1,8 @@
-use Rattle.std.proofs.Common.{◌≡◌, ◌+◌, ◌++◌, ◌∷◌, [], ap, sym, subst, length, rules, arith, length-append}
+use Rattle.std.proofs.Common.{◌≡◌, ◌∙◌, ℕ, ◌+◌, ◌++◌, ◌∷◌, [], ap, sym, subst, length, rules, arith, length-append}
 use Rattle.block_walk.specs.Frames.{AreInTurn}
 use Rattle.code_sizes.specs.Sizes.{frame_turns}
-use Rattle.codegen.specs.Codes.{AreSteady}
-use Rattle.program_codes.specs.Codes.{IsCodeOf, base_in}
+use Rattle.codegen.specs.Codes.{code_of, AreSteady}
+use Rattle.program_codes.specs.Codes.{IsCodeOf, IsMade, base_in}
 use Rattle.program_codes.proofs.Tables.{same_length}
 use Rattle.program_codes.proofs.Bodies.{turns_by_constants}
 use Rattle.program_codes.proofs.Kept.{IsKept, in_turn_kept, steady_kept, code_kept}
@@ -29,35 +29,38 @@ code_of-requires-clause-steady c =
     subst AreSteady (sym c.deref-in-loop-n.ensures.value) (steady_kept folded_view kept c.args.frames.now c.in_ok-folded.folded.items c.in_ok-folded.ensures c.requires.steady)
 
 pub loop-n-init : goal.loop-n-init
-loop-n-init c = record {
-  many = ap length c.in_ok-codes.ensures.items;
-  each = none_yet c.args.frames.now c.args.globals c.args.first c.args.values.now c.args.clocks.now c.in_ok-codes.codes.items c.in_ok-codes.ensures.items;
-}
+loop-n-init c =
+    let base = λ (n : ℕ). base_in c.args.values.now c.args.clocks.now n in
+    record {
+      many = ap length c.in_ok-codes.ensures.items;
+      each = none_yet (λ n code. IsCodeOf c.args.frames.now c.args.globals (c.args.first + n) (base n) code) c.in_ok-codes.codes.items c.in_ok-codes.ensures.items;
+      made = none_yet (λ n code. IsMade c.args.frames.now c.args.globals (c.args.first + n) (base n) code) c.in_ok-codes.codes.items c.in_ok-codes.ensures.items;
+    }
 
 pub loop-n-preserved : goal.loop-n-preserved
 loop-n-preserved c =
     let frames = c.args.frames.now in
     let folded = c.in_ok-folded.folded.items in
-    let values = c.args.values.now in
-    let clocks = c.args.clocks.now in
+    let globals = c.args.globals in
+    let first = c.args.first in
+    let base = λ (n : ℕ). base_in c.args.values.now c.args.clocks.now n in
     let n = c.loop-n.n in
     let codes = c.loop-n.codes.items in
     let code = c.in_ok-code.code in
     let many = c.loop-n.invariant.many in
     let kept : IsKept folded_view = folding_keeps c.folded_body_does_same.ensures c.folded_constants_are_literals.ensures.constants (λ called body. c.folded_body_costs_at_most.ensures frame_turns turns_by_constants called body) c.folded_names_stay.ensures in
     let pushed : c.push.new.self.items ≡ codes ++ code ∷ [] = search rules in
-    let made : IsCodeOf folded c.args.globals (c.args.first + n) (base_in values clocks n) code =
-    subst (λ fs. IsCodeOf fs c.args.globals (c.args.first + n) (base_in values clocks n) code) c.deref-in-loop-n.ensures.value c.in_ok-code.ensures
-    in
-    let is : IsCodeOf frames c.args.globals (c.args.first + n) (base_in values clocks n) code =
-    code_kept folded_view kept frames folded c.in_ok-folded.ensures c.args.globals (c.args.first + n) (base_in values clocks n) code made
-    in
-    let last : IsCodeOf frames c.args.globals (c.args.first + length codes) (base_in values clocks (length codes)) code =
-    subst (λ m. IsCodeOf frames c.args.globals (c.args.first + m) (base_in values clocks m) code) (sym many) is
-    in
+    let runs : IsCodeOf folded globals (first + n) (base n) code = subst (λ fs. IsCodeOf fs globals (first + n) (base n) code) c.deref-in-loop-n.ensures.value c.in_ok-code.ensures.runs in
+    let is : IsCodeOf frames globals (first + n) (base n) code = code_kept folded_view kept frames folded c.in_ok-folded.ensures globals (first + n) (base n) code runs in
+    let made : IsMade frames globals (first + n) (base n) code = record {
+      folded = folded;
+      are_folded = c.in_ok-folded.ensures;
+      is = c.in_ok-code.ensures.is ∙ ap (λ fs. code_of globals fs (first + n) (base n)) c.deref-in-loop-n.ensures.value;
+    } in
     let long = ap length pushed in
     let sum = length-append codes (code ∷ []) in
     record {
       many = omega (arith, long, sum, many);
-      each = one_more frames c.args.globals c.args.first values clocks codes c.push.new.self.items code pushed c.loop-n.invariant.each last;
+      each = one_more (λ m x. IsCodeOf frames globals (first + m) (base m) x) codes c.push.new.self.items code pushed c.loop-n.invariant.each (subst (λ m. IsCodeOf frames globals (first + m) (base m) code) (sym many) is);
+      made = one_more (λ m x. IsMade frames globals (first + m) (base m) x) codes c.push.new.self.items code pushed c.loop-n.invariant.made (subst (λ m. IsMade frames globals (first + m) (base m) code) (sym many) made);
     }

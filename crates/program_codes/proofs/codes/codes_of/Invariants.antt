@@ -1,9 +1,10 @@
 use Rattle.std.proofs.Common.{◌≡◌, length}
-use Rattle.program_codes.specs.Codes.{EachIsCode}
+use Rattle.program_codes.specs.Codes.{EachIsCode, EachIsMade}
 use Rattle.program_codes.proofs.codes.codes_of.Given as goal
 
 abbrev pub invariant-loop-n : goal.invariant-loop-n
 invariant-loop-n l = record {
   many : length l.codes.items ≡ l.n;
   each : EachIsCode l.frames l.globals l.first l.values l.clocks l.codes.items;
+  made : EachIsMade l.frames l.globals l.first l.values l.clocks l.codes.items;
 }

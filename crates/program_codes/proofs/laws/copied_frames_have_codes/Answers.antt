@@ -1,9 +1,10 @@
 use Rattle.std.proofs.Common.{sym}
 use Rattle.block_walk.specs.Plain.{view_frame}
 use Rattle.program_codes.proofs.Kept.{codes_kept}
-use Rattle.program_codes.proofs.Keeping.{copying_keeps}
+use Rattle.program_codes.proofs.Keeping.{copying_keeps, made_of_copies}
 use Rattle.program_codes.proofs.laws.copied_frames_have_codes.Goals as goal
 
 -- frames are copies of their copies
 pub returns : goal.returns
-returns c = λ frames copies same globals first values clocks codes are. codes_kept view_frame copying_keeps copies frames (sym same) globals first values clocks codes are
+returns c = λ frames copies same globals first values clocks codes are. codes_kept view_frame copying_keeps copies frames (sym same) globals first values clocks codes
+    (λ n base code made. made_of_copies frames copies same globals n base code made) are

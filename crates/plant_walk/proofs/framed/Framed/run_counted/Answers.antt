@@ -1,4 +1,4 @@
-use Rattle.std.proofs.Common.{◌*◌, ◌≡◌, ◌∙◌, ◌<◌, ◌≤◌, ◌+◌, sym, subst, refl, length, get_or, Some, arith}
+use Rattle.std.proofs.Common.{◌*◌, ◌-◌, [], ◌≡◌, ◌∙◌, ◌<◌, ◌≤◌, ◌+◌, sym, subst, refl, length, get_or, Some, arith}
 use Rattle.std.specs.Prelude.{slice_get}
 use Rattle.std.proofs.lemmas.List.{get_or_default}
 use Rattle.std.proofs.lemmas.Option.{slice_get_read}
@@ -6,10 +6,12 @@ use Rattle.plant_logic.specs.Source.{Source, source_of}
 use Rattle.plant_logic.specs.Worlds.{run_program}
 use Rattle.plant_logic.specs.Seats.{program_values_base, program_clocks_base}
 use Rattle.block_frames.specs.Numbers.{HasAllNames}
+use Rattle.block_frames.specs.Frames.{program_base}
 use Rattle.block_frames.specs.Stands.{StandFor}
-use Rattle.program_codes.specs.Codes.{base_in}
+use Rattle.block_walk.specs.Walks.{ended}
+use Rattle.program_codes.specs.Codes.{base_in, IsMade}
 use Rattle.plant_walk.specs.Bases.{program_paths_base}
-use Rattle.plant_walk.specs.Runs.{Agree, HasCells, IsWithin, ran}
+use Rattle.plant_walk.specs.Runs.{Agree, HasCells, IsWithin, TakesInstructions, ran}
 use Rattle.plant_walk.proofs.Small.{sound_named, sound_types}
 use Rattle.plant_walk.proofs.Walks.{the_program, is_there, fits_in, within_is, ran_is}
 use Rattle.plant_limits.specs.Counts.{program_costs}
@@ -149,8 +151,8 @@ walked-requires c =
     let placed = path_inside frames (length source.globals) (length order + n) (base_in inside.values.items inside.clocks.items n) code is c.run_code_counted-ended.result.0 c.run_code_counted-ended.ensures.path in
     fits_in source order frames n there have_paths frames (length order + n) refl refl c.run_code_counted-ended.result.0 placed c.index-2.result.now 4294967296 base_is are.paths_fit
 
-pub returns-clause-count : goal.returns-clause-count
-returns-clause-count c =
+pub returns-clause-cost : goal.returns-clause-cost
+returns-clause-cost c =
     let inside = c.self.inside in
     let source = source_of inside.logic in
     let are = c.self.invariant in
@@ -168,3 +170,32 @@ returns-clause-count c =
     let done = c.run_code_counted-ended.ensures.count in
     let all : c.run_code_counted-ended.result.1 ≤ 4 * get_or (program_costs source) n 0 + 4 = omega (arith, most, own, done) in
     subst (λ (s : Source). c.run_code_counted-ended.result.1 ≤ 4 * get_or (program_costs s) n 0 + 4) c.self.view_is all
+
+pub returns-clause-count : goal.returns-clause-count
+returns-clause-count c =
+    let inside = c.self.inside in
+    let source = source_of inside.logic in
+    let are = c.self.invariant in
+    let n = c.args.program in
+    let there : n < length source.programs = subst (λ (s : Source). n < length s.programs) (sym c.self.view_is) c.requires.there in
+    let most : n ≤ length source.programs = omega (arith, there) in
+    let long = are.codes_are.long in
+    let rows = are.values_begin.long in
+    let code = c.index.result.now in
+    let at : slice_get inside.codes.items n ≡ Some code = slice_get_read inside.codes.items (length inside.codes.items) n code refl (omega (arith, there, long, rows)) c.index.ensures in
+    let values_are = are.values_begin.each n most in
+    let clocks_are = are.clocks_begin.each n most in
+    let base_is : base_in inside.values.items inside.clocks.items n ≡ program_base source n = λ i. record { values = values_are i; clocks = clocks_are i } in
+    let done = c.run_code_counted-ended.ensures.count in
+    let counted : TakesInstructions source n c.args.moment c.args.cells.now c.run_code_counted-ended.result.1 = record {
+      order = inside.order.items;
+      frames = inside.frames.items;
+      are_frames = are.are_frames;
+      code = code;
+      made = subst (λ base. IsMade inside.frames.items (length source.globals) (length inside.order.items + n) base code) base_is (are.codes_are.made n code at);
+      result = ended [] c.run_code_counted-ended.result.0 c.run_code_counted-ended.new.cells;
+      left = 4 * code.cost + 4 - c.run_code_counted-ended.result.1;
+      runs = c.run_code_counted-ended.ensures.ran [];
+      count_is = omega (arith, done);
+    } in
+    subst (λ (s : Source). TakesInstructions s n c.args.moment c.args.cells.now c.run_code_counted-ended.result.1) c.self.view_is counted
