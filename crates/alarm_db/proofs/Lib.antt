@@ -1,6 +1,6 @@
 mod AllRecords
 mod DigitLaws
-mod Kept
+mod Gathered
 mod Places
 mod RowLaws
 mod Taken

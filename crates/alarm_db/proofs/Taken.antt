@@ -1,56 +1,16 @@
--- The rows and the tags of records, as they are taken one by one.
+-- The tags of rows, as they are taken one by one.
 use Rattle.std.proofs.Common.{◌≡◌, ◌<◌, ◌≤◌, ◌+◌, ◌∷◌, ◌++◌, ◌∙◌, ap, sym, refl, arith, ℕ, zero, suc, Bool, true, false, List, [], length, map, take, drop, Option, Some, None, get_or, length-append}
 use Rattle.std.proofs.lemmas.List.{map-append, take_more, take_all, drop_more, drop_all}
 use Rattle.std.specs.Prelude.{if◌then◌else◌}
-use Rattle.std.specs.Option.{option_map, option_or}
-use Rattle.csv.specs.Records.{Row, fields_of}
-use Rattle.alarm_db.specs.declared.column.Column.{Column}
-use Rattle.alarm_db.specs.declared.fault.DbFault.{DbFault}
 use Rattle.alarm_db.specs.declared.fault.DbFault.TheVariants as fault
 use Rattle.alarm_db.specs.declared.row.DatabaseRow.{DatabaseRow}
-use Rattle.alarm_db.specs.Rows.{wrong_column, row_of}
-use Rattle.alarm_db.specs.Databases.{first_wrong, first_twice, is_among, tags_of}
-
--- i records were taken, and none of them has a wrong column
-pub record Taken (records : List Row) (i : ℕ) (rows : List DatabaseRow) : Type 0 where
-  pub wrong : first_wrong (i + 1) (map fields_of (drop i records)) ≡ first_wrong 1 (map fields_of records)
-  pub rows_are : rows ≡ map row_of (map fields_of (take i records))
-  pub count : length rows ≡ i
-
-pub none_taken : (records : List Row) → Taken records 0 []
-none_taken records = record { wrong = refl; rows_are = refl; count = refl }
+use Rattle.alarm_db.specs.Databases.{first_twice, is_among, tags_of}
 
 cut : {X : Type 0} (xs : List X) (i : ℕ) (x : X) → i < length xs → x ≡ get_or xs i x → drop i xs ≡ x ∷ drop (i + 1) xs
 cut xs i x lt here = drop_more xs i x lt ∙ ap (λ y. y ∷ drop (i + 1) xs) (sym here)
 
 front : {X : Type 0} (xs : List X) (i : ℕ) (x : X) → i < length xs → x ≡ get_or xs i x → take (i + 1) xs ≡ take i xs ++ x ∷ []
 front xs i x lt here = take_more xs i x lt ∙ ap (λ y. take i xs ++ y ∷ []) (sym here)
-
-pub one_taken : (records : List Row) (i : ℕ) (r : Row) (rows rows2 : List DatabaseRow) → i < length records → r ≡ get_or records i r → Taken records i rows
-    → wrong_column (fields_of r) ≡ None → rows2 ≡ rows ++ row_of (fields_of r) ∷ [] → Taken records (i + 1) rows2
-one_taken records i r rows rows2 lt here taken none more =
-    let rest = first_wrong (i + 1 + 1) (map fields_of (drop (i + 1) records)) in
-    let f = ap (λ l. first_wrong (i + 1) (map fields_of l)) (cut records i r lt here) in
-    let g = ap (λ o. option_or (option_map (λ c. fault.Field (i + 1) c) o) rest) none in
-    record {
-      wrong = sym (f ∙ g) ∙ taken.wrong;
-      rows_are = more ∙ ap (λ l. l ++ row_of (fields_of r) ∷ []) taken.rows_are
-          ∙ sym (ap (λ l. map row_of (map fields_of l)) (front records i r lt here) ∙ ap (map row_of) (map-append fields_of (take i records) (r ∷ [])) ∙ map-append row_of (map fields_of (take i records)) (fields_of r ∷ []));
-      count = let a = length-append rows (row_of (fields_of r) ∷ []) in let b = ap length more in let k = taken.count in omega arith;
-    }
-
-pub wrong_here : (records : List Row) (i : ℕ) (r : Row) (c : Column) (rows : List DatabaseRow) (n : ℕ) → i < length records → r ≡ get_or records i r → Taken records i rows
-    → wrong_column (fields_of r) ≡ Some c → n ≡ length rows → first_wrong 1 (map fields_of records) ≡ Some (fault.Field (n + 1) c)
-wrong_here records i r c rows n lt here taken wrong number =
-    let rest = first_wrong (i + 1 + 1) (map fields_of (drop (i + 1) records)) in
-    let f = ap (λ l. first_wrong (i + 1) (map fields_of l)) (cut records i r lt here) in
-    let g = ap (λ o. option_or (option_map (λ k. fault.Field (i + 1) k) o) rest) wrong in
-    sym taken.wrong ∙ f ∙ g ∙ ap (λ k. Some (fault.Field (k + 1) c)) (sym (number ∙ taken.count))
-
-pub all_taken : (records : List Row) (i : ℕ) (rows : List DatabaseRow) → length records ≤ i → Taken records i rows
-    → (first_wrong 1 (map fields_of records) ≡ None) × (rows ≡ map row_of (map fields_of records))
-all_taken records i rows end taken =
-    (sym (rw (drop_all i records end) at taken.wrong), rw (take_all i records end) at taken.rows_are)
 
 -- i rows were taken, and these are their tags, each once
 pub record TagsTaken (rows : List DatabaseRow) (i : ℕ) (tags : List (List ℕ)) : Type 0 where

@@ -1,4 +1,5 @@
 pub mod Columns
 pub mod Databases
 pub mod Forms
+pub mod Gathering
 pub mod Rows

@@ -7,6 +7,7 @@ mod column;
 mod database;
 mod fault;
 mod forms;
+mod gathering;
 mod records;
 mod row;
 mod tags;

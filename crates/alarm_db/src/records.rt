@@ -1,23 +1,24 @@
 //! The records of an alarm database's text.
 
-ghost use Rattle.std.specs.Prelude.{◌≡◌, ◌++◌, ◌∷◌, [], IfOk, OnOk, MatchOption, map, take, true, false};
-ghost use Rattle.std.specs.List.{list_all};
+ghost use Rattle.std.specs.Prelude.{◌≡◌, ◌++◌, ◌&&◌, ◌∷◌, [], ℕ, List, IfErr, IfOk, MatchBool};
 ghost use Rattle.csv.specs.Records.{fields_of};
 ghost use Rattle.alarm_db.specs.Databases.{is_even, is_header, records_of};
+ghost use Rattle.alarm_db.specs.Gathering.{HasRead};
 
 use crate::column::{Column, field};
-use csv::{ByteRecord, ReaderBuilder};
-use std::alloc::{AllocError, Global};
+use crate::fault::DbFault;
+use csv::{ByteRecord, Reader, ReaderBuilder};
+use std::alloc::Global;
 
 /// Whether a record has a field for each column, and no other.
-fn is_even(row: &ByteRecord) -> bool
+pub(crate) fn is_even(row: &ByteRecord) -> bool
     ensures { result ≡ is_even (fields_of row.now) }
 {
     row.len() == 8
 }
 
 /// Whether a record has the names of the columns.
-pub(crate) fn is_header(row: &ByteRecord) -> bool
+fn is_header(row: &ByteRecord) -> bool
     ensures { result ≡ is_header (fields_of row.now) }
 {
     Column::all()
@@ -25,42 +26,31 @@ pub(crate) fn is_header(row: &ByteRecord) -> bool
         .all(|column| field(row, *column) == column.name().as_bytes())
 }
 
-/// Adds a record unless there are `most` already. Fails if allocation fails.
-fn keep(found: &mut Vec<ByteRecord>, row: ByteRecord, most: usize) -> Result<(), AllocError>
-    requires { found.old.items ≡ take most found.old.items }
-    ensures { OnOk result (found.new.items ≡ take most (found.old.items ++ row ∷ [])) }
+/// Whether a record has the names of the columns and no other field.
+pub(crate) fn is_headed(row: &ByteRecord) -> bool
+    ensures { result ≡ (is_even (fields_of row.now) && is_header (fields_of row.now)) }
 {
-    if found.len() < most {
-        found.push(row)?;
-    }
-    Ok(())
+    is_even(row) && is_header(row)
 }
 
-/// The first records of a text, at most `most` of them; `None` if one of the text's records doesn't have a field for each column. Fails if allocation fails.
-pub(crate) fn first_records(
-    alloc: Global,
-    text: &[u8],
-    most: usize,
-) -> Result<Option<Vec<ByteRecord>>, AllocError>
-    ensures { IfOk result (λ found. MatchOption found
-        (list_all is_even (records_of text.now) ≡ false)
-        (λ records. (list_all is_even (records_of text.now) ≡ true) × (map fields_of records.items ≡ take most (records_of text.now)))) }
+/// A reader of the records of a text.
+pub(crate) fn reader_of(alloc: Global, text: &[u8]) -> Reader<&[u8]>
+    ensures { HasRead text.now [] result }
 {
-    let reader = ReaderBuilder::new()
+    ReaderBuilder::new()
         .has_headers(false)
         .flexible(true)
-        .from_reader(alloc, text);
-    let mut found = Vec::new(alloc);
-    for row in reader.into_byte_records() {
-        match row {
-            Ok(row) => {
-                if !is_even(&row) {
-                    return Ok(None);
-                }
-                keep(&mut found, row, most)?;
-            }
-            Err(_) => return Err(AllocError),
-        }
-    }
-    Ok(Some(found))
+        .from_reader(alloc, text)
+}
+
+/// Reads the next record into `row`, and returns true; false at the text's end. Fails if allocation fails.
+pub(crate) fn next_record(reader: &mut Reader<&[u8]>, row: &mut ByteRecord) -> Result<bool, DbFault>
+    ensures read { IfOk result (λ found. (text : List ℕ) (records : List (List (List ℕ))) → HasRead text records reader.old
+        → MatchBool found (HasRead text (records ++ fields_of row.new ∷ []) reader.new) (records ≡ records_of text)) }
+    ensures refused { IfErr result (λ fault. fault ≡ DbFault.Memory) }
+{
+    let Ok(found) = reader.read_byte_record(row) else {
+        return Err(DbFault::Memory);
+    };
+    Ok(found)
 }

@@ -60,10 +60,8 @@ fn text(alloc: Global, field: &[u8]) -> Result<Text, AllocError>
     requires { IsUtf8 field.now }
     ensures { IfOk result (λ text. text ≡ field.now) }
 {
-    match str::from_utf8(field) {
-        Ok(field) => Text::from_str(alloc, field),
-        Err(_) => unreachable!(),
-    }
+    let field = unsafe { str::from_utf8_unchecked(field) };
+    Text::from_str(alloc, field)
 }
 
 /// Copies the word in a field; `None` for an empty field. Fails if allocation fails.

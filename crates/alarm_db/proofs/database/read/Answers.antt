@@ -1,21 +1,19 @@
-use Rattle.std.proofs.Common.{◌≡◌, ◌∙◌, ap, map, take}
-use Rattle.std.specs.List.{list_all}
-use Rattle.csv.specs.Records.{fields_of}
-use Rattle.alarm_db.specs.Databases.{is_even, records_of}
-use Rattle.alarm_db.proofs.Whole.{even_take, read_err, read_ok}
+use Rattle.std.proofs.Common.{◌≡◌, ◌∙◌, ap, sym}
+use Rattle.alarm_db.specs.Databases.{first_twice, records_of, rows_in, tags_of}
+use Rattle.alarm_db.proofs.Whole.{are_database, early_carried, few_rows, twice_carried}
 use Rattle.alarm_db.proofs.database.read.Goals as goal
 
-pub database-requires : goal.database-requires
-database-requires c =
-    let seen = rw c.in-Some.is at c.in_ok-records.ensures in
-    ap (λ l. list_all is_even (map fields_of l)) c.as_slice.ensures.value ∙ ap (list_all is_even) seen.1 ∙ even_take 20002 (records_of c.args.text.now) seen.0
+pub tags_of-requires : goal.tags_of-requires
+tags_of-requires c = rw (c.as_slice.ensures.value, c.in-Ok.ensures.1) (few_rows (records_of c.args.text.now) c.in-Ok.ensures.0)
 
-pub returns-in-Some-clause-rows : goal.returns-in-Some-clause-rows
-returns-in-Some-clause-rows c =
-    let seen = rw c.in-Some.is at c.in_ok-records.ensures in
-    read_ok c.database.result (map fields_of c.as_slice.result.now) (records_of c.args.text.now) (ap (map fields_of) c.as_slice.ensures.value ∙ seen.1) seen.0 c.database.ensures
+pub returns-in-Err-clause-refused : goal.returns-in-Err-clause-refused
+returns-in-Err-clause-refused c = early_carried (records_of c.args.text.now) c.in-Err.fault c.in-Err.ensures
 
-pub returns-in-Some-clause-refused : goal.returns-in-Some-clause-refused
-returns-in-Some-clause-refused c =
-    let seen = rw c.in-Some.is at c.in_ok-records.ensures in
-    read_err c.database.result (map fields_of c.as_slice.result.now) (records_of c.args.text.now) (ap (map fields_of) c.as_slice.ensures.value ∙ seen.1) seen.0 c.database.ensures
+pub returns-in-Err-tags_of-clause-refused : goal.returns-in-Err-tags_of-clause-refused
+returns-in-Err-tags_of-clause-refused c =
+    twice_carried (records_of c.args.text.now) c.in-Err-tags_of.fault c.in-Ok.ensures.0 (rw (c.as_slice.ensures.value, c.in-Ok.ensures.1) at c.in-Err-tags_of.ensures)
+
+pub invariant_of-result : goal.invariant_of-result
+invariant_of-result c =
+    let once = rw (c.as_slice.ensures.value, c.in-Ok.ensures.1) at c.in-Ok-tags_of.ensures.0 in
+    (rw c.in-Ok.ensures.1 (are_database (records_of c.args.text.now) c.in-Ok.ensures.0 once), c.in-Ok-tags_of.ensures.1 ∙ ap tags_of c.as_slice.ensures.value)
