@@ -17,8 +17,19 @@ fn values_past(instr: Instr) -> usize
         Instr::BinaryLiteralStore(_, _, slot) | Instr::BinarySlotJump(_, slot, _) => {
             slot as usize + 1
         }
+        Instr::LoadUnary(_, slot) | Instr::PushLoadUnary(_, slot) => slot as usize + 1,
+        Instr::LoadBinaryLiteralJump(_, slot, _, _) => slot as usize + 1,
         Instr::LoadBinarySlot(_, one, other) | Instr::BinarySlotStore(_, one, other) => {
             (one as usize + 1).max(other as usize + 1)
+        }
+        Instr::LoadBinaryLiteralStore(_, one, _, slot) => {
+            (one as usize + 1).max(slot as usize + 1)
+        }
+        Instr::LoadBinarySlotJump(_, one, other, _) => (one as usize + 1).max(other as usize + 1),
+        Instr::LoadBinarySlotStore(_, one, other, slot) => {
+            (one as usize + 1)
+                .max(other as usize + 1)
+                .max(slot as usize + 1)
         }
         _ => 0,
     }
