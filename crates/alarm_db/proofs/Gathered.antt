@@ -1,5 +1,5 @@
 -- The rows of records, gathered one by one.
-use Rattle.std.proofs.Common.{◌≡◌, ◌<◌, ◌≤◌, ◌+◌, ◌∷◌, ◌++◌, ◌&&◌, ◌∙◌, ap, sym, refl, arith, ℕ, zero, suc, Bool, Bor, true, false, List, [], length, map, Option, Some, None, inl, length-append}
+use Rattle.std.proofs.Common.{◌≡◌, ◌<◌, ◌≤◌, ◌+◌, ◌∷◌, ◌++◌, ◌&&◌, ◌∙◌, ap, sym, refl, arith, ℕ, Bool, Bor, true, false, List, [], length, map, Option, Some, None, inl, length-append}
 use Rattle.std.specs.Prelude.{MatchBool, MatchResult, Result, Ok, Err, nat_lt, not, ◌||◌, if◌then◌else◌}
 use Rattle.std.specs.List.{list_all}
 use Rattle.std.specs.Option.{is_some, option_map, option_or}

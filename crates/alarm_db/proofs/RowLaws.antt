@@ -1,9 +1,7 @@
 -- The fields of a row that has no wrong column.
-use Rattle.std.proofs.Common.{◌≡◌, ◌<◌, ◌≤◌, ◌+◌, ◌∷◌, ◌&&◌, ◌||◌, ap, sym, refl, arith, ℕ, zero, suc, Bool, true, false, List, [], length, map, Option, Some, None, cond, get_or}
+use Rattle.std.proofs.Common.{◌≡◌, ◌≤◌, ◌+◌, ◌∷◌, ◌&&◌, ◌||◌, refl, arith, ℕ, zero, suc, Bool, true, false, List, [], map, Option, Some, None, cond}
 use Rattle.std.specs.Prelude.{not, nat_le, IfSome, All}
-use Rattle.std.specs.List.{list_all}
 use Rattle.std.specs.Option.{option_map, option_or}
-use Rattle.std.specs.Char.{is_ascii_digit}
 use Rattle.std.specs.Str.Parse.{digits_value}
 use Rattle.std.proofs.lemmas.Bool.Decides.{nat_tests}
 use Rattle.plant_types.specs.Words.{is_name}

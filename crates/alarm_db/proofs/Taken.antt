@@ -1,5 +1,5 @@
 -- The tags of rows, as they are taken one by one.
-use Rattle.std.proofs.Common.{◌≡◌, ◌<◌, ◌≤◌, ◌+◌, ◌∷◌, ◌++◌, ◌∙◌, ap, sym, refl, arith, ℕ, zero, suc, Bool, true, false, List, [], length, map, take, drop, Option, Some, None, get_or, length-append}
+use Rattle.std.proofs.Common.{◌≡◌, ◌<◌, ◌≤◌, ◌+◌, ◌∷◌, ◌++◌, ◌∙◌, ap, sym, refl, ℕ, true, false, List, [], length, take, drop, Some, None, get_or}
 use Rattle.std.proofs.lemmas.List.{map-append, take_more, take_all, drop_more, drop_all}
 use Rattle.std.specs.Prelude.{if◌then◌else◌}
 use Rattle.alarm_db.specs.declared.fault.DbFault.TheVariants as fault

@@ -1,6 +1,6 @@
 -- Which fields are UTF-8.
 use Rattle.std.proofs.Common.{◌≡◌, ℕ, zero, suc, lit<, get_or, Bool, true, false, List, [], ◌∷◌, arith, ◌<◌, ◌&&◌, sym, inl, inr, Result, Ok, Err}
-use Rattle.std.specs.Prelude.{MatchResult, is_ok, not, nat_le, length, ◌||◌}
+use Rattle.std.specs.Prelude.{MatchResult, is_ok, nat_le, length, ◌||◌}
 use Rattle.std.specs.List.{list_all}
 use Rattle.std.specs.Str.{IsUtf8, is_utf8}
 use Rattle.std.proofs.lemmas.Bool.{cases_Bool}

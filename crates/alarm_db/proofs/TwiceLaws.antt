@@ -1,5 +1,5 @@
 -- Rows of which no two have one tag.
-use Rattle.std.proofs.Common.{◌≡◌, ◌≢◌, ◌<◌, ◌≤◌, ◌+◌, ◌∷◌, ◌++◌, ◌||◌, ◌∙◌, ap, sym, refl, arith, ℕ, zero, suc, Bool, true, false, List, [], length, map, Option, Some, None, get_or}
+use Rattle.std.proofs.Common.{◌≡◌, ◌≢◌, ◌<◌, ◌+◌, ◌∷◌, ◌++◌, ◌||◌, ◌∙◌, sym, refl, arith, ℕ, zero, suc, Bool, true, false, List, [], length, Option, Some, None, get_or}
 use Rattle.std.specs.Prelude.{if◌then◌else◌, AllPairs}
 use Rattle.std.specs.List.{list_any}
 use Rattle.std.specs.Str.{bytes_eq}

@@ -1,6 +1,6 @@
 -- The first fault of a database, from what was found in turn: first of its records' form, then of its tags.
 use Rattle.std.proofs.Common.{◌≡◌, ◌≤◌, ◌∷◌, ◌∙◌, ap, refl, arith, ℕ, Bool, true, false, List, [], length, map, Option, Some, None}
-use Rattle.std.specs.Prelude.{nat_lt, not, ◌||◌, if◌then◌else◌, All}
+use Rattle.std.specs.Prelude.{nat_lt, not, ◌||◌, if◌then◌else◌}
 use Rattle.std.specs.List.{list_all}
 use Rattle.std.specs.Option.{option_or}
 use Rattle.std.proofs.lemmas.Bool.Decides.{nat_tests}

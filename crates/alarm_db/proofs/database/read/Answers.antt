@@ -1,5 +1,5 @@
-use Rattle.std.proofs.Common.{◌≡◌, ◌∙◌, ap, sym}
-use Rattle.alarm_db.specs.Databases.{first_twice, records_of, rows_in, tags_of}
+use Rattle.std.proofs.Common.{◌∙◌, ap}
+use Rattle.alarm_db.specs.Databases.{records_of, tags_of}
 use Rattle.alarm_db.proofs.Whole.{are_database, early_carried, few_rows, twice_carried}
 use Rattle.alarm_db.proofs.database.read.Goals as goal
 

@@ -1,4 +1,4 @@
-use Rattle.std.proofs.Common.{◌≡◌, ◌∙◌}
+use Rattle.std.proofs.Common.{◌∙◌}
 use Rattle.alarm_db.proofs.TextLaws.{utf8_test}
 use Rattle.alarm_db.proofs.forms.is_utf8.Goals as goal
 

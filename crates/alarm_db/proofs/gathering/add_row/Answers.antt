@@ -1,4 +1,4 @@
-use Rattle.std.proofs.Common.{◌≡◌, ◌<◌, ◌+◌, ◌∷◌, ◌++◌, ◌∙◌, [], ap, sym, refl, arith}
+use Rattle.std.proofs.Common.{◌<◌, ◌+◌, ◌∷◌, ◌++◌, ◌∙◌, [], ap, sym, refl, arith}
 use Rattle.csv.specs.Records.{fields_of}
 use Rattle.alarm_db.proofs.Gathered.{none_of, one_behind, one_right, one_wrong}
 use Rattle.alarm_db.proofs.gathering.add_row.Goals as goal

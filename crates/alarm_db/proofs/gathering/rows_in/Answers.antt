@@ -1,4 +1,4 @@
-use Rattle.std.proofs.Common.{◌≡◌, ◌∷◌, ◌++◌, ◌∙◌, [], ap, sym, refl}
+use Rattle.std.proofs.Common.{◌∷◌, ◌++◌, ◌∙◌, [], ap, sym, refl}
 use Rattle.csv.specs.Records.{fields_of}
 use Rattle.alarm_db.specs.Databases.{records_of}
 use Rattle.alarm_db.specs.Gathering.{early_fault}

@@ -1,4 +1,3 @@
-use Rattle.std.proofs.Common.{◌≡◌}
 use Rattle.csv.specs.Records.{fields_of}
 use Rattle.alarm_db.proofs.Gathered.{one_read}
 use Rattle.alarm_db.proofs.records.next_record.Goals as goal

@@ -1,4 +1,4 @@
-use Rattle.std.proofs.Common.{◌≡◌, ◌∙◌, inr}
+use Rattle.std.proofs.Common.{◌∙◌, inr}
 use Rattle.csv.specs.Reading.{strip_bom}
 use Rattle.alarm_db.proofs.Gathered.{none_read}
 use Rattle.alarm_db.proofs.records.reader_of.Goals as goal

@@ -1,4 +1,4 @@
-use Rattle.std.proofs.Common.{◌≡◌, ◌∙◌, ap, string_bytes}
+use Rattle.std.proofs.Common.{◌∙◌, ap, string_bytes}
 use Rattle.std.specs.Prelude.{position}
 use Rattle.std.specs.Str.{bytes_eq}
 use Rattle.alarm_db.proofs.Places.{position-map}
