@@ -1,5 +1,5 @@
 -- The alarms of a database in a plant: the numbers of their areas and variables, or the first name that isn't there.
-use Rattle.std.specs.Prelude.{ℕ, ◌+◌, Bool, true, false, if◌then◌else◌, List, [], ◌∷◌, map, Option, Some, None, is_none, unwrap_or, slice_get, position, option_map, option_and_then}
+use Rattle.std.specs.Prelude.{◌≡◌, ⊤, ℕ, ◌+◌, Bool, true, false, if◌then◌else◌, List, [], ◌∷◌, map, Option, Some, None, is_none, unwrap_or, slice_get, position, option_map, option_and_then}
 use Rattle.std.specs.Option.{option_or}
 use Rattle.std.specs.Str.{bytes_eq}
 use Rattle.plant_types.specs.declared.values.Kind.{Kind}
@@ -9,6 +9,8 @@ use Rattle.alarm_db.specs.declared.column.Column.TheVariants as column
 use Rattle.alarm_db.specs.declared.row.DatabaseRow.{DatabaseRow}
 use Rattle.plant_logic.specs.declared.logic.Variable.{Variable}
 use Rattle.plant_logic.specs.Names.{find_global}
+use Rattle.plant_config.specs.declared.alarms.AlarmFault.{AlarmFault}
+use Rattle.plant_config.specs.declared.alarms.AlarmFault.TheVariants as fault
 use Rattle.plant_config.specs.declared.rows.AlarmRow.{AlarmRow}
 
 -- the number of an area
@@ -66,3 +68,8 @@ alarm_of areas globals row = record {
 -- the alarms of rows
 abbrev pub alarms_of : List (List ℕ) → List Variable → List DatabaseRow → List AlarmRow
 alarms_of areas globals rows = map (alarm_of areas globals) rows
+
+-- why there are no alarms of rows: the first of them that names what isn't there, and in it the first column; memory may be refused at any time
+abbrev pub IsAlarmFault : List (List ℕ) → List Variable → List DatabaseRow → AlarmFault → Type 0
+IsAlarmFault areas globals rows fault.Memory = ⊤
+IsAlarmFault areas globals rows (fault.Unknown row column) = first_unknown areas globals 1 rows ≡ Some (row, column)

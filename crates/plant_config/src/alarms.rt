@@ -1,14 +1,45 @@
 //! The alarms of a database in a plant: their areas and variables by number.
 
-ghost use Rattle.std.specs.Prelude.{◌≡◌, ◌<◌, ◌≤◌, IfOk, IfSome, length, option_map, option_and_then};
-ghost use Rattle.plant_config.specs.Alarms.{area_number, is_bool, is_bool_at, bool_number, is_unknown, unknown_column, first_unknown, alarm_of, alarms_of};
+ghost use Rattle.std.specs.Prelude.{◌≡◌, ◌<◌, ◌≤◌, IfNone, IfSome, MatchResult, None, Some, false, length, option_map, option_and_then, true};
+ghost use Rattle.plant_config.specs.Alarms.{area_number, is_bool, is_bool_at, bool_number, is_unknown, unknown_column, first_unknown, alarm_of, alarms_of, IsAlarmFault};
 
 use crate::rows::AlarmRow;
 use alarm_db::{Column, DatabaseRow};
 use plant_logic::Variable;
 use plant_types::{Kind, Text};
 use plant_walk::Framed;
-use std::alloc::{AllocError, Global};
+use std::alloc::{AllocError, AllocFailed, Global};
+
+/// Why there are no alarms of rows. Rows count from 1.
+#[derive(Clone, Copy, Debug, PartialEq, Eq, Drop)]
+pub enum AlarmFault {
+    /// Allocation failed.
+    Memory,
+    /// A name stands for nothing; the first row with one, and in it the first column.
+    Unknown { row: u32, column: Column },
+}
+
+impl From<AllocError> for AlarmFault {
+    ghost use Rattle.std.specs.Prelude.{◌≡◌};
+    ghost use Rattle.plant_config.specs.declared.alarms.AlarmFault.TheVariants.{Memory};
+
+    ghost from_gives = { λ _ fault. fault ≡ Memory };
+
+    fn from(_refused: AllocError) -> AlarmFault {
+        AlarmFault::Memory
+    }
+}
+
+impl<T: Drop> From<AllocFailed<T>> for AlarmFault {
+    ghost use Rattle.std.specs.Prelude.{◌≡◌};
+    ghost use Rattle.plant_config.specs.declared.alarms.AlarmFault.TheVariants.{Memory};
+
+    ghost from_gives = { λ _ fault. fault ≡ Memory };
+
+    fn from(_refused: AllocFailed<T>) -> AlarmFault {
+        AlarmFault::Memory
+    }
+}
 
 /// The number of an area; `None` if the plant hasn't it.
 fn area_number(areas: &[Text], name: &str) -> Option<usize>
@@ -48,66 +79,40 @@ fn bool_number(logic: &Framed, name: &str) -> Option<usize>
     }
 }
 
-/// Whether there is a name that is no BOOL global's.
-fn is_unknown(logic: &Framed, name: Option<&Text>) -> bool
-    ensures { result ≡ is_unknown logic.now.globals (option_map (λ text. text.now) name.entry) }
+/// The number of the BOOL global of a name, `Some(None)` where there is no name; `None` where the name is no BOOL global's.
+fn suppress_number(logic: &Framed, name: Option<&Text>) -> Option<Option<u32>>
+    requires { length logic.now.globals ≤ 65536 }
+    ensures known { IfSome result (λ number. (is_unknown logic.now.globals (option_map (λ text. text.now) name.entry) ≡ false)
+        × (number ≡ option_and_then (bool_number logic.now.globals) (option_map (λ text. text.now) name.entry))) }
+    ensures unknown { IfNone result (is_unknown logic.now.globals (option_map (λ text. text.now) name.entry) ≡ true) }
 {
     match name {
-        Some(name) => bool_number(logic, name.as_str()).is_none(),
-        None => false,
-    }
-}
-
-/// The first column of a row in which a name stands for nothing; `None` if there is none.
-fn unknown_column(areas: &[Text], logic: &Framed, row: &DatabaseRow) -> Option<Column>
-    ensures { result ≡ unknown_column areas.now logic.now.globals row.now }
-{
-    if area_number(areas, row.area.as_str()).is_none() {
-        return Some(Column::Area);
-    }
-    if is_unknown(logic, Some(&row.condition)) {
-        return Some(Column::Condition);
-    }
-    if is_unknown(logic, row.suppress.as_ref()) {
-        return Some(Column::Suppress);
-    }
-    None
-}
-
-/// The first row in which a name stands for nothing, numbered from 1, and in it the first column; `None` if there is none.
-pub fn first_unknown(areas: &[Text], logic: &Framed, rows: &[DatabaseRow]) -> Option<(u32, Column)>
-    requires { length rows.now ≤ 20000 }
-    ensures { result ≡ first_unknown areas.now logic.now.globals 1 rows.now }
-{
-    let mut number = 0u32;
-    for row in rows {
-        number += 1;
-        if let Some(column) = unknown_column(areas, logic, row) {
-            return Some((number, column));
+        Some(name) => {
+            let number = bool_number(logic, name.as_str())?;
+            Some(Some(number as u32))
         }
+        None => Some(None),
     }
-    None
 }
 
-/// The number of the BOOL global of a name, where there is one.
-fn suppress_number(logic: &Framed, name: Option<&Text>) -> Option<u32>
-    requires { length logic.now.globals ≤ 65536 }
-    ensures { result ≡ option_and_then (bool_number logic.now.globals) (option_map (λ text. text.now) name.entry) }
-{
-    let number = bool_number(logic, name?.as_str())?;
-    Some(number as u32)
-}
-
-/// The alarm of a row, all of whose names are known.
-fn alarm_of(areas: &[Text], logic: &Framed, row: DatabaseRow) -> AlarmRow
+/// The alarm of a row, or the first column in which a name stands for nothing.
+fn alarm_of(areas: &[Text], logic: &Framed, row: DatabaseRow) -> Result<AlarmRow, Column>
     requires areas { length areas.now ≤ 64 }
     requires globals { length logic.now.globals ≤ 65536 }
-    ensures { result ≡ alarm_of areas.now logic.now.globals row }
+    ensures { MatchResult result
+        (λ alarm. (unknown_column areas.now logic.now.globals row ≡ None) × (alarm ≡ alarm_of areas.now logic.now.globals row))
+        (λ column. unknown_column areas.now logic.now.globals row ≡ Some column) }
 {
-    let area = area_number(areas, row.area.as_str()).unwrap_or(0);
-    let condition = bool_number(logic, row.condition.as_str()).unwrap_or(0);
-    let suppress = suppress_number(logic, row.suppress.as_ref());
-    AlarmRow {
+    let Some(area) = area_number(areas, row.area.as_str()) else {
+        return Err(Column::Area);
+    };
+    let Some(condition) = bool_number(logic, row.condition.as_str()) else {
+        return Err(Column::Condition);
+    };
+    let Some(suppress) = suppress_number(logic, row.suppress.as_ref()) else {
+        return Err(Column::Suppress);
+    };
+    Ok(AlarmRow {
         tag: row.tag,
         area: area as u32,
         priority: row.priority,
@@ -116,23 +121,34 @@ fn alarm_of(areas: &[Text], logic: &Framed, row: DatabaseRow) -> AlarmRow
         latching: row.latching,
         max_shelve_ms: row.max_shelve_ms,
         text: row.text,
-    }
+    })
 }
 
-/// The alarms of rows, all of whose names are known. Fails if allocation fails.
+/// The alarms of rows, or the first row in which a name stands for nothing, numbered from 1, and in it the first column.
 pub fn alarms_of(
     alloc: Global,
     areas: &[Text],
     logic: &Framed,
     rows: Vec<DatabaseRow>,
-) -> Result<Vec<AlarmRow>, AllocError>
+) -> Result<Vec<AlarmRow>, AlarmFault>
     requires areas { length areas.now ≤ 64 }
     requires globals { length logic.now.globals ≤ 65536 }
-    ensures { IfOk result (λ alarms. alarms.items ≡ alarms_of areas.now logic.now.globals rows.items) }
+    requires rows { length rows.items ≤ 20000 }
+    ensures { MatchResult result
+        (λ alarms. (first_unknown areas.now logic.now.globals 1 rows.items ≡ None) × (alarms.items ≡ alarms_of areas.now logic.now.globals rows.items))
+        (IsAlarmFault areas.now logic.now.globals rows.items) }
 {
-    let mut alarms = Vec::new(alloc);
+    let mut alarms = Vec::with_capacity(alloc, rows.len())?;
     for row in rows {
-        alarms.push(alarm_of(areas, logic, row))?;
+        match alarm_of(areas, logic, row) {
+            Ok(alarm) => alarms.push(alarm)?,
+            Err(column) => {
+                return Err(AlarmFault::Unknown {
+                    row: alarms.len() as u32 + 1,
+                    column,
+                });
+            }
+        }
     }
     Ok(alarms)
 }

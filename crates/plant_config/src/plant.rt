@@ -5,7 +5,10 @@ ghost use Rattle.plant_types.specs.Words.{same_word};
 ghost use Rattle.plant_file.specs.Read.{plant_file_in};
 ghost use Rattle.plant_logic.specs.declared.logic.Routine.{Routine};
 ghost use Rattle.plant_config.specs.Files.{files_of, texts_of};
-ghost use Rattle.alarm_db.specs.Databases.{rows_of};
+ghost use Rattle.alarm_db.specs.Databases.{IsDatabase, rows_of, tags_of as database_tags};
+ghost use Rattle.plant_logic.specs.Units.{source_in};
+ghost use Rattle.plant_file.specs.PlantFiles.{IsPlantFile};
+ghost use Rattle.plant_config.specs.Alarms.{alarms_of};
 ghost use Rattle.plant_config.specs.Logics.{IsLogic};
 ghost use Rattle.plant_config.specs.Plants.{PlainPlant, IsPlant, plant_with, tags_of};
 ghost use Rattle.plant_config.specs.Stages.{Accepted, HasAlarms, HasDatabase, HasEpoch, IsSized, IsWellFormed};
@@ -13,13 +16,12 @@ ghost use Rattle.plant_config.specs.Refusals.{IsFileFault, IsRefused};
 ghost use Rattle.plant_config.specs.declared.fault.ConfigFault.TheVariants as fault;
 ghost use Rattle.plant_config.specs.Names.{alarm_number, globals_of, global_number, program_number, programs_of, program_at, body_paths, body_path, tag_of, area_of, global_of, priority_of};
 
-use crate::alarms::alarms_of;
 use crate::epoch::epoch_of;
 use crate::fault::ConfigFault;
 use crate::files::{Files, Handed, file_of, files_of, listed};
 use crate::limits::check_limits;
 use crate::rows::{AlarmRow, copy_rows};
-use crate::running::{check_alarms, database_of, logic_of};
+use crate::running::{database_of, known_alarms, logic_of};
 use crate::spelling::{mistyped, units_of};
 use alarm_db::{AlarmDatabase, Tags};
 use plant_file::{Console, PlantFile};
@@ -77,28 +79,28 @@ fn assembled(
     }
 }
 
-/// The plant of texts that are right. Fails if allocation fails.
+/// The plant of texts that are right.
 fn made(
-    alloc: Global,
     handed: &Handed<'_>,
     file: PlantFile,
     epoch: Epoch,
     typed: &Typed<'_>,
     logic: Framed,
-    database: AlarmDatabase,
-) -> Result<Plant, AllocError>
-    requires alarms { HasAlarms handed.now file epoch typed.now }
+    alarms: Vec<AlarmRow>,
+    tags: Tags,
+) -> Plant
+    requires has_alarms { HasAlarms handed.now file epoch typed.now }
     requires logic { IsLogic typed.now logic }
-    requires rows { database ≡ rows_of handed.now.alarms }
-    ensures { IfOk result (Accepted handed.now) }
+    requires file { IsPlantFile file }
+    requires database { IsDatabase (rows_of handed.now.alarms) }
+    requires alarms { alarms.items ≡ alarms_of file.areas (source_in typed.now).globals (rows_of handed.now.alarms) }
+    requires tags { tags ≡ database_tags (rows_of handed.now.alarms) }
+    ensures { Accepted handed.now result }
 {
-    let (rows, tags) = database.into_parts();
-    let alarms = alarms_of(alloc, file.areas(), &logic, rows)?;
-    Ok(assembled(file, epoch, logic, alarms, tags))
+    assembled(file, epoch, logic, alarms, tags)
 }
 
 /// The plant of well-formed sources with an alarm database, or why there is none.
-#[tactic(auto, using(crate::proofs::Refused::memory_refused))]
 fn with_database(
     alloc: Global,
     handed: &Handed<'_>,
@@ -113,11 +115,9 @@ fn with_database(
     requires rows { database ≡ rows_of handed.now.alarms }
     ensures { MatchResult result (Accepted handed.now) (IsRefused handed.now) }
 {
-    match check_alarms(handed, &file, epoch, typed, &logic, &database) {
-        Ok(()) => match made(alloc, handed, file, epoch, typed, logic, database) {
-            Ok(plant) => Ok(plant),
-            Err(_) => Err(ConfigFault::Memory),
-        },
+    let (rows, tags) = database.into_parts();
+    match known_alarms(alloc, handed, &file, epoch, typed, &logic, rows) {
+        Ok(alarms) => Ok(made(handed, file, epoch, typed, logic, alarms, tags)),
         Err(fault) => Err(fault),
     }
 }

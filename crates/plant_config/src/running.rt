@@ -3,14 +3,17 @@
 ghost use Rattle.std.specs.Prelude.{◌≡◌, ◌≤◌, MatchResult, length};
 ghost use Rattle.plant_logic.specs.Units.{source_in};
 ghost use Rattle.alarm_db.specs.Databases.{rows_of};
+ghost use Rattle.plant_file.specs.PlantFiles.{IsPlantFile};
+ghost use Rattle.plant_config.specs.Alarms.{alarms_of};
 ghost use Rattle.plant_config.specs.Logics.{IsLogic};
 ghost use Rattle.plant_config.specs.Stages.{IsWellFormed, IsSized, HasDatabase, HasAlarms};
 ghost use Rattle.plant_config.specs.Refusals.{IsRefused};
 
-use crate::alarms::first_unknown;
+use crate::alarms::{AlarmFault, alarms_of};
 use crate::fault::{ConfigFault, Limit};
 use crate::files::Handed;
-use alarm_db::{AlarmDatabase, DbFault};
+use crate::rows::AlarmRow;
+use alarm_db::{AlarmDatabase, DatabaseRow, DbFault};
 use plant_file::PlantFile;
 use plant_limits::LimitFault;
 use plant_walk::Framed;
@@ -61,23 +64,27 @@ pub fn database_of(
     }
 }
 
-/// Fails for the first alarm of the database that names what the plant hasn't: C14.
+/// The alarms of the database in the plant, or the first that names what the plant hasn't: C14.
 #[tactic(auto, unfolding(crate::specs::Refusals::IsRefused))]
-pub fn check_alarms(
+pub fn known_alarms(
+    alloc: Global,
     handed: &Handed<'_>,
     file: &PlantFile,
     epoch: Epoch,
     typed: &Typed<'_>,
     logic: &Framed,
-    database: &AlarmDatabase,
-) -> Result<(), ConfigFault>
+    rows: Vec<DatabaseRow>,
+) -> Result<Vec<AlarmRow>, ConfigFault>
     requires database { HasDatabase handed.now file.now epoch typed.now }
-    requires rows { database.now ≡ rows_of handed.now.alarms }
-    requires logic { logic.now ≡ source_in typed.now }
-    ensures { MatchResult result (λ _. HasAlarms handed.now file.now epoch typed.now) (IsRefused handed.now) }
+    requires rows { rows.items ≡ rows_of handed.now.alarms }
+    requires few { length rows.items ≤ 20000 }
+    requires logic { IsLogic typed.now logic.now }
+    ensures alarms { MatchResult result (λ alarms. HasAlarms handed.now file.now epoch typed.now × (alarms.items ≡ alarms_of file.now.areas (source_in typed.now).globals (rows_of handed.now.alarms))) (IsRefused handed.now) }
+    ensures file { IsPlantFile file.now }
 {
-    match first_unknown(file.areas(), logic, database.rows()) {
-        Some((row, column)) => Err(ConfigFault::Unknown { row, column }),
-        None => Ok(()),
+    match alarms_of(alloc, file.areas(), logic, rows) {
+        Ok(alarms) => Ok(alarms),
+        Err(AlarmFault::Memory) => Err(ConfigFault::Memory),
+        Err(AlarmFault::Unknown { row, column }) => Err(ConfigFault::Unknown { row, column }),
     }
 }
