@@ -60,8 +60,10 @@ fn text(alloc: Global, field: &[u8]) -> Result<Text, AllocError>
     requires { IsUtf8 field.now }
     ensures { IfOk result (λ text. text ≡ field.now) }
 {
-    let field = unsafe { str::from_utf8_unchecked(field) };
-    Text::from_str(alloc, field)
+    match str::from_utf8(field) {
+        Ok(field) => Text::from_str(alloc, field),
+        Err(_) => unreachable!(),
+    }
 }
 
 /// Copies the word in a field; `None` for an empty field. Fails if allocation fails.
