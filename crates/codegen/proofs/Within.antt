@@ -26,7 +26,8 @@ use Rattle.acc_vm.specs.declared.instr.Instr.TheVariants as instr
 use Rattle.acc_vm.specs.declared.instr.Place.{Place}
 use Rattle.acc_vm.specs.Codes.{values_past, clocks_past, values_named, clocks_named, IsWithin}
 use Rattle.code_sizes.specs.Sizes.{constant_span, expr_lines, inputs_lines, stmt_lines, body_lines, branches_lines, choices_lines}
-use Rattle.codegen.specs.Pairs.{paired, is_same_place, joined_of}
+use Rattle.codegen.specs.Pairs.{both as both_in_one, paired, is_same_place, joined, joined_of}
+use Rattle.std.specs.Option.{option_or, unwrap_or}
 use Rattle.codegen.specs.Codes.{Line, Coder, Part, place_of, output_by, output_instr, binary_code, put_code, pt_instr, branch_code, labels_code, choice_code, loop_code, for_code, expr_code, inputs_code, outputs_code, enter_by, enter_code, stmt_code, body_code, branches_code, choices_code, frame_part, program_lines, code_of}
 use Rattle.codegen.specs.Within.{has_input, has_shown, has_output, has_pt, has_called, has_instance, there, routine_there, frame_there, IsThere, NamesAsFrame}
 use Rattle.codegen.proofs.Parts.{none, part_is, part_past}
@@ -231,35 +232,45 @@ module _ (values clocks : ℕ) where
     pub program_in : (first : ℕ) (base : Base) → IsThere values clocks globals frames first base → Within (program_lines globals frames first base)
     program_in first base h = both ((frame_part globals frames (length frames) first).code base 0 0) _ (frame_in (length frames) first base 0 0 h) (nothing, tt)
 
--- a pair names what the two of it name
-paired_values : (i j : Instr) → values_past (paired i j) ≤ max (values_past i) (values_past j)
-paired_values i j = grind arith
+-- an instruction that does what two do names what they name
+both_values : (i j : Instr) → values_past (unwrap_or (both_in_one i j) i) ≤ max (values_past i) (values_past j)
+both_values i j = grind arith
 
-paired_clocks : (i j : Instr) → clocks_past (paired i j) ≤ max (clocks_past i) (clocks_past j)
-paired_clocks i j = grind arith
+both_clocks : (i j : Instr) → clocks_past (unwrap_or (both_in_one i j) i) ≤ max (clocks_past i) (clocks_past j)
+both_clocks i j = grind arith
 
 module _ (values clocks : ℕ) where
-  pair_in : (b : Bool) (i j : Instr) → IsWithin values clocks i → IsWithin values clocks j → IsWithin values clocks (if b then paired i j else i)
-  pair_in false i j h g = h
-  pair_in true i j h g =
-      let x = paired_values i j in
-      let y = paired_clocks i j in
+  both_in : (i j : Instr) → IsWithin values clocks i → IsWithin values clocks j → IsWithin values clocks (unwrap_or (both_in_one i j) i)
+  both_in i j h g =
+      let x = both_values i j in
+      let y = both_clocks i j in
       let a = h.0 in
       let b = h.1 in
       let c = g.0 in
       let d = g.1 in
       (omega (arith, x, a, c), omega (arith, y, b, d))
 
+  chosen_in : (one other : Option Instr) (i : Instr) → IsWithin values clocks (unwrap_or one i) → IsWithin values clocks (unwrap_or other i) → IsWithin values clocks (unwrap_or (option_or one other) i)
+  chosen_in None other i h g = g
+  chosen_in (Some r) other i h g = h
+
+  pair_in : (b : Bool) (i behind later : Instr) → IsWithin values clocks i → IsWithin values clocks behind → IsWithin values clocks later
+      → IsWithin values clocks (if b then paired i behind later else i)
+  pair_in false i behind later h g k = h
+  pair_in true i behind later h g k = chosen_in (both_in_one i later) (both_in_one i behind) i (both_in i later h k) (both_in i behind h g)
+
   named_in : (ls : List Line) → Within values clocks ls → (values_named (joined_of ls) ≤ values) × (clocks_named (joined_of ls) ≤ clocks)
   named_in [] h = nothing values clocks
   named_in (l ∷ []) h = let a = h.0.0 in let b = h.0.1 in (omega (arith, a), omega (arith, b))
   named_in (l ∷ (m ∷ ls)) h =
-      let own = pair_in (is_same_place l.1 m.1) l.0 m.0 h.0 h.1.0 in
       let rest = named_in (m ∷ ls) h.1 in
-      let a = own.0 in
-      let b = own.1 in
       let c = rest.0 in
       let d = rest.1 in
+      let later : Instr = joined m (slice_get ls 0) (slice_get (joined_of ls) 0) in
+      let there : IsWithin values clocks later = (omega (arith, c), omega (arith, d)) in
+      let own = pair_in (is_same_place l.1 m.1) l.0 m.0 later h.0 h.1.0 there in
+      let a = own.0 in
+      let b = own.1 in
       (omega (arith, a, c), omega (arith, b, d))
 
 -- the code of a program names what its frame names
