@@ -1,5 +1,5 @@
 -- The alarms that a scan moves: how the list of them grows, and what it makes of the bank and of the changes.
-use Rattle.std.proofs.Common.{◌≡◌, All, ◌≢◌, ℕ, ◌+◌, ◌<◌, ◌≤◌, inl, inr, Bool, true, false, Option, Some, None, List, [], ◌∷◌, ◌++◌, length, drop, slice_get, slice_index_or, arith, refl, ap, sym, ◌∙◌}
+use Rattle.std.proofs.Common.{◌≡◌, All, ◌≢◌, ℕ, zero, suc, ◌+◌, ◌-◌, ◌<◌, ◌≤◌, inl, inr, Bool, true, false, Option, Some, None, List, [], ◌∷◌, ◌++◌, length, drop, slice_get, slice_index_or, arith, refl, ap, sym, ◌∙◌}
 use Rattle.std.proofs.lemmas.List.{drop_more, drop_all, append-nil, append_assoc, set_at, get_or_at, length_push, length-append}
 use Rattle.std.proofs.lemmas.Bool.Decides.{nat_tests}
 use Rattle.std.specs.Prelude.{nat_le}
@@ -130,6 +130,24 @@ unmarked_next marks i cs ss t xs moved h ce se unmarked stay settled later so_fa
     let same = stay i a unmarked a_is in
     let here : IsSettled a = All-get_or IsSettled xs i no_alarm h settled in
     rests_next i cs ss t xs moved a.condition a.suppressed a h ce se same.0 same.1 (sym (get_or_from_slice_get xs i a a a_is)) (settled_rests a t here (λ e. later i a e a_is)) so_far
+
+-- so are several one after another
+pub unmarked_more : (k : ℕ) (marks : List Bool) (i : ℕ) (cs ss : List Bool) (t : ℕ) (xs : List PlainAlarm) (moved : List (ℕ × PlainAlarm))
+    → i + k ≤ length xs → length cs ≡ length xs → length ss ≡ length xs → ((n : ℕ) → i ≤ n → n < i + k → slice_get marks n ≡ Some false) → UnmarkedStay marks cs ss xs → All IsSettled xs → NoShelfEnds t xs
+    → MovesOn i cs ss t xs moved → MovesOn (i + k) cs ss t xs moved
+unmarked_more zero marks i cs ss t xs moved h ce se unmarked stay settled later so_far = let e : i + 0 ≡ i = omega arith in rw e so_far
+unmarked_more (suc k) marks i cs ss t xs moved h ce se unmarked stay settled later so_far =
+    let one = unmarked_next marks i cs ss t xs moved (omega (arith, h)) ce se (unmarked i (omega arith) (omega arith)) stay settled later so_far in
+    let e : i + suc k ≡ i + 1 + k = omega arith in
+    rw e (unmarked_more k marks (i + 1) cs ss t xs moved (omega (arith, h)) ce se (λ n low less. unmarked n (omega (arith, low)) (omega (arith, less))) stay settled later one)
+
+-- the same up to a place
+pub unmarked_to : (marks : List Bool) (i j : ℕ) (cs ss : List Bool) (t : ℕ) (xs : List PlainAlarm) (moved : List (ℕ × PlainAlarm))
+    → i ≤ j → j ≤ length xs → length cs ≡ length xs → length ss ≡ length xs → ((n : ℕ) → i ≤ n → n < j → slice_get marks n ≡ Some false) → UnmarkedStay marks cs ss xs → All IsSettled xs → NoShelfEnds t xs
+    → MovesOn i cs ss t xs moved → MovesOn j cs ss t xs moved
+unmarked_to marks i j cs ss t xs moved low h ce se unmarked stay settled later so_far =
+    let e : i + (j - i) ≡ j = omega (arith, low) in
+    rw e at (unmarked_more (j - i) marks i cs ss t xs moved (omega (arith, low, h)) ce se (λ n l less. unmarked n l (omega (arith, less, low))) stay settled later so_far)
 
 -- the alarms that moved, put in their places after others that stand before them, give the new alarms
 put_after : (n : ℕ) (before old new : List PlainAlarm) (moved : List (ℕ × PlainAlarm)) → length before ≡ n → AreMoved n old new moved → put_all (before ++ old) moved ≡ before ++ new

@@ -7,6 +7,7 @@ ghost use Rattle.alarm_bank.specs.Banks.{IsSite, scan_each, after_event, reply_o
 ghost use Rattle.alarm_bank.specs.Moves.{AreMoved, IsMoveAt, UnmarkedStay, NoShelfEnds, put_all, changes_from, change_from};
 
 use crate::event::BankEvent;
+use crate::marks::next_mark;
 use crate::rows::{Counted, Site};
 use crate::shelf::Shelf;
 use crate::signals::Signals;
@@ -311,12 +312,16 @@ impl Bank {
         }
         let mut moved = room;
         moved.clear();
-        for at in 0..self.alarms.len() {
+        let mut at = 0;
+        while at < self.alarms.len() {
             if marks[at] {
                 let number = at as u32;
                 if let Some(alarm) = self.moved_one(number, signals, moment) {
                     moved.push((number, alarm))?;
                 }
+                at += 1;
+            } else {
+                at = next_mark(marks, at + 1);
             }
         }
         Ok(moved)

@@ -6,6 +6,7 @@
 
 mod bank;
 mod event;
+mod marks;
 mod rows;
 mod shelf;
 mod signals;

@@ -1,24 +1,36 @@
-use Rattle.std.proofs.Common.{◌≡◌, ◌∙◌, ◌<◌, ◌≤◌, false, length, slice_get, All, Some, None, arith, ap, refl}
+use Rattle.std.proofs.Common.{◌≡◌, ◌∙◌, ◌+◌, ◌<◌, ◌≤◌, false, length, slice_get, All, Some, None, arith, ap, refl}
 use Rattle.std.proofs.lemmas.List.{append-nil}
 use Rattle.std.proofs.lemmas.Option.{slice_get-get_or}
 use Rattle.alarm_bank.specs.Banks.{PlainBank, IsSettled}
-use Rattle.alarm_bank.proofs.MoveLaws.{one_next, unmarked_next, moves_all}
+use Rattle.alarm_bank.proofs.MoveLaws.{one_next, unmarked_next, unmarked_to, moves_all}
 use Rattle.alarm_bank.proofs.bank.Bank.moved_among.Goals as goal
-use Rattle.alarm_bank.proofs.bank.Bank.moved_among.Goals.{then-marks-at+in-Some+in_ok-push, then-marks-at+in_default, else-marks-at}
+use Rattle.alarm_bank.proofs.bank.Bank.moved_among.Goals.{in-Some+in_ok-push, in_default}
+
+pub loop-at-preserved-then-marks-at : goal.loop-at-preserved-then-marks-at
+loop-at-preserved-then-marks-at g c =
+    let within : c.loop-at.at < length c.args.self.now.alarms = omega (arith, ap (λ (b : PlainBank). length b.alarms) c.self.view_is) in
+    record {
+      within = omega (arith, within);
+      moves = elim c.match-moved_one.branch [
+        | in-Some+in_ok-push w ↦ rw (w.moved-is, w.in_ok-push.ensures.items) (one_next _ _ _ _ _ _ (Some w.in-Some.alarm) within c.requires.conditions c.requires.suppressions w.in-Some.ensures c.loop-at.invariant.moves)
+        | in_default w ↦ rw w.moved-is (rw (append-nil c.loop-at.moved.items) at (one_next _ _ _ _ _ c.loop-at.moved.items None within c.requires.conditions c.requires.suppressions w.in_default.ensures c.loop-at.invariant.moves))
+      ];
+    }
 
 pub loop-at-preserved : goal.loop-at-preserved
 loop-at-preserved g c =
     let within : c.loop-at.at < length c.args.self.now.alarms = omega (arith, ap (λ (b : PlainBank). length b.alarms) c.self.view_is) in
-    elim c.if-marks-at.branch [
-      | then-marks-at+in-Some+in_ok-push w ↦ rw (w.moved-is, w.in_ok-push.ensures.items) (one_next _ _ _ _ _ _ (Some w.in-Some.alarm) within c.requires.conditions c.requires.suppressions w.in-Some.ensures c.loop-at.invariant)
-      | then-marks-at+in_default w ↦ rw w.moved-is (rw (append-nil c.loop-at.moved.items) at (one_next _ _ _ _ _ c.loop-at.moved.items None within c.requires.conditions c.requires.suppressions w.in_default.ensures c.loop-at.invariant))
-      | else-marks-at w ↦
-          let unmarked : slice_get c.args.marks.now c.loop-at.at ≡ Some false = slice_get-get_or c.args.marks.now c.loop-at.at false (omega (arith, within, c.requires.marks)) ∙ ap Some w.if-marks-at.false in
-          let settled : All IsSettled c.args.self.now.alarms = rw (← ap (λ (b : PlainBank). b.alarms) c.self.view_is) c.self.invariant.settled in
-          rw w.moved-is (unmarked_next c.args.marks.now _ _ _ _ _ _ within c.requires.conditions c.requires.suppressions unmarked c.requires.unmarked settled (c.if-shelf_ends.ensures refl) c.loop-at.invariant)
-    ]
+    let unmarked : slice_get c.args.marks.now c.loop-at.at ≡ Some false = slice_get-get_or c.args.marks.now c.loop-at.at false (omega (arith, within, c.requires.marks)) ∙ ap Some c.if-marks-at.false in
+    let settled : All IsSettled c.args.self.now.alarms = rw (← ap (λ (b : PlainBank). b.alarms) c.self.view_is) c.self.invariant.settled in
+    let later = c.if-shelf_ends.ensures refl in
+    let reached : c.next_mark-at.result ≤ length c.args.self.now.alarms = omega (arith, c.next_mark-at.ensures.within.1, c.requires.marks) in
+    record {
+      within = reached;
+      moves = unmarked_to c.args.marks.now (c.loop-at.at + 1) c.next_mark-at.result _ _ _ _ _ c.next_mark-at.ensures.within.0 reached c.requires.conditions c.requires.suppressions c.next_mark-at.ensures.clear c.requires.unmarked settled later
+          (unmarked_next c.args.marks.now _ _ _ _ _ _ within c.requires.conditions c.requires.suppressions unmarked c.requires.unmarked settled later c.loop-at.invariant.moves);
+    }
 
 pub returns : goal.returns
 returns g c =
     let end : length c.args.self.now.alarms ≤ c.loop-at.at = omega (arith, ap (λ (b : PlainBank). length b.alarms) c.self.view_is) in
-    moves_all c.loop-at.at _ _ _ _ _ end c.loop-at.invariant
+    moves_all c.loop-at.at _ _ _ _ _ end c.loop-at.invariant.moves
