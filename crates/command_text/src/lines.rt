@@ -1,4 +1,4 @@
-ghost use Rattle.std.specs.Prelude.{◌≡◌, ◌++◌, OnOk, OnErr, length, map, take, ◌∷◌, []};
+ghost use Rattle.std.specs.Prelude.{◌≡◌, ◌++◌, ℕ, OnOk, OnErr, length, map, take, ◌∷◌, [], codes, decimal};
 ghost use Rattle.alarm_machine.specs.Codes.{code_text};
 ghost use Rattle.command_text.specs.Lines.{line_of, trap_text, fault_line, alarm_line, out_line, done_line, reply_line, refused_line, state_line, count_line, row_line, end_line};
 
@@ -86,97 +86,96 @@ fn trap_text(trap: Trap) -> &'static str
     }
 }
 
-/// Appends `FAULT MOMENT PATH STATEMENT KIND`: a program stopped at this statement of the body with this path. Where memory is refused the text is unchanged.
+/// Appends `FAULT MOMENT PATH STATEMENT KIND`: a program stopped at this statement of the body with this path. The moment is given by its
+/// digits. Where memory is refused the text is unchanged.
 #[tactic(auto, unfolding(crate::specs::Lines::fault_line))]
 pub fn push_fault(
     out: &mut Vec<u8>,
-    moment: u64,
+    moment: &str,
     path: &str,
     statement: u32,
     trap: Trap,
 ) -> Result<(), AllocError>
-    ensures ok { OnOk result (out.new.items ≡ out.old.items ++ fault_line moment path.now statement trap) }
+    ensures ok { (t : ℕ) → moment.now ≡ decimal t → OnOk result (out.new.items ≡ out.old.items ++ fault_line t path.now statement trap) }
     ensures err { OnErr result (out.new.items ≡ out.old.items) }
 {
-    let mut digits = Buffer::new();
-    let moment = digits.format(moment);
     let mut number = Buffer::new();
     let statement = number.format(statement);
     push_four(out, "FAULT", moment, path, statement, trap_text(trap))
 }
 
-/// A code's text between two spaces.
-fn from_text(code: Code) -> &'static [u8]
-    ensures { result.now ≡ 32 ∷ code_text code ++ 32 ∷ [] }
+/// Appends a code's text between two spaces.
+// By a call for each code, so that each is a copy of as many bytes as the compiler knows.
+fn push_from(out: &mut Vec<u8>, code: Code) -> Result<(), AllocError>
+    ensures ok { OnOk result (out.new.items ≡ out.old.items ++ 32 ∷ code_text code ++ 32 ∷ []) }
+    ensures err { OnErr result (out.new.items ≡ out.old.items) }
 {
     match code {
-        Code::Norm => b" NORM ",
-        Code::Unack => b" UNACK ",
-        Code::Acked => b" ACKED ",
-        Code::Rtnun => b" RTNUN ",
-        Code::Latun => b" LATUN ",
-        Code::Latak => b" LATAK ",
-        Code::Shelved => b" SHELVED ",
-        Code::Suppr => b" SUPPR ",
-        Code::Oos => b" OOS ",
+        Code::Norm => out.extend_from_slice(b" NORM "),
+        Code::Unack => out.extend_from_slice(b" UNACK "),
+        Code::Acked => out.extend_from_slice(b" ACKED "),
+        Code::Rtnun => out.extend_from_slice(b" RTNUN "),
+        Code::Latun => out.extend_from_slice(b" LATUN "),
+        Code::Latak => out.extend_from_slice(b" LATAK "),
+        Code::Shelved => out.extend_from_slice(b" SHELVED "),
+        Code::Suppr => out.extend_from_slice(b" SUPPR "),
+        Code::Oos => out.extend_from_slice(b" OOS "),
     }
 }
 
-/// A code's text at the end of a line.
-fn to_text(code: Code) -> &'static [u8]
-    ensures { result.now ≡ code_text code ++ 10 ∷ [] }
+/// Appends a code's text and LF.
+fn push_to(out: &mut Vec<u8>, code: Code) -> Result<(), AllocError>
+    ensures ok { OnOk result (out.new.items ≡ out.old.items ++ code_text code ++ 10 ∷ []) }
+    ensures err { OnErr result (out.new.items ≡ out.old.items) }
 {
     match code {
-        Code::Norm => b"NORM\n",
-        Code::Unack => b"UNACK\n",
-        Code::Acked => b"ACKED\n",
-        Code::Rtnun => b"RTNUN\n",
-        Code::Latun => b"LATUN\n",
-        Code::Latak => b"LATAK\n",
-        Code::Shelved => b"SHELVED\n",
-        Code::Suppr => b"SUPPR\n",
-        Code::Oos => b"OOS\n",
+        Code::Norm => out.extend_from_slice(b"NORM\n"),
+        Code::Unack => out.extend_from_slice(b"UNACK\n"),
+        Code::Acked => out.extend_from_slice(b"ACKED\n"),
+        Code::Rtnun => out.extend_from_slice(b"RTNUN\n"),
+        Code::Latun => out.extend_from_slice(b"LATUN\n"),
+        Code::Latak => out.extend_from_slice(b"LATAK\n"),
+        Code::Shelved => out.extend_from_slice(b"SHELVED\n"),
+        Code::Suppr => out.extend_from_slice(b"SUPPR\n"),
+        Code::Oos => out.extend_from_slice(b"OOS\n"),
     }
 }
 
-/// Appends the parts of a line that begins with a moment: what is before its digits, these, and what is after them. Where memory is refused
-/// a part of them may be appended.
+/// Appends the parts of an ALARM line. Where memory is refused a part of them may be appended.
 #[inline(always)]
-fn add_parts(
+fn add_alarm(
     out: &mut Vec<u8>,
-    name: &[u8],
     moment: &str,
-    first: &[u8],
-    second: &[u8],
-    third: &[u8],
+    tag: &str,
+    from: Code,
+    to: Code,
 ) -> Result<(), AllocError>
-    ensures ok { OnOk result (out.new.items ≡ out.old.items ++ name.now ++ moment.now ++ 32 ∷ first.now ++ second.now ++ third.now) }
+    ensures ok { OnOk result (out.new.items ≡ out.old.items ++ codes "ALARM " ++ moment.now ++ 32 ∷ tag.now ++ 32 ∷ code_text from ++ 32 ∷ code_text to ++ 10 ∷ []) }
     ensures err { OnErr result (take (length out.old.items) out.new.items ≡ out.old.items) }
 {
-    out.extend_from_slice(name)?;
+    out.extend_from_slice(b"ALARM ")?;
     out.extend_from_slice(moment.as_bytes())?;
     out.extend_from_slice(b" ")?;
-    out.extend_from_slice(first)?;
-    out.extend_from_slice(second)?;
-    out.extend_from_slice(third)?;
+    out.extend_from_slice(tag.as_bytes())?;
+    push_from(out, from)?;
+    push_to(out, to)?;
     Ok(())
 }
 
-/// Appends a line by its parts, as `add_parts`. Where memory is refused the text is unchanged.
-#[inline(always)]
-fn push_parts(
+/// Appends `ALARM MOMENT TAG FROM TO`: this alarm's code changed. The moment is given by its digits. Where memory is refused the text is
+/// unchanged.
+#[tactic(auto, unfolding(crate::specs::Lines::alarm_line))]
+pub fn push_alarm(
     out: &mut Vec<u8>,
-    name: &[u8],
     moment: &str,
-    first: &[u8],
-    second: &[u8],
-    third: &[u8],
+    tag: &str,
+    change: Change,
 ) -> Result<(), AllocError>
-    ensures ok { OnOk result (out.new.items ≡ out.old.items ++ name.now ++ moment.now ++ 32 ∷ first.now ++ second.now ++ third.now) }
+    ensures ok { (t : ℕ) → moment.now ≡ decimal t → OnOk result (out.new.items ≡ out.old.items ++ alarm_line t tag.now change) }
     ensures err { OnErr result (out.new.items ≡ out.old.items) }
 {
     let start = out.len();
-    match add_parts(out, name, moment, first, second, third) {
+    match add_alarm(out, moment, tag, change.from(), change.to()) {
         Ok(()) => Ok(()),
         Err(error) => {
             out.truncate(start);
@@ -185,37 +184,13 @@ fn push_parts(
     }
 }
 
-/// Appends `ALARM MOMENT TAG FROM TO`: this alarm's code changed. Where memory is refused the text is unchanged.
-#[tactic(auto, unfolding(crate::specs::Lines::alarm_line))]
-pub fn push_alarm(
-    out: &mut Vec<u8>,
-    moment: u64,
-    tag: &str,
-    change: Change,
-) -> Result<(), AllocError>
-    ensures ok { OnOk result (out.new.items ≡ out.old.items ++ alarm_line moment tag.now change) }
-    ensures err { OnErr result (out.new.items ≡ out.old.items) }
-{
-    let mut digits = Buffer::new();
-    let moment = digits.format(moment);
-    push_parts(
-        out,
-        b"ALARM ",
-        moment,
-        tag.as_bytes(),
-        from_text(change.from()),
-        to_text(change.to()),
-    )
-}
-
-/// Appends `OUT MOMENT NAME VALUE`: this output's value changed. Where memory is refused the text is unchanged.
+/// Appends `OUT MOMENT NAME VALUE`: this output's value changed. The moment is given by its digits. Where memory is refused the text is
+/// unchanged.
 #[tactic(auto, unfolding(crate::specs::Lines::out_line))]
-pub fn push_out(out: &mut Vec<u8>, moment: u64, name: &str, value: Value) -> Result<(), AllocError>
-    ensures ok { OnOk result (out.new.items ≡ out.old.items ++ out_line moment name.now value) }
+pub fn push_out(out: &mut Vec<u8>, moment: &str, name: &str, value: Value) -> Result<(), AllocError>
+    ensures ok { (t : ℕ) → moment.now ≡ decimal t → OnOk result (out.new.items ≡ out.old.items ++ out_line t name.now value) }
     ensures err { OnErr result (out.new.items ≡ out.old.items) }
 {
-    let mut digits = Buffer::new();
-    let moment = digits.format(moment);
     let mut shown = Buffer::new();
     match value {
         Value::Bool(true) => push_three(out, "OUT", moment, name, "TRUE"),
@@ -225,22 +200,36 @@ pub fn push_out(out: &mut Vec<u8>, moment: u64, name: &str, value: Value) -> Res
     }
 }
 
-/// Appends `DONE MOMENT LINES`: the end of a scan's answer, with the number of lines before it. Where memory is refused the text is unchanged.
+/// Appends the parts of a DONE line. Where memory is refused a part of them may be appended.
+#[inline(always)]
+fn add_done(out: &mut Vec<u8>, moment: &str, lines: &str) -> Result<(), AllocError>
+    ensures ok { OnOk result (out.new.items ≡ out.old.items ++ codes "DONE " ++ moment.now ++ 32 ∷ lines.now ++ 10 ∷ []) }
+    ensures err { OnErr result (take (length out.old.items) out.new.items ≡ out.old.items) }
+{
+    out.extend_from_slice(b"DONE ")?;
+    out.extend_from_slice(moment.as_bytes())?;
+    out.extend_from_slice(b" ")?;
+    out.extend_from_slice(lines.as_bytes())?;
+    out.extend_from_slice(b"\n")?;
+    Ok(())
+}
+
+/// Appends `DONE MOMENT LINES`: the end of a scan's answer, with the number of lines before it. The moment is given by its digits. Where memory
+/// is refused the text is unchanged.
 #[tactic(auto, unfolding(crate::specs::Lines::done_line))]
-pub fn push_done(out: &mut Vec<u8>, moment: u64, lines: u64) -> Result<(), AllocError>
-    ensures ok { OnOk result (out.new.items ≡ out.old.items ++ done_line moment lines) }
+pub fn push_done(out: &mut Vec<u8>, moment: &str, lines: u64) -> Result<(), AllocError>
+    ensures ok { (t : ℕ) → moment.now ≡ decimal t → OnOk result (out.new.items ≡ out.old.items ++ done_line t lines) }
     ensures err { OnErr result (out.new.items ≡ out.old.items) }
 {
-    let mut digits = Buffer::new();
     let mut count = Buffer::new();
-    push_parts(
-        out,
-        b"DONE ",
-        digits.format(moment),
-        count.format(lines).as_bytes(),
-        b"\n",
-        b"",
-    )
+    let start = out.len();
+    match add_done(out, moment, count.format(lines)) {
+        Ok(()) => Ok(()),
+        Err(error) => {
+            out.truncate(start);
+            Err(error)
+        }
+    }
 }
 
 /// The line with the reply to an order, as `REPLY OK`.

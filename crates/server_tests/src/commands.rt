@@ -82,12 +82,12 @@ fn orders_have_a_console_and_a_word(rt: HostRuntime) {
 /// A line of each kind.
 fn lines(alloc: Global) -> Result<Vec<u8>, AllocError> {
     let mut text = Vec::new(alloc);
-    push_fault(&mut text, 0, "p.f", 4_294_967_295, Trap::Overflow)?;
+    push_fault(&mut text, "0", "p.f", 4_294_967_295, Trap::Overflow)?;
     if let Some(change) = Change::between(Code::Norm, Code::Unack) {
-        push_alarm(&mut text, 4_000_000_000_000, "T1", change)?;
+        push_alarm(&mut text, "4000000000000", "T1", change)?;
     }
-    push_out(&mut text, 1, "e", Value::Time(-9223372036854775808))?;
-    push_done(&mut text, 10, 3)?;
+    push_out(&mut text, "1", "e", Value::Time(-9223372036854775808))?;
+    push_done(&mut text, "10", 3)?;
     push_reply(&mut text, Some(OrderFault::NotYourArea))?;
     push_refused(&mut text, "L1")?;
     Ok(text)

@@ -1,4 +1,4 @@
-ghost use Rattle.std.specs.Prelude.{◌≡◌, ◌++◌, ◌⊎◌, ◌<◌, ◌^◌, ◌+◌, OnOk, OnErr, IfOk, IfSome, All, length, false, string_bytes};
+ghost use Rattle.std.specs.Prelude.{◌≡◌, ◌++◌, ◌⊎◌, ◌<◌, ◌^◌, ◌+◌, ℕ, OnOk, OnErr, IfOk, IfSome, All, length, false, string_bytes, decimal};
 ghost use Rattle.engine.specs.Engines.{state_of};
 ghost use Rattle.plant_config.specs.Names.{alarm_number, tag_of, globals_of, global_of, body_paths};
 ghost use Rattle.plant_logic.specs.Paths.{path_text};
@@ -15,6 +15,7 @@ use command_text::{
     read_command,
 };
 use engine::{Engine, EngineFault, Order, Reply, Report, system_keeps_its_plant};
+use itoa::Buffer;
 use plant_config::Plant;
 use plant_types::{Pair, Place, Trap, Value};
 use std::alloc::{AllocError, Global};
@@ -32,15 +33,15 @@ fn tag_for(plant: &Plant, order: Order) -> &str
     }
 }
 
-/// Appends an ALARM line for each change.
+/// Appends an ALARM line for each change. The moment is given by its digits.
 fn push_alarms(
     text: &mut Vec<u8>,
     plant: &Plant,
-    moment: u64,
+    moment: &str,
     changes: &[(u32, Change)],
 ) -> Result<(), AllocError>
     requires { All (λ c. c.0 < length plant.now.alarms) changes.now }
-    ensures { OnOk result (text.new.items ≡ text.old.items ++ alarm_lines plant.now moment changes.now) }
+    ensures { (t : ℕ) → moment.now ≡ decimal t → OnOk result (text.new.items ≡ text.old.items ++ alarm_lines plant.now t changes.now) }
 {
     for (alarm, change) in changes {
         push_alarm(text, moment, plant.tag(*alarm), *change)?;
@@ -59,16 +60,16 @@ fn path_text(alloc: Global, plant: &Plant, place: &Place) -> Result<String, Allo
     Ok(path)
 }
 
-/// Appends a FAULT line for each program that stopped.
+/// Appends a FAULT line for each program that stopped. The moment is given by its digits.
 fn push_faults(
     alloc: Global,
     text: &mut Vec<u8>,
     plant: &Plant,
-    moment: u64,
+    moment: &str,
     faults: &[(Place, Trap)],
 ) -> Result<(), AllocError>
     requires { All (λ f. f.0.path < length (body_paths plant.now)) faults.now }
-    ensures { OnOk result (text.new.items ≡ text.old.items ++ fault_lines moment (spots_of plant.now.source faults.now)) }
+    ensures { (t : ℕ) → moment.now ≡ decimal t → OnOk result (text.new.items ≡ text.old.items ++ fault_lines t (spots_of plant.now.source faults.now)) }
 {
     for (place, trap) in faults {
         let path = path_text(alloc, plant, place)?;
@@ -77,15 +78,15 @@ fn push_faults(
     Ok(())
 }
 
-/// Appends an OUT line for each output that changed.
+/// Appends an OUT line for each output that changed. The moment is given by its digits.
 fn push_outs(
     text: &mut Vec<u8>,
     plant: &Plant,
-    moment: u64,
+    moment: &str,
     outs: &[(u32, Value)],
 ) -> Result<(), AllocError>
     requires { All (λ o. o.0 < length (globals_of plant.now)) outs.now }
-    ensures { OnOk result (text.new.items ≡ text.old.items ++ out_lines plant.now moment outs.now) }
+    ensures { (t : ℕ) → moment.now ≡ decimal t → OnOk result (text.new.items ≡ text.old.items ++ out_lines plant.now t outs.now) }
 {
     for (output, value) in outs {
         push_out(text, moment, plant.global(*output), *value)?;
@@ -93,7 +94,8 @@ fn push_outs(
     Ok(())
 }
 
-/// Appends the answer to a scan that was taken: its faults, its alarms, its outputs, and how many lines these are.
+/// Appends the answer to a scan that was taken: its faults, its alarms, its outputs, and how many lines these are. The moment's digits are made once
+/// for all of them.
 #[tactic(auto, using(crate::proofs::AnswerLaws::spots_length), unfolding(crate::specs::Answers::report_text))]
 fn push_report(
     alloc: Global,
@@ -109,11 +111,13 @@ fn push_report(
     let faults = report.faults.as_slice();
     let changes = report.changes.as_slice();
     let outs = report.outs.as_slice();
-    push_faults(alloc, text, plant, report.moment, faults)?;
-    push_alarms(text, plant, report.moment, changes)?;
-    push_outs(text, plant, report.moment, outs)?;
+    let mut digits = Buffer::new();
+    let moment = digits.format(report.moment);
+    push_faults(alloc, text, plant, moment, faults)?;
+    push_alarms(text, plant, moment, changes)?;
+    push_outs(text, plant, moment, outs)?;
     let lines = faults.len() as u64 + changes.len() as u64 + outs.len() as u64;
-    push_done(text, report.moment, lines)
+    push_done(text, moment, lines)
 }
 
 /// Returns the number that is printed for a refusal; `""` for `Memory`, which is never printed.
@@ -191,7 +195,8 @@ fn push_order(text: &mut Vec<u8>, moment: u64, tag: &str, reply: Reply) -> Resul
         Reply::Done(None) => push_reply(text, None),
         Reply::Done(Some(change)) => {
             push_reply(text, None)?;
-            push_alarm(text, moment, tag, change)
+            let mut digits = Buffer::new();
+            push_alarm(text, digits.format(moment), tag, change)
         }
         Reply::Refused(fault) => push_reply(text, Some(fault)),
     }
