@@ -37,7 +37,7 @@ impl Model for PreparedOrder {
 fn is_among(areas: &[u32], area: u32) -> bool
     ensures { result ≡ list_any (λ a. a == area) areas.now }
 {
-    areas.iter().any(|a| *a == area)
+    areas.contains(&area)
 }
 
 /// Whether a console has this number and this area.
