@@ -196,8 +196,12 @@ fn session<H: Wait>(
         reads: ends.reads,
         broken: false,
     };
+    // Room for all answers: a growth that is refused would look like a write that failed.
+    let Ok(bytes) = Vec::with_capacity(alloc, OUTPUT.len()) else {
+        return (Err(ServeFault::Memory), 0, Vec::new(alloc));
+    };
     let mut sink = Taken {
-        bytes: Vec::new(alloc),
+        bytes,
         most: ends.write,
         writes: ends.writes,
         broken: false,
