@@ -1,4 +1,4 @@
-//! The alarms of a bank (`alarm_bank`): what an order would be answered, and when the next shelf ends.
+//! The alarms of a bank (`alarm_bank`): what an order would be answered, which events it takes, and when the next shelf ends.
 
 use crate::again::again;
 use alarm_bank::{Bank, BankEvent, Site};
@@ -115,6 +115,48 @@ fn a_bank_tells_what_an_order_would_be_answered(rt: HostRuntime) -> Result<(), F
  O1 O1 O1 O1 O1 O1 O1 O1
 ";
     assert!(rt; again(|| replies(rt.alloc()))?.as_bytes() == want.as_slice());
+    Ok(())
+}
+
+/// A scan at a moment with so many conditions, which all hold, and so many suppressions, of which none holds.
+fn sized_scan(
+    alloc: Global,
+    moment: u64,
+    conditions: usize,
+    suppressions: usize,
+) -> Result<BankEvent, AllocError> {
+    let conds = vec![in alloc; true; conditions]?;
+    let sups = vec![in alloc; false; suppressions]?;
+    Ok(BankEvent::Scan {
+        moment,
+        conds: Items::from_vec(conds),
+        sups: Items::from_vec(sups),
+    })
+}
+
+// A scan has a condition and a suppression for each of the three alarms, and its moment is at most 4,000,000,000,000; to keep moments from going
+// back is no matter of the bank. What doesn't fit changes nothing, and neither does an order to an alarm that isn't there.
+#[test]
+fn a_bank_takes_the_events_that_fit(rt: HostRuntime) -> Result<(), Fail> {
+    let mut bank = again(|| bank(rt.alloc()))?;
+    for (moment, conditions, suppressions) in [
+        (5, 2, 3),
+        (5, 4, 3),
+        (5, 3, 2),
+        (5, 3, 4),
+        (5, 0, 0),
+        (4_000_000_000_001, 3, 3),
+    ] {
+        bank.advance(&again(|| {
+            sized_scan(rt.alloc(), moment, conditions, suppressions)
+        })?);
+        order(&mut bank, 3, Verb::Remove);
+        assert!(rt; bank.moment() == 0 && told(bank.reply(0, Verb::Ack)) == "O3");
+    }
+    for moment in [4_000_000_000_000, 7] {
+        bank.advance(&again(|| sized_scan(rt.alloc(), moment, 3, 3))?);
+        assert!(rt; bank.moment() == moment && told(bank.reply(0, Verb::Ack)) == "ACKED");
+    }
     Ok(())
 }
 

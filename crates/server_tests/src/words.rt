@@ -1,4 +1,4 @@
-//! What the words of the command line choose (`command_line`): the kind of answer, and not the text of help or usage.
+//! What the words of the command line choose (`command_line`): the kind of answer, and of the text of help or usage the words that it has to name.
 
 use crate::again::again;
 use command_line::{Choice, Ended, UsageFault, choose, status};
@@ -52,6 +52,8 @@ fn words_choose(rt: HostRuntime) -> Result<(), Fail> {
         (["-h"].as_slice(), b"help"),
         (["check", "--help"].as_slice(), b"help"),
         (["run", "a", "-h"].as_slice(), b"help"),
+        (["help"].as_slice(), b"help"),
+        (["help", "run"].as_slice(), b"help"),
     ] {
         let found = again(|| chosen(rt.alloc(), words))?;
         assert!(rt; found.as_bytes() == want, "{words:?}");
@@ -76,9 +78,41 @@ fn other_words_are_refused(rt: HostRuntime) -> Result<(), Fail> {
         ["run", "a", "--workers", "2"].as_slice(),
         ["run", "a", "--workers", "one"].as_slice(),
         ["run", "a", "--worker"].as_slice(),
+        ["run", "a", "-w", "1"].as_slice(),
+        ["run", "a", "--workers", "1", "--workers", "1"].as_slice(),
+        ["check", "-x"].as_slice(),
+        ["--version"].as_slice(),
     ] {
         let found = again(|| chosen(rt.alloc(), words))?;
         assert!(rt; found.as_bytes() == b"usage".as_slice(), "{words:?}");
+    }
+    Ok(())
+}
+
+/// The text of help or usage for words; empty where they choose something.
+fn shown(alloc: Global, words: &[&str]) -> Result<String, AllocError> {
+    match choose(alloc, words) {
+        Ok(_) => Ok(String::new(alloc)),
+        Err(UsageFault::Memory) => Err(AllocError),
+        Err(UsageFault::Help(text)) => String::from_str(alloc, text.as_str()),
+        Err(UsageFault::Usage(text)) => String::from_str(alloc, text.as_str()),
+    }
+}
+
+// Help names the commands, and the words of one of them; what is no command line is told with what is wrong.
+#[test]
+fn help_and_usage_have_texts(rt: HostRuntime) -> Result<(), Fail> {
+    for (words, part) in [
+        (["--help"].as_slice(), "check"),
+        (["-h"].as_slice(), "run"),
+        (["check", "--help"].as_slice(), "PLANT"),
+        (["run", "-h"].as_slice(), "--workers"),
+        (["check"].as_slice(), "PLANT"),
+        (["run", "a", "--workers", "one"].as_slice(), "one"),
+        (["run", "a", "--worker"].as_slice(), "--worker"),
+    ] {
+        let text = again(|| shown(rt.alloc(), words))?;
+        assert!(rt; text.contains(part), "{words:?}");
     }
     Ok(())
 }
