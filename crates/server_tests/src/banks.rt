@@ -147,9 +147,7 @@ fn a_bank_takes_the_events_that_fit(rt: HostRuntime) -> Result<(), Fail> {
         (5, 0, 0),
         (4_000_000_000_001, 3, 3),
     ] {
-        bank.advance(&again(|| {
-            sized_scan(rt.alloc(), moment, conditions, suppressions)
-        })?);
+        bank.advance(&again(|| sized_scan(rt.alloc(), moment, conditions, suppressions))?);
         order(&mut bank, 3, Verb::Remove);
         assert!(rt; bank.moment() == 0 && told(bank.reply(0, Verb::Ack)) == "O3");
     }
