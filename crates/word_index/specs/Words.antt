@@ -1,13 +1,13 @@
 -- What a word feeds a hasher.
-use Rattle.std.specs.Prelude.{ℕ, List, [], ◌∷◌, ◌++◌, ◌==◌, length, if◌then◌else◌}
+use Rattle.std.specs.Prelude.{ℕ, List}
+use Rattle.std.specs.List.{flat_map}
+use Rattle.std.specs.Hash as fed
 use Rattle.plant_types.specs.Words.{folded}
 
--- a block of bytes and those behind it, sixteen at a time; the last block has the rest, be it none
-unfoldable pub blocks_hash : List ℕ → List ℕ → List (List ℕ)
-blocks_hash block [] = block ∷ []
-blocks_hash block (byte ∷ bytes) =
-    if length block == 15 then (block ++ byte ∷ []) ∷ blocks_hash [] bytes else blocks_hash (block ++ byte ∷ []) bytes
+-- each byte in turn
+abbrev pub bytes_hash : List ℕ → List (List ℕ)
+bytes_hash bytes = flat_map fed.u8 bytes
 
--- the bytes in small letters, sixteen at a time
+-- each byte in turn, in small letters
 abbrev pub letters_hash : List ℕ → List (List ℕ)
-letters_hash word = blocks_hash [] (folded word)
+letters_hash word = bytes_hash (folded word)
