@@ -46,9 +46,7 @@ fn area_number(areas: &[Text], name: &str) -> Option<usize>
     ensures number { result ≡ area_number areas.now name.now }
     ensures within { IfSome result (λ number. number < length areas.now) }
 {
-    areas
-        .iter()
-        .position(|area| name.as_bytes() == area.as_bytes())
+    areas.iter().position(|area| name == area.as_str())
 }
 
 /// Whether a kind is BOOL.
