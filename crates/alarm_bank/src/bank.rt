@@ -337,15 +337,17 @@ impl Bank {
         }
     }
 
-    /// The changes of codes that a scan makes which moves these alarms of the bank, in the order of the database. Fails if allocation fails.
+    /// The changes of codes that a scan makes which moves these alarms of the bank, in the order of the database. The list is made in the room
+    /// of another one, and takes memory only where it grows beyond that. Fails if allocation fails.
     pub fn changes(
         &self,
-        alloc: Global,
+        room: Vec<(u32, Change)>,
         moved: &[(u32, Alarm)],
     ) -> Result<Vec<(u32, Change)>, AllocError>
         ensures { IfOk result (λ changes. (new : List PlainAlarm) → AreMoved 0 self.now.alarms new moved.now → changes.items ≡ changes_from 0 self.now.alarms new) }
     {
-        let mut changes = Vec::with_capacity(alloc, moved.len())?;
+        let mut changes = room;
+        changes.clear();
         for (number, alarm) in moved {
             if let Some(change) = self.change_to(*number, alarm) {
                 changes.push((*number, change))?;

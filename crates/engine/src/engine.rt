@@ -58,6 +58,7 @@ impl Engine {
         let log = Log::new(alloc);
         let room = Room {
             spare: None,
+            report: None,
             inputs: Vec::new(alloc),
             image: Vec::new(alloc),
             stack: Stack::new(alloc)?,
@@ -185,6 +186,13 @@ impl Engine {
         self.room.image = image;
         self.room.spare = Some(apply_scan(effect, &mut self.state));
         report
+    }
+
+    /// Gives a report back, so that the next scan's lists take its memory and none of their own. The report is lost; the engine stays as it is.
+    pub fn reuse(&mut self, report: Report)
+        ensures { self.new ≡ self.old }
+    {
+        self.room.report = Some(report);
     }
 
     /// Makes an order of the console of a number ready. It changes neither plant nor history.

@@ -46,6 +46,8 @@ impl Model for Prepared {
 pub struct Room {
     /// What an earlier scan replaced.
     pub spare: Option<ScanEffect>,
+    /// What an earlier scan reported.
+    pub report: Option<Report>,
     /// For the inputs of an image.
     pub inputs: Vec<Input>,
     /// For an image.
@@ -56,7 +58,17 @@ pub struct Room {
     pub marks: Vec<bool>,
 }
 
-/// Runs a scan on copies of what a state has, and returns what it does to the state, in the room of another's, and what it reports. Fails if
+/// A report of nothing, to be written over.
+fn empty_report(alloc: Global) -> Report {
+    Report {
+        moment: 0,
+        faults: Vec::new(alloc),
+        changes: Vec::new(alloc),
+        outs: Vec::new(alloc),
+    }
+}
+
+/// Runs a scan on copies of what a state has, and returns what it does to the state and what it reports, in the room of another's. Fails if
 /// allocation fails.
 fn run_scan(
     alloc: Global,
@@ -64,7 +76,7 @@ fn run_scan(
     old: &State,
     stack: &mut Stack,
     marks: &mut Vec<bool>,
-    room: ScanEffect,
+    room: (ScanEffect, Report),
     image: &[(u32, Value)],
     moment: u64,
 ) -> Result<(ScanEffect, Report), AllocError>
@@ -79,20 +91,29 @@ fn run_scan(
     requires values { StandInRange plant.now.source old.now.cells }
     ensures { IfOk result (λ r. ScanRan plant.now old.now image.now moment (after_effect r.0 old.now) r.1) }
 {
+    let (spare, report) = room;
     let ScanEffect {
         cells: room_of_cells,
         faulted: room_of_flags,
         outputs: room_of_outputs,
         moved: room_of_moved,
         moment: _,
-    } = room;
+    } = spare;
+    let Report {
+        moment: _,
+        faults: room_of_faults,
+        changes: room_of_changes,
+        outs: room_of_outs,
+    } = report;
     let mut cells = copied_cells(alloc, &old.cells, room_of_cells)?;
     set_inputs(image, &mut cells);
     let mut faulted = copied_flags(old.faulted.as_slice(), room_of_flags)?;
-    let faults = run_programs(alloc, plant, moment, stack, &mut cells, &mut faulted)?;
-    let (moved, changes) = step_alarms(alloc, old, &cells, moment, marks, room_of_moved)?;
+    let flags = &mut faulted;
+    let faults = run_programs(plant, moment, stack, &mut cells, flags, room_of_faults)?;
+    let lists = (room_of_moved, room_of_changes);
+    let (moved, changes) = step_alarms(alloc, old, &cells, moment, marks, lists)?;
     let outputs = renewed(old.outputs.as_slice(), &cells, room_of_outputs)?;
-    let outs = changed(alloc, outputs.as_slice(), &old.cells, &cells)?;
+    let outs = changed(outputs.as_slice(), &old.cells, &cells, room_of_outs)?;
     let effect = ScanEffect {
         cells,
         faulted,
@@ -131,10 +152,12 @@ pub fn prepared_scan(
 {
     taken_image(alloc, plant, room, old.bank.moment(), events, pairs, moment)?;
     let spare = room.spare.take().unwrap_or(empty_effect(alloc));
+    let lists = room.report.take().unwrap_or(empty_report(alloc));
     let image = room.image.as_slice();
     let stack = &mut room.stack;
     let marks = &mut room.marks;
-    let (effect, report) = run_scan(alloc, plant, old, stack, marks, spare, image, moment)?;
+    let used = (spare, lists);
+    let (effect, report) = run_scan(alloc, plant, old, stack, marks, used, image, moment)?;
     let image = replace(&mut room.image, Vec::new(alloc));
     Ok(Prepared {
         image,

@@ -63,23 +63,25 @@ fn run_program(
     }
 }
 
-/// Runs the programs in order, but for those that are faulted, and returns the faults. A program that traps is faulted from then on.
+/// Runs the programs in order, but for those that are faulted, and returns the faults in the room of other faults. A program that traps is
+/// faulted from then on.
 ///
 /// Fails if allocation fails.
 pub fn run_programs(
-    alloc: Global,
     plant: &Plant,
     moment: u64,
     stack: &mut Stack,
     cells: &mut Cells,
     faulted: &mut Vec<bool>,
+    room: Vec<(Place, Trap)>,
 ) -> Result<Vec<(Place, Trap)>, AllocError>
     requires flags { length faulted.old.items ≡ length (programs_of plant.now) }
     requires cells { HasCells plant.now.source cells.old }
     ensures ran { IfOk result (λ faults. (w : World) → StandFor plant.now.source cells.old w → ProgramsRan plant.now.source (programs_from plant.now.source moment 0 faulted.old.items w) cells.new faulted.new.items faults.items) }
     ensures within { IfOk result (λ faults. All (λ f. f.0.path < length (paths_of plant.now.source)) faults.items) }
 {
-    let mut faults = Vec::new(alloc);
+    let mut faults = room;
+    faults.clear();
     for program in 0..plant.programs() {
         let at = program as usize;
         let fault = run_program(plant, program, moment, stack, cells, faulted[at]);
@@ -131,15 +133,15 @@ pub fn watches_of(alloc: Global, rows: &[AlarmRow]) -> Result<Vec<Watch>, AllocE
     Ok(watches)
 }
 
-/// The alarms of a state that a scan moves which leaves these cells, each as it leaves it, listed in the room of another list, and the changes
-/// of their codes in the order of the database. The state stays. Fails if allocation fails.
+/// The alarms of a state that a scan moves which leaves these cells, each as it leaves it, and the changes of their codes in the order of the
+/// database, both in the room of other lists. The state stays. Fails if allocation fails.
 pub fn step_alarms(
     alloc: Global,
     old: &State,
     cells: &Cells,
     moment: u64,
     marks: &mut Vec<bool>,
-    room: Vec<(u32, Alarm)>,
+    room: (Vec<(u32, Alarm)>, Vec<(u32, Change)>),
 ) -> Result<(Vec<(u32, Alarm)>, Vec<(u32, Change)>), AllocError>
     requires each { length old.now.alarms ≡ length old.now.watches }
     requires follow { old.now.follows ≡ true → Follow (value_at old.now.cells) old.now.watches old.now.alarms }
@@ -148,8 +150,18 @@ pub fn step_alarms(
 {
     let bank = &old.bank;
     let before = &old.cells;
-    let moved = old.watches.moved(alloc, bank, old.follows, before, cells, moment, marks, room)?;
-    let changes = bank.changes(alloc, moved.as_slice())?;
+    let (alarms, changes) = room;
+    let moved = old.watches.moved(
+        alloc,
+        bank,
+        old.follows,
+        before,
+        cells,
+        moment,
+        marks,
+        alarms,
+    )?;
+    let changes = bank.changes(changes, moved.as_slice())?;
     Ok((moved, changes))
 }
 
@@ -199,16 +211,17 @@ pub fn renewed(
     Ok(renewed)
 }
 
-/// The outputs whose number isn't what it was before, in order. Fails if allocation fails.
+/// The outputs whose number isn't what it was before, in order, in the room of other outputs. Fails if allocation fails.
 pub fn changed(
-    alloc: Global,
     outputs: &[(u32, Value)],
     before: &Cells,
     now: &Cells,
+    room: Vec<(u32, Value)>,
 ) -> Result<Vec<(u32, Value)>, AllocError>
     ensures { IfOk result (λ changed. changed.items ≡ filter (differs (value_at before.now) (value_at now.now)) outputs.now) }
 {
-    let mut changed = Vec::new(alloc);
+    let mut changed = room;
+    changed.clear();
     for (global, value) in outputs {
         if value_at(before, *global) != value_at(now, *global) {
             changed.push((*global, *value))?;

@@ -93,7 +93,10 @@ fn restarted(alloc: Global, engine: &mut Engine) -> bool {
 /// How many programs fault in a scan; `None` where it is refused.
 fn fault_count(alloc: Global, engine: &mut Engine) -> Option<usize> {
     let scan = ready(alloc, engine)?;
-    Some(engine.commit(scan).faults.len())
+    let report = engine.commit(scan);
+    let faults = report.faults.len();
+    engine.reuse(report);
+    Some(faults)
 }
 
 // A program that has stopped is restarted, and stops again in the next scan.

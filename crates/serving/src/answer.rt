@@ -149,7 +149,11 @@ fn answer_scan(
 {
     system_keeps_its_plant();
     match engine.scan(alloc, pairs, moment) {
-        Ok(report) => push_report(alloc, text, engine.plant(), &report),
+        Ok(report) => {
+            let told = push_report(alloc, text, engine.plant(), &report);
+            engine.reuse(report);
+            told
+        }
         Err(EngineFault::Memory) => Err(AllocError),
         Err(fault) => push_refused(text, fault_number(fault)),
     }
