@@ -73,6 +73,8 @@ fn bare<'a>(alloc: Global) -> Command<'a>
         .about(
             "A plant alarm server, whose logic is Structured Text. Without a command it serves its example plant",
         )
+        // Without a command the program doesn't come to ask for one.
+        .override_usage("alarmd [COMMAND]")
         .no_binary_name(true)
         .subcommand_required(true)
 }
