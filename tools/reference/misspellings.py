@@ -52,6 +52,8 @@ def spoiled(some, source):
 
 
 def main(words):
+    # An expression may be 128 deep, with a call of the parser for each level of its operators.
+    sys.setrecursionlimit(10_000)
     program = os.path.abspath(words[0])
     first, count = (int(word) for word in (words[1:] + ["1", "1000"][len(words) - 1 :])[:2])
     differ, faults = 0, {"C4": 0, "C5": 0, "none": 0}
