@@ -93,9 +93,6 @@ impl Watches {
         ensures conditions { ChangesAreMarked (condition_keys self.now) (value_at before.now) (value_at now.now) marks.new }
         ensures suppressions { ChangesAreMarked (suppress_keys self.now) (value_at before.now) (value_at now.now) marks.new }
     {
-        if before.as_slice() == now.as_slice() {
-            return;
-        }
         mark_changed(&self.conditions, &self.suppressions, before, now, marks);
     }
 
