@@ -3,7 +3,6 @@
 ghost use Rattle.std.specs.Prelude.{IfSome};
 ghost use Rattle.engine.specs.Engines.{Fits, FitsOrder};
 
-use crate::again::again;
 use crate::example::example;
 use alarm_machine::{Code, Verb};
 use engine::{Engine, Order, Prepared, PreparedOrder};
@@ -76,7 +75,7 @@ fn commits_an_order(alloc: Global, engine: &mut Engine) -> bool {
 #[test]
 fn what_is_made_ready_is_committed(rt: HostRuntime) -> Result<(), Fail> {
     let alloc = rt.alloc();
-    let mut engine = again(|| engine(alloc))?;
+    let mut engine = again!(engine(alloc))?;
     assert!(rt; commits_a_scan(alloc, &mut engine));
     assert!(rt; code(&engine).as_bytes() == b"UNACK".as_slice());
     assert!(rt; commits_an_order(alloc, &mut engine));
@@ -103,7 +102,7 @@ fn fault_count(alloc: Global, engine: &mut Engine) -> Option<usize> {
 #[test]
 fn a_program_is_restarted(rt: HostRuntime) -> Result<(), Fail> {
     let alloc = rt.alloc();
-    let mut engine = again(|| engine(alloc))?;
+    let mut engine = again!(engine(alloc))?;
     for _ in 0..2 {
         assert!(rt; fault_count(alloc, &mut engine) == Some(1));
         assert!(rt; restarted(alloc, &mut engine));
@@ -156,7 +155,7 @@ fn given(alloc: Global, engine: &mut Engine, verb: Option<Verb>, moment: u64) ->
 #[test]
 fn codes_are_counted_after_each_event(rt: HostRuntime) -> Result<(), Fail> {
     let alloc = rt.alloc();
-    let mut engine = again(|| engine(alloc))?;
+    let mut engine = again!(engine(alloc))?;
     assert!(rt; is_counted(&engine, Code::Norm));
     for (verb, moment, code) in [
         (Some(Verb::Ack), 0, Code::Norm),

@@ -1,6 +1,5 @@
 //! The plant of one source, and the files that its plant file names (`plant_config`).
 
-use crate::again::again;
 use plant_config::Plant;
 use std::alloc::{AllocError, Global};
 use std::test::Fail;
@@ -53,6 +52,6 @@ fn listed(alloc: Global) -> Result<String, AllocError> {
 #[test]
 fn a_plant_file_names_its_files(rt: HostRuntime) -> Result<(), Fail> {
     let want = b" p.st alarms.csv";
-    assert!(rt; again(|| listed(rt.alloc()))?.as_bytes() == want.as_slice());
+    assert!(rt; again!(listed(rt.alloc()))?.as_bytes() == want.as_slice());
     Ok(())
 }

@@ -1,6 +1,5 @@
 //! A plant read from a folder of files in memory, and runs from there and from texts (`serving`).
 
-use crate::again::again;
 use crate::sessions::whole_sink;
 use serving::{FileFault, Folder, Reading, RunEnd, check_from, run, run_from};
 use std::alloc::{AllocError, Global};
@@ -59,9 +58,9 @@ fn told(alloc: Global, has_source: bool) -> Result<Vec<u8>, AllocError> {
 #[test]
 fn a_plant_is_read_from_a_folder(rt: HostRuntime) -> Result<(), Fail> {
     let alloc = rt.alloc();
-    let accepted = again(|| told(alloc, true))?;
+    let accepted = again!(told(alloc, true))?;
     assert!(rt; accepted.as_slice() == b"ACCEPTED PROGRAMS 1 ALARMS 1\n".as_slice());
-    let missed = again(|| told(alloc, false))?;
+    let missed = again!(told(alloc, false))?;
     assert!(rt; missed.as_slice() == b"FILE p.st\n".as_slice());
     Ok(())
 }
@@ -100,9 +99,9 @@ fn ran_from<H: Wait>(
 #[test]
 fn a_plant_runs_from_its_files(rt: HostRuntime) -> Result<(), Fail> {
     let alloc = rt.alloc();
-    let (end, text, left) = again(|| ran_from(&rt, alloc, true))?;
+    let (end, text, left) = again!(ran_from(&rt, alloc, true))?;
     assert!(rt; end == RunEnd::Served && text.as_slice() == OUTPUT && left == 0);
-    let (end, text, left) = again(|| ran_from(&rt, alloc, false))?;
+    let (end, text, left) = again!(ran_from(&rt, alloc, false))?;
     assert!(rt; end == RunEnd::Refused && left == INPUT.len());
     assert!(rt; text.as_slice() == b"FILE p.st\n".as_slice());
     Ok(())
@@ -127,9 +126,9 @@ fn ran<H: Wait>(
 #[test]
 fn a_plant_runs_from_its_texts(rt: HostRuntime) -> Result<(), Fail> {
     let alloc = rt.alloc();
-    let (end, text, left) = again(|| ran(&rt, alloc, SOURCE))?;
+    let (end, text, left) = again!(ran(&rt, alloc, SOURCE))?;
     assert!(rt; end == RunEnd::Served && text.as_slice() == OUTPUT && left == 0);
-    let (end, text, left) = again(|| ran(&rt, alloc, b"PROGRAM p (* x"))?;
+    let (end, text, left) = again!(ran(&rt, alloc, b"PROGRAM p (* x"))?;
     assert!(rt; end == RunEnd::Refused && left == INPUT.len());
     assert!(rt; text.as_slice() == b"CONFIG C4 p.st 1 11\n".as_slice());
     Ok(())

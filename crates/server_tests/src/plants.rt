@@ -1,6 +1,5 @@
 //! What a plant and its copy show by each of their calls (`plant_config`), and the refusals' names of limits.
 
-use crate::again::again;
 use crate::example::plant_of;
 use plant_config::{AlarmRow, ConfigFault, Limit, Plant};
 use plant_file::Console;
@@ -86,7 +85,7 @@ fn plants_show_their_names(rt: HostRuntime) -> Result<(), Fail> {
     let want =
         b"Feed %I DINT, b BOOL, C BOOL, x %Q TIME, m %M DINT, y TIME, z DINT, Pump y BOOL, Fill  T1 second north south Feed ratio high Pump Fill";
     for is_copy in [false, true] {
-        assert!(rt; again(|| described(rt.alloc(), is_copy))?.as_bytes() == want.as_slice());
+        assert!(rt; again!(described(rt.alloc(), is_copy))?.as_bytes() == want.as_slice());
     }
     Ok(())
 }
@@ -131,7 +130,7 @@ fn plants_show_their_numbers(rt: HostRuntime) -> Result<(), Fail> {
         Some(1),
     ];
     for is_copy in [false, true] {
-        let plant = again(|| plant_of(rt.alloc(), SOURCE, is_copy))?;
+        let plant = again!(plant_of(rt.alloc(), SOURCE, is_copy))?;
         assert!(rt; numbers(&plant) == want);
         assert!(rt; plant.epoch().seconds() == 1_704_067_200);
         for (shown, want) in plant.consoles().iter().zip([(1, Some(0)), (2, Some(1))]) {
@@ -163,7 +162,7 @@ fn stopped(alloc: Global, is_copy: bool) -> Result<String, AllocError> {
 #[test]
 fn a_plant_names_paths(rt: HostRuntime) -> Result<(), Fail> {
     for is_copy in [false, true] {
-        let path = again(|| stopped(rt.alloc(), is_copy))?;
+        let path = again!(stopped(rt.alloc(), is_copy))?;
         assert!(rt; path.as_bytes() == b"Pump.Of_It".as_slice());
     }
     Ok(())
@@ -183,6 +182,6 @@ fn limits(alloc: Global) -> Result<String, AllocError> {
 #[test]
 fn limits_have_lines(rt: HostRuntime) -> Result<(), Fail> {
     let want = b"CONFIG C10 TEXT CONFIG C10 ALARMS ";
-    assert!(rt; again(|| limits(rt.alloc()))?.as_bytes() == want.as_slice());
+    assert!(rt; again!(limits(rt.alloc()))?.as_bytes() == want.as_slice());
     Ok(())
 }

@@ -2,7 +2,6 @@
 
 ghost use Rattle.std.specs.Prelude.{◌≡◌, false};
 
-use crate::again::again;
 use crate::example::example;
 use engine::{Engine, EngineFault};
 use serving::{Failed, Feed, Reading, ServeFault, Sink, Writing, fault_number, serve};
@@ -311,7 +310,7 @@ fn events_when_cut<H: Wait>(rt: &H, alloc: Global) -> Result<u64, AllocError> {
 
 #[test]
 fn a_failed_write_stops_after_its_event(rt: HostRuntime) -> Result<(), Fail> {
-    assert!(rt; again(|| events_when_cut(&rt, rt.alloc()))? == 1);
+    assert!(rt; again!(events_when_cut(&rt, rt.alloc()))? == 1);
     Ok(())
 }
 
@@ -376,7 +375,7 @@ fn lines_have_a_longest(rt: HostRuntime) -> Result<(), Fail> {
         ),
     ] {
         for read in [NO_LIMIT, 1000] {
-            let text = again(|| answered(&rt, rt.alloc(), first, len, end, read))?;
+            let text = again!(answered(&rt, rt.alloc(), first, len, end, read))?;
             assert!(rt; text.as_slice() == want, "{len} {read}");
         }
     }
@@ -396,7 +395,7 @@ fn in_memory<H: Wait>(rt: &H, alloc: Global) -> Result<Vec<u8>, AllocError> {
 
 #[test]
 fn std_gives_feeds_and_sinks(rt: HostRuntime) -> Result<(), Fail> {
-    assert!(rt; again(|| in_memory(&rt, rt.alloc()))?.as_slice() == OUTPUT);
+    assert!(rt; again!(in_memory(&rt, rt.alloc()))?.as_slice() == OUTPUT);
     Ok(())
 }
 
@@ -421,6 +420,6 @@ fn texts(alloc: Global) -> Result<String, AllocError> {
 #[test]
 fn refusals_have_texts(rt: HostRuntime) -> Result<(), Fail> {
     let want = b"MEMORYREADWRITEE1E2E3E4E6";
-    assert!(rt; again(|| texts(rt.alloc()))?.as_bytes() == want.as_slice());
+    assert!(rt; again!(texts(rt.alloc()))?.as_bytes() == want.as_slice());
     Ok(())
 }

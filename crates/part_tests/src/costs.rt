@@ -2,7 +2,6 @@
 
 ghost use Rattle.std.specs.Prelude.{◌<◌, length};
 
-use crate::again::again;
 use crate::frames::costs_of;
 use crate::walks::framed;
 use plant_sources::units;
@@ -34,7 +33,7 @@ fn cost(alloc: Global, source: &[u8]) -> Result<Option<u64>, AllocError> {
 #[test]
 fn programs_cost_their_statements_and_turns(rt: HostRuntime) -> Result<(), Fail> {
     for (source, want) in [(LOOP, 70_002), (CALLS, 22)] {
-        assert!(rt; again(|| cost(rt.alloc(), source))? == Some(want));
+        assert!(rt; again!(cost(rt.alloc(), source))? == Some(want));
     }
     Ok(())
 }
@@ -57,7 +56,7 @@ fn counted(alloc: Global) -> Result<Option<(Walked, u128, i64)>, AllocError> {
 // Four instructions for each 1 of the cost and four more are the most, and each turn has one at least.
 #[test]
 fn a_run_takes_at_most_four_times_its_cost(rt: HostRuntime) -> Result<(), Fail> {
-    let found = again(|| counted(rt.alloc()))?;
+    let found = again!(counted(rt.alloc()))?;
     assert!(rt; matches!(found, Some((Walked::Done, 10_000..=280_012, 10_000))));
     Ok(())
 }

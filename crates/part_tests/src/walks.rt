@@ -2,7 +2,6 @@
 
 ghost use Rattle.std.specs.Prelude.{◌<◌, length};
 
-use crate::again::again;
 use crate::frames::SOURCE;
 use block_walk::Cells;
 use plant_limits::LimitFault;
@@ -54,7 +53,7 @@ fn limits_are_judged(rt: HostRuntime) -> Result<(), Fail> {
         (SIZE, Some(LimitFault::Size)),
         (COST, Some(LimitFault::Cost)),
     ] {
-        assert!(rt; again(|| framed(rt.alloc(), source))?.err() == want);
+        assert!(rt; again!(framed(rt.alloc(), source))?.err() == want);
     }
     Ok(())
 }
@@ -102,7 +101,7 @@ fn walked(alloc: Global) -> Result<(String, Option<i64>), AllocError> {
 
 #[test]
 fn programs_run_with_their_blocks(rt: HostRuntime) -> Result<(), Fail> {
-    let (text, n) = again(|| walked(rt.alloc()))?;
+    let (text, n) = again!(walked(rt.alloc()))?;
     assert!(rt; text.as_bytes() == b"go n done Prog.a.b...".as_slice());
     assert!(rt; n == Some(5));
     Ok(())

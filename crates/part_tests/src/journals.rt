@@ -2,7 +2,6 @@
 
 ghost use Rattle.std.specs.Prelude.{◌≤◌};
 
-use crate::again::again;
 use alarm_machine::{Change, Code, OrderFault, Verb};
 use journal_core::{Entry, Row, row_text};
 use plant_types::{Place, Trap};
@@ -23,11 +22,11 @@ fn stamp(alloc: Global, epoch: &str, moment: u64) -> Result<String, AllocError>
 // The last second of a leap day, and the last moment that there is.
 #[test]
 fn moments_have_stamps(rt: HostRuntime) -> Result<(), Fail> {
-    let leap = again(|| stamp(rt.alloc(), "2024-02-29T23:59:59Z", 1000))?;
+    let leap = again!(stamp(rt.alloc(), "2024-02-29T23:59:59Z", 1000))?;
     assert!(rt; leap.as_str() == "2024-03-01T00:00:00.000Z");
-    let last = again(|| stamp(rt.alloc(), "2024-01-01T00:00:00Z", 4_000_000_000_000))?;
+    let last = again!(stamp(rt.alloc(), "2024-01-01T00:00:00Z", 4_000_000_000_000))?;
     assert!(rt; last.as_str() == "2150-10-03T07:06:40.000Z");
-    let none = again(|| stamp(rt.alloc(), "2024-02-30T00:00:00Z", 0))?;
+    let none = again!(stamp(rt.alloc(), "2024-02-30T00:00:00Z", 0))?;
     assert!(rt; none.is_empty());
     Ok(())
 }
@@ -87,6 +86,6 @@ fn journal(alloc: Global) -> Result<String, AllocError> {
 fn rows_have_texts(rt: HostRuntime) -> Result<(), Fail> {
     let want =
         b"1 2024-01-01T00:00:00.000Z ALARM T1 NORM UNACK\n2 2024-01-01T00:00:00.010Z FAULT p 1 DIVZERO\n3 2024-01-01T00:00:00.020Z ORDER 1 restart p OK\n4 2024-01-01T00:00:00.030Z ORDER 2 shelve ? 5000 O1\n";
-    assert!(rt; again(|| journal(rt.alloc()))?.as_bytes() == want.as_slice());
+    assert!(rt; again!(journal(rt.alloc()))?.as_bytes() == want.as_slice());
     Ok(())
 }

@@ -1,7 +1,6 @@
 //! A source with blocks and a timer: its logic (`plant_logic`), what it costs (`plant_limits`), its frames (`block_frames`), and what they do
 //! over cells (`block_walk`).
 
-use crate::again::again;
 use block_frames::{frames_of, start_of};
 use block_walk::{Cells, Clock, Standard, push_path, push_standards, start_frame, walk_frame};
 use plant_limits::{costs, limits};
@@ -129,7 +128,7 @@ fn look(alloc: Global) -> Result<Seen, AllocError> {
 
 #[test]
 fn a_source_has_logic_costs_and_frames(rt: HostRuntime) -> Result<(), Fail> {
-    let seen = again(|| look(rt.alloc()))?;
+    let seen = again!(look(rt.alloc()))?;
     let want = b"Outer i b:1; Inner on k t:TON; Prog a:0 c:0; ";
     assert!(rt; seen.text.as_bytes() == want.as_slice());
     assert!(rt; seen.costs.as_slice() == [38].as_slice());
@@ -169,7 +168,7 @@ fn held(alloc: Global) -> Result<[(i64, bool, i64); 3], AllocError> {
 #[test]
 fn cells_are_copied_with_their_clocks(rt: HostRuntime) -> Result<(), Fail> {
     let want = [(7, false, 6), (0, false, 0), (7, false, 6)];
-    assert!(rt; again(|| held(rt.alloc()))? == want);
+    assert!(rt; again!(held(rt.alloc()))? == want);
     Ok(())
 }
 
@@ -185,6 +184,6 @@ fn counted(alloc: Global) -> Result<(usize, usize, bool, usize), AllocError> {
 
 #[test]
 fn cells_are_made_of_values_and_clocks(rt: HostRuntime) -> Result<(), Fail> {
-    assert!(rt; again(|| counted(rt.alloc()))? == (2, 1, false, 3));
+    assert!(rt; again!(counted(rt.alloc()))? == (2, 1, false, 3));
     Ok(())
 }

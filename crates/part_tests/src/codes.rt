@@ -4,7 +4,6 @@ ghost use Rattle.std.specs.Prelude.{IfOk};
 ghost use Rattle.st_tree.specs.View.{view_body};
 ghost use Rattle.codegen.specs.Codes.{SteadyBody};
 
-use crate::again::again;
 use acc_vm::{Own, Shared};
 use block_walk::{Cells, Frame};
 use codegen::compile;
@@ -66,7 +65,7 @@ fn code_of_a_frame_runs(rt: HostRuntime) -> Result<(), Fail> {
         ([0, 5], Some((2, Trap::DivZero)), [0, 6]),
         ([4, 2147483647], Some((1, Trap::Overflow)), [4, 2147483647]),
     ] {
-        assert!(rt; again(|| ran(rt.alloc(), values))? == (trap, want));
+        assert!(rt; again!(ran(rt.alloc(), values))? == (trap, want));
     }
     Ok(())
 }

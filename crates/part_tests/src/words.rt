@@ -1,6 +1,5 @@
 //! What the words of the command line choose (`command_line`): the kind of answer, and of the text of help or usage the words that it has to name.
 
-use crate::again::again;
 use command_line::{Choice, Ended, UsageFault, choose, status};
 use std::alloc::{AllocError, Global};
 use std::test::Fail;
@@ -55,7 +54,7 @@ fn words_choose(rt: HostRuntime) -> Result<(), Fail> {
         (["help"].as_slice(), b"help"),
         (["help", "run"].as_slice(), b"help"),
     ] {
-        let found = again(|| chosen(rt.alloc(), words))?;
+        let found = again!(chosen(rt.alloc(), words))?;
         assert!(rt; found.as_bytes() == want, "{words:?}");
     }
     Ok(())
@@ -83,7 +82,7 @@ fn other_words_are_refused(rt: HostRuntime) -> Result<(), Fail> {
         ["check", "-x"].as_slice(),
         ["--version"].as_slice(),
     ] {
-        let found = again(|| chosen(rt.alloc(), words))?;
+        let found = again!(chosen(rt.alloc(), words))?;
         assert!(rt; found.as_bytes() == b"usage".as_slice(), "{words:?}");
     }
     Ok(())
@@ -111,7 +110,7 @@ fn help_and_usage_have_texts(rt: HostRuntime) -> Result<(), Fail> {
         (["run", "a", "--workers", "one"].as_slice(), "one"),
         (["run", "a", "--worker"].as_slice(), "--worker"),
     ] {
-        let text = again(|| shown(rt.alloc(), words))?;
+        let text = again!(shown(rt.alloc(), words))?;
         assert!(rt; text.contains(part), "{words:?}");
     }
     Ok(())

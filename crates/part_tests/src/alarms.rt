@@ -1,6 +1,5 @@
 //! The table of an alarm's transitions, cell by cell, and each public call of `alarm_machine`.
 
-use crate::again::again;
 use alarm_machine::{Alarm, Change, Code, LONGEST_SHELVE_MS, OrderFault, Verb};
 use std::alloc::{AllocError, Global};
 use std::test::Fail;
@@ -137,7 +136,7 @@ OOS: OOS OOS OOS OOS | O3 O3 O3 O3 NORM O3 O3 O3 O3 O3
 OOS: OOS OOS OOS OOS | O3 O3 O3 O3 UNACK O3 O3 O3 O3 O3
 OOS: OOS OOS OOS OOS | O3 O3 O3 O3 SUPPR O3 O3 O3 O3 O3
 ";
-    assert!(rt; again(|| table(rt.alloc()))?.as_bytes() == want.as_slice());
+    assert!(rt; again!(table(rt.alloc()))?.as_bytes() == want.as_slice());
     Ok(())
 }
 
@@ -210,7 +209,7 @@ fn texts(alloc: Global) -> Result<String, AllocError> {
 fn codes_orders_and_refusals_have_texts(rt: HostRuntime) -> Result<(), Fail> {
     let want =
         b"NORMUNACKACKEDRTNUNLATUNLATAKSHELVEDSUPPROOSackresetshelveunshelveremovereturnrestartO1O2O3O4O5";
-    assert!(rt; again(|| texts(rt.alloc()))?.as_bytes() == want.as_slice());
+    assert!(rt; again!(texts(rt.alloc()))?.as_bytes() == want.as_slice());
     Ok(())
 }
 

@@ -4,7 +4,6 @@
 ghost use Rattle.std.specs.Prelude.{◌≡◌, ℕ, IfOk};
 ghost use Rattle.st_tree.specs.View.{view_expr};
 
-use crate::again::again;
 use st_tree::{
     Binary, Expr, Label, Literal, Pass, Stmt, copy_body, copy_labels, map_body, map_expr,
 };
@@ -38,9 +37,9 @@ fn copied(alloc: Global) -> Result<Option<(u32, usize, usize)>, AllocError> {
 
 #[test]
 fn bodies_over_numbers_are_copied(rt: HostRuntime) -> Result<(), Fail> {
-    assert!(rt; again(|| copied(rt.alloc()))? == Some((1, 4, 1)));
+    assert!(rt; again!(copied(rt.alloc()))? == Some((1, 4, 1)));
     let labels = [Label { low: 1, high: 1 }, Label { low: 3, high: 5 }];
-    assert!(rt; again(|| copy_labels(rt.alloc(), &labels))?.as_slice() == labels.as_slice());
+    assert!(rt; again!(copy_labels(rt.alloc(), &labels))?.as_slice() == labels.as_slice());
     Ok(())
 }
 
@@ -134,7 +133,7 @@ fn named_body(alloc: Global, name: usize) -> Result<Option<(u32, usize, usize)>,
 
 #[test]
 fn a_pass_puts_other_names(rt: HostRuntime) -> Result<(), Fail> {
-    assert!(rt; again(|| named_sum(rt.alloc(), 9))? == Some([9, 9, 9]));
-    assert!(rt; again(|| named_body(rt.alloc(), 9))? == Some((7, 9, 9)));
+    assert!(rt; again!(named_sum(rt.alloc(), 9))? == Some([9, 9, 9]));
+    assert!(rt; again!(named_body(rt.alloc(), 9))? == Some((7, 9, 9)));
     Ok(())
 }

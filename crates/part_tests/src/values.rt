@@ -1,6 +1,5 @@
 //! Words, ranges and values (`plant_types`), and each public call once.
 
-use crate::again::again;
 use plant_types::{Given, Items, Kind, Text, Value, fitted, is_name, same_word};
 use std::alloc::{AllocError, Global};
 use std::test::Fail;
@@ -81,7 +80,7 @@ fn made(alloc: Global) -> Result<(Text, usize), AllocError> {
 
 #[test]
 fn texts_and_lists_are_made(rt: HostRuntime) -> Result<(), Fail> {
-    let (text, count) = again(|| made(rt.alloc()))?;
+    let (text, count) = again!(made(rt.alloc()))?;
     assert!(rt; text.as_str() == "Feed" && text.as_bytes().len() == 4 && count == 4);
     Ok(())
 }

@@ -1,6 +1,5 @@
 //! Orders and values as they are parsed, and the lines of answers (`command_text`).
 
-use crate::again::again;
 use alarm_machine::{Change, Code, OrderFault, Verb};
 use command_text::{
     Command, Pool, push_alarm, push_done, push_fault, push_out, push_refused, push_reply,
@@ -34,7 +33,7 @@ fn scans_give_values(rt: HostRuntime) -> Result<(), Fail> {
         ),
     ] {
         assert!(rt;
-            again(|| value_of(rt.alloc(), line))? == Some((moment, given)),
+            again!(value_of(rt.alloc(), line))? == Some((moment, given)),
             "{line:?}"
         );
     }
@@ -102,6 +101,6 @@ DONE 10 3
 REPLY O2
 REFUSED L1
 ";
-    assert!(rt; again(|| lines(rt.alloc()))?.as_slice() == want.as_slice());
+    assert!(rt; again!(lines(rt.alloc()))?.as_slice() == want.as_slice());
     Ok(())
 }

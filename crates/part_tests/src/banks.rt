@@ -1,6 +1,5 @@
 //! The alarms of a bank (`alarm_bank`): what an order would be answered, which events it takes, and when the next shelf ends.
 
-use crate::again::again;
 use alarm_bank::{Bank, BankEvent, Site};
 use alarm_machine::{Alarm, Change, OrderFault, Verb};
 use plant_types::Items;
@@ -114,7 +113,7 @@ fn a_bank_tells_what_an_order_would_be_answered(rt: HostRuntime) -> Result<(), F
  O3 O3 O3 O3 O3 O3 SUPPR O3
  O1 O1 O1 O1 O1 O1 O1 O1
 ";
-    assert!(rt; again(|| replies(rt.alloc()))?.as_bytes() == want.as_slice());
+    assert!(rt; again!(replies(rt.alloc()))?.as_bytes() == want.as_slice());
     Ok(())
 }
 
@@ -138,7 +137,7 @@ fn sized_scan(
 // back is no matter of the bank. What doesn't fit changes nothing, and neither does an order to an alarm that isn't there.
 #[test]
 fn a_bank_takes_the_events_that_fit(rt: HostRuntime) -> Result<(), Fail> {
-    let mut bank = again(|| bank(rt.alloc()))?;
+    let mut bank = again!(bank(rt.alloc()))?;
     for (moment, conditions, suppressions) in [
         (5, 2, 3),
         (5, 4, 3),
@@ -147,12 +146,12 @@ fn a_bank_takes_the_events_that_fit(rt: HostRuntime) -> Result<(), Fail> {
         (5, 0, 0),
         (4_000_000_000_001, 3, 3),
     ] {
-        bank.advance(&again(|| sized_scan(rt.alloc(), moment, conditions, suppressions))?);
+        bank.advance(&again!(sized_scan(rt.alloc(), moment, conditions, suppressions))?);
         order(&mut bank, 3, Verb::Remove);
         assert!(rt; bank.moment() == 0 && told(bank.reply(0, Verb::Ack)) == "O3");
     }
     for moment in [4_000_000_000_000, 7] {
-        bank.advance(&again(|| sized_scan(rt.alloc(), moment, 3, 3))?);
+        bank.advance(&again!(sized_scan(rt.alloc(), moment, 3, 3))?);
         assert!(rt; bank.moment() == moment && told(bank.reply(0, Verb::Ack)) == "ACKED");
     }
     Ok(())
@@ -162,7 +161,7 @@ fn a_bank_takes_the_events_that_fit(rt: HostRuntime) -> Result<(), Fail> {
 // and it ends by a scan, by unshelve and by remove. A shelving that is too long is refused.
 #[test]
 fn a_bank_knows_its_next_end(rt: HostRuntime) -> Result<(), Fail> {
-    let mut bank = again(|| bank(rt.alloc()))?;
+    let mut bank = again!(bank(rt.alloc()))?;
     assert!(rt; bank.next_end().is_none());
     for (alarm, verb, want) in [
         (0, Verb::Shelve(3000), 3000),
@@ -178,7 +177,7 @@ fn a_bank_knows_its_next_end(rt: HostRuntime) -> Result<(), Fail> {
         assert!(rt; bank.next_end() == Some(want));
     }
     for (moment, want) in [(3999, Some(4000)), (4000, Some(5000)), (5000, None)] {
-        bank.advance(&again(|| scan(rt.alloc(), moment, false, false))?);
+        bank.advance(&again!(scan(rt.alloc(), moment, false, false))?);
         assert!(rt; bank.next_end() == want);
     }
     order(&mut bank, 1, Verb::PutBack);
