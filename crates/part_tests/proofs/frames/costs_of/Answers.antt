@@ -1,7 +1,7 @@
 use Rattle.std.proofs.Common.{sym, subst}
 use Rattle.plant_logic.specs.Source.{Source}
 use Rattle.plant_logic.specs.Blocks.{AreBelow}
-use Rattle.server_tests.proofs.frames.costs_of.Goals as goal
+use Rattle.part_tests.proofs.frames.costs_of.Goals as goal
 
 pub limits-requires : goal.limits-requires
 limits-requires c =

@@ -2,7 +2,7 @@ use Rattle.std.proofs.Common.{sym, subst}
 use Rattle.plant_logic.specs.Source.{Source}
 use Rattle.plant_logic.specs.Blocks.{AreBelow, HasItsTypes}
 use Rattle.plant_logic.specs.Layout.{IsDistinctlyNamed}
-use Rattle.server_tests.proofs.frames.stopped.Goals as goal
+use Rattle.part_tests.proofs.frames.stopped.Goals as goal
 
 pub frames_of-requires-clause-below : goal.frames_of-requires-clause-below
 frames_of-requires-clause-below c =
