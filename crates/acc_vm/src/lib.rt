@@ -12,5 +12,5 @@ mod step;
 mod words;
 
 pub use code::Code;
-pub use instr::{Instr, Place};
+pub use instr::Instr;
 pub use own::{Own, Shared};

@@ -1,8 +1,8 @@
 //! What all alarms watch, and the alarms that a scan moves.
 
 ghost use Rattle.std.specs.Prelude.{◌≡◌, ◌<◌, ◌^◌, ℕ, true, false, Some, length, map, slice_get, IfOk};
-ghost use Rattle.block_walk.specs.Cells.{value_at};
 ghost use Rattle.alarm_bank.specs.Moves.{AreMoved, UnmarkedStay};
+ghost use Rattle.plant_cells.specs.Cells.{value_at};
 ghost use Rattle.alarm_watch.specs.Chains.{condition_keys, suppress_keys, ChangesAreMarked};
 ghost use Rattle.alarm_watch.specs.Watched.{alarms_watched, Follow};
 
@@ -10,7 +10,7 @@ use crate::chains::{Chains, chains_of, mark_changed};
 use crate::watched::{Watch, Watched};
 use alarm_bank::Bank;
 use alarm_machine::Alarm;
-use block_walk::Cells;
+use plant_cells::Cells;
 use std::alloc::{AllocError, Global};
 use std::marker::Model;
 

@@ -10,9 +10,9 @@ use Rattle.plant_logic.specs.Layout.{ClockAt, cell_paths, all_clocks, clock_path
 use Rattle.plant_logic.proofs.Paths.{path_is, path_same}
 use Rattle.plant_logic.proofs.Layouts.{clocks_once}
 use Rattle.plant_logic.proofs.Seats.{value_read, value_written}
-use Rattle.block_walk.specs.Clocks.{clock_of}
-use Rattle.block_walk.specs.Cells.{PlainCells, value_at, assigned, clocked, stepped_at}
-use Rattle.block_walk.proofs.Clocks.{clock_steps}
+use Rattle.plant_cells.specs.Clocks.{clock_of}
+use Rattle.plant_cells.specs.Cells.{PlainCells, value_at, assigned, clocked, stepped_at}
+use Rattle.plant_cells.proofs.Clocks.{clock_steps}
 use Rattle.block_frames.specs.Stands.{standard_of, clock_in, StandFor}
 
 -- a path that no path of a list is isn't the one of a number

@@ -17,7 +17,7 @@ use Rattle.plant_logic.specs.Seats.{value_count, clock_count}
 use Rattle.plant_logic.proofs.Levels.{by_its_rule}
 use Rattle.plant_logic.proofs.Layouts.{all_at}
 use Rattle.plant_logic.proofs.Agreeing.{clocks_ask, among_at}
-use Rattle.block_walk.specs.declared.clock.Standard.{Standard}
+use Rattle.plant_cells.specs.declared.clock.Standard.{Standard}
 use Rattle.block_walk.specs.declared.frame.Seat.{Seat}
 use Rattle.block_walk.specs.declared.frame.Frame.{Frame}
 use Rattle.block_walk.specs.Frames.{paths_of, seats_paths, frame_paths}

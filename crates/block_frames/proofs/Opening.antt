@@ -6,9 +6,9 @@ use Rattle.plant_logic.specs.Blocks.{AreBelow, HasItsTypes, Declares}
 use Rattle.plant_logic.specs.Worlds.{Path, routine_begun, begun, globals_routine, zero_world, opening}
 use Rattle.plant_logic.specs.Layout.{ClockAt, cell_paths, all_clocks, IsDistinctlyNamed}
 use Rattle.plant_logic.specs.Seats.{StandsFrom}
+use Rattle.plant_cells.specs.Clocks.{clock_of}
 use Rattle.block_walk.specs.declared.frame.Base.{Base}
 use Rattle.block_walk.specs.declared.frame.Frame.{Frame}
-use Rattle.block_walk.specs.Clocks.{clock_of}
 use Rattle.block_walk.specs.Starts.{frame_begun}
 use Rattle.block_walk.proofs.Beginning.{begun_is}
 use Rattle.block_frames.specs.Numbers.{HasItsNames, HasAllNames}

@@ -14,9 +14,9 @@ use Rattle.plant_logic.proofs.Levels.{by_its_rule}
 use Rattle.plant_logic.proofs.Layouts.{all_at}
 use Rattle.plant_logic.proofs.Agreeing.{values_ask, clocks_ask, runs_ask, among_at}
 use Rattle.plant_logic.proofs.Seats.{program_stands, program_clocks_stand}
+use Rattle.plant_cells.specs.Cells.{PlainCells}
 use Rattle.block_walk.specs.declared.frame.Base.{Base}
 use Rattle.block_walk.specs.declared.frame.Frame.{Frame}
-use Rattle.block_walk.specs.Cells.{PlainCells}
 use Rattle.block_walk.specs.Walks.{frame_space, run_frame}
 use Rattle.block_walk.proofs.Firsts.{frame_is}
 use Rattle.block_frames.specs.Numbers.{numbers, HasItsNames, HasAllNames}

@@ -23,14 +23,14 @@ use Rattle.plant_logic.specs.Seats.{StandsFrom, member_number, is_of_standard, v
 use Rattle.plant_logic.proofs.Agreeing.{named_among}
 use Rattle.plant_logic.proofs.Seats.{named_value_stands, instance_stands, instance_clocks_stand, stands_moved}
 use Rattle.plant_logic.proofs.Members.{member_at, clock_at}
-use Rattle.block_walk.specs.declared.clock.Standard.TheVariants as standard
-use Rattle.block_walk.specs.declared.clock.Clock.{Clock}
+use Rattle.plant_cells.specs.declared.clock.Standard.TheVariants as standard
+use Rattle.plant_cells.specs.declared.clock.Clock.{Clock}
+use Rattle.plant_cells.specs.Clocks.{clock_of, shown_by}
+use Rattle.plant_cells.specs.Cells.{PlainCells, value_at, assigned, clocked}
 use Rattle.block_walk.specs.declared.frame.Seat.{Seat}
 use Rattle.block_walk.specs.declared.frame.Base.{Base}
-use Rattle.block_walk.specs.Clocks.{clock_of}
-use Rattle.block_walk.specs.Cells.{PlainCells, value_at, assigned, clocked}
 use Rattle.block_walk.specs.Walks as walks
-use Rattle.block_walk.specs.Walks.{slot_of, member_slot, base_of, shown_by, output_by, with_input, called_by, frame_space}
+use Rattle.block_walk.specs.Walks.{slot_of, member_slot, base_of, output_by, with_input, called_by, frame_space}
 use Rattle.block_frames.specs.Numbers.{variable_number, instance_number, input_number, shown_number, output_number, numbers}
 use Rattle.block_frames.specs.Reached.{AsksFor}
 use Rattle.block_frames.specs.Frames.{place_in, seated, AreSeats}

@@ -22,10 +22,10 @@ use Rattle.plant_logic.proofs.Levels.{by_its_rule}
 use Rattle.plant_logic.proofs.Layouts.{all_at}
 use Rattle.plant_logic.proofs.Agreeing.{values_ask, clocks_ask, begins_ask, among_at}
 use Rattle.plant_logic.proofs.Seats.{named_value_stands, stands_left, stands_right, stands_moved, own_count, block_length, routine_length, block_clocks_length, routine_clocks_length, program_stands, program_clocks_stand}
+use Rattle.plant_cells.specs.Cells.{PlainCells}
 use Rattle.block_walk.specs.declared.frame.Seat.{Seat}
 use Rattle.block_walk.specs.declared.frame.Base.{Base}
 use Rattle.block_walk.specs.declared.frame.Frame.{Frame}
-use Rattle.block_walk.specs.Cells.{PlainCells}
 use Rattle.block_walk.specs.Starts.{left_by, start_space, seat_begun, seats_begun, frame_begun}
 use Rattle.block_walk.specs.Walks.{slot_of, base_of, under, frame_space, run_within}
 use Rattle.block_walk.proofs.Beginning.{begun_is}

@@ -24,11 +24,11 @@ use Rattle.plant_logic.specs.Layout.{ClockAt, own_values, block_values, instance
 use Rattle.plant_logic.specs.Seats.{value_count, clock_count}
 use Rattle.plant_logic.proofs.Agreeing.{among_at}
 use Rattle.plant_logic.proofs.Seats.{own_count, block_length, routine_length, block_clocks_length, routine_clocks_length}
+use Rattle.plant_cells.specs.declared.clock.Standard.{Standard}
 use Rattle.block_walk.specs.declared.frame.SeatOf.TheVariants as seat_of
 use Rattle.block_walk.specs.declared.frame.Seat.{Seat}
 use Rattle.block_walk.specs.declared.frame.Frame.{Frame}
 use Rattle.block_walk.specs.Frames.{paths_of, seats_paths, routine_paths, frame_paths, AreNumbered, InTurn, AreInTurn}
-use Rattle.block_walk.specs.declared.clock.Standard.{Standard}
 use Rattle.block_walk.specs.Starts.{seat_has_starts, routine_has_starts, frame_has_starts}
 use Rattle.block_walk.specs.Standards.{seat_standards, seats_standards, frame_standards}
 use Rattle.block_walk.proofs.Firsts.{first_is, paths_is}

@@ -13,7 +13,7 @@ use Rattle.plant_logic.specs.Names.{meant_in}
 use Rattle.plant_logic.specs.Paths.{is_called}
 use Rattle.plant_logic.specs.Blocks.{HasItsTypes}
 use Rattle.plant_logic.specs.Layout.{cells_per_type, clocks_per_type}
-use Rattle.block_walk.specs.declared.clock.Standard.TheVariants as standard
+use Rattle.plant_cells.specs.declared.clock.Standard.TheVariants as standard
 use Rattle.block_walk.specs.declared.frame.SeatOf.{SeatOf}
 use Rattle.block_walk.specs.declared.frame.SeatOf.TheVariants as seat_of
 use Rattle.block_walk.specs.declared.frame.Seat.{Seat}

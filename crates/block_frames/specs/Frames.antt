@@ -11,7 +11,7 @@ use Rattle.plant_logic.specs.Names.{meant_in}
 use Rattle.plant_logic.specs.Paths.{is_called}
 use Rattle.plant_logic.specs.Worlds.{globals_routine}
 use Rattle.plant_logic.specs.Seats.{value_count, clock_count, program_values_base, program_clocks_base}
-use Rattle.block_walk.specs.declared.clock.Standard.TheVariants as standard
+use Rattle.plant_cells.specs.declared.clock.Standard.TheVariants as standard
 use Rattle.block_walk.specs.declared.frame.SeatOf.{SeatOf}
 use Rattle.block_walk.specs.declared.frame.SeatOf.TheVariants as seat_of
 use Rattle.block_walk.specs.declared.frame.Seat.{Seat}

@@ -2,8 +2,8 @@
 use Rattle.std.specs.Prelude.{ℕ, zero, suc, ◌+◌, List, [], ◌∷◌, length, map}
 use Rattle.plant_logic.specs.Source.{Source}
 use Rattle.plant_logic.specs.Layout.{ClockAt, cell_paths, all_clocks}
+use Rattle.plant_cells.specs.Cells.{PlainCells, zero_cells}
 use Rattle.block_walk.specs.declared.frame.Frame.{Frame}
-use Rattle.block_walk.specs.Cells.{PlainCells, zero_cells}
 use Rattle.block_walk.specs.Starts.{frame_begun}
 use Rattle.block_frames.specs.Frames.{program_base}
 use Rattle.block_frames.specs.Stands.{standard_of}

@@ -5,11 +5,11 @@ use Rattle.plant_logic.specs.declared.logic.BlockRef.TheVariants.{Ton, Tof, RTri
 use Rattle.plant_logic.specs.Source.{Source}
 use Rattle.plant_logic.specs.Worlds.{World}
 use Rattle.plant_logic.specs.Layout.{ClockAt, cell_paths, all_clocks}
-use Rattle.block_walk.specs.declared.clock.Standard.{Standard}
-use Rattle.block_walk.specs.declared.clock.Standard.TheVariants as standard
-use Rattle.block_walk.specs.declared.clock.Clock.{Clock}
-use Rattle.block_walk.specs.Clocks.{clock_of}
-use Rattle.block_walk.specs.Cells.{PlainCells}
+use Rattle.plant_cells.specs.declared.clock.Standard.{Standard}
+use Rattle.plant_cells.specs.declared.clock.Standard.TheVariants as standard
+use Rattle.plant_cells.specs.declared.clock.Clock.{Clock}
+use Rattle.plant_cells.specs.Clocks.{clock_of}
+use Rattle.plant_cells.specs.Cells.{PlainCells}
 
 -- the standard block that an instance is of; a declared block type is none, and no list of standard blocks has it
 abbrev pub standard_of : BlockRef → Standard

@@ -6,7 +6,7 @@ ghost use Rattle.st_tree.specs.View.{view_body};
 ghost use Rattle.plant_logic.specs.Source.{view_routine, source_of};
 ghost use Rattle.plant_logic.specs.Blocks.{AreBelow, DeclaresThere, HasItsTypes};
 ghost use Rattle.plant_logic.specs.Layout.{AreNamedApart, IsDistinctlyNamed};
-ghost use Rattle.block_frames.specs.Scoped.{AreMembers, IsNumberedIn};
+ghost use Rattle.block_frames.specs.Scoped.{AreInstances, AreMembers, AreVariables, IsNumberedIn, local_kinds, local_names};
 ghost use Rattle.block_frames.specs.Frames.{framed, IsBlank, IsFrames, IsStart};
 ghost use Rattle.block_frames.specs.Built.{AllMade, AllBuilt, AllBegun};
 
@@ -61,6 +61,40 @@ fn statements_of(routine: &Routine, is_run: bool) -> &[Stmt<Text>]
     if is_run { &routine.body } else { &[] }
 }
 
+/// The frame of a routine in the scope of its names, without its body if nothing comes to call it, and what it has. Fails if allocation fails.
+fn frame_in(
+    alloc: Global,
+    scope: &Scope<'_>,
+    table: &[Callee],
+    routine: &Routine,
+    is_run: bool,
+) -> Result<(Frame, Extent), AllocError>
+    requires own { AreVariables (local_names (view_routine routine.now).locals) (local_kinds (view_routine routine.now).locals) scope.now.own.now }
+    requires instances { AreInstances (view_routine routine.now).instances scope.now.instances.now }
+    ensures few { IfOk result (λ made. made.1.paths < 2 ^ 32) }
+    ensures made { IfOk result (λ made. AllMade scope.now.globals.now scope.now.members.now table.now (framed is_run (view_routine routine.now)) made.0 made.1) }
+{
+    let statements = statements_of(routine, is_run);
+    let called = called_in(alloc, statements)?;
+    let first = Extent {
+        values: routine.locals.len(),
+        clocks: 0,
+        paths: 1,
+    };
+    let (seats, end) = seats_by(alloc, table, &called, first, &routine.instances)?;
+    let starts = number_body(alloc, scope, &routine.starts)?;
+    let body = number_body(alloc, scope, statements)?;
+    let has_starts = has_starts(table, &starts, &routine.instances);
+    let frame = Frame {
+        seats,
+        starts,
+        body,
+        has_starts,
+        clocks: end.clocks,
+    };
+    Ok((frame, end))
+}
+
 /// The frame of a routine, without its body if nothing comes to call it, and what it has. Fails if allocation fails.
 fn frame_of(
     alloc: Global,
@@ -82,25 +116,7 @@ fn frame_of(
         instances: &instances,
         members,
     };
-    let statements = statements_of(routine, is_run);
-    let called = called_in(alloc, statements)?;
-    let first = Extent {
-        values: routine.locals.len(),
-        clocks: 0,
-        paths: 1,
-    };
-    let (seats, end) = seats_by(alloc, table, &called, first, &routine.instances)?;
-    let starts = number_body(alloc, &scope, &routine.starts)?;
-    let body = number_body(alloc, &scope, statements)?;
-    let has_starts = has_starts(table, &starts, &routine.instances);
-    let frame = Frame {
-        seats,
-        starts,
-        body,
-        has_starts,
-        clocks: end.clocks,
-    };
-    Ok((frame, end))
+    frame_in(alloc, &scope, table, routine, is_run)
 }
 
 /// The frame of a block type, and what it has: nothing, if no program uses it. Fails if allocation fails.

@@ -5,7 +5,8 @@ ghost use Rattle.word_index.specs.Names.{is_among};
 ghost use Rattle.block_frames.specs.Built.{plus, extent_called, extent_by, starts_by, any_starts, seated_by, seat_by, seats_by, ends_by};
 
 use crate::called::is_among;
-use block_walk::{Seat, SeatOf, Standard};
+use block_walk::{Seat, SeatOf};
+use plant_cells::Standard;
 use plant_logic::{BlockRef, Instance};
 use st_tree::Stmt;
 use std::alloc::{AllocError, Global};

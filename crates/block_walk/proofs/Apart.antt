@@ -1,9 +1,9 @@
 -- Instances whose values lie apart.
 use Rattle.std.proofs.Common.{◌≡◌, arith, ℕ, ℤ, pos, ◌+◌, ◌<◌, ◌≤◌, inl, inr}
 use Rattle.std.proofs.lemmas.List.{get_or-set_other}
+use Rattle.plant_cells.specs.Cells.{PlainCells, value_at, assigned}
 use Rattle.block_walk.specs.declared.frame.Base.{Base}
 use Rattle.block_walk.specs.declared.frame.Seat.{Seat}
-use Rattle.block_walk.specs.Cells.{PlainCells, value_at, assigned}
 use Rattle.block_walk.specs.Walks.{member_slot}
 use Rattle.block_walk.specs.Apart.{LieApart}
 

@@ -4,13 +4,12 @@ use Rattle.std.specs.Prelude.{slice_get, Result, Ok, Err}
 use Rattle.st_tree.specs.declared.tree.Stmt.{Stmt}
 use Rattle.st_tree.specs.View.{view_body}
 use Rattle.st_tree.specs.Meaning.{run_all}
+use Rattle.plant_cells.specs.declared.stop.Stop.{Stop}
+use Rattle.plant_cells.specs.Cells.{PlainCells}
+use Rattle.plant_cells.specs.Runs.{Path, ended}
 use Rattle.block_walk.specs.declared.frame.Seat.{Seat}
 use Rattle.block_walk.specs.declared.frame.Base.{Base}
 use Rattle.block_walk.specs.declared.frame.Frame.{Frame}
-use Rattle.block_walk.specs.declared.walker.Stop.{Stop}
-use Rattle.block_walk.specs.Cells.{PlainCells}
-use Rattle.block_walk.specs.Frames.{Path}
-use Rattle.block_walk.specs.Walks.{ended}
 use Rattle.block_walk.specs.Starts.{left_by, start_space, seats_begun, frame_begun}
 use Rattle.block_walk.proofs.Firsts.{first_is, first_past}
 

@@ -5,12 +5,13 @@ use Rattle.std.proofs.lemmas.List.{length-map}
 use Rattle.std.proofs.lemmas.Bool.Decides.{nat_tests}
 use Rattle.std.proofs.lemmas.Option.{slice_get_within, slice_get_read}
 use Rattle.std.specs.Prelude.{slice_get, nat_le, ◌&&◌, if◌then◌else◌, codes, Ok, Err, Result, IfOk}
-use Rattle.block_walk.specs.declared.clock.Standard.{Standard}
+use Rattle.plant_cells.specs.declared.clock.Standard.{Standard}
+use Rattle.plant_cells.specs.Runs.{Path}
 use Rattle.block_walk.specs.declared.frame.Frame.{Frame}
 use Rattle.block_walk.specs.declared.frame.SeatOf.{SeatOf}
 use Rattle.block_walk.specs.declared.frame.SeatOf.TheVariants as seat_of
 use Rattle.block_walk.specs.declared.frame.Seat.{Seat}
-use Rattle.block_walk.specs.Frames.{Path, paths_of, paths_below, seats_paths, routine_paths, frame_paths, AreNumbered, InTurn, AreInTurn}
+use Rattle.block_walk.specs.Frames.{paths_of, paths_below, seats_paths, routine_paths, frame_paths, AreNumbered, InTurn, AreInTurn}
 use Rattle.block_walk.specs.Paths.{path_suffix, is_of_frame, begins_by, last_by}
 use Rattle.block_walk.proofs.Firsts.{first_past, paths_is}
 use Rattle.block_walk.proofs.Numbers.{number_below}

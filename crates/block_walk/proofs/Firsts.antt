@@ -5,10 +5,11 @@ use Rattle.std.proofs.lemmas.Bool.Decides.{nat_tests}
 use Rattle.std.proofs.Math.Nat.{eq-or-lt_of_le}
 use Rattle.st_tree.specs.View.{view_body}
 use Rattle.st_tree.specs.Meaning.{Ran, Done, run_all}
+use Rattle.plant_cells.specs.Cells.{PlainCells}
+use Rattle.plant_cells.specs.Runs.{Path}
 use Rattle.block_walk.specs.declared.frame.Base.{Base}
 use Rattle.block_walk.specs.declared.frame.Frame.{Frame}
-use Rattle.block_walk.specs.Cells.{PlainCells}
-use Rattle.block_walk.specs.Frames.{Path, of_frame, of_first, routine_paths, frame_paths}
+use Rattle.block_walk.specs.Frames.{of_frame, of_first, routine_paths, frame_paths}
 use Rattle.block_walk.specs.Walks.{frame_space, placed, run_frame, run_within, space_within}
 
 below : (k n : ℕ) → k < suc n → k ≤ n

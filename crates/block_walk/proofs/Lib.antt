@@ -1,4 +1,3 @@
-pub mod Clocks
 pub mod Ranks
 pub mod Firsts
 pub mod Numbers

@@ -8,13 +8,14 @@ use Rattle.st_tree.specs.Operators.{Outcome}
 use Rattle.st_tree.specs.Controls.{control_values, span_of}
 use Rattle.st_tree.specs.Plain.{PlainArgument, input, output, PlainStmt, empty, assign, call, choose, select, repeat, PlainBody, done, next, Branches, no_branch, branch, Choices, no_choice, choice}
 use Rattle.st_tree.specs.Meaning.{Space, Ran, Done, Trapped, then_run, with_value, turns, labels_fit, Chosen, Took, Passed, or_else, on_test, outcome, step_of, take_inputs, give_outputs, run, run_all, first_true, first_fit, statement_spot}
+use Rattle.plant_cells.specs.Cells.{PlainCells}
+use Rattle.plant_cells.specs.Runs.{Path}
 use Rattle.block_walk.specs.declared.frame.Base.{Base}
 use Rattle.block_walk.specs.declared.frame.Frame.{Frame}
 use Rattle.block_walk.specs.declared.frame.SeatOf.{SeatOf}
 use Rattle.block_walk.specs.declared.frame.SeatOf.TheVariants as seat_of
 use Rattle.block_walk.specs.declared.frame.Seat.{Seat}
-use Rattle.block_walk.specs.Cells.{PlainCells}
-use Rattle.block_walk.specs.Frames.{Path, of_frame, of_first}
+use Rattle.block_walk.specs.Frames.{of_frame, of_first}
 use Rattle.block_walk.specs.Walks.{base_of, called_by, called, frame_space, under, placed, run_frame, run_within}
 
 -- a path that goes on from a name, and that from a path

@@ -2,9 +2,10 @@
 use Rattle.std.proofs.Common.{◌≡◌, ◌∙◌, ap, sym, subst, arith, ℕ, zero, suc, ◌+◌, ◌^◌, ◌<◌, List, [], ◌∷◌, ◌++◌, Some, length, map, get_or, length-append, true}
 use Rattle.std.proofs.lemmas.List.{length-map, get_or-map, get_or_append_left, get_or-append-add}
 use Rattle.std.specs.Prelude.{slice_get, if◌then◌else◌}
+use Rattle.plant_cells.specs.Runs.{Path}
 use Rattle.block_walk.specs.declared.frame.SeatOf.TheVariants as seat_of
 use Rattle.block_walk.specs.declared.frame.Seat.{Seat}
-use Rattle.block_walk.specs.Frames.{Path, paths_of, paths_below, seats_paths, routine_paths, AreNumbered, InTurn}
+use Rattle.block_walk.specs.Frames.{paths_of, paths_below, seats_paths, routine_paths, AreNumbered, InTurn}
 
 module _ (paths : ℕ → List Path) where
   -- the numbers below an instance, from a number on

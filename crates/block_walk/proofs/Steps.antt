@@ -12,15 +12,16 @@ use Rattle.st_tree.specs.View.{view_body}
 use Rattle.st_tree.specs.Controls.{control_values, span_of}
 use Rattle.st_tree.specs.Plain.{PlainExpr, PlainArgument, input, output, PlainStmt, call, repeat, PlainBody}
 use Rattle.st_tree.specs.Meaning.{Space, Ran, Done, Trapped, then_run, with_value, run, run_all, turns, take_inputs, give_outputs, outcome, step_of, statement_spot}
-use Rattle.block_walk.specs.declared.clock.Standard.{Standard}
+use Rattle.plant_cells.specs.declared.clock.Standard.{Standard}
+use Rattle.plant_cells.specs.declared.stop.Stop.{Stop}
+use Rattle.plant_cells.specs.Cells.{PlainCells, value_at, clocked}
+use Rattle.plant_cells.specs.Runs.{Path, ended}
 use Rattle.block_walk.specs.declared.frame.Base.{Base}
 use Rattle.block_walk.specs.declared.frame.Frame.{Frame}
 use Rattle.block_walk.specs.declared.frame.SeatOf.TheVariants as seat_of
 use Rattle.block_walk.specs.declared.frame.Seat.{Seat}
-use Rattle.block_walk.specs.declared.walker.Stop.{Stop}
-use Rattle.block_walk.specs.Cells.{PlainCells, value_at, clocked}
-use Rattle.block_walk.specs.Frames.{Path, InTurn, frame_paths}
-use Rattle.block_walk.specs.Walks.{member_slot, base_of, pt_of, called_by, called, frame_space, under, placed, run_within, still, ended, space_within, paths_within}
+use Rattle.block_walk.specs.Frames.{InTurn, frame_paths}
+use Rattle.block_walk.specs.Walks.{member_slot, base_of, pt_of, called_by, called, frame_space, under, placed, run_within, still, space_within, paths_within}
 use Rattle.block_walk.proofs.Firsts.{paths_is, within_is}
 use Rattle.block_walk.proofs.Numbers.{number_below}
 
@@ -32,8 +33,8 @@ seat_at seats instance seat within is = slice_get_read seats (length seats) inst
 own_path : (paths : List Path) (n : ℕ) → n ≡ 0 → slice_index_or ([] ∷ paths) n [] ≡ []
 own_path paths n is = ap (λ i. slice_index_or ([] ∷ paths) i []) is
 
-own_ended : (paths : List Path) (stop : Stop) (c : PlainCells) → stop.path ≡ 0 → ended ([] ∷ paths) (Err stop) c ≡ ended ([] ∷ []) (Err stop) c
-own_ended paths stop c is = ap (λ path. Trapped c (record { path = path; statement = stop.statement }) stop.trap) (own_path paths stop.path is ∙ sym (own_path [] stop.path is))
+own_ended : (paths : List Path) (stop : Stop) (c : PlainCells) → stop.place.path ≡ 0 → ended ([] ∷ paths) (Err stop) c ≡ ended ([] ∷ []) (Err stop) c
+own_ended paths stop c is = ap (λ path. Trapped c (record { path = path; statement = stop.place.statement }) stop.trap) (own_path paths stop.place.path is ∙ sym (own_path [] stop.place.path is))
 
 module _ (t globals : ℕ) (inner : ℕ → Base → Path → PlainCells → Ran PlainCells) (seats : List Seat) (base : Base) where
   abbrev s : Space ℕ PlainCells
@@ -59,7 +60,7 @@ module _ (t globals : ℕ) (inner : ℕ → Base → Path → PlainCells → Ran
   after_inputs instance arguments r = then_run (then_run r (λ u. called t inner (slice_get seats instance) base [] u)) (λ u. Done (give_outputs s instance arguments u))
 
   -- a call whose inputs trap
-  pub call_trapped : (paths : List Path) (number instance : ℕ) (arguments : List (PlainArgument ℕ)) (w c : PlainCells) (stop : Stop) → stop.path ≡ 0 → ended ([] ∷ []) (Err stop) c ≡ take_inputs (still globals seats base) number instance arguments w
+  pub call_trapped : (paths : List Path) (number instance : ℕ) (arguments : List (PlainArgument ℕ)) (w c : PlainCells) (stop : Stop) → stop.place.path ≡ 0 → ended ([] ∷ []) (Err stop) c ≡ take_inputs (still globals seats base) number instance arguments w
       → ended ([] ∷ paths) (Err stop) c ≡ run s (call number instance arguments) w
   call_trapped paths number instance arguments w c stop own e = own_ended paths stop c own ∙ ap (after_inputs instance arguments) (e ∙ sym (inputs_still number instance arguments w))
 
@@ -102,12 +103,12 @@ module _ (t globals limit : ℕ) (frames : List Frame) (seats : List Seat) (base
       → Done z ≡ run_within t globals frames limit k (base_of base seat) c → Done z ≡ called t inner (slice_get seats instance) base [] c
   inside_done instance seat k c z at is marked e = ap (under (seat.name ∷ [])) e ∙ sym (frame_called t globals inner seats base instance seat k c at is marked)
 
-  pub inside_trapped : (instance : ℕ) (seat : Seat) (k : ℕ) (c z : PlainCells) (stop : Stop) → slice_get seats instance ≡ Some seat → seat.of ≡ seat_of.Frame k → seat.is_called ≡ true → InTurn (frame_paths frames limit) seats → stop.path < length (frame_paths frames limit k)
+  pub inside_trapped : (instance : ℕ) (seat : Seat) (k : ℕ) (c z : PlainCells) (stop : Stop) → slice_get seats instance ≡ Some seat → seat.of ≡ seat_of.Frame k → seat.is_called ≡ true → InTurn (frame_paths frames limit) seats → stop.place.path < length (frame_paths frames limit k)
       → ended (frame_paths frames limit k) (Err stop) z ≡ run_within t globals frames limit k (base_of base seat) c
-      → ended (paths_within frames limit seats) (Err (record { path = seat.paths + stop.path; statement = stop.statement; trap = stop.trap })) z ≡ called t inner (slice_get seats instance) base [] c
+      → ended (paths_within frames limit seats) (Err (record { place = record { path = seat.paths + stop.place.path; statement = stop.place.statement }; trap = stop.trap })) z ≡ called t inner (slice_get seats instance) base [] c
   inside_trapped instance seat k c z stop at is marked turn h e =
-      let n = number_below (frame_paths frames limit) seats instance seat k stop.path turn at is marked h in
-      ap (λ path. Trapped z (record { path = path; statement = stop.statement }) stop.trap) n.path_is
+      let n = number_below (frame_paths frames limit) seats instance seat k stop.place.path turn at is marked h in
+      ap (λ path. Trapped z (record { path = path; statement = stop.place.statement }) stop.trap) n.path_is
       ∙ ap (under (seat.name ∷ [])) e
       ∙ sym (frame_called t globals inner seats base instance seat k c at is marked)
 
@@ -131,5 +132,5 @@ module _ (t globals limit k : ℕ) (frames : List Frame) (base : Base) (frame : 
       ∙ (λ i. run_all (space_within t globals frames k (same i) base) (view_body (also i)) c)
       ∙ sym (within_is frames limit k t globals base c frame h at)
 
-  pub frame_path : (r : Result (Unit {0}) Stop) → k < limit → slice_get frames k ≡ Some frame → seats ≡ frame.seats.items → IfErr r (λ stop. stop.path < length (paths_within frames k seats)) → IfErr r (λ stop. stop.path < length (frame_paths frames limit k))
-  frame_path r h at same e = subst (λ (paths : List Path). IfErr r (λ stop. stop.path < length paths)) (frame_paths_are h at same) e
+  pub frame_path : (r : Result (Unit {0}) Stop) → k < limit → slice_get frames k ≡ Some frame → seats ≡ frame.seats.items → IfErr r (λ stop. stop.place.path < length (paths_within frames k seats)) → IfErr r (λ stop. stop.place.path < length (frame_paths frames limit k))
+  frame_path r h at same e = subst (λ (paths : List Path). IfErr r (λ stop. stop.place.path < length paths)) (frame_paths_are h at same) e

@@ -5,10 +5,9 @@ use Rattle.std.specs.Prelude.{Result}
 use Rattle.st_tree.specs.Plain.{PlainBody}
 use Rattle.st_tree.specs.Meaning.{Space, run_all, turns}
 use Rattle.st_tree.specs.Controls.{up, down}
-use Rattle.block_walk.specs.declared.walker.Stop.{Stop}
-use Rattle.block_walk.specs.Cells.{PlainCells}
-use Rattle.block_walk.specs.Frames.{Path}
-use Rattle.block_walk.specs.Walks.{ended}
+use Rattle.plant_cells.specs.declared.stop.Stop.{Stop}
+use Rattle.plant_cells.specs.Cells.{PlainCells}
+use Rattle.plant_cells.specs.Runs.{Path, ended}
 
 module _ (s : Space ℕ PlainCells) (paths : List Path) (slot : ℕ) (body : PlainBody ℕ) where
   pub ran_body : (at cast : ℤ) (w w1 w2 : PlainCells) (r q : Result (Unit {0}) Stop) → cast ≡ at → w1 ≡ s.put w slot cast → ended paths r w2 ≡ run_all s body w1 → r ≡ q → run_all s body (s.put w slot at) ≡ ended paths q w2

@@ -1,5 +1,3 @@
-pub mod Clocks
-pub mod Cells
 pub mod Frames
 pub mod Walks
 pub mod Apart

@@ -1,9 +1,9 @@
 -- The text of a path below a routine, and the instance below which a path lies.
 use Rattle.std.specs.Prelude.{ℕ, ◌+◌, Bool, true, false, ◌&&◌, nat_le, if◌then◌else◌, List, [], ◌∷◌, ◌++◌, codes}
+use Rattle.plant_cells.specs.Runs.{Path}
 use Rattle.block_walk.specs.declared.frame.SeatOf.{SeatOf}
 use Rattle.block_walk.specs.declared.frame.SeatOf.TheVariants as seat_of
 use Rattle.block_walk.specs.declared.frame.Seat.{Seat}
-use Rattle.block_walk.specs.Frames.{Path}
 
 -- from a routine on, a point and the name of each instance on the way
 abbrev pub path_suffix : Path → List ℕ

@@ -1,6 +1,6 @@
 -- The standard blocks of a routine, nested ones too.
 use Rattle.std.specs.Prelude.{◌≡◌, ℕ, List, [], ◌∷◌, ◌++◌, length, Some, slice_get}
-use Rattle.block_walk.specs.declared.clock.Standard.{Standard}
+use Rattle.plant_cells.specs.declared.clock.Standard.{Standard}
 use Rattle.block_walk.specs.declared.frame.SeatOf.{SeatOf}
 use Rattle.block_walk.specs.declared.frame.SeatOf.TheVariants as seat_of
 use Rattle.block_walk.specs.declared.frame.Seat.{Seat}

@@ -3,12 +3,12 @@ use Rattle.std.specs.Prelude.{◌≡◌, ℕ, Bool, false, not, ◌||◌, ◌==�
 use Rattle.std.specs.List.{list_any}
 use Rattle.st_tree.specs.View.{view_body}
 use Rattle.st_tree.specs.Meaning.{Space, Ran, Done, Trapped, run_all}
+use Rattle.plant_cells.specs.Cells.{PlainCells}
 use Rattle.block_walk.specs.declared.frame.SeatOf.{SeatOf}
 use Rattle.block_walk.specs.declared.frame.SeatOf.TheVariants as seat_of
 use Rattle.block_walk.specs.declared.frame.Seat.{Seat}
 use Rattle.block_walk.specs.declared.frame.Base.{Base}
 use Rattle.block_walk.specs.declared.frame.Frame.{Frame}
-use Rattle.block_walk.specs.Cells.{PlainCells}
 use Rattle.block_walk.specs.Frames.{of_first}
 use Rattle.block_walk.specs.Walks.{base_of, space_within}
 

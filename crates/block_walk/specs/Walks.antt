@@ -1,20 +1,21 @@
 -- What bodies over numbers do, and what runs over cells give.
-use Rattle.std.specs.Prelude.{◌+◌, ◌-◌, ◌*◌, ◌^◌, ◌<◌, ℕ, zero, suc, ℤ, pos, Bool, true, false, nat_lt, if◌then◌else◌, List, [], ◌∷◌, ◌++◌, Option, Some, None, Result, Ok, Err, slice_get, slice_index_or}
-use Rattle.plant_types.specs.Values.{truth, is_true}
+use Rattle.std.specs.Prelude.{◌+◌, ◌-◌, ◌*◌, ◌^◌, ◌<◌, ℕ, ℤ, pos, Bool, true, false, nat_lt, if◌then◌else◌, List, [], ◌∷◌, ◌++◌, Option, Some, None, Result, Ok, Err, slice_get}
+use Rattle.plant_types.specs.Values.{is_true}
 use Rattle.std_blocks.specs.Calls.{call}
 use Rattle.st_tree.specs.View.{view_body}
 use Rattle.st_tree.specs.Meaning.{Space, Ran, Done, Trapped, Chosen, Took, Passed, run_all}
-use Rattle.block_walk.specs.declared.clock.Standard.{Standard}
-use Rattle.block_walk.specs.declared.clock.Standard.TheVariants as standard
-use Rattle.block_walk.specs.declared.clock.Clock.{Clock}
+use Rattle.plant_cells.specs.declared.clock.Standard.{Standard}
+use Rattle.plant_cells.specs.declared.clock.Standard.TheVariants as standard
+use Rattle.plant_cells.specs.declared.stop.Stop.{Stop}
+use Rattle.plant_cells.specs.Cells.{PlainCells, value_at, assigned, clocked}
+use Rattle.plant_cells.specs.Clocks.{shown_by}
+use Rattle.plant_cells.specs.Runs.{Path, ended}
 use Rattle.block_walk.specs.declared.frame.SeatOf.{SeatOf}
 use Rattle.block_walk.specs.declared.frame.SeatOf.TheVariants as seat_of
 use Rattle.block_walk.specs.declared.frame.Seat.{Seat}
 use Rattle.block_walk.specs.declared.frame.Base.{Base}
 use Rattle.block_walk.specs.declared.frame.Frame.{Frame}
-use Rattle.block_walk.specs.declared.walker.Stop.{Stop}
-use Rattle.block_walk.specs.Cells.{PlainCells, value_at, assigned, clocked}
-use Rattle.block_walk.specs.Frames.{Path, of_first, routine_paths, frame_paths}
+use Rattle.block_walk.specs.Frames.{of_first, routine_paths, frame_paths}
 
 -- the number of a variable's value: a global's is its own, and those of the routine's own variables begin at its base
 abbrev pub slot_of : ℕ → Base → ℕ → ℕ
@@ -27,12 +28,6 @@ member_slot base seat name = base.values + seat.values + name
 -- where the values and the clocks of an instance begin
 abbrev pub base_of : Base → Seat → Base
 base_of base seat = record { values = base.values + seat.values; clocks = base.clocks + seat.clocks }
-
--- Q is the output 0 of a clock, and ET any other
-abbrev pub shown_by : Option Clock → ℕ → ℤ
-shown_by None name = pos 0
-shown_by (Some clock) zero = truth clock.q
-shown_by (Some clock) (suc n) = clock.et
 
 abbrev pub output_by : SeatOf → Base → Seat → PlainCells → ℕ → ℤ
 output_by (seat_of.Standard standard) base seat cells name = shown_by (slice_get cells.clocks (base.clocks + seat.clocks)) name
@@ -98,11 +93,6 @@ run_within t globals frames =
 -- what the numbers of a routine's body mean where a call does nothing
 abbrev pub still : ℕ → List Seat → Base → Space ℕ PlainCells
 still globals seats base = frame_space 0 globals (λ k at path cells. Done cells) seats base []
-
--- how a run of a body ends, by the paths that its path numbers stand for, with the cells that it leaves
-abbrev pub ended : List Path → Result (Unit {0}) Stop → PlainCells → Ran PlainCells
-ended paths (Ok _) cells = Done cells
-ended paths (Err stop) cells = Trapped cells (record { path = slice_index_or paths stop.path []; statement = stop.statement }) stop.trap
 
 -- how a choice among branches ends, by whether one of them was run
 abbrev pub chosen : List Path → Result Bool Stop → PlainCells → Chosen PlainCells

@@ -8,10 +8,10 @@ use st_tree::copy_body;
 use std::alloc::{AllocError, Global};
 
 /// The same instances in the same order. Fails if allocation fails.
-fn copy_seats(alloc: Global, seats: &[Seat]) -> Result<Vec<Seat>, AllocError>
+pub fn copy_seats(alloc: Global, seats: &[Seat]) -> Result<Vec<Seat>, AllocError>
     ensures { IfOk result (λ copies. copies.items ≡ seats.now) }
 {
-    let mut copies = Vec::new(alloc);
+    let mut copies = Vec::with_capacity(alloc, seats.len())?;
     for seat in seats {
         copies.push(Seat {
             name: seat.name.copy(alloc)?,
@@ -42,7 +42,7 @@ fn copy_frame(alloc: Global, frame: &Frame) -> Result<Frame, AllocError>
 pub fn copy_frames(alloc: Global, frames: &[Frame]) -> Result<Vec<Frame>, AllocError>
     ensures { IfOk result (λ copies. map view_frame copies.items ≡ map view_frame frames.now) }
 {
-    let mut copies = Vec::new(alloc);
+    let mut copies = Vec::with_capacity(alloc, frames.len())?;
     for frame in frames {
         copies.push(copy_frame(alloc, frame)?)?;
     }

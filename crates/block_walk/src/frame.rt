@@ -1,6 +1,6 @@
 //! The bodies of routines, and where the instances in them lie.
 
-use crate::clock::Standard;
+use plant_cells::Standard;
 use plant_types::Text;
 use st_tree::Stmt;
 

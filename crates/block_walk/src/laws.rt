@@ -1,23 +1,15 @@
 //! Laws of the definitions. These functions do nothing: each has a law as its contract, for the crates above.
 
-ghost use Rattle.std.specs.Prelude.{◌≡◌, ◌<◌, ℕ, ℤ, ◌∷◌, List, Some, slice_get};
-ghost use Rattle.std_blocks.specs.Calls.{Call};
+ghost use Rattle.std.specs.Prelude.{◌≡◌, ◌<◌, ℕ, ℤ, List, Some, slice_get};
 ghost use Rattle.st_tree.specs.View.{view_body};
 ghost use Rattle.st_tree.specs.Meaning.{run_all};
-ghost use Rattle.block_walk.specs.declared.clock.Standard.{Standard};
+ghost use Rattle.plant_cells.specs.Cells.{PlainCells, value_at, assigned};
+ghost use Rattle.plant_cells.specs.Runs.{Path};
 ghost use Rattle.block_walk.specs.declared.frame.Base.{Base};
 ghost use Rattle.block_walk.specs.declared.frame.Frame.{Frame};
 ghost use Rattle.block_walk.specs.declared.frame.Seat.{Seat};
 ghost use Rattle.block_walk.specs.Apart.{LieApart};
-ghost use Rattle.block_walk.specs.Cells.{PlainCells, value_at, assigned};
-ghost use Rattle.block_walk.specs.Clocks.{clock_of, clock_step};
-ghost use Rattle.block_walk.specs.Frames.{Path};
 ghost use Rattle.block_walk.specs.Walks.{frame_space, member_slot, run_frame};
-
-/// A clock that stands for all calls of a standard block's instance stands, after a call, for these and that one.
-pub fn called_clock()
-    ensures { (of : Standard) (c : Call) (calls : List Call) → clock_step c (clock_of of calls) ≡ clock_of of (c ∷ calls) }
-{}
 
 /// A frame does what its body does, where the frames that it calls are those before it.
 pub fn frame_runs_its_body()

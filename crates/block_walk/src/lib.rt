@@ -3,7 +3,7 @@
 //! Each routine, a program or a block type, has one body over numbers, in a frame; no body is made for an instance. The frames stand in a
 //! table in which each calls those before it alone. An instance is a seat in the frame of its routine: where its values and its clock lie,
 //! from those of the routine on. A seat says whether the routine calls the instance; one of a frame that isn't called has no path, and a call
-//! of it does nothing. A clock is what the instance of a standard block keeps of its calls.
+//! of it does nothing.
 //!
 //! A frame says whether it assigns an initial value, or an instance below it does, and how many standard blocks it has, nested ones too. So
 //! an instance with no initial value below it is skipped when these are assigned, and one with no standard block when these are listed.
@@ -16,8 +16,6 @@
 //! its own variable. A number for which there is nothing reads 0 and writes nothing.
 #![tactic(auto)]
 
-mod cells;
-mod clock;
 mod copy;
 mod frame;
 mod laws;
@@ -27,12 +25,10 @@ mod standards;
 mod starts;
 mod walker;
 
-pub use cells::Cells;
-pub use clock::{Clock, Standard, Timer};
-pub use copy::copy_frames;
+pub use copy::{copy_frames, copy_seats};
 pub use frame::{Base, Frame, Seat, SeatOf};
-pub use laws::{called_clock, frame_runs_its_body, seats_lie_apart};
+pub use laws::{frame_runs_its_body, seats_lie_apart};
 pub use paths::push_path;
 pub use standards::push_standards;
 pub use starts::start_frame;
-pub use walker::{Stop, walk_frame};
+pub use walker::walk_frame;

@@ -5,14 +5,14 @@ ghost use Rattle.st_tree.specs.View.{view_expr, view_option, view_argument};
 ghost use Rattle.st_tree.specs.Meaning.{outcome, step_of, take_inputs, give_outputs};
 ghost use Rattle.plant_types.specs.Values.{is_true};
 ghost use Rattle.std_blocks.specs.Calls.{call};
-ghost use Rattle.block_walk.specs.Cells.{value_at, assigned, clocked};
-ghost use Rattle.block_walk.specs.Walks.{slot_of, member_slot, shown_by, output_at, with_input, pt_of, still, ended};
+ghost use Rattle.plant_cells.specs.Cells.{value_at, assigned, clocked};
+ghost use Rattle.plant_cells.specs.Clocks.{shown_by};
+ghost use Rattle.plant_cells.specs.Runs.{ended};
+ghost use Rattle.block_walk.specs.Walks.{slot_of, member_slot, output_at, with_input, pt_of, still};
 
-use crate::cells::Cells;
-use crate::clock::Standard;
 use crate::frame::{Base, Seat, SeatOf};
-use crate::walker::Stop;
-use plant_types::Trap;
+use plant_cells::{Cells, Standard, Stop};
+use plant_types::{Place, Trap};
 use st_tree::{Argument, Expr, eval_binary, eval_unary};
 
 /// The number that is so far from a base, if it is below a length.
@@ -201,11 +201,10 @@ pub(crate) fn step_of(
 /// Places a trap in the statement of a number of the frame that runs.
 pub(crate) fn in_statement<T>(statement: u32, evaluated: Result<T, Trap>) -> Result<T, Stop>
     ensures ok { IfOk result (λ value. evaluated ≡ Ok value) }
-    ensures err { IfErr result (λ stop. (stop.path ≡ 0) × (stop.statement ≡ statement) × (evaluated ≡ Err stop.trap)) }
+    ensures err { IfErr result (λ stop. (stop.place ≡ record { path = 0; statement = statement }) × (evaluated ≡ Err stop.trap)) }
 {
     evaluated.map_err(|trap| Stop {
-        path: 0,
-        statement,
+        place: Place { path: 0, statement },
         trap,
     })
 }
@@ -221,7 +220,7 @@ pub(crate) fn take_inputs(
     cells: &mut Cells,
 ) -> Result<(), Stop>
     ensures run { ended ([] ∷ []) result cells.new ≡ take_inputs (still globals seats.now base) statement instance (map view_argument arguments.now) cells.old }
-    ensures path { IfErr result (λ stop. stop.path ≡ 0) }
+    ensures path { IfErr result (λ stop. stop.place.path ≡ 0) }
 {
     for argument in arguments {
         if let Argument::Input(name, expr) = argument {

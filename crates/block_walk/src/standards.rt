@@ -3,8 +3,8 @@
 ghost use Rattle.std.specs.Prelude.{◌≡◌, ◌≤◌, ◌++◌, length, IfOk};
 ghost use Rattle.block_walk.specs.Standards.{frame_standards, seats_standards, ClocksAreCounted};
 
-use crate::clock::Standard;
 use crate::frame::{Frame, Seat, SeatOf};
+use plant_cells::Standard;
 use std::alloc::AllocError;
 
 /// Appends the standard blocks of the frame of a number among so many first ones.

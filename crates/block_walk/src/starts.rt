@@ -4,9 +4,9 @@ ghost use Rattle.std.specs.Prelude.{◌≡◌, ◌≤◌, ◌+◌, length};
 ghost use Rattle.block_walk.specs.Starts.{frame_begun, seats_begun, StartsAreMarked};
 ghost use Rattle.block_walk.specs.Walks.{HasRoom};
 
-use crate::cells::Cells;
 use crate::frame::{Base, Frame, Seat, SeatOf};
 use crate::walker::run_body;
+use plant_cells::Cells;
 
 #[cycle(start)]
 fn start_within(

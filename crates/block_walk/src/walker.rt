@@ -5,24 +5,17 @@ ghost use Rattle.st_tree.specs.Plain.{call};
 ghost use Rattle.st_tree.specs.View.{view_body, view_stmt, view_branches, view_choices, view_argument};
 ghost use Rattle.st_tree.specs.Meaning.{run, run_all, turns, first_true, first_fit};
 ghost use Rattle.st_tree.specs.Controls.{up, down, control_values};
-ghost use Rattle.block_walk.specs.Frames.{Path, AreInTurn, InTurn, frame_paths};
-ghost use Rattle.block_walk.specs.Walks.{HasRoom, called, placed, under, run_frame, run_within, space_within, paths_within, ended, chosen};
+ghost use Rattle.plant_cells.specs.Runs.{Path, ended};
+ghost use Rattle.block_walk.specs.Frames.{AreInTurn, InTurn, frame_paths};
+ghost use Rattle.block_walk.specs.Walks.{HasRoom, called, placed, under, run_frame, run_within, space_within, paths_within, chosen};
 
-use crate::cells::Cells;
 use crate::frame::{Base, Frame, Seat, SeatOf};
 use crate::reading::{
     call_clock, give_outputs, in_statement, outcome, set_variable, step_of, take_inputs,
 };
-use plant_types::Trap;
+use plant_cells::{Cells, Stop};
+use plant_types::Place;
 use st_tree::{Argument, Branch, Choice, Span, Stmt, labels_fit, span_of};
-
-/// A trap, with the number of the path at which it occurred, from the frame on that was run, and the number of the statement there.
-#[derive(Clone, Copy, Debug, Drop)]
-pub struct Stop {
-    pub path: u32,
-    pub statement: u32,
-    pub trap: Trap,
-}
 
 /// Runs the frame of a number among so many first ones.
 #[cycle(walk)]
@@ -39,7 +32,7 @@ fn run_within(
     requires in_turn { AreInTurn frames.now }
     requires room { HasRoom base limit }
     ensures ran { ended (frame_paths frames.now limit k) result cells.new ≡ run_within moment globals frames.now limit k base cells.old }
-    ensures path { IfErr result (λ stop. stop.path < length (frame_paths frames.now limit k)) }
+    ensures path { IfErr result (λ stop. stop.place.path < length (frame_paths frames.now limit k)) }
 {
     if k < limit {
         let frame = &frames[k];
@@ -75,7 +68,7 @@ pub(crate) fn run_body(
     requires own { InTurn (frame_paths frames.now limit) seats.now }
     requires room { HasRoom base (limit + 1) }
     ensures ran { ended (paths_within frames.now limit seats.now) result cells.new ≡ run_all (space_within moment globals frames.now limit seats.now base) (view_body body.now) cells.old }
-    ensures path { IfErr result (λ stop. stop.path < length (paths_within frames.now limit seats.now)) }
+    ensures path { IfErr result (λ stop. stop.place.path < length (paths_within frames.now limit seats.now)) }
 {
     for stmt in body {
         run_stmt(frames, limit, seats, globals, base, stmt, cells, moment)?;
@@ -100,7 +93,7 @@ fn run_stmt(
     requires own { InTurn (frame_paths frames.now limit) seats.now }
     requires room { HasRoom base (limit + 1) }
     ensures ran { ended (paths_within frames.now limit seats.now) result cells.new ≡ run (space_within moment globals frames.now limit seats.now base) (view_stmt stmt.now) cells.old }
-    ensures path { IfErr result (λ stop. stop.path < length (paths_within frames.now limit seats.now)) }
+    ensures path { IfErr result (λ stop. stop.place.path < length (paths_within frames.now limit seats.now)) }
 {
     match stmt {
         Stmt::Empty(_) => Ok(()),
@@ -169,7 +162,7 @@ fn run_call(
     requires own { InTurn (frame_paths frames.now limit) seats.now }
     requires room { HasRoom base (limit + 1) }
     ensures ran { ended (paths_within frames.now limit seats.now) result cells.new ≡ run (space_within moment globals frames.now limit seats.now base) (call number instance (map view_argument arguments.now)) cells.old }
-    ensures path { IfErr result (λ stop. stop.path < length (paths_within frames.now limit seats.now)) }
+    ensures path { IfErr result (λ stop. stop.place.path < length (paths_within frames.now limit seats.now)) }
 {
     match take_inputs(number, instance, arguments, globals, seats, base, cells) {
         Ok(()) => match run_called(frames, limit, seats, globals, base, instance, cells, moment) {
@@ -200,7 +193,7 @@ fn run_called(
     requires own { InTurn (frame_paths frames.now limit) seats.now }
     requires room { HasRoom base (limit + 1) }
     ensures ran { ended (paths_within frames.now limit seats.now) result cells.new ≡ called moment (placed (run_within moment globals frames.now limit)) (slice_get seats.now instance) base [] cells.old }
-    ensures path { IfErr result (λ stop. stop.path < length (paths_within frames.now limit seats.now)) }
+    ensures path { IfErr result (λ stop. stop.place.path < length (paths_within frames.now limit seats.now)) }
 {
     match seats.get(instance) {
         Some(seat) => match seat.of {
@@ -219,8 +212,10 @@ fn run_called(
                 match run_within(frames, limit, k, globals, inside, cells, moment) {
                     Ok(()) => Ok(()),
                     Err(stop) => Err(Stop {
-                        path: seat.paths + stop.path,
-                        statement: stop.statement,
+                        place: Place {
+                            path: seat.paths + stop.place.path,
+                            statement: stop.place.statement,
+                        },
                         trap: stop.trap,
                     }),
                 }
@@ -248,7 +243,7 @@ fn run_first_true(
     requires own { InTurn (frame_paths frames.now limit) seats.now }
     requires room { HasRoom base (limit + 1) }
     ensures ran { chosen (paths_within frames.now limit seats.now) result cells.new ≡ first_true (space_within moment globals frames.now limit seats.now base) statement (view_branches branches.now) cells.old }
-    ensures path { IfErr result (λ stop. stop.path < length (paths_within frames.now limit seats.now)) }
+    ensures path { IfErr result (λ stop. stop.place.path < length (paths_within frames.now limit seats.now)) }
 {
     for branch in branches {
         if in_statement(
@@ -290,7 +285,7 @@ fn run_first_fit(
     requires own { InTurn (frame_paths frames.now limit) seats.now }
     requires room { HasRoom base (limit + 1) }
     ensures ran { chosen (paths_within frames.now limit seats.now) result cells.new ≡ first_fit (space_within moment globals frames.now limit seats.now base) n (view_choices choices.now) cells.old }
-    ensures path { IfErr result (λ stop. stop.path < length (paths_within frames.now limit seats.now)) }
+    ensures path { IfErr result (λ stop. stop.place.path < length (paths_within frames.now limit seats.now)) }
 {
     for choice in choices {
         if labels_fit(n, &choice.labels) {
@@ -329,7 +324,7 @@ fn run_turns(
     requires own { InTurn (frame_paths frames.now limit) seats.now }
     requires room { HasRoom base (limit + 1) }
     ensures ran { ended (paths_within frames.now limit seats.now) result cells.new ≡ turns (λ w n. (space_within moment globals frames.now limit seats.now base).put w slot n) (run_all (space_within moment globals frames.now limit seats.now base) (view_body body.now)) (control_values span) cells.old }
-    ensures path { IfErr result (λ stop. stop.path < length (paths_within frames.now limit seats.now)) }
+    ensures path { IfErr result (λ stop. stop.place.path < length (paths_within frames.now limit seats.now)) }
 {
     if span.step > 0 {
         count_up(
@@ -368,7 +363,7 @@ fn count_up(
     requires room { HasRoom base (limit + 1) }
     requires step { pos 0 <ℤ step }
     ensures ran { ended (paths_within frames.now limit seats.now) result cells.new ≡ turns (λ w n. (space_within moment globals frames.now limit seats.now base).put w slot n) (run_all (space_within moment globals frames.now limit seats.now base) (view_body body.now)) (up from to step) cells.old }
-    ensures path { IfErr result (λ stop. stop.path < length (paths_within frames.now limit seats.now)) }
+    ensures path { IfErr result (λ stop. stop.place.path < length (paths_within frames.now limit seats.now)) }
 {
     let mut at = i128::from(from);
     while at <= i128::from(to) {
@@ -401,7 +396,7 @@ fn count_down(
     requires room { HasRoom base (limit + 1) }
     requires step { step <ℤ pos 0 }
     ensures ran { ended (paths_within frames.now limit seats.now) result cells.new ≡ turns (λ w n. (space_within moment globals frames.now limit seats.now base).put w slot n) (run_all (space_within moment globals frames.now limit seats.now base) (view_body body.now)) (down from to step) cells.old }
-    ensures path { IfErr result (λ stop. stop.path < length (paths_within frames.now limit seats.now)) }
+    ensures path { IfErr result (λ stop. stop.place.path < length (paths_within frames.now limit seats.now)) }
 {
     let mut at = i128::from(from);
     while i128::from(to) <= at {
@@ -426,7 +421,7 @@ pub fn walk_frame(
 ) -> Result<(), Stop>
     requires in_turn { AreInTurn frames.now }
     ensures ran { (path : Path) → under path (ended (frame_paths frames.now (length frames.now) k) result cells.new) ≡ run_frame moment globals frames.now (length frames.now) k (record { values = values; clocks = clocks }) path cells.old }
-    ensures path { IfErr result (λ stop. stop.path < length (frame_paths frames.now (length frames.now) k)) }
+    ensures path { IfErr result (λ stop. stop.place.path < length (frame_paths frames.now (length frames.now) k)) }
 {
     let base = Base {
         values: values as u128,

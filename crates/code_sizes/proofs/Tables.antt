@@ -5,8 +5,9 @@ use Rattle.std.specs.Option.{option_map_or}
 use Rattle.std.proofs.lemmas.Bool.{cases_lt}
 use Rattle.std.proofs.lemmas.Bool.Decides.{nat_tests}
 use Rattle.std.proofs.lemmas.Option.{slice_get_past}
+use Rattle.plant_cells.specs.Runs.{Path}
 use Rattle.block_walk.specs.declared.frame.Frame.{Frame}
-use Rattle.block_walk.specs.Frames.{Path, of_frame, of_first, routine_paths, frame_paths}
+use Rattle.block_walk.specs.Frames.{of_frame, of_first, routine_paths, frame_paths}
 use Rattle.code_sizes.specs.declared.counts.Count.{Count}
 use Rattle.code_sizes.specs.Sizes.{routine_lines, routine_words, routine_cost, frame_lines, frame_words, frame_cost}
 use Rattle.code_sizes.specs.Counts.{capped, lines_at, words_at, cost_at, paths_at, IsCountOf, AreFirst}

@@ -1,8 +1,9 @@
 -- What a table of counts tells of each frame.
 use Rattle.std.specs.Prelude.{◌≡◌, ℕ, min, List, length, slice_get}
 use Rattle.std.specs.Option.{option_map_or}
+use Rattle.plant_cells.specs.Runs.{Path}
 use Rattle.block_walk.specs.declared.frame.Frame.{Frame}
-use Rattle.block_walk.specs.Frames.{Path, routine_paths, frame_paths}
+use Rattle.block_walk.specs.Frames.{routine_paths, frame_paths}
 use Rattle.code_sizes.specs.declared.counts.Count.{Count}
 use Rattle.code_sizes.specs.declared.counts.FrameCounts.{FrameCounts}
 use Rattle.code_sizes.specs.Sizes.{routine_lines, routine_words, routine_cost, frame_lines, frame_words, frame_cost}

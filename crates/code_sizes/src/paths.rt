@@ -1,7 +1,8 @@
 //! Counts the paths below a routine.
 
 ghost use Rattle.std.specs.Prelude.{◌≡◌, ℕ, length, List, [], ◌++◌, ◌∷◌, IfOk};
-ghost use Rattle.block_walk.specs.Frames.{Path, routine_paths, paths_below};
+ghost use Rattle.plant_cells.specs.Runs.{Path};
+ghost use Rattle.block_walk.specs.Frames.{routine_paths, paths_below};
 ghost use Rattle.code_sizes.specs.Counts.{paths_at};
 
 use crate::adding::add;

@@ -7,6 +7,7 @@ use Rattle.std.proofs.lemmas.Bool.{cases_lt, ltb-false}
 use Rattle.std.proofs.lemmas.List.{append-nil}
 use Rattle.std.proofs.lemmas.Option.{slice_get_past, slice_get_cases, slice_get_read}
 use Rattle.std.proofs.Math.ListN.{drop_of_length-le}
+use Rattle.plant_types.specs.declared.values.Place.{Place}
 use Rattle.st_tree.specs.declared.tree.Label.{Label}
 use Rattle.st_tree.specs.declared.tree.Branch.{Branch}
 use Rattle.st_tree.specs.declared.tree.Choice.{Choice}
@@ -16,15 +17,14 @@ use Rattle.st_tree.specs.declared.tree.Stmt.TheOpen.{Stmt-F}
 use Rattle.st_tree.specs.declared.tree.Stmt.TheVariants.{rolls-Assign}
 use Rattle.st_tree.specs.Plain.{PlainExpr, PlainStmt, assign, PlainBody, Branches, no_branch, branch, Choices, no_choice, choice}
 use Rattle.st_tree.specs.View.{view_step, view_branch_step, view_choice_step, view_expr, view_stmt, view_body, view_branch, view_branches, view_choice, view_choices}
+use Rattle.plant_cells.specs.declared.clock.Standard.{Standard}
 use Rattle.block_walk.specs.declared.frame.Seat.{Seat}
 use Rattle.block_walk.specs.declared.frame.Base.{Base}
 use Rattle.block_walk.specs.declared.frame.Frame.{Frame}
 use Rattle.block_walk.specs.declared.frame.SeatOf.{SeatOf}
 use Rattle.block_walk.specs.declared.frame.SeatOf.TheVariants as seat_of
-use Rattle.block_walk.specs.declared.clock.Standard.{Standard}
 use Rattle.block_walk.specs.Walks.{base_of, member_slot}
 use Rattle.acc_vm.specs.declared.instr.Instr.TheVariants as instr
-use Rattle.acc_vm.specs.declared.instr.Place.{Place}
 use Rattle.code_sizes.specs.declared.counts.Count.{Count}
 use Rattle.code_sizes.specs.Sizes.{expr_lines, body_lines, frame_lines}
 use Rattle.code_sizes.specs.Counts.{lines_at}

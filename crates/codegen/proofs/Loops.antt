@@ -13,7 +13,7 @@ use Rattle.st_tree.specs.Operators.{Outcome, eval_unary, eval_binary}
 use Rattle.st_tree.specs.Meaning.{Space, then_one, then_two, outcome, step_of}
 use Rattle.st_tree.specs.Controls.{values_from, control_values, count_in, span_of}
 use Rattle.st_tree.specs.Constants.{constant_of}
-use Rattle.block_walk.specs.Cells.{PlainCells, assigned}
+use Rattle.plant_cells.specs.Cells.{PlainCells, assigned}
 use Rattle.acc_vm.specs.Machine.{Stuck, Next, turn}
 use Rattle.code_sizes.specs.Sizes.{number_of, constant_number, step_number, span_from, constant_span}
 

@@ -1,5 +1,6 @@
 -- What the emission of a routine's code knows, and what it appends.
 use Rattle.std.specs.Prelude.{◌≡◌, ◌≤◌, ℕ, List, [], ◌∷◌, ◌++◌, length, Option}
+use Rattle.plant_types.specs.declared.values.Place.{Place}
 use Rattle.st_tree.specs.declared.tree.Binary.{Binary}
 use Rattle.st_tree.specs.Plain.{PlainExpr, literal, read, output_of, unary, binary, PlainArgument, PlainStmt, PlainBody, Branches, Choices}
 use Rattle.st_tree.specs.Meaning.{literal_worth}
@@ -8,7 +9,6 @@ use Rattle.block_walk.specs.declared.frame.Base.{Base}
 use Rattle.block_walk.specs.declared.frame.Frame.{Frame}
 use Rattle.block_walk.specs.Walks.{slot_of}
 use Rattle.acc_vm.specs.declared.instr.Instr.TheVariants as instr
-use Rattle.acc_vm.specs.declared.instr.Place.{Place}
 use Rattle.code_sizes.specs.declared.counts.Count.{Count}
 use Rattle.code_sizes.specs.Sizes.{frame_lines, branches_lines, choices_lines}
 use Rattle.code_sizes.specs.Counts.{lines_at}

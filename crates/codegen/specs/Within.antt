@@ -2,8 +2,8 @@
 use Rattle.std.specs.Prelude.{◌≡◌, ◌≤◌, ℕ, ◌+◌, Bool, true, ◌&&◌, nat_lt, if◌then◌else◌, List, length, Option, Some, None, slice_get}
 use Rattle.st_tree.specs.View.{view_body}
 use Rattle.st_tree.specs.Mapping.{Known, body_known}
-use Rattle.block_walk.specs.declared.clock.Standard.{Standard}
-use Rattle.block_walk.specs.declared.clock.Standard.TheVariants as standard
+use Rattle.plant_cells.specs.declared.clock.Standard.{Standard}
+use Rattle.plant_cells.specs.declared.clock.Standard.TheVariants as standard
 use Rattle.block_walk.specs.declared.frame.SeatOf.{SeatOf}
 use Rattle.block_walk.specs.declared.frame.SeatOf.TheVariants as seat_of
 use Rattle.block_walk.specs.declared.frame.Seat.{Seat}

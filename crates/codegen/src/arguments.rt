@@ -11,8 +11,10 @@ use crate::expressions::emit_expr;
 use crate::lines::emit;
 use crate::numbers::{clock_of, member_slot, output_instr, pt_instr, slot_of};
 use crate::scope::Scope;
-use acc_vm::{Instr, Place};
-use block_walk::{Seat, Standard};
+use acc_vm::Instr;
+use block_walk::Seat;
+use plant_cells::Standard;
+use plant_types::Place;
 use st_tree::Argument;
 use std::alloc::AllocError;
 

@@ -12,12 +12,13 @@ use crate::expressions::emit_expr;
 use crate::lines::{emit, emit_labels};
 use crate::numbers::{add, base_of, count, left_of, slot_of};
 use crate::scope::Scope;
-use acc_vm::{Instr, Place};
+use acc_vm::Instr;
 use block_walk::{Base, Frame, SeatOf};
 use code_sizes::{
     Count, body_lines, branches_lines, choices_lines, constant_span, expr_lines, inputs_lines,
     stmt_lines,
 };
+use plant_types::Place;
 use st_tree::{Argument, Branch, Choice, Span, Stmt, count_turns};
 use std::alloc::AllocError;
 

@@ -8,7 +8,8 @@ ghost use Rattle.codegen.specs.Emission.{operator_code};
 use crate::lines::emit;
 use crate::numbers::{output_instr, slot_of};
 use crate::scope::Scope;
-use acc_vm::{Instr, Place};
+use acc_vm::Instr;
+use plant_types::Place;
 use st_tree::{Binary, Expr};
 use std::alloc::AllocError;
 

@@ -3,7 +3,8 @@
 ghost use Rattle.std.specs.Prelude.{◌≡◌, ◌++◌, ◌∷◌, [], IfOk};
 ghost use Rattle.codegen.specs.Codes.{labels_code};
 
-use acc_vm::{Instr, Place};
+use acc_vm::Instr;
+use plant_types::Place;
 use st_tree::Label;
 use std::alloc::AllocError;
 

@@ -5,7 +5,8 @@ ghost use Rattle.block_walk.specs.Walks.{slot_of, member_slot, base_of};
 ghost use Rattle.codegen.specs.Codes.{output_instr, pt_instr};
 
 use acc_vm::Instr;
-use block_walk::{Base, Seat, SeatOf, Standard};
+use block_walk::{Base, Seat, SeatOf};
+use plant_cells::Standard;
 use std::alloc::AllocError;
 
 /// The sum of two numbers; refused if it is 2^32 or more.

@@ -10,7 +10,7 @@ use Rattle.alarm_machine.specs.Alarms.{PlainAlarm}
 use Rattle.plant_logic.specs.declared.logic.Variable.{Variable}
 use Rattle.plant_logic.specs.Source.{Source}
 use Rattle.plant_logic.specs.Worlds.{World, assign, path_of}
-use Rattle.block_walk.specs.Cells.{PlainCells, value_at}
+use Rattle.plant_cells.specs.Cells.{PlainCells, value_at}
 use Rattle.block_frames.specs.Stands.{StandFor}
 use Rattle.plant_walk.specs.Sound.{IsSound}
 use Rattle.plant_walk.proofs.Standing.{cell_holds, cell_written}

@@ -12,9 +12,9 @@ use Rattle.plant_types.specs.declared.values.Given.{Given}
 use Rattle.plant_types.specs.declared.values.Given.TheVariants as given
 use Rattle.plant_types.specs.declared.values.Value.{Value}
 use Rattle.plant_types.specs.declared.values.Value.TheVariants as value
-use Rattle.plant_types.specs.declared.values.Place.{Place}
 use Rattle.plant_types.specs.declared.values.Trap.{Trap}
 use Rattle.plant_types.specs.Values.{worth, fitted, is_outside, is_in_range}
+use Rattle.plant_types.specs.declared.values.Place.{Place}
 use Rattle.st_tree.specs.Meaning.{Ran, Done, Trapped}
 use Rattle.st_tree.specs.Ranges.{Leaves}
 use Rattle.st_names.specs.Scopes.{is_input}
@@ -23,7 +23,7 @@ use Rattle.plant_logic.specs.Source.{Source}
 use Rattle.plant_logic.specs.Names.{find_global}
 use Rattle.plant_logic.specs.Worlds.{World, assign, opening, path_of, run_program}
 use Rattle.plant_logic.specs.Ranges.{AllInRange}
-use Rattle.block_walk.specs.Cells.{PlainCells}
+use Rattle.plant_cells.specs.Cells.{PlainCells}
 use Rattle.block_frames.specs.Stands.{StandFor}
 use Rattle.plant_walk.specs.Sound.{IsSound}
 use Rattle.plant_walk.specs.Runs.{HasCells}

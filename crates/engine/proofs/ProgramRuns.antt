@@ -3,12 +3,12 @@ use Rattle.std.proofs.Common.{◌≡◌, ℕ, ◌+◌, ◌<◌, ◌≤◌, Bool,
 use Rattle.std.specs.Prelude.{slice_set}
 use Rattle.std.proofs.Math.Seq.{drop-cons}
 use Rattle.std.proofs.lemmas.List.{take_more, take_all, drop_all, append-nil, append_assoc, take-set, drop-set-lt, get_or-set_same, length-set, map-append}
-use Rattle.plant_types.specs.declared.values.Place.{Place}
 use Rattle.plant_types.specs.declared.values.Trap.{Trap}
+use Rattle.plant_types.specs.declared.values.Place.{Place}
 use Rattle.st_tree.specs.Meaning.{Ran, Done, Trapped, Spot}
 use Rattle.plant_logic.specs.Source.{Source}
 use Rattle.plant_logic.specs.Worlds.{World, run_program}
-use Rattle.block_walk.specs.Cells.{PlainCells}
+use Rattle.plant_cells.specs.Cells.{PlainCells}
 use Rattle.block_frames.specs.Stands.{StandFor}
 use Rattle.plant_walk.specs.Runs.{place_spot, Agree}
 use Rattle.engine.specs.Programs.{Scanned, with_flag, with_fault, after_run, programs_from}

@@ -1,6 +1,6 @@
 -- What an engine holds, by the plant with which it began.
 use Rattle.std.proofs.Common.{◌≡◌, true, List, length, subst}
-use Rattle.block_walk.specs.Cells.{value_at}
+use Rattle.plant_cells.specs.Cells.{value_at}
 use Rattle.plant_walk.specs.Sound.{IsSound}
 use Rattle.journal_core.specs.declared.row.Row.{Row}
 use Rattle.plant_config.specs.Plants.{PlainPlant}

@@ -12,7 +12,7 @@ use Rattle.plant_types.specs.Values.{kind_of, truth, worth, value_of_kind, is_in
 use Rattle.plant_logic.specs.declared.logic.Variable.{Variable}
 use Rattle.plant_logic.specs.Source.{Source}
 use Rattle.plant_logic.specs.Worlds.{World, path_of}
-use Rattle.block_walk.specs.Cells.{PlainCells, value_at}
+use Rattle.plant_cells.specs.Cells.{PlainCells, value_at}
 use Rattle.plant_walk.proofs.Standing.{cell_holds}
 use Rattle.plant_walk.proofs.Ranges.{global_in_range}
 use Rattle.plant_config.specs.Names.{globals_of}

@@ -19,7 +19,7 @@ use Rattle.plant_logic.specs.declared.logic.Variable.{Variable}
 use Rattle.plant_logic.specs.Source.{Source}
 use Rattle.plant_logic.specs.Worlds.{World, opening, run_program}
 use Rattle.plant_logic.specs.Paths.{paths_of, path_text}
-use Rattle.block_walk.specs.Cells.{value_at}
+use Rattle.plant_cells.specs.Cells.{value_at}
 use Rattle.block_frames.specs.Stands.{StandFor}
 use Rattle.plant_walk.specs.Sound.{IsSound}
 use Rattle.journal_core.specs.declared.row.Row.{Row}

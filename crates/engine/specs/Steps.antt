@@ -3,16 +3,16 @@ use Rattle.std.specs.Prelude.{◌≡◌, ℕ, ◌<◌, ◌≤◌, ℤ, Bool, tru
 use Rattle.std.specs.Ordering.{int_eq}
 use Rattle.plant_types.specs.declared.values.Value.{Value}
 use Rattle.plant_types.specs.declared.values.Trap.{Trap}
-use Rattle.plant_types.specs.declared.values.Place.{Place}
 use Rattle.plant_types.specs.Pairs.{PlainPair}
 use Rattle.plant_types.specs.Values.{kind_of, worth, value_of_kind, is_in_range}
+use Rattle.plant_types.specs.declared.values.Place.{Place}
 use Rattle.st_tree.specs.Meaning.{Ran, Done, Trapped}
 use Rattle.plant_logic.specs.declared.logic.Variable.{Variable}
 use Rattle.plant_logic.specs.Source.{Source}
 use Rattle.plant_logic.specs.Worlds.{World, run_program}
 use Rattle.plant_logic.specs.Ranges.{AllInRange}
 use Rattle.plant_logic.specs.Paths.{paths_of}
-use Rattle.block_walk.specs.Cells.{PlainCells, value_at, assigned}
+use Rattle.plant_cells.specs.Cells.{PlainCells, value_at, assigned}
 use Rattle.block_frames.specs.Stands.{StandFor}
 use Rattle.plant_walk.specs.Runs.{place_spot}
 use Rattle.plant_config.specs.Plants.{PlainPlant}

@@ -7,7 +7,7 @@ ghost use Rattle.engine.specs.Orders.{restart_of};
 ghost use Rattle.engine.specs.System.{scan_event, order_event, reply_to, outputs_of, summary_of};
 ghost use Rattle.engine.specs.Lawful.{IsLawfulHistory};
 ghost use Rattle.engine.specs.Journal.{IsJournal, IsLine, added_entries, journal_of};
-ghost use Rattle.engine.specs.Engines.{state_of, Fits, FitsOrder, IsReport, TakesScan};
+ghost use Rattle.engine.specs.Engines.{state_of, Fits, FitsOrder, IsEngine, IsReport, TakesScan};
 
 use crate::event::{EngineFault, MOST_EVENTS, Reply, Report};
 use crate::image::widest_image;
@@ -47,27 +47,34 @@ impl Model for Engine {
     ghost invariant = { λ e. IsEngine e.plant e.history.events e.log.rows e.state };
 }
 
+/// The state before the first event, and room for events. Fails if allocation fails.
+fn opening(alloc: Global, plant: &Plant) -> Result<(State, Room), AllocError>
+    ensures { IfOk result (λ made. IsEngine plant.now [] [] made.0) }
+{
+    let stack = Stack::new(alloc)?;
+    let state = opening_state(alloc, plant)?;
+    let room = Room {
+        spare: None,
+        report: None,
+        inputs: Vec::new(alloc),
+        image: Vec::new(alloc),
+        stack,
+        marks: Vec::new(alloc),
+    };
+    Ok((state, room))
+}
+
 impl Engine {
     /// The engine of a plant before the first event: each variable has its initial value, no program is faulted, and each alarm is
     /// normal. Fails if allocation fails.
     pub fn new(alloc: Global, plant: Plant) -> Result<Engine, AllocError>
         ensures { IfOk result (λ e. (e.plant ≡ plant) × (e.history ≡ [])) }
     {
-        let state = opening_state(alloc, &plant)?;
-        let history = History::new(alloc);
-        let log = Log::new(alloc);
-        let room = Room {
-            spare: None,
-            report: None,
-            inputs: Vec::new(alloc),
-            image: Vec::new(alloc),
-            stack: Stack::new(alloc)?,
-            marks: Vec::new(alloc),
-        };
+        let (state, room) = opening(alloc, &plant)?;
         Ok(Engine {
             plant,
-            history,
-            log,
+            history: History::new(alloc),
+            log: Log::new(alloc),
             state,
             room,
         })

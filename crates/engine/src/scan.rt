@@ -2,8 +2,8 @@
 
 ghost use Rattle.std.specs.Prelude.{◌≡◌, ◌≤◌, true, length, All, IfOk, IfErr};
 ghost use Rattle.alarm_machine.specs.declared.limits.TheConstants.{LAST_MOMENT};
+ghost use Rattle.plant_cells.specs.Cells.{value_at};
 ghost use Rattle.plant_config.specs.Names.{globals_of, programs_of};
-ghost use Rattle.block_walk.specs.Cells.{value_at};
 ghost use Rattle.plant_walk.specs.Sound.{IsSound};
 ghost use Rattle.engine.specs.Image.{IsDue, FitsGlobal};
 ghost use Rattle.engine.specs.System.{taken_scan, outputs_from};

@@ -12,7 +12,7 @@ use crate::steps::{opening_alarms, opening_sites, outputs, watches_of};
 use alarm_bank::Bank;
 use alarm_machine::{Alarm, AlarmState, OrderFault};
 use alarm_watch::Watches;
-use block_walk::Cells;
+use plant_cells::Cells;
 use plant_config::Plant;
 use plant_types::Value;
 use std::alloc::{AllocError, Global};

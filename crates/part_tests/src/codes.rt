@@ -5,8 +5,9 @@ ghost use Rattle.st_tree.specs.View.{view_body};
 ghost use Rattle.codegen.specs.Codes.{SteadyBody};
 
 use acc_vm::{Own, Shared};
-use block_walk::{Cells, Frame};
+use block_walk::Frame;
 use codegen::compile;
+use plant_cells::Cells;
 use plant_types::Trap;
 use st_tree::{Binary, Expr, Literal, Stmt};
 use std::alloc::{AllocError, Global};
@@ -52,7 +53,7 @@ fn ran(alloc: Global, values: [i64; 2]) -> Result<(Option<(u32, Trap)>, [i64; 2]
     };
     let trap = match code.run(&mut own, &Shared, 0) {
         Ok(()) => None,
-        Err(stop) => Some((stop.statement, stop.trap)),
+        Err(stop) => Some((stop.place.statement, stop.trap)),
     };
     Ok((trap, [cells.get(0), cells.get(1)]))
 }

@@ -2,7 +2,8 @@
 //! over cells (`block_walk`).
 
 use block_frames::{frames_of, start_of};
-use block_walk::{Cells, Clock, Standard, push_path, push_standards, start_frame, walk_frame};
+use block_walk::{push_path, push_standards, start_frame, walk_frame};
+use plant_cells::{Cells, Clock, Standard};
 use plant_limits::{costs, limits};
 use plant_logic::{
     BlockRef, Routine, logic_of, order_is_of_source, typed_names_are_distinct,
@@ -99,8 +100,8 @@ fn stopped(alloc: Global, typed: &Typed<'_>) -> Result<Stopped, AllocError> {
     let Err(stop) = walk_frame(&frames, 2, 2, 2, 0, &mut cells, 5) else {
         return Ok((path, None));
     };
-    push_path(&frames, 2, stop.path, &mut path)?;
-    Ok((path, Some((stop.statement, stop.trap))))
+    push_path(&frames, 2, stop.place.path, &mut path)?;
+    Ok((path, Some((stop.place.statement, stop.trap))))
 }
 
 /// What the source has, what its program costs, and where this stops.

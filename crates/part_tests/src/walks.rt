@@ -3,7 +3,7 @@
 ghost use Rattle.std.specs.Prelude.{◌<◌, length};
 
 use crate::frames::SOURCE;
-use block_walk::Cells;
+use plant_cells::Cells;
 use plant_limits::LimitFault;
 use plant_sources::units;
 use plant_walk::{Framed, Walked, walk};

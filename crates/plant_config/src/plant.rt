@@ -11,7 +11,7 @@ ghost use Rattle.plant_file.specs.PlantFiles.{IsPlantFile};
 ghost use Rattle.plant_config.specs.Alarms.{alarms_of};
 ghost use Rattle.plant_config.specs.Logics.{IsLogic};
 ghost use Rattle.plant_config.specs.Plants.{PlainPlant, IsPlant, plant_with, tags_of};
-ghost use Rattle.plant_config.specs.Stages.{Accepted, HasAlarms, HasDatabase, HasEpoch, IsSized, IsWellFormed};
+ghost use Rattle.plant_config.specs.Stages.{Accepted, HasAlarms, HasEpoch, IsSized, IsWellFormed};
 ghost use Rattle.plant_config.specs.Refusals.{IsFileFault, IsRefused};
 ghost use Rattle.plant_config.specs.declared.fault.ConfigFault.TheVariants as fault;
 ghost use Rattle.plant_config.specs.Names.{alarm_number, globals_of, global_number, program_number, programs_of, program_at, body_paths, body_path, tag_of, area_of, global_of, priority_of};
@@ -23,7 +23,7 @@ use crate::limits::check_limits;
 use crate::rows::{AlarmRow, copy_rows};
 use crate::running::{database_of, known_alarms, logic_of};
 use crate::spelling::{mistyped, units_of};
-use alarm_db::{AlarmDatabase, Tags};
+use alarm_db::Tags;
 use plant_file::{Console, PlantFile};
 use plant_logic::Routine;
 use plant_types::same_word;
@@ -100,24 +100,30 @@ fn made(
     assembled(file, epoch, logic, alarms, tags)
 }
 
-/// The plant of well-formed sources with an alarm database, or why there is none.
-fn with_database(
+/// The alarms of a plant's database and the index of their tags, or why there are none.
+fn alarms_in(
     alloc: Global,
     handed: &Handed<'_>,
-    file: PlantFile,
+    file: &PlantFile,
     epoch: Epoch,
     typed: &Typed<'_>,
-    logic: Framed,
-    database: AlarmDatabase,
-) -> Result<Plant, ConfigFault>
-    requires database { HasDatabase handed.now file epoch typed.now }
-    requires logic { IsLogic typed.now logic }
-    requires rows { database ≡ rows_of handed.now.alarms }
-    ensures { MatchResult result (Accepted handed.now) (IsRefused handed.now) }
+    logic: &Framed,
+) -> Result<(Vec<AlarmRow>, Tags), ConfigFault>
+    requires sized { IsSized handed.now file.now epoch typed.now }
+    requires logic { IsLogic typed.now logic.now }
+    ensures alarms { MatchResult result (λ found. HasAlarms handed.now file.now epoch typed.now × (found.0.items ≡ alarms_of file.now.areas (source_in typed.now).globals (rows_of handed.now.alarms))) (IsRefused handed.now) }
+    ensures tags { IfOk result (λ found. found.1 ≡ database_tags (rows_of handed.now.alarms)) }
+    ensures database { IfOk result (λ _. IsDatabase (rows_of handed.now.alarms)) }
+    ensures file { IfOk result (λ _. IsPlantFile file.now) }
 {
-    let (rows, tags) = database.into_parts();
-    match known_alarms(alloc, handed, &file, epoch, typed, &logic, rows) {
-        Ok(alarms) => Ok(made(handed, file, epoch, typed, logic, alarms, tags)),
+    match database_of(alloc, handed, file, epoch, typed) {
+        Ok(database) => {
+            let (rows, tags) = database.into_parts();
+            match known_alarms(alloc, handed, file, epoch, typed, logic, rows) {
+                Ok(alarms) => Ok((alarms, tags)),
+                Err(fault) => Err(fault),
+            }
+        }
         Err(fault) => Err(fault),
     }
 }
@@ -135,8 +141,8 @@ fn with_logic(
     requires logic { IsLogic typed.now logic }
     ensures { MatchResult result (Accepted handed.now) (IsRefused handed.now) }
 {
-    match database_of(alloc, handed, &file, epoch, typed) {
-        Ok(database) => with_database(alloc, handed, file, epoch, typed, logic, database),
+    match alarms_in(alloc, handed, &file, epoch, typed, &logic) {
+        Ok((alarms, tags)) => Ok(made(handed, file, epoch, typed, logic, alarms, tags)),
         Err(fault) => Err(fault),
     }
 }
@@ -196,6 +202,30 @@ fn accepted(alloc: Global, handed: &Handed<'_>) -> Result<Plant, ConfigFault>
     }
 }
 
+/// A plant file and the index of tags again. Fails if allocation fails.
+fn copied_names(
+    alloc: Global,
+    file: &PlantFile,
+    tags: &Tags,
+) -> Result<(PlantFile, Tags), AllocError>
+    ensures { IfOk result (λ copy. (copy.0 ≡ file.now) × (copy.1 ≡ tags.now)) }
+{
+    let tags = tags.copy()?;
+    Ok((file.copy(alloc)?, tags))
+}
+
+/// Logic and alarms again. Fails if allocation fails.
+fn copied_logic(
+    alloc: Global,
+    logic: &Framed,
+    alarms: &[AlarmRow],
+) -> Result<(Framed, Vec<AlarmRow>), AllocError>
+    ensures { IfOk result (λ copy. (copy.0 ≡ logic.now) × (copy.1.items ≡ alarms.now)) }
+{
+    let rows = copy_rows(alloc, alarms)?;
+    Ok((logic.copy(alloc)?, rows))
+}
+
 impl Plant {
     /// The files that a plant file names: a caller opens them and hands their texts to `read`.
     ///
@@ -238,12 +268,14 @@ impl Plant {
     pub fn copy(&self, alloc: Global) -> Result<Plant, AllocError>
         ensures { IfOk result (λ copy. copy ≡ self.now) }
     {
+        let (file, tags) = copied_names(alloc, &self.file, &self.tags)?;
+        let (logic, alarms) = copied_logic(alloc, &self.logic, &self.alarms)?;
         Ok(Plant {
-            file: self.file.copy(alloc)?,
+            file,
             epoch: self.epoch,
-            logic: self.logic.copy(alloc)?,
-            alarms: copy_rows(alloc, &self.alarms)?,
-            tags: self.tags.copy()?,
+            logic,
+            alarms,
+            tags,
         })
     }
 

@@ -13,7 +13,7 @@ pub enum Kind {
 }
 
 /// A variable's value, within its kind's range.
-#[derive(Clone, Copy, Debug, PartialEq, Eq, Drop)]
+#[derive(Clone, Copy, PartialEq, Eq, Drop)]
 pub enum Value {
     Bool(bool),
     Dint(i32),
@@ -46,7 +46,7 @@ pub struct Place {
 }
 
 /// What a scan gives for an input: a truth value, or a whole number, which may be outside every kind's range.
-#[derive(Clone, Copy, Debug, PartialEq, Eq, Drop)]
+#[derive(Clone, Copy, PartialEq, Eq, Drop)]
 pub enum Given {
     Truth(bool),
     Whole(i128),

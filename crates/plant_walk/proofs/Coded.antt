@@ -5,12 +5,13 @@ use Rattle.std.proofs.lemmas.List.{get_or-map}
 use Rattle.st_tree.specs.Meaning.{Ran, Trapped}
 use Rattle.plant_logic.specs.Source.{Source}
 use Rattle.plant_logic.specs.Blocks.{AreBelow}
+use Rattle.plant_cells.specs.declared.stop.Stop.{Stop}
+use Rattle.plant_cells.specs.Cells.{PlainCells}
+use Rattle.plant_cells.specs.Runs.{Path, ended}
 use Rattle.block_walk.specs.declared.frame.Base.{Base}
 use Rattle.block_walk.specs.declared.frame.Frame.{Frame}
-use Rattle.block_walk.specs.declared.walker.Stop.{Stop}
-use Rattle.block_walk.specs.Cells.{PlainCells}
-use Rattle.block_walk.specs.Frames.{Path, frame_paths}
-use Rattle.block_walk.specs.Walks.{run_frame, under, ended}
+use Rattle.block_walk.specs.Frames.{frame_paths}
+use Rattle.block_walk.specs.Walks.{run_frame, under}
 use Rattle.block_frames.specs.Frames.{IsFrames}
 use Rattle.acc_vm.specs.Machine.{Over}
 use Rattle.acc_vm.specs.Codes.{PlainCode, SameShape, run_of}
@@ -29,16 +30,16 @@ over_same : (a b : Ran PlainCells) (m n : ℕ) → Over a m ≡ Over b n → a �
 over_same a b m n same = cc
 
 -- a run whose paths go on from a path
-under_ended : (path : Path) (paths : List Path) (result : Result (Unit {0}) Stop) (cells : PlainCells) → IfErr result (λ stop. stop.path < length paths)
+under_ended : (path : Path) (paths : List Path) (result : Result (Unit {0}) Stop) (cells : PlainCells) → IfErr result (λ stop. stop.place.path < length paths)
     → under path (ended paths result cells) ≡ ended (map (λ (way : Path). way ++ path) paths) result cells
 under_ended path paths (Ok u) cells inside = refl
 under_ended path paths (Err stop) cells inside =
-    ap (λ (p : Path). Trapped cells (record { path = p; statement = stop.statement }) stop.trap) (sym (get_or-map (λ (way : Path). way ++ path) paths stop.path [] [] inside))
+    ap (λ (p : Path). Trapped cells (record { path = p; statement = stop.place.statement }) stop.trap) (sym (get_or-map (λ (way : Path). way ++ path) paths stop.place.path [] [] inside))
 
-module _ (frames : List Frame) (globals first : ℕ) (base : Base) (code : PlainCode) (is : IsCodeOf frames globals first base code) (result : Result (Unit {0}) Stop) (inside : IfErr result (λ stop. stop.path < code.paths)) where
+module _ (frames : List Frame) (globals first : ℕ) (base : Base) (code : PlainCode) (is : IsCodeOf frames globals first base code) (result : Result (Unit {0}) Stop) (inside : IfErr result (λ stop. stop.place.path < code.paths)) where
   -- a trap has a path of the frame
-  pub path_inside : IfErr result (λ stop. stop.path < length (frame_paths frames (length frames) first))
-  path_inside = subst (λ most. IfErr result (λ stop. stop.path < most)) is.paths inside
+  pub path_inside : IfErr result (λ stop. stop.place.path < length (frame_paths frames (length frames) first))
+  path_inside = subst (λ most. IfErr result (λ stop. stop.place.path < most)) is.paths inside
 
   -- the run ends as the frame does
   pub ends_as_frame : (t : ℕ) (old new : PlainCells) → ((names : List Path) → (left : ℕ) × (run_of t names code old ≡ Over (ended names result new) left))

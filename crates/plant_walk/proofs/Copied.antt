@@ -1,7 +1,7 @@
 -- A copy of what is ready to run is ready to run.
 use Rattle.std.proofs.Common.{◌≡◌, ◌∙◌, ap, sym, subst, ℕ, List, [], ◌∷◌, length, map}
 use Rattle.plant_logic.specs.Source.{Source}
-use Rattle.block_walk.specs.declared.clock.Standard.{Standard}
+use Rattle.plant_cells.specs.declared.clock.Standard.{Standard}
 use Rattle.block_walk.specs.declared.frame.Frame.{Frame}
 use Rattle.block_walk.specs.Plain.{view_frame}
 use Rattle.block_frames.specs.Frames.{IsFrames, IsStart}

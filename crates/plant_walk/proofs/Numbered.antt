@@ -6,12 +6,13 @@ use Rattle.std.proofs.lemmas.Bool.{cases_Bool, cases_lt}
 use Rattle.std.proofs.lemmas.Bool.Decides.{nat_tests}
 use Rattle.std.proofs.lemmas.List.{length-append, length-map, length_push, get_or_append_left, get_or_push, get_or_past}
 use Rattle.std.proofs.lemmas.List.Sums.{sum_by-cons}
+use Rattle.plant_cells.specs.Runs.{Path}
 use Rattle.block_walk.specs.declared.frame.SeatOf.{SeatOf}
 use Rattle.block_walk.specs.declared.frame.SeatOf.TheVariants as seat_of
 use Rattle.block_walk.specs.declared.frame.Seat.{Seat}
 use Rattle.block_walk.specs.declared.frame.Frame.{Frame}
 use Rattle.block_walk.specs.Frames as walk
-use Rattle.block_walk.specs.Frames.{Path, paths_below, seats_paths, routine_paths, frame_paths}
+use Rattle.block_walk.specs.Frames.{paths_below, seats_paths, routine_paths, frame_paths}
 use Rattle.block_walk.proofs.Firsts.{paths_is}
 use Rattle.plant_walk.specs.Bases.{numbers_in, paths_of_seat, seat_count, ArePathsCounted}
 

@@ -10,10 +10,11 @@ use Rattle.plant_logic.specs.Source.{PlainRoutine, Source}
 use Rattle.plant_logic.specs.Worlds.{Path, World}
 use Rattle.plant_logic.specs.Layout.{ClockAt, clocks_rule, routine_clocks, program_clocks}
 use Rattle.plant_logic.specs.Paths.{paths_rule, type_paths, program_paths, paths_of, path_text}
-use Rattle.block_walk.specs.declared.clock.Standard.{Standard}
-use Rattle.block_walk.specs.declared.walker.Stop.{Stop}
-use Rattle.block_walk.specs.Cells.{PlainCells}
-use Rattle.block_walk.specs.Walks.{under, ended}
+use Rattle.plant_cells.specs.declared.clock.Standard.{Standard}
+use Rattle.plant_cells.specs.declared.stop.Stop.{Stop}
+use Rattle.plant_cells.specs.Cells.{PlainCells}
+use Rattle.plant_cells.specs.Runs.{ended}
+use Rattle.block_walk.specs.Walks.{under}
 use Rattle.block_walk.specs.Paths.{path_suffix}
 use Rattle.block_frames.specs.Stands.{standard_of, StandFor}
 use Rattle.plant_walk.specs.Bases.{program_paths_before, program_paths_base}
@@ -102,26 +103,26 @@ module _ (source : Source) (n : ℕ) (p : PlainRoutine) (at : slice_get source.p
   its = paths_rule (type_paths source.blocks) p
 
   abbrev Within : Result (Unit {0}) Stop → Type 0
-  Within result = IfErr result (λ stop. stop.path < length its)
+  Within result = IfErr result (λ stop. stop.place.path < length its)
 
   -- what the frame of a program did in cells is what the program did in a world, if it agrees with this from the program's name on
   pub run_agrees : (r : Ran World) (result : Result (Unit {0}) Stop) (cells : PlainCells) (q : Ran PlainCells) → Within result → under (p.name ∷ []) (ended its result cells) ≡ q → alike.Agree (λ w c. StandFor source c w) r q
       → runs.Agree source r (runs.ran source (runs.walked_by (program_paths_base source n) result) cells)
   run_agrees r (Ok _) cells q inside same h = agrees source r q (Done cells) same h
   run_agrees r (Err stop) cells q inside same h =
-      let place = placed source n p stop.path at inside in
-      agrees source r q (runs.ran source (runs.walked_by (program_paths_base source n) (Err stop)) cells) (ap (λ path. Trapped cells (record { path = path; statement = stop.statement }) stop.trap) place.path_is ∙ same) h
+      let place = placed source n p stop.place.path at inside in
+      agrees source r q (runs.ran source (runs.walked_by (program_paths_base source n) (Err stop)) cells) (ap (λ path. Trapped cells (record { path = path; statement = stop.place.statement }) stop.trap) place.path_is ∙ same) h
 
   -- its place has a path of the source
   pub run_within : (result : Result (Unit {0}) Stop) → Within result → runs.IsWithin source (runs.walked_by (program_paths_base source n) result)
   run_within (Ok _) inside = tt
-  run_within (Err stop) inside = (placed source n p stop.path at inside).inside
+  run_within (Err stop) inside = (placed source n p stop.place.path at inside).inside
 
   -- whose number is no greater than that of all paths
-  pub run_fits : (result : Result (Unit {0}) Stop) (top : ℕ) → Within result → program_paths_base source (length source.programs) < top → IfErr result (λ stop. program_paths_base source n + stop.path < top)
+  pub run_fits : (result : Result (Unit {0}) Stop) (top : ℕ) → Within result → program_paths_base source (length source.programs) < top → IfErr result (λ stop. program_paths_base source n + stop.place.path < top)
   run_fits (Ok _) top inside fits = tt
   run_fits (Err stop) top inside fits =
-      let less = (placed source n p stop.path at inside).inside in
+      let less = (placed source n p stop.place.path at inside).inside in
       let all = paths_end source in
       omega (arith, less, all, fits)
 

@@ -10,8 +10,8 @@ use Rattle.plant_logic.specs.Names.{global_words, find_global}
 use Rattle.plant_logic.specs.Worlds.{World, assign, path_of}
 use Rattle.plant_logic.specs.Layout.{global_values, program_values, cell_paths, all_clocks}
 use Rattle.plant_logic.proofs.Seats.{word_at}
-use Rattle.block_walk.specs.declared.clock.Clock.{Clock}
-use Rattle.block_walk.specs.Cells.{PlainCells, value_at, assigned}
+use Rattle.plant_cells.specs.declared.clock.Clock.{Clock}
+use Rattle.plant_cells.specs.Cells.{PlainCells, value_at, assigned}
 use Rattle.block_frames.specs.Stands.{clock_in, StandFor}
 use Rattle.block_frames.proofs.Cells.{value_held, value_put}
 use Rattle.plant_walk.specs.Sound.{IsSound}

@@ -3,10 +3,10 @@ use Rattle.std.proofs.Common.{◌≡◌, ◌∙◌, ap, sym, ℕ, suc, ◌+◌, 
 use Rattle.plant_logic.specs.Source.{Source}
 use Rattle.plant_logic.specs.Seats.{program_values_base, program_clocks_base}
 use Rattle.plant_logic.specs.Layout.{cell_paths}
-use Rattle.block_walk.specs.declared.clock.Standard.{Standard}
+use Rattle.plant_cells.specs.declared.clock.Standard.{Standard}
+use Rattle.plant_cells.specs.Cells.{PlainCells, zero_cells}
 use Rattle.block_walk.specs.declared.frame.Base.{Base}
 use Rattle.block_walk.specs.declared.frame.Frame.{Frame}
-use Rattle.block_walk.specs.Cells.{PlainCells, zero_cells}
 use Rattle.block_walk.specs.Starts.{frame_begun}
 use Rattle.block_frames.specs.Opening.{cells_of, programs_started, opening_cells}
 use Rattle.plant_walk.specs.Framed.{all_standards}

@@ -8,11 +8,12 @@ use Rattle.plant_logic.specs.Source.{PlainRoutine, Source}
 use Rattle.plant_logic.specs.Worlds.{Path, World, globals_routine}
 use Rattle.plant_logic.specs.Paths.{paths_rule, type_paths, paths_of, path_text}
 use Rattle.plant_logic.specs.Seats.{program_values_base, program_clocks_base}
+use Rattle.plant_cells.specs.declared.stop.Stop.{Stop}
+use Rattle.plant_cells.specs.Cells.{PlainCells}
+use Rattle.plant_cells.specs.Runs.{ended}
 use Rattle.block_walk.specs.declared.frame.Frame.{Frame}
-use Rattle.block_walk.specs.declared.walker.Stop.{Stop}
-use Rattle.block_walk.specs.Cells.{PlainCells}
 use Rattle.block_walk.specs.Frames.{frame_paths}
-use Rattle.block_walk.specs.Walks.{run_frame, under, ended}
+use Rattle.block_walk.specs.Walks.{run_frame, under}
 use Rattle.block_walk.specs.Paths.{path_suffix}
 use Rattle.block_frames.specs.Frames.{program_base}
 use Rattle.block_frames.specs.Stands.{StandFor}
@@ -39,13 +40,13 @@ module _ (source : Source) (order : List ℕ) (frames : List Frame) (n : ℕ) (t
         let same : frame_paths table (length table) place ≡ frame_paths frames (length frames) (length order + n) = λ j. frame_paths (table_is j) (length (table_is j)) (place_is j) in
         same ∙ have_paths
 
-    module _ (result : Result (Unit {0}) Stop) (inside : IfErr result (λ stop. stop.path < length (frame_paths table (length table) place))) where
-      its : IfErr result (λ stop. stop.path < length (its_paths source n))
-      its = subst (λ (l : List Path). IfErr result (λ stop. stop.path < length l)) paths_are inside
+    module _ (result : Result (Unit {0}) Stop) (inside : IfErr result (λ stop. stop.place.path < length (frame_paths table (length table) place))) where
+      its : IfErr result (λ stop. stop.place.path < length (its_paths source n))
+      its = subst (λ (l : List Path). IfErr result (λ stop. stop.place.path < length l)) paths_are inside
 
       -- a trap's path number fits where all do
-      pub fits_in : (base top : ℕ) → base ≡ program_paths_base source n → program_paths_base source (length source.programs) < top → IfErr result (λ stop. base + stop.path < top)
-      fits_in base top base_is all = subst (λ b. IfErr result (λ stop. b + stop.path < top)) (sym base_is) (run_fits source n (the_program source n) (is_there source n there) result top its all)
+      pub fits_in : (base top : ℕ) → base ≡ program_paths_base source n → program_paths_base source (length source.programs) < top → IfErr result (λ stop. base + stop.place.path < top)
+      fits_in base top base_is all = subst (λ b. IfErr result (λ stop. b + stop.place.path < top)) (sym base_is) (run_fits source n (the_program source n) (is_there source n there) result top its all)
 
       -- a trap's place has a path of the source
       pub within_is : (base : ℕ) → base ≡ program_paths_base source n → runs.IsWithin source (runs.walked_by base result)

@@ -5,7 +5,7 @@ use Rattle.plant_logic.specs.Source.{Source}
 use Rattle.plant_logic.specs.Blocks.{AreBelow}
 use Rattle.plant_logic.specs.Layout.{ClockAt, all_clocks}
 use Rattle.plant_logic.specs.Seats.{program_values_base, program_clocks_base}
-use Rattle.block_walk.specs.declared.clock.Standard.{Standard}
+use Rattle.plant_cells.specs.declared.clock.Standard.{Standard}
 use Rattle.block_walk.specs.declared.frame.Frame.{Frame}
 use Rattle.block_frames.specs.Frames.{IsFrames, IsStart}
 use Rattle.block_frames.specs.Stands.{standard_of}

@@ -1,13 +1,14 @@
 -- Runs over cells, and runs in the worlds that they stand for.
-use Rattle.std.specs.Prelude.{◌≡◌, ◌<◌, ◌+◌, ℕ, List, [], length, slice_index_or, Result, Ok, Err}
+use Rattle.std.specs.Prelude.{◌≡◌, ◌<◌, ◌+◌, ℕ, List, [], length, Result, Ok, Err}
 use Rattle.plant_types.specs.declared.values.Place.{Place}
 use Rattle.st_tree.specs.Meaning.{Spot, Ran, Done, Trapped}
 use Rattle.plant_logic.specs.Source.{Source}
 use Rattle.plant_logic.specs.Worlds.{World}
 use Rattle.plant_logic.specs.Layout.{cell_paths, all_clocks}
 use Rattle.plant_logic.specs.Paths.{paths_of}
-use Rattle.block_walk.specs.declared.walker.Stop.{Stop}
-use Rattle.block_walk.specs.Cells.{PlainCells}
+use Rattle.plant_cells.specs.declared.stop.Stop.{Stop}
+use Rattle.plant_cells.specs.Cells.{PlainCells}
+use Rattle.plant_cells.specs.Runs.{spot_of}
 use Rattle.block_walk.specs.declared.frame.Frame.{Frame}
 use Rattle.block_frames.specs.Frames.{IsFrames, program_base}
 use Rattle.block_frames.specs.Stands.{StandFor}
@@ -19,7 +20,7 @@ use Rattle.plant_walk.specs.declared.walking.Walked.TheVariants as walked
 
 -- the spot of a place: the path of its body, and the statement's number
 abbrev pub place_spot : Source → Place → Spot
-place_spot source place = record { path = slice_index_or (paths_of source) place.path []; statement = place.statement }
+place_spot source place = spot_of (paths_of source) place
 
 -- how a walk ends, with the cells that it leaves
 abbrev pub ran : Source → Walked → PlainCells → Ran PlainCells
@@ -29,7 +30,7 @@ ran source (walked.Trapped place trap) cells = Trapped cells (place_spot source 
 -- how a run of the program whose first path has a number ends, by how the run of its frame ended
 abbrev pub walked_by : ℕ → Result (Unit {0}) Stop → Walked
 walked_by base (Ok _) = walked.Done
-walked_by base (Err stop) = walked.Trapped (record { path = base + stop.path; statement = stop.statement }) stop.trap
+walked_by base (Err stop) = walked.Trapped (record { path = base + stop.place.path; statement = stop.place.statement }) stop.trap
 
 -- a trap's place has a path of the source
 abbrev pub IsWithin : Source → Walked → Type 0

@@ -24,7 +24,8 @@ use block_frames::{
     copied_frames_are_frames, frames_agree, frames_begin, frames_have_paths, frames_of, start_of,
     typed_names_are_known,
 };
-use block_walk::{Cells, Frame, Standard, Stop, copy_frames, push_path, start_frame, walk_frame};
+use block_walk::{Frame, copy_frames, push_path, start_frame, walk_frame};
+use plant_cells::{Cells, Standard, Stop};
 use plant_limits::{LimitFault, block_type_counts, limits};
 use plant_logic::{Logic, Routine, Variable, logic_of, order_is_of_source};
 use plant_types::Place;
@@ -113,15 +114,15 @@ fn judged(alloc: Global, logic: Logic, order: Vec<usize>) -> Result<Framed, Limi
 
 /// How a run of the program whose first path has a number ends, by how the run of its frame ended.
 fn walked(base: u32, ended: Result<(), Stop>) -> Walked
-    requires { IfErr ended (λ stop. base + stop.path < 2 ^ 32) }
+    requires { IfErr ended (λ stop. base + stop.place.path < 2 ^ 32) }
     ensures { result ≡ walked_by base ended }
 {
     match ended {
         Ok(()) => Walked::Done,
         Err(stop) => {
             let place = Place {
-                path: base + stop.path,
-                statement: stop.statement,
+                path: base + stop.place.path,
+                statement: stop.place.statement,
             };
             Walked::Trapped(place, stop.trap)
         }

@@ -9,7 +9,7 @@ ghost use Rattle.plant_logic.specs.Names.{find_global};
 ghost use Rattle.plant_logic.specs.Layout.{cell_paths};
 ghost use Rattle.plant_logic.specs.Worlds.{World, assign, opening, path_of, run_program};
 ghost use Rattle.plant_logic.specs.Ranges.{AllInRange};
-ghost use Rattle.block_walk.specs.Cells.{PlainCells, value_at, assigned};
+ghost use Rattle.plant_cells.specs.Cells.{PlainCells, value_at, assigned};
 ghost use Rattle.block_frames.specs.Stands.{StandFor};
 ghost use Rattle.plant_walk.specs.Sound.{IsSound};
 ghost use Rattle.plant_walk.specs.Runs.{HasCells};

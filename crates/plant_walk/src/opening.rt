@@ -8,7 +8,8 @@ ghost use Rattle.block_frames.specs.Frames.{IsFrames};
 ghost use Rattle.block_frames.specs.Opening.{programs_started};
 ghost use Rattle.plant_walk.specs.Bases.{AreBases};
 
-use block_walk::{Cells, Frame, start_frame};
+use block_walk::{Frame, start_frame};
+use plant_cells::Cells;
 use plant_logic::Logic;
 
 /// Assigns the initial values of each program in turn, with those of its instances. It allocates nothing.

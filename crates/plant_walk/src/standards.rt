@@ -9,7 +9,8 @@ ghost use Rattle.plant_walk.specs.Bases.{AreBases};
 ghost use Rattle.plant_walk.specs.Framed.{all_standards};
 
 use block_frames::frames_have_standards;
-use block_walk::{Frame, Standard, push_standards};
+use block_walk::{Frame, push_standards};
+use plant_cells::Standard;
 use plant_logic::Logic;
 use std::alloc::{AllocError, Global};
 

@@ -7,7 +7,7 @@ ghost use Rattle.block_frames.specs.Stands.{StandFor};
 ghost use Rattle.plant_walk.specs.Runs.{ran, IsWithin, HasCells, Agree, TakesInstructions};
 
 use crate::framed::Framed;
-use block_walk::Cells;
+use plant_cells::Cells;
 use plant_types::{Place, Trap};
 use program_codes::Stack;
 

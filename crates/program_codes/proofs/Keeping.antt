@@ -5,9 +5,9 @@ use Rattle.st_tree.specs.View.{view_body}
 use Rattle.st_tree.specs.Costs.{body_cost}
 use Rattle.st_tree.specs.Mapping.{Known, body_known}
 use Rattle.st_tree.specs.Meaning.{Space, run_all}
+use Rattle.plant_cells.specs.Cells.{PlainCells}
 use Rattle.block_walk.specs.declared.frame.Base.{Base}
 use Rattle.block_walk.specs.declared.frame.Frame.{Frame}
-use Rattle.block_walk.specs.Cells.{PlainCells}
 use Rattle.block_walk.specs.Plain.{PlainFrame, view_frame}
 use Rattle.code_sizes.specs.Sizes.{frame_turns}
 use Rattle.const_fold.specs.Folding.{folded_body}

@@ -4,11 +4,12 @@ use Rattle.st_tree.specs.View.{view_body}
 use Rattle.st_tree.specs.Costs.{body_cost}
 use Rattle.st_tree.specs.Mapping.{Known, body_known}
 use Rattle.st_tree.specs.Meaning.{Space, Done, run_all}
+use Rattle.plant_cells.specs.Cells.{PlainCells}
+use Rattle.plant_cells.specs.Runs.{Path}
 use Rattle.block_walk.specs.declared.frame.Base.{Base}
 use Rattle.block_walk.specs.declared.frame.Frame.{Frame}
 use Rattle.block_walk.specs.declared.frame.Seat.{Seat}
-use Rattle.block_walk.specs.Cells.{PlainCells}
-use Rattle.block_walk.specs.Frames.{Path, routine_paths, frame_paths, InTurn, AreInTurn}
+use Rattle.block_walk.specs.Frames.{routine_paths, frame_paths, InTurn, AreInTurn}
 use Rattle.block_walk.specs.Plain.{PlainFrame, view_frame}
 use Rattle.block_walk.specs.Walks.{frame_space, run_frame}
 use Rattle.code_sizes.specs.Sizes.{called_cost, frame_turns, routine_cost, frame_cost}

@@ -10,13 +10,14 @@ ghost use Rattle.program_codes.specs.Codes.{IsCodeOf, AreCodes};
 use crate::folding::fold_frames;
 use crate::running::STACK_WORDS;
 use acc_vm::Code;
-use block_walk::{Cells, Frame};
+use block_walk::Frame;
 use code_sizes::{FrameCounts, count_frames};
 use codegen::compile_counted;
 use const_fold::{
     folded_body_costs_at_most, folded_body_does_same, folded_constants_are_literals,
     folded_names_stay,
 };
+use plant_cells::Cells;
 use std::alloc::{AllocError, Global};
 
 /// The code of a program, by the folded frames of a table. Fails as `codes_of` does.

@@ -4,28 +4,10 @@ ghost use Rattle.std.specs.Prelude.{◌≡◌, IfOk};
 ghost use Rattle.block_walk.specs.Plain.{view_frame};
 ghost use Rattle.program_codes.specs.Folded.{folded_frame, AreFolded};
 
-use block_walk::{Frame, Seat};
+use block_walk::{Frame, copy_seats};
 use const_fold::fold_body;
 use st_tree::copy_body;
 use std::alloc::{AllocError, Global};
-
-/// The same instances in the same order. Fails if allocation fails.
-fn copy_seats(alloc: Global, seats: &[Seat]) -> Result<Vec<Seat>, AllocError>
-    ensures { IfOk result (λ copies. copies.items ≡ seats.now) }
-{
-    let mut copies = Vec::with_capacity(alloc, seats.len())?;
-    for seat in seats {
-        copies.push(Seat {
-            name: seat.name.copy(alloc)?,
-            of: seat.of,
-            values: seat.values,
-            clocks: seat.clocks,
-            paths: seat.paths,
-            is_called: seat.is_called,
-        })?;
-    }
-    Ok(copies)
-}
 
 /// A frame with the constants of its body folded. Fails if allocation fails.
 fn fold_frame(alloc: Global, frame: &Frame) -> Result<Frame, AllocError>

@@ -1,14 +1,13 @@
 //! Runs codes, with one memory for the stack of all runs.
 
 ghost use Rattle.std.specs.Prelude.{◌≡◌, ◌≤◌, ◌<◌, ◌+◌, ◌*◌, ◌-◌, List, length, IfOk, IfErr};
-ghost use Rattle.block_walk.specs.Frames.{Path};
-ghost use Rattle.block_walk.specs.Walks.{ended};
+ghost use Rattle.plant_cells.specs.Runs.{Path, ended};
 ghost use Rattle.acc_vm.specs.Machine.{Over};
 ghost use Rattle.acc_vm.specs.Codes.{SameShape, run_of};
 ghost use Rattle.program_codes.specs.Codes.{stack_words};
 
 use acc_vm::{Code, Own, Shared};
-use block_walk::{Cells, Stop};
+use plant_cells::{Cells, Stop};
 use std::alloc::{AllocError, Global};
 use std::marker::Model;
 
@@ -54,7 +53,7 @@ pub fn run_code_counted(
     requires room { code.now.stack ≤ stack_words }
     ensures ran { (names : List Path) → run_of moment names code.now cells.old ≡ Over (ended names result.0 cells.new) (4 * code.now.cost + 4 - result.1) }
     ensures count { result.1 ≤ 4 * code.now.cost + 4 }
-    ensures path { IfErr result.0 (λ stop. stop.path < code.now.paths) }
+    ensures path { IfErr result.0 (λ stop. stop.place.path < code.now.paths) }
     ensures shape { SameShape cells.new cells.old }
 {
     let mut own = Own {

@@ -9,7 +9,8 @@ use block_frames::{
     instances_have_numbers, typed_names_are_known, variables_have_numbers,
 };
 use block_order::{one_order_fault, sound_or_not};
-use block_walk::{called_clock, frame_runs_its_body, seats_lie_apart};
+use block_walk::{frame_runs_its_body, seats_lie_apart};
+use plant_cells::called_clock;
 use plant_config::{accepted_or_refused, one_plant, one_refusal};
 use plant_limits::block_type_counts;
 use plant_logic::{

@@ -5,7 +5,7 @@ ghost use Rattle.std.specs.List.{prefix_len};
 ghost use Rattle.st_lexer.specs.Bytes.{begins_by, is_blank, is_tied, stands_apart, first_of};
 
 /// The kind of piece that a first byte begins.
-#[derive(Clone, Copy, Debug, PartialEq, Eq, Drop)]
+#[derive(Clone, Copy, Drop)]
 pub enum First {
     Blank,
     Letter,

@@ -10,7 +10,7 @@ use crate::numbers::{begins_by_digit, parse_number};
 use plant_types::same_word;
 
 /// A unit of time; the longest comes first.
-#[derive(Clone, Copy, Debug, PartialEq, Eq, Drop)]
+#[derive(Clone, Copy, Drop)]
 pub enum TimeUnit {
     Day,
     Hour,
@@ -32,7 +32,7 @@ pub const UNITS: [TimeUnit; 5] = [
 const DECIMAL_SCALE: u64 = 10_000_000_000;
 
 /// The number of a part: its digits before a point, and those after it as a multiple of 10 ^ -10.
-#[derive(Clone, Copy, Debug, PartialEq, Eq, Drop)]
+#[derive(Clone, Copy, Drop)]
 pub struct Number {
     pub whole: u64,
     pub decimals: u64,

@@ -11,7 +11,7 @@ use crate::token::Token;
 use std::alloc::{AllocFailed, Global};
 
 /// Why a text has no tokens.
-#[derive(Clone, Copy, Debug, PartialEq, Eq, Drop)]
+#[derive(Clone, Copy, Drop)]
 pub enum LexFault {
     /// Memory was refused.
     Memory,

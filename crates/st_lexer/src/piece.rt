@@ -3,7 +3,7 @@
 use crate::token::TokenKind;
 
 /// A piece of a text: a separator or a token.
-#[derive(Clone, Copy, Debug, PartialEq, Eq, Drop)]
+#[derive(Clone, Copy, Drop)]
 pub enum Piece {
     /// One space, tab, line feed, form feed or carriage return.
     Blank,

@@ -105,7 +105,7 @@ pub enum TokenKind {
 }
 
 /// A token: its kind, and its bytes in the text, from `from` to before `until`.
-#[derive(Clone, Copy, Debug, PartialEq, Eq, Drop)]
+#[derive(Clone, Copy, Drop)]
 pub struct Token {
     pub kind: TokenKind,
     pub from: usize,

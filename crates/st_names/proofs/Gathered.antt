@@ -4,10 +4,10 @@ use Rattle.std.proofs.lemmas.List.{map-append, drop_more}
 use Rattle.std.specs.Prelude.{filter}
 use Rattle.st_parser.specs.declared.unit.SectionKind.{SectionKind}
 use Rattle.st_parser.specs.declared.unit.SectionKind.TheVariants as section
-use Rattle.st_parser.specs.Units.{PlainUnit, view_section, view_pou, view_unit}
+use Rattle.st_parser.specs.Units.{PlainUnit, view_unit}
 use Rattle.st_parser.specs.declared.unit.Unit.{Unit}
 use Rattle.st_names.specs.DeclaredNames.{PlainDeclared, declared_in}
-use Rattle.st_names.specs.Shared.{global, pou, shared_in}
+use Rattle.st_names.specs.Shared.{global, pou, shared_by, shared_in}
 use Rattle.st_names.specs.BlockTypes.{member_of, is_input_section, is_output_section}
 use Rattle.st_names.specs.Tables.{with_entry, with_entries}
 use Rattle.st_names.specs.Kept.{member_entry, shared_entry, with_member, with_members}
@@ -19,15 +19,12 @@ with_entries_on es [] ys = refl
 with_entries_on es (x ∷ xs) ys = with_entries_on (with_entry es x) xs ys
 
 -- the entries of a source, added in two steps
-unit_added : (table : List (List ℕ × Named)) (unit : PlainUnit) (units : List PlainUnit)
-    → with_entries table (map shared_entry (shared_in (unit ∷ units))) ≡ with_entries (with_entries (with_entries table (map shared_entry (map global (declared_in unit.globals)))) (map shared_entry (map pou unit.pous))) (map shared_entry (shared_in units))
-unit_added table unit units =
+pub unit_added : (table : List (List ℕ × Named)) (unit : PlainUnit)
+    → with_entries table (map shared_entry (shared_by unit)) ≡ with_entries (with_entries table (map shared_entry (map global (declared_in unit.globals)))) (map shared_entry (map pou unit.pous))
+unit_added table unit =
     let globals = map global (declared_in unit.globals) in
     let pous = map pou unit.pous in
-    let whole : map shared_entry ((globals ++ pous) ++ shared_in units) ≡ (map shared_entry globals ++ map shared_entry pous) ++ map shared_entry (shared_in units)
-    = map-append shared_entry (globals ++ pous) (shared_in units) ∙ ap (λ es. es ++ map shared_entry (shared_in units)) (map-append shared_entry globals pous) in
-    ap (with_entries table) whole ∙ with_entries_on table (map shared_entry globals ++ map shared_entry pous) (map shared_entry (shared_in units))
-    ∙ ap (λ t. with_entries t (map shared_entry (shared_in units))) (with_entries_on table (map shared_entry globals) (map shared_entry pous))
+    ap (with_entries table) (map-append shared_entry globals pous) ∙ with_entries_on table (map shared_entry globals) (map shared_entry pous)
 
 abbrev folded : Members → List PlainDeclared → Members
 folded m ds =
@@ -48,14 +45,15 @@ pub members_folded : (m : Members) (ds : List PlainDeclared) → with_members m 
 members_folded m [] = refl
 members_folded m (d ∷ ds) = members_folded (with_member m d) ds ∙ folded_next d.section m d ds refl
 
--- the next source's entries, which are added in two steps
-pub unit_on : (units : List Unit) (i : ℕ) (u : Unit) (table with_globals next whole : List (List ℕ × Named)) → i < length units → u ≡ get_or units i u
+-- the next source's entries
+pub unit_on : (units : List Unit) (i : ℕ) (u : Unit) (table next whole : List (List ℕ × Named)) → i < length units → u ≡ get_or units i u
     → with_entries table (map shared_entry (shared_in (map view_unit (drop i units)))) ≡ whole
-    → with_globals ≡ with_entries table (map shared_entry (map global (declared_in (map view_section u.globals.items))))
-    → next ≡ with_entries with_globals (map shared_entry (map pou (map view_pou u.pous.items)))
+    → next ≡ with_entries table (map shared_entry (shared_by (view_unit u)))
     → with_entries next (map shared_entry (shared_in (map view_unit (drop (i + 1) units)))) ≡ whole
-unit_on units i u table with_globals next whole within is were globals_are pous_are =
+unit_on units i u table next whole within is were next_is =
     let rest = map view_unit (drop (i + 1) units) in
+    let own = shared_by (view_unit u) in
     let split : drop i units ≡ u ∷ drop (i + 1) units = drop_more units i u within ∙ ap (λ (x : Unit). x ∷ drop (i + 1) units) (sym is) in
-    ap (λ t. with_entries t (map shared_entry (shared_in rest))) (pous_are ∙ ap (λ t. with_entries t (map shared_entry (map pou (map view_pou u.pous.items)))) globals_are)
-    ∙ sym (unit_added table (view_unit u) rest) ∙ ap (λ us. with_entries table (map shared_entry (shared_in (map view_unit us)))) (sym split) ∙ were
+    let both : with_entries table (map shared_entry (own ++ shared_in rest)) ≡ with_entries (with_entries table (map shared_entry own)) (map shared_entry (shared_in rest))
+    = ap (with_entries table) (map-append shared_entry own (shared_in rest)) ∙ with_entries_on table (map shared_entry own) (map shared_entry (shared_in rest)) in
+    ap (λ t. with_entries t (map shared_entry (shared_in rest))) next_is ∙ sym both ∙ ap (λ us. with_entries table (map shared_entry (shared_in (map view_unit us)))) (sym split) ∙ were

@@ -129,6 +129,24 @@ pub fn declared_in<'a>(
     Ok(list)
 }
 
+/// Appends the declarations of names that are not among these, letter case ignored, the first of each name. Fails if allocation fails.
+fn push_firsts<'a>(
+    alloc: Global,
+    firsts: &mut Vec<Declared<'a>>,
+    names: &mut Names,
+    list: &[Declared<'a>],
+) -> Result<(), AllocError>
+    ensures { IfOk result (λ _. firsts.new.items ≡ firsts.old.items ++ first_declared names.old list.now) }
+{
+    for declared in list {
+        let name = declared.name();
+        if names.add(alloc, name.as_str())? {
+            firsts.push(declared.copy())?;
+        }
+    }
+    Ok(())
+}
+
 /// The first declaration of each name, letter case ignored, in order of text. Fails if allocation fails.
 pub fn first_declared<'a>(
     alloc: Global,
@@ -138,11 +156,13 @@ pub fn first_declared<'a>(
 {
     let mut names = Names::new(alloc);
     let mut firsts = Vec::new(alloc);
-    for declared in list {
-        let name = declared.name();
-        if names.add(alloc, name.as_str())? {
-            firsts.push(declared.copy())?;
+    let pushed = push_firsts(alloc, &mut firsts, &mut names, list);
+    drop(names);
+    match pushed {
+        Ok(()) => Ok(firsts),
+        Err(refused) => {
+            drop(firsts);
+            Err(refused)
         }
     }
-    Ok(firsts)
 }

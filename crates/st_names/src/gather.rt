@@ -1,8 +1,9 @@
 //! Gathers what all sources share.
 
 ghost use Rattle.std.specs.Prelude.{◌≡◌, [], IfOk, map, filter};
-ghost use Rattle.st_parser.specs.Units.{view_pou, view_unit};
-ghost use Rattle.st_names.specs.Shared.{global, pou};
+ghost use Rattle.st_parser.specs.Units.{view_section, view_pou, view_unit};
+ghost use Rattle.st_names.specs.DeclaredNames.{declared_in, first_declared};
+ghost use Rattle.st_names.specs.Shared.{global, pou, shared_by, shared_in};
 ghost use Rattle.st_names.specs.BlockTypes.{members_in, member_of, is_input_section, is_output_section};
 ghost use Rattle.st_names.specs.Tables.{with_entry, with_entries};
 ghost use Rattle.st_names.specs.Kept.{member_entry, members_of, named_of, shared_entry, shared_entries, with_member, with_members};
@@ -10,7 +11,7 @@ ghost use Rattle.st_names.specs.Kept.{member_entry, members_of, named_of, shared
 use crate::declared::{Declared, declared_in, first_declared};
 use crate::named::{Members, Named, sort_kind};
 use crate::table::Table;
-use st_parser::{Pou, PouKind, SectionKind, Unit};
+use st_parser::{Pou, PouKind, Section, SectionKind, Unit};
 use std::alloc::{AllocError, Global};
 
 /// Adds an input or an output to those of a block; what is neither adds nothing. Fails if allocation fails.
@@ -50,6 +51,30 @@ fn add_members(
     Ok(())
 }
 
+/// The first declaration of each name that sections declare. Fails if allocation fails.
+fn firsts_in<'a>(alloc: Global, sections: &'a [Section]) -> Result<Vec<Declared<'a>>, AllocError>
+    ensures { IfOk result (λ firsts. firsts.items ≡ first_declared [] (declared_in (map view_section sections.now))) }
+{
+    let all = declared_in(alloc, sections)?;
+    let firsts = first_declared(alloc, &all);
+    drop(all);
+    firsts
+}
+
+/// Adds what sections declare first as an input or an output. Fails if allocation fails.
+fn add_declared(
+    alloc: Global,
+    members: &mut Members,
+    sections: &[Section],
+) -> Result<(), AllocError>
+    ensures { IfOk result (λ _. members.new ≡ with_members members.old (first_declared [] (declared_in (map view_section sections.now)))) }
+{
+    let firsts = firsts_in(alloc, sections)?;
+    let added = add_members(alloc, members, &firsts);
+    drop(firsts);
+    added
+}
+
 /// The inputs and outputs of a block: what it declares first as such. Fails if allocation fails.
 fn members_of(alloc: Global, block: &Pou) -> Result<Members, AllocError>
     ensures { IfOk result (λ members. members ≡ members_of (view_pou block.now)) }
@@ -58,10 +83,13 @@ fn members_of(alloc: Global, block: &Pou) -> Result<Members, AllocError>
         inputs: Table::new(alloc),
         outputs: Table::new(alloc),
     };
-    let all = declared_in(alloc, &block.sections)?;
-    let list = first_declared(alloc, &all)?;
-    add_members(alloc, &mut members, &list)?;
-    Ok(members)
+    match add_declared(alloc, &mut members, &block.sections) {
+        Ok(()) => Ok(members),
+        Err(refused) => {
+            drop(members);
+            Err(refused)
+        }
+    }
 }
 
 /// What the name of a block or program stands for. Fails if allocation fails.
@@ -99,15 +127,46 @@ fn add_pous<'a>(alloc: Global, table: &mut Table<Named<'a>>, pous: &[Pou]) -> Re
     Ok(())
 }
 
+/// Adds what a source shares. Fails if allocation fails.
+fn add_unit<'a>(
+    alloc: Global,
+    table: &mut Table<Named<'a>>,
+    unit: &'a Unit,
+) -> Result<(), AllocError>
+    ensures { IfOk result (λ _. table.new ≡ with_entries table.old (map shared_entry (shared_by (view_unit unit.now)))) }
+{
+    let globals = declared_in(alloc, &unit.globals)?;
+    let added = add_globals(alloc, table, &globals);
+    drop(globals);
+    added?;
+    add_pous(alloc, table, &unit.pous)?;
+    Ok(())
+}
+
+/// Adds what sources share. Fails if allocation fails.
+fn add_units<'a>(
+    alloc: Global,
+    table: &mut Table<Named<'a>>,
+    units: &'a [Unit],
+) -> Result<(), AllocError>
+    ensures { IfOk result (λ _. table.new ≡ with_entries table.old (map shared_entry (shared_in (map view_unit units.now)))) }
+{
+    for unit in units {
+        add_unit(alloc, table, unit)?;
+    }
+    Ok(())
+}
+
 /// The first declaration of each name that sources share. Fails if allocation fails.
 pub fn shared_entries<'a>(alloc: Global, units: &'a [Unit]) -> Result<Table<Named<'a>>, AllocError>
     ensures { IfOk result (λ table. table ≡ shared_entries (map view_unit units.now)) }
 {
     let mut table = Table::new(alloc);
-    for unit in units {
-        let globals = declared_in(alloc, &unit.globals)?;
-        add_globals(alloc, &mut table, &globals)?;
-        add_pous(alloc, &mut table, &unit.pous)?;
+    match add_units(alloc, &mut table, units) {
+        Ok(()) => Ok(table),
+        Err(refused) => {
+            drop(table);
+            Err(refused)
+        }
     }
-    Ok(table)
 }

@@ -2,6 +2,7 @@
 
 ghost use Rattle.std.specs.Prelude.{◌≡◌, IfOk, map};
 ghost use Rattle.st_parser.specs.Units.{view_section, view_pou};
+ghost use Rattle.st_names.specs.DeclaredNames.{declared_in};
 ghost use Rattle.st_names.specs.Known.{globals_misnamed, pou_misnamed};
 ghost use Rattle.st_names.specs.Faults.{is_earlier_pou, is_earlier, earlier, first_misnamed};
 
@@ -24,7 +25,24 @@ fn globals_misnamed(
     ensures { IfOk result (λ misnamed. misnamed ≡ globals_misnamed shared.now (map view_section sections.now)) }
 {
     let scope = BodyScope::new(alloc, shared, &[])?;
-    Ok(!sections_known(&scope, sections))
+    let known = sections_known(&scope, sections);
+    drop(scope);
+    Ok(!known)
+}
+
+/// Whether a block or program of these names declares a name twice, or names what isn't there. Fails if allocation fails.
+fn is_misnamed(alloc: Global, scope: &BodyScope<'_>, pou: &Pou) -> Result<bool, AllocError>
+    requires { scope.now.own ≡ declared_in (map view_section pou.now.sections.items) }
+    ensures { IfOk result (λ misnamed. misnamed ≡ pou_misnamed scope.now.units (view_pou pou.now)) }
+{
+    if repeats(alloc, scope.declared())? {
+        return Ok(true);
+    }
+    if !sections_known(scope, &pou.sections) {
+        return Ok(true);
+    }
+    let known = body_known(alloc, scope, &pou.body)?;
+    Ok(!known)
 }
 
 /// Whether a block or program declares a name twice, or names what isn't there. Fails if allocation fails.
@@ -32,14 +50,9 @@ fn pou_misnamed(alloc: Global, shared: &SharedNames<'_>, pou: &Pou) -> Result<bo
     ensures { IfOk result (λ misnamed. misnamed ≡ pou_misnamed shared.now (view_pou pou.now)) }
 {
     let scope = BodyScope::new(alloc, shared, &pou.sections)?;
-    if repeats(alloc, scope.declared())? {
-        return Ok(true);
-    }
-    if !sections_known(&scope, &pou.sections) {
-        return Ok(true);
-    }
-    let known = body_known(alloc, &scope, &pou.body)?;
-    Ok(!known)
+    let misnamed = is_misnamed(alloc, &scope, pou);
+    drop(scope);
+    misnamed
 }
 
 /// Judges units by their names.

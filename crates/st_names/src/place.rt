@@ -1,7 +1,7 @@
 //! Where a fault of names or kinds is reported.
 
 /// A unit: the globals of a source, or one of its function blocks and programs.
-#[derive(Clone, Copy, PartialEq, Eq, Debug, Drop)]
+#[derive(Clone, Copy, Drop)]
 pub struct UnitPlace {
     /// The source, counted from 0.
     pub source: usize,

@@ -11,7 +11,7 @@ use Rattle.st_parser.specs.Phrases.{Each, Perhaps, After}
 use Rattle.st_parser.specs.Grammar.{IsExpression}
 use Rattle.st_parser.specs.Statements.{IsArgument, for_input, for_output, Arguments, none, some, IsNumber, plain, negative, IsLabel, range, IsBranch, test, IsChoice, labelled, Otherwise, nothing, instead, Statement, bare, assignment, calling, branching, selecting, repeating, Ended, ended, Sequence, sequence, SpellsStmt, IsBody}
 use Rattle.st_parser.specs.Reading.{word_at, is_symbol, is_keyword, symbol_at, keyword_at, all_at, perhaps_at, after_symbol, after_keyword, listed_at, expression_at}
-use Rattle.st_parser.specs.ReadingStatements.{taken_at, given_at, called_at, assigned_at, argued_at, argument_at, arguments_at, negative_at, number_at, label_at, is_label, is_statement, simple_at, branch_at, choice_at, otherwise_at, branches_at, choices_at, if_at, case_at, bounds_at, for_at, stmt_at, ended_at, as_body, item_at, sequence_at, body_at}
+use Rattle.st_parser.specs.ReadingStatements.{taken_at, given_at, called_at, assigned_at, argued_at, argument_at, arguments_at, negative_at, number_at, label_at, is_label, is_statement, simple_at, branch_at, choice_at, otherwise_at, branches_at, choices_at, if_at, case_at, bounds_at, header_at, for_at, stmt_at, ended_at, as_body, item_at, sequence_at, body_at}
 use Rattle.st_parser.proofs.Many.{Front, Finds, turned, with_first_some, all_found, perhaps_found, after_symbol_found, after_keyword_found, listed_found, three_parts}
 use Rattle.st_parser.proofs.Sound.{expression_found}
 use Rattle.st_parser.proofs.Steps.{true_or_false, bind_some, same_some, passed, word_found, symbol_found, keyword_found, next_is_symbol, next_is_keyword}
@@ -141,10 +141,43 @@ bounds_found ts all rest h =
     } in
     subst (λ (r : (PlainExpr (List ℕ) × PlainExpr (List ℕ) × Option (PlainExpr (List ℕ))) × List Lexeme). Bounds ts r.0 r.1) (same_some _ _ is) here
 
-for_whole : (name : List ℕ) (f t b g ts n right v again w left : List Lexeme) → ts ≡ word name ∷ n → n ≡ symbol s.Becomes ∷ right → right ≡ f ++ keyword k.To ∷ (t ++ (b ++ v)) → v ≡ keyword k.Do ∷ again → again ≡ g ++ w → w ≡ keyword k.EndFor ∷ left
+-- what stands before the statements of a FOR, where it is spelled
+record Header (ts : List Lexeme) (all : List ℕ × (PlainExpr (List ℕ) × PlainExpr (List ℕ) × Option (PlainExpr (List ℕ)))) (rest : List Lexeme) : Type 0 where
+  pub w : List Lexeme
+  pub x : List Lexeme
+  pub y : List Lexeme
+  pub whole : ts ≡ word all.0 ∷ symbol s.Becomes ∷ (w ++ keyword k.To ∷ (x ++ (y ++ keyword k.Do ∷ rest)))
+  pub is_from : IsExpression w all.1.0
+  pub is_to : IsExpression x all.1.1
+  pub is_by : Perhaps (After (keyword k.By) IsExpression) y all.1.2
+
+header_whole : (name : List ℕ) (f t b ts n right v rest : List Lexeme) → ts ≡ word name ∷ n → n ≡ symbol s.Becomes ∷ right → right ≡ f ++ keyword k.To ∷ (t ++ (b ++ v)) → v ≡ keyword k.Do ∷ rest
+    → ts ≡ word name ∷ symbol s.Becomes ∷ (f ++ keyword k.To ∷ (t ++ (b ++ keyword k.Do ∷ rest)))
+header_whole name f t b ts n right v rest e0 e1 e2 e3 = rw (e0, e1, e2, e3) refl
+
+header_found : (ts : List Lexeme) (all : List ℕ × (PlainExpr (List ℕ) × PlainExpr (List ℕ) × Option (PlainExpr (List ℕ)))) (rest : List Lexeme) → header_at ts ≡ Some (all, rest) → Header ts all rest
+unfolding header_at
+header_found ts all rest h =
+    let (name, was_name, h1) = bind_some (word_at ts) _ (all, rest) h in
+    let (right, was_right, h2) = bind_some (symbol_at s.Becomes name.1) _ (all, rest) h1 in
+    let (bounds, was_bounds, h3) = bind_some (bounds_at right) _ (all, rest) h2 in
+    let (left, was_left, is) = bind_some (keyword_at k.Do bounds.1) _ (all, rest) h3 in
+    let b = bounds_found right bounds.0 bounds.1 was_bounds in
+    let here : Header ts (name.0, bounds.0) left = record {
+      w = b.w;
+      x = b.x;
+      y = b.y;
+      whole = header_whole name.0 b.w b.x b.y ts name.1 right bounds.1 left (word_found ts name was_name) (symbol_found s.Becomes name.1 right was_right) b.whole (keyword_found k.Do bounds.1 left was_left);
+      is_from = b.is_from;
+      is_to = b.is_to;
+      is_by = b.is_by;
+    } in
+    subst (λ (r : (List ℕ × (PlainExpr (List ℕ) × PlainExpr (List ℕ) × Option (PlainExpr (List ℕ)))) × List Lexeme). Header ts r.0 r.1) (same_some _ _ is) here
+
+for_whole : (name : List ℕ) (f t b g ts again w left : List Lexeme) → ts ≡ word name ∷ symbol s.Becomes ∷ (f ++ keyword k.To ∷ (t ++ (b ++ keyword k.Do ∷ again))) → again ≡ g ++ w → w ≡ keyword k.EndFor ∷ left
     → keyword k.For ∷ ts ≡ (keyword k.For ∷ word name ∷ symbol s.Becomes ∷ (f ++ keyword k.To ∷ (t ++ (b ++ keyword k.Do ∷ (g ++ keyword k.EndFor ∷ []))))) ++ left
-for_whole name f t b g ts n right v again w left e0 e1 e2 e3 e4 e5 =
-    rw (e0, e1, e2, e3, e4, e5, append_assoc f (keyword k.To ∷ (t ++ (b ++ keyword k.Do ∷ (g ++ keyword k.EndFor ∷ [])))) left, append_assoc t (b ++ keyword k.Do ∷ (g ++ keyword k.EndFor ∷ [])) left, append_assoc b (keyword k.Do ∷ (g ++ keyword k.EndFor ∷ [])) left, append_assoc g (keyword k.EndFor ∷ []) left) refl
+for_whole name f t b g ts again w left e0 e1 e2 =
+    rw (e0, e1, e2, append_assoc f (keyword k.To ∷ (t ++ (b ++ keyword k.Do ∷ (g ++ keyword k.EndFor ∷ [])))) left, append_assoc t (b ++ keyword k.Do ∷ (g ++ keyword k.EndFor ∷ [])) left, append_assoc b (keyword k.Do ∷ (g ++ keyword k.EndFor ∷ [])) left, append_assoc g (keyword k.EndFor ∷ []) left) refl
 
 case_whole : (d x y o ts r inside u w left : List Lexeme) → ts ≡ d ++ r → r ≡ keyword k.Of ∷ inside → inside ≡ x ++ (y ++ u) → u ≡ o ++ w → w ≡ keyword k.EndCase ∷ left
     → keyword k.Case ∷ ts ≡ (keyword k.Case ∷ (d ++ keyword k.Of ∷ (x ++ (y ++ (o ++ keyword k.EndCase ∷ []))))) ++ left
@@ -266,22 +299,16 @@ module _ (P : List Lexeme → PlainBody (List ℕ) → Type 0) (inner : List Lex
   for_found : (ts : List Lexeme) (stmt : PlainStmt (List ℕ)) (rest : List Lexeme) → for_at inner ts ≡ Some (stmt, rest) → Front (Statement P) (keyword k.For ∷ ts) stmt rest
   unfolding for_at
   for_found ts stmt rest h =
-      let (name, was_name, h0) = bind_some (word_at ts) _ (stmt, rest) h in
-      let (right, was_right, h1) = bind_some (symbol_at s.Becomes name.1) _ (stmt, rest) h0 in
-      let (bounds, was_bounds, h2) = bind_some (bounds_at right) _ (stmt, rest) h1 in
-      let (again, was_again, h3) = bind_some (keyword_at k.Do bounds.1) _ (stmt, rest) h2 in
-      let (body, was_body, h4) = bind_some (inner again) _ (stmt, rest) h3 in
-      let (left, was_left, is) = bind_some (keyword_at k.EndFor body.1) _ (stmt, rest) h4 in
-      let e0 = word_found ts name was_name in
-      let e1 = symbol_found s.Becomes name.1 right was_right in
-      let b = bounds_found right bounds.0 bounds.1 was_bounds in
-      let e3 = keyword_found k.Do bounds.1 again was_again in
-      let g = finds again body.0 body.1 was_body in
+      let (header, was_header, h1) = bind_some (header_at ts) _ (stmt, rest) h in
+      let (body, was_body, h2) = bind_some (inner header.1) _ (stmt, rest) h1 in
+      let (left, was_left, is) = bind_some (keyword_at k.EndFor body.1) _ (stmt, rest) h2 in
+      let b = header_found ts header.0 header.1 was_header in
+      let g = finds header.1 body.0 body.1 was_body in
       let e4 = keyword_found k.EndFor body.1 left was_left in
-      turned (Statement P) (keyword k.For ∷ ts) (repeat 0 name.0 bounds.0.0 bounds.0.1 bounds.0.2 body.0, left) (stmt, rest) is record {
-        front = keyword k.For ∷ word name.0 ∷ symbol s.Becomes ∷ (b.w ++ keyword k.To ∷ (b.x ++ (b.y ++ keyword k.Do ∷ (g.front ++ keyword k.EndFor ∷ []))));
-        whole = for_whole name.0 b.w b.x b.y g.front ts name.1 right bounds.1 again body.1 left e0 e1 b.whole e3 g.whole e4;
-        spelled = repeating name.0 bounds.0.0 bounds.0.1 bounds.0.2 body.0 b.w b.x b.y g.front b.is_from b.is_to b.is_by g.spelled refl refl;
+      turned (Statement P) (keyword k.For ∷ ts) (repeat 0 header.0.0 header.0.1.0 header.0.1.1 header.0.1.2 body.0, left) (stmt, rest) is record {
+        front = keyword k.For ∷ word header.0.0 ∷ symbol s.Becomes ∷ (b.w ++ keyword k.To ∷ (b.x ++ (b.y ++ keyword k.Do ∷ (g.front ++ keyword k.EndFor ∷ []))));
+        whole = for_whole header.0.0 b.w b.x b.y g.front ts header.1 body.1 left b.whole g.whole e4;
+        spelled = repeating header.0.0 header.0.1.0 header.0.1.1 header.0.1.2 body.0 b.w b.x b.y g.front b.is_from b.is_to b.is_by g.spelled refl refl;
       }
 
   called_found : (name : List ℕ) (ts : List Lexeme) (stmt : PlainStmt (List ℕ)) (rest : List Lexeme) → called_at name ts ≡ Some (stmt, rest) → Front (Statement P) (word name ∷ symbol s.Open ∷ ts) stmt rest

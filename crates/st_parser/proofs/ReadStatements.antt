@@ -11,7 +11,7 @@ use Rattle.st_parser.specs.Phrases.{Each, Perhaps, absent, present, After, after
 use Rattle.st_parser.specs.Grammar.{IsExpression}
 use Rattle.st_parser.specs.Statements.{IsArgument, for_input, for_output, Arguments, none, some, IsNumber, plain, negative, IsLabel, range, IsBranch, test, IsChoice, labelled, Otherwise, nothing, instead, Statement, bare, assignment, calling, branching, selecting, repeating, Ended, ended, Sequence, sequence, SpellsStmt, IsBody}
 use Rattle.st_parser.specs.Reading.{is_symbol, is_keyword, after_symbol, after_keyword, expression_at}
-use Rattle.st_parser.specs.ReadingStatements.{called_at, assigned_at, argued_at, argument_at, arguments_at, number_at, label_at, is_label, is_statement, simple_at, branch_at, choice_at, otherwise_at, branches_at, choices_at, if_at, case_at, bounds_at, for_at, stmt_at, ended_at, as_body, item_at, sequence_at, body_at}
+use Rattle.st_parser.specs.ReadingStatements.{called_at, assigned_at, argued_at, argument_at, arguments_at, number_at, label_at, is_label, is_statement, simple_at, branch_at, choice_at, otherwise_at, branches_at, choices_at, if_at, case_at, bounds_at, header_at, for_at, stmt_at, ended_at, as_body, item_at, sequence_at, body_at}
 use Rattle.st_parser.proofs.Complete.{ends, expression_read}
 use Rattle.st_parser.proofs.Many.{Reads, Begins, may_follow, all_read, perhaps_read, after_symbol_read, after_keyword_read, symbol_next, keyword_next, after_keyword_begins, listed_read, three_parts}
 
@@ -156,7 +156,7 @@ module _ (P : List Lexeme → PlainBody (List ℕ) → Type 0) (inner : List Lex
 
   for_read : (name : List ℕ) (w x y z rest : List Lexeme) (from to : PlainExpr (List ℕ)) (by : Option (PlainExpr (List ℕ))) (body : PlainBody (List ℕ)) → IsExpression w from → IsExpression x to → Perhaps (After (keyword k.By) IsExpression) y by → P z body
       → for_at inner (word name ∷ symbol s.Becomes ∷ (w ++ keyword k.To ∷ (x ++ (y ++ keyword k.Do ∷ (z ++ keyword k.EndFor ∷ rest))))) ≡ Some (repeat 0 name from to by body, rest)
-  unfolding for_at bounds_at
+  unfolding for_at header_at bounds_at
   for_read name w x y z rest from to by body is_from is_to is_by is_body =
       let after_do = keyword k.Do ∷ (z ++ keyword k.EndFor ∷ rest) in
       let step = perhaps_read (After (keyword k.By) IsExpression) (is_keyword k.By) ends (after_keyword k.By expression_at) (after_keyword_read IsExpression ends expression_at k.By (λ x rest e p h. expression_read x rest e p h)) (keyword_next IsExpression ends expression_at k.By) by y after_do is_by refl refl in

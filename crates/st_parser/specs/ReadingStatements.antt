@@ -73,6 +73,10 @@ simple_at name ts = if is_symbol s.Open ts then called_at name (drop 1 ts) else 
 unfoldable pub bounds_at : List Lexeme → Option ((PlainExpr (List ℕ) × PlainExpr (List ℕ) × Option (PlainExpr (List ℕ))) × List Lexeme)
 bounds_at ts = expression_at ts >>= λ from. keyword_at k.To from.1 >>= λ up. expression_at up >>= λ to. perhaps_at (is_keyword k.By) (after_keyword k.By expression_at) to.1 >>= λ by. Some ((from.0, to.0, by.0), by.1)
 
+-- what stands after FOR and before its statements
+unfoldable pub header_at : List Lexeme → Option ((List ℕ × (PlainExpr (List ℕ) × PlainExpr (List ℕ) × Option (PlainExpr (List ℕ)))) × List Lexeme)
+header_at ts = word_at ts >>= λ name. symbol_at s.Becomes name.1 >>= λ right. bounds_at right >>= λ bounds. keyword_at k.Do bounds.1 >>= λ rest. Some ((name.0, bounds.0), rest)
+
 -- inner finds a list of inner statements
 module _ (inner : List Lexeme → Option (PlainBody (List ℕ) × List Lexeme)) where
   unfoldable pub branch_at : List Lexeme → Option ((PlainExpr (List ℕ) × PlainBody (List ℕ)) × List Lexeme)
@@ -104,9 +108,7 @@ module _ (inner : List Lexeme → Option (PlainBody (List ℕ) × List Lexeme)) 
 
   -- after FOR
   unfoldable pub for_at : List Lexeme → Option (PlainStmt (List ℕ) × List Lexeme)
-  for_at ts =
-      word_at ts >>= λ name. symbol_at s.Becomes name.1 >>= λ right. bounds_at right >>= λ bounds. keyword_at k.Do bounds.1 >>= λ again. inner again >>= λ body. keyword_at k.EndFor body.1 >>= λ rest.
-      Some (repeat 0 name.0 bounds.0.0 bounds.0.1 bounds.0.2 body.0, rest)
+  for_at ts = header_at ts >>= λ h. inner h.1 >>= λ body. keyword_at k.EndFor body.1 >>= λ rest. Some (repeat 0 h.0.0 h.0.1.0 h.0.1.1 h.0.1.2 body.0, rest)
 
   unfoldable pub stmt_at : List Lexeme → Option (PlainStmt (List ℕ) × List Lexeme)
   stmt_at (word name ∷ ts) = simple_at name ts

@@ -2,7 +2,7 @@
 
 ghost use Rattle.std.specs.Prelude.{◌≡◌, IfOk, Some, None, drop, ◌+◌, ◌-◌, ◌≤◌, ◌<◌, pos};
 ghost use Rattle.std.proofs.Common.{neg_ℤ};
-ghost use Rattle.st_tree.specs.Plain.{literal};
+ghost use Rattle.st_tree.specs.Plain.{literal, binary};
 ghost use Rattle.st_tree.specs.View.{view_expr};
 ghost use Rattle.st_parser.specs.Grammar.{level_of, top, in_parentheses};
 ghost use Rattle.st_parser.specs.Outcome.{Returns};
@@ -13,7 +13,7 @@ use crate::reader::Reader;
 use plant_types::{Text, Value};
 use st_lexer::{Keyword, Symbol, TokenKind};
 use st_tree::{Binary, Expr, Literal, Unary};
-use std::alloc::Global;
+use std::alloc::{AllocError, Global};
 
 /// How deep an expression may be (this profile).
 const DEPTH: u32 = 128;
@@ -172,7 +172,7 @@ fn operand(alloc: Global, deeper: u32, reader: &mut Reader) -> Result<(Expr<Text
         Some(TokenKind::Symbol(Symbol::Open)) if deeper > 0 => {
             reader.advance();
             let (inner, depth) = climb(alloc, deeper, 0, reader)?;
-            reader.symbol(Symbol::Close)?;
+            let inner = reader.symbol_after(inner, Symbol::Close)?;
             Ok((in_parentheses(inner), depth + 1))
         }
         _ => Err(reader.stop()),
@@ -228,6 +228,30 @@ fn prefixed(
     Ok((Expr::Unary(op, Box::new(alloc, inner)?), depth + 1))
 }
 
+/// An operator between its operands.
+fn joined(
+    alloc: Global,
+    op: Binary,
+    left: Expr<Text>,
+    right: Expr<Text>,
+) -> Result<Expr<Text>, AllocError>
+    ensures { IfOk result (λ e. view_expr e ≡ binary op (view_expr left) (view_expr right)) }
+{
+    match Box::new(alloc, left) {
+        Ok(left) => match Box::new(alloc, right) {
+            Ok(right) => Ok(Expr::Binary(op, left, right)),
+            Err(failed) => {
+                drop(left);
+                Err(AllocError::from(failed))
+            }
+        },
+        Err(failed) => {
+            drop(right);
+            Err(AllocError::from(failed))
+        }
+    }
+}
+
 /// Parses the operators after an expression and their right operands, and groups them from the left.
 #[cycle(expr)]
 fn chain(
@@ -251,12 +275,20 @@ fn chain(
             return Ok((left, depth));
         };
         if depth >= limit {
+            drop(left);
             return Err(reader.stop());
         }
         reader.advance();
-        let (right, right_depth) = climb(alloc, limit - 1, level(op) + 1, reader)?;
-        left = Expr::Binary(op, Box::new(alloc, left)?, Box::new(alloc, right)?);
+        let (right, right_depth) = match climb(alloc, limit - 1, level(op) + 1, reader) {
+            Ok(found) => found,
+            Err(stop) => {
+                drop(left);
+                return Err(stop);
+            }
+        };
+        left = joined(alloc, op, left, right)?;
         depth = depth.max(right_depth) + 1;
     }
+    drop(left);
     Err(reader.stop())
 }

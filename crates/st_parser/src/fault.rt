@@ -3,7 +3,7 @@
 use std::alloc::{AllocError, AllocFailed};
 
 /// Why tokens are not parsed as a unit.
-#[derive(Clone, Copy, Debug, PartialEq, Eq, Drop)]
+#[derive(Clone, Copy, Drop)]
 pub enum ParseFault {
     /// Memory was refused.
     Memory,
@@ -12,7 +12,7 @@ pub enum ParseFault {
 }
 
 /// Why parsing stops.
-#[derive(Clone, Copy, Debug, PartialEq, Eq, Drop)]
+#[derive(Clone, Copy, Drop)]
 pub enum Stop {
     /// Memory was refused.
     Memory,

@@ -1,6 +1,6 @@
 //! The tokens of a text that are not parsed yet.
 
-ghost use Rattle.std.specs.Prelude.{◌≡◌, ◌∷◌, [], length, drop, MatchOption};
+ghost use Rattle.std.specs.Prelude.{◌≡◌, ◌∷◌, [], length, drop, IfOk, MatchOption};
 ghost use Rattle.st_parser.specs.Lexemes.{lexemes, lexeme_of, first_name, slice_of};
 ghost use Rattle.st_parser.specs.Reading.{word_at, is_symbol, is_keyword, is_word, symbol_at, keyword_at};
 ghost use Rattle.st_parser.specs.Outcome.{Returns};
@@ -119,6 +119,24 @@ impl<'a> Reader<'a> {
         } else {
             Err(self.stop())
         }
+    }
+
+    /// Goes past this symbol, which stands after what was parsed, and returns that; lets it go and fails if another token is next.
+    pub fn symbol_after<T: Drop>(&mut self, parsed: T, wanted: Symbol) -> Result<T, Stop>
+        ensures read { Returns (λ _. self.new) result (symbol_at wanted self.old) }
+        ensures kept { IfOk result (λ kept. kept ≡ parsed) }
+    {
+        self.symbol(wanted)?;
+        Ok(parsed)
+    }
+
+    /// Goes past this keyword, which stands after what was parsed, and returns that; lets it go and fails if another token is next.
+    pub fn keyword_after<T: Drop>(&mut self, parsed: T, wanted: Keyword) -> Result<T, Stop>
+        ensures read { Returns (λ _. self.new) result (keyword_at wanted self.old) }
+        ensures kept { IfOk result (λ kept. kept ≡ parsed) }
+    {
+        self.keyword(wanted)?;
+        Ok(parsed)
     }
 
     /// Parses a word, and returns it as it is spelled.

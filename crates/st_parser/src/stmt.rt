@@ -3,7 +3,8 @@
 ghost use Rattle.std.specs.Prelude.{◌≡◌, ◌∷◌, [], map, ◌<◌};
 ghost use Rattle.st_parser.specs.Outcome.{Returns};
 ghost use Rattle.st_parser.specs.Reading.{all_at, with_first, perhaps_at, is_keyword, after_keyword, expression_at};
-ghost use Rattle.st_parser.specs.ReadingStatements.{assigned_at, called_at, simple_at, branch_at, branches_at, choice_at, choices_at, otherwise_at, if_at, case_at, bounds_at, for_at, stmt_at, item_at, sequence_at, body_at, is_statement, is_label};
+ghost use Rattle.st_parser.specs.ReadingStatements.{assigned_at, called_at, simple_at, branch_at, branches_at, choice_at, choices_at, otherwise_at, if_at, case_at, bounds_at, header_at, for_at, stmt_at, item_at, sequence_at, body_at, is_statement, is_label};
+ghost use Rattle.st_tree.specs.Plain.{repeat};
 ghost use Rattle.st_tree.specs.View.{view_expr, view_option, view_stmt, view_body, view_branch, view_choice};
 
 use crate::calls::arguments;
@@ -86,19 +87,31 @@ fn step(alloc: Global, reader: &mut Reader) -> Result<Option<Expr<Text>>, Stop>
     }
 }
 
+/// The first value, the bound and the step of a `FOR`.
+type Bounds = (Expr<Text>, Expr<Text>, Option<Expr<Text>>);
+
 /// Parses the first value, the bound and the step of a `FOR`.
 #[tactic(auto, unfolding(crate::specs::ReadingStatements::bounds_at))]
-fn bounds(
-    alloc: Global,
-    reader: &mut Reader,
-) -> Result<(Expr<Text>, Expr<Text>, Option<Expr<Text>>), Stop>
+fn bounds(alloc: Global, reader: &mut Reader) -> Result<Bounds, Stop>
     ensures { Returns (λ b. ((view_expr b.0, view_expr b.1, view_option b.2), reader.new)) result (bounds_at reader.old) }
 {
     let from = expression(alloc, reader)?;
-    reader.keyword(Keyword::To)?;
-    let to = expression(alloc, reader)?;
-    let by = step(alloc, reader)?;
-    Ok((from, to, by))
+    let from = reader.keyword_after(from, Keyword::To)?;
+    let to = match expression(alloc, reader) {
+        Ok(to) => to,
+        Err(stop) => {
+            drop(from);
+            return Err(stop);
+        }
+    };
+    match step(alloc, reader) {
+        Ok(by) => Ok((from, to, by)),
+        Err(stop) => {
+            drop(from);
+            drop(to);
+            Err(stop)
+        }
+    }
 }
 
 /// Parses statements that are at most `depth` deep, as many as there are.
@@ -130,7 +143,7 @@ fn item(alloc: Global, depth: u32, reader: &mut Reader) -> Result<Stmt<Text>, St
         return Err(reader.stop());
     }
     let stmt = statement(alloc, depth - 1, reader)?;
-    reader.symbol(Symbol::Semicolon)?;
+    let stmt = reader.symbol_after(stmt, Symbol::Semicolon)?;
     Ok(stmt)
 }
 
@@ -217,9 +230,14 @@ fn tested(alloc: Global, deeper: u32, reader: &mut Reader) -> Result<Branch<Text
     ensures { Returns (λ b. (view_branch b, reader.new)) result (branch_at (sequence_at deeper) reader.old) }
 {
     let test = expression(alloc, reader)?;
-    reader.keyword(Keyword::Then)?;
-    let body = body(alloc, deeper, reader)?;
-    Ok(Branch { test, body })
+    let test = reader.keyword_after(test, Keyword::Then)?;
+    match body(alloc, deeper, reader) {
+        Ok(body) => Ok(Branch { test, body }),
+        Err(stop) => {
+            drop(test);
+            Err(stop)
+        }
+    }
 }
 
 /// Parses `ELSE` and its statements, if it is next.
@@ -243,11 +261,26 @@ fn case_statement(alloc: Global, deeper: u32, reader: &mut Reader) -> Result<Stm
     ensures { Returns (λ s. (view_stmt s, reader.new)) result (case_at (sequence_at deeper) reader.old) }
 {
     let selector = expression(alloc, reader)?;
-    reader.keyword(Keyword::Of)?;
-    let choices = choices(alloc, deeper, reader)?;
-    let last = otherwise(alloc, deeper, reader)?;
-    reader.keyword(Keyword::EndCase)?;
-    Ok(Stmt::Case(0, selector, choices, last))
+    let selector = reader.keyword_after(selector, Keyword::Of)?;
+    let choices = match choices(alloc, deeper, reader) {
+        Ok(choices) => choices,
+        Err(stop) => {
+            drop(selector);
+            return Err(stop);
+        }
+    };
+    match otherwise(alloc, deeper, reader) {
+        Ok(last) => {
+            let stmt = Stmt::Case(0, selector, choices, last);
+            let stmt = reader.keyword_after(stmt, Keyword::EndCase)?;
+            Ok(stmt)
+        }
+        Err(stop) => {
+            drop(selector);
+            drop(choices);
+            Err(stop)
+        }
+    }
 }
 
 /// Parses the choices of a `CASE`.
@@ -297,24 +330,55 @@ fn labelled(alloc: Global, deeper: u32, reader: &mut Reader) -> Result<Choice<Te
     Ok(Choice { labels, body })
 }
 
+/// Parses what stands after `FOR` and before its statements.
+#[tactic(auto, unfolding(crate::specs::ReadingStatements::header_at))]
+fn header(alloc: Global, reader: &mut Reader) -> Result<(Text, Bounds), Stop>
+    ensures { Returns (λ h. ((h.0, (view_expr h.1.0, view_expr h.1.1, view_option h.1.2)), reader.new)) result (header_at reader.old) }
+{
+    let word = reader.word(alloc)?;
+    let word = reader.symbol_after(word, Symbol::Becomes)?;
+    match bounds(alloc, reader) {
+        Ok(bounds) => {
+            let header = reader.keyword_after((word, bounds), Keyword::Do)?;
+            Ok(header)
+        }
+        Err(stop) => {
+            drop(word);
+            Err(stop)
+        }
+    }
+}
+
+/// The `FOR` of a variable and bounds over these statements.
+fn for_of(header: (Text, Bounds), body: Vec<Stmt<Text>>) -> Stmt<Text>
+    ensures { view_stmt result ≡ repeat 0 header.0 (view_expr header.1.0) (view_expr header.1.1) (view_option header.1.2) (view_body body.items) }
+{
+    let (variable, (from, to, by)) = header;
+    Stmt::For {
+        number: 0,
+        variable,
+        from,
+        to,
+        by,
+        body,
+    }
+}
+
 /// Parses the rest of a statement after `FOR`.
 #[cycle(stmt)]
 #[tactic(auto, unfolding(crate::specs::ReadingStatements::for_at))]
 fn for_statement(alloc: Global, deeper: u32, reader: &mut Reader) -> Result<Stmt<Text>, Stop>
     ensures { Returns (λ s. (view_stmt s, reader.new)) result (for_at (sequence_at deeper) reader.old) }
 {
-    let word = reader.word(alloc)?;
-    reader.symbol(Symbol::Becomes)?;
-    let (from, to, by) = bounds(alloc, reader)?;
-    reader.keyword(Keyword::Do)?;
-    let body = body(alloc, deeper, reader)?;
-    reader.keyword(Keyword::EndFor)?;
-    Ok(Stmt::For {
-        number: 0,
-        variable: word,
-        from,
-        to,
-        by,
-        body,
-    })
+    let header = header(alloc, reader)?;
+    match body(alloc, deeper, reader) {
+        Ok(body) => {
+            let stmt = reader.keyword_after(for_of(header, body), Keyword::EndFor)?;
+            Ok(stmt)
+        }
+        Err(stop) => {
+            drop(header);
+            Err(stop)
+        }
+    }
 }

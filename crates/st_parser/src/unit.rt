@@ -23,7 +23,7 @@ pub struct Declaration {
 }
 
 /// What a section of declarations is for (IEC 61131-3).
-#[derive(Clone, Copy, PartialEq, Eq, Debug, Drop)]
+#[derive(Clone, Copy, Drop)]
 pub enum SectionKind {
     /// `VAR_GLOBAL`
     Global,
@@ -46,7 +46,7 @@ pub struct Section {
 }
 
 /// What a program organisation unit is (IEC 61131-3).
-#[derive(Clone, Copy, PartialEq, Eq, Debug, Drop)]
+#[derive(Clone, Copy, Drop)]
 pub enum PouKind {
     Block,
     Program,

@@ -6,7 +6,7 @@ ghost use Rattle.st_tree.specs.Controls.{count_in, control_values, span_of};
 use plant_types::Trap;
 
 /// The bounds and the step of a FOR.
-#[derive(Clone, Copy, PartialEq, Eq, Debug, Drop)]
+#[derive(Clone, Copy, Drop)]
 pub struct Span {
     pub from: i64,
     pub to: i64,

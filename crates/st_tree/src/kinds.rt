@@ -1,7 +1,7 @@
 //! The kinds of operands and of results.
 
 ghost use Rattle.std.specs.Prelude.{◌≡◌, true};
-ghost use Rattle.st_tree.specs.Kinds.{unary_kind, binary_kind, resolved_unary, resolved_binary, literal_kind, literal_in_range, literal_is_bit, is_bit};
+ghost use Rattle.st_tree.specs.Kinds.{unary_kind, binary_kind, unary_result, binary_result, resolved_unary, resolved_binary, literal_kind, literal_in_range, literal_is_bit, is_bit};
 ghost use Rattle.st_tree.specs.View.{view_expr};
 
 use crate::tree::{Binary, Expr, Literal, Unary};
@@ -70,6 +70,29 @@ pub fn binary_kind(op: Binary, a: Kind, b: Kind) -> Option<Kind>
             Kind::Time,
         ) => Some(Kind::Time),
         _ => None,
+    }
+}
+
+/// The kind of an operator's result, for an operand that it takes.
+pub fn unary_result(op: Unary, a: Kind) -> Kind
+    ensures { result ≡ unary_result op a }
+{
+    match op {
+        Unary::Not => Kind::Bool,
+        Unary::Negate => a,
+        Unary::NegateTime => Kind::Time,
+    }
+}
+
+/// The kind of an operator's result, for operands that it takes, by the kind of the left one.
+pub fn binary_result(op: Binary, a: Kind) -> Kind
+    ensures { result ≡ binary_result op a }
+{
+    match op {
+        Binary::Add | Binary::Subtract => a,
+        Binary::AddTime | Binary::SubtractTime => Kind::Time,
+        Binary::Multiply | Binary::Divide | Binary::Mod => Kind::Dint,
+        _ => Kind::Bool,
     }
 }
 

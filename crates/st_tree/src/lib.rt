@@ -20,7 +20,9 @@ mod tree;
 pub use constants::constant;
 pub use controls::{Span, count_turns, span_of};
 pub use copy::{Duplicate, copy_body, copy_expr, copy_labels};
-pub use kinds::{binary_kind, is_bit, resolved_binary, resolved_unary, unary_kind};
+pub use kinds::{
+    binary_kind, binary_result, is_bit, resolved_binary, resolved_unary, unary_kind, unary_result,
+};
 pub use labels::labels_fit;
 pub use laws::{
     constant_of_is_value_of, control_values_count_to_bound, control_values_stay_in_range,

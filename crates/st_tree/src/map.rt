@@ -1,6 +1,7 @@
 //! Trees with what a pass puts in the places of their names and operators. Each function fails only where memory is refused.
 
 ghost use Rattle.std.specs.Prelude.{◌≡◌, IfOk, map};
+ghost use Rattle.st_tree.specs.Plain.{repeat};
 ghost use Rattle.st_tree.specs.View.{view_expr, view_option, view_argument, view_stmt, view_body, view_branches, view_choices};
 ghost use Rattle.st_tree.specs.Mapping.{mapped_expr, mapped_option, mapped_argument, mapped_stmt, mapped_body, mapped_branches, mapped_choices};
 
@@ -47,6 +48,54 @@ fn mapped_option<V, W: Drop, P: Pass<V, W>>(
     match expr {
         Some(expr) => Ok(Some(mapped_expr(alloc, pass, expr)?)),
         None => Ok(None),
+    }
+}
+
+/// The first value, the bound and the step of a FOR.
+type Bounds<V> = (Expr<V>, Expr<V>, Option<Expr<V>>);
+
+/// What a pass makes of the first value, the bound and the step of a FOR.
+fn mapped_bounds<V, W: Drop, P: Pass<V, W>>(
+    alloc: Global,
+    pass: &P,
+    from: &Expr<V>,
+    to: &Expr<V>,
+    by: &Option<Expr<V>>,
+) -> Result<Bounds<W>, AllocError>
+    ensures from { IfOk result (λ b. view_expr b.0 ≡ mapped_expr (P.mapping pass.now) (view_expr from.now)) }
+    ensures to { IfOk result (λ b. view_expr b.1 ≡ mapped_expr (P.mapping pass.now) (view_expr to.now)) }
+    ensures by { IfOk result (λ b. view_option b.2 ≡ mapped_option (P.mapping pass.now) (view_option by.now)) }
+{
+    let from = mapped_expr(alloc, pass, from)?;
+    let to = match mapped_expr(alloc, pass, to) {
+        Ok(to) => to,
+        Err(refused) => {
+            drop(from);
+            return Err(refused);
+        }
+    };
+    match mapped_option(alloc, pass, by) {
+        Ok(by) => Ok((from, to, by)),
+        Err(refused) => {
+            drop(from);
+            drop(to);
+            Err(refused)
+        }
+    }
+}
+
+/// The FOR of these parts.
+fn for_of<W>(number: u32, variable: W, bounds: Bounds<W>, body: Vec<Stmt<W>>) -> Stmt<W>
+    ensures { view_stmt result ≡ repeat number variable (view_expr bounds.0) (view_expr bounds.1) (view_option bounds.2) (view_body body.items) }
+{
+    let (from, to, by) = bounds;
+    Stmt::For {
+        number,
+        variable,
+        from,
+        to,
+        by,
+        body,
     }
 }
 
@@ -112,12 +161,31 @@ fn mapped_stmt<V, W: Drop, P: Pass<V, W>>(
         }
         Stmt::If(number, branches, last) => {
             let branches = mapped_branches(alloc, pass, branches)?;
-            Ok(Stmt::If(*number, branches, mapped_body(alloc, pass, last)?))
+            match mapped_body(alloc, pass, last) {
+                Ok(last) => Ok(Stmt::If(*number, branches, last)),
+                Err(refused) => {
+                    drop(branches);
+                    Err(refused)
+                }
+            }
         }
         Stmt::Case(number, selector, choices, last) => {
             let selector = mapped_expr(alloc, pass, selector)?;
-            let choices = mapped_choices(alloc, pass, choices)?;
-            Ok(Stmt::Case(*number, selector, choices, mapped_body(alloc, pass, last)?))
+            let choices = match mapped_choices(alloc, pass, choices) {
+                Ok(choices) => choices,
+                Err(refused) => {
+                    drop(selector);
+                    return Err(refused);
+                }
+            };
+            match mapped_body(alloc, pass, last) {
+                Ok(last) => Ok(Stmt::Case(*number, selector, choices, last)),
+                Err(refused) => {
+                    drop(selector);
+                    drop(choices);
+                    Err(refused)
+                }
+            }
         }
         Stmt::For {
             number,
@@ -128,17 +196,15 @@ fn mapped_stmt<V, W: Drop, P: Pass<V, W>>(
             body,
         } => {
             let variable = pass.variable(alloc, variable)?;
-            let from = mapped_expr(alloc, pass, from)?;
-            let to = mapped_expr(alloc, pass, to)?;
-            let by = mapped_option(alloc, pass, by)?;
-            Ok(Stmt::For {
-                number: *number,
-                variable,
-                from,
-                to,
-                by,
-                body: mapped_body(alloc, pass, body)?,
-            })
+            let bounds = mapped_bounds(alloc, pass, from, to, by)?;
+            match mapped_body(alloc, pass, body) {
+                Ok(body) => Ok(for_of(*number, variable, bounds, body)),
+                Err(refused) => {
+                    drop(variable);
+                    drop(bounds);
+                    Err(refused)
+                }
+            }
         }
     }
 }

@@ -3,7 +3,7 @@
 use plant_types::Value;
 
 /// A literal as it is written (IEC 61131-3).
-#[derive(Clone, Copy, PartialEq, Eq, Debug, Drop)]
+#[derive(Clone, Copy, Drop)]
 pub enum Literal {
     /// An integer without a type prefix, a sign or parentheses. It is a DINT; where only 0 or 1 is assigned to a BOOL, it is FALSE or TRUE (this profile).
     Integer(i32),
@@ -12,7 +12,7 @@ pub enum Literal {
 }
 
 /// An operator with one operand (IEC 61131-3).
-#[derive(Clone, Copy, PartialEq, Eq, Debug, Drop)]
+#[derive(Clone, Copy, Drop)]
 pub enum Unary {
     /// `NOT`, of a BOOL.
     Not,
@@ -23,7 +23,7 @@ pub enum Unary {
 }
 
 /// An operator with two operands (IEC 61131-3).
-#[derive(Clone, Copy, PartialEq, Eq, Debug, Drop)]
+#[derive(Clone, Copy, Drop)]
 pub enum Binary {
     /// `AND` and `&`, of two BOOLs.
     And,
@@ -81,7 +81,7 @@ pub enum Argument<V> {
 }
 
 /// A label of a `CASE`: the numbers from `low` to `high`. A single number is both.
-#[derive(Clone, Copy, PartialEq, Eq, Debug, Drop)]
+#[derive(Clone, Copy, PartialEq, Eq, Drop)]
 pub struct Label {
     pub low: i64,
     pub high: i64,

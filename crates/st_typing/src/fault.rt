@@ -4,7 +4,7 @@ use st_names::UnitPlace;
 use std::alloc::AllocError;
 
 /// Why sources aren't well formed. A place is the first unit, in order of text, that has the fault.
-#[derive(Clone, Copy, PartialEq, Eq, Debug, Drop)]
+#[derive(Clone, Copy, Drop)]
 pub enum TypeFault {
     /// Allocation failed.
     Memory,

@@ -1,6 +1,6 @@
 ghost use Rattle.std.specs.Prelude.{◌≡◌, ◌<◌, length, IfOk};
 
-use block_walk::{Cells, Clock};
+use plant_cells::{Cells, Clock};
 use plant_walk::{
     Framed, Stack, Walked, run, sound_source_is_small, standing_cells_are_there, walk,
 };

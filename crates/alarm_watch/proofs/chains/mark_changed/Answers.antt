@@ -1,5 +1,5 @@
 use Rattle.std.proofs.Common.{◌*◌, arith}
-use Rattle.block_walk.specs.Cells.{value_at}
+use Rattle.plant_cells.specs.Cells.{value_at}
 use Rattle.alarm_watch.proofs.ChainLaws.{all_marked}
 use Rattle.alarm_watch.proofs.chains.mark_changed.Goals as goal
 

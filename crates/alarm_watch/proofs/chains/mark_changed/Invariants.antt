@@ -1,5 +1,5 @@
 use Rattle.std.proofs.Common.{◌*◌}
-use Rattle.block_walk.specs.Cells.{value_at}
+use Rattle.plant_cells.specs.Cells.{value_at}
 use Rattle.alarm_watch.proofs.ChainLaws.{MarkedFrom}
 use Rattle.alarm_watch.proofs.chains.mark_changed.Given as goal
 

@@ -1,6 +1,6 @@
 use Rattle.std.proofs.Common.{inl, inr, arith}
 use Rattle.std.proofs.lemmas.Bool.{cases_lt}
-use Rattle.block_walk.specs.Cells.{value_at}
+use Rattle.plant_cells.specs.Cells.{value_at}
 use Rattle.alarm_watch.proofs.ChainLaws.{from_all}
 use Rattle.alarm_watch.proofs.chains.mark_globals.Goals as goal
 

@@ -1,4 +1,4 @@
-use Rattle.block_walk.specs.Cells.{value_at}
+use Rattle.plant_cells.specs.Cells.{value_at}
 use Rattle.alarm_watch.proofs.ChainLaws.{MarkedFrom}
 use Rattle.alarm_watch.proofs.chains.mark_globals.Given as goal
 

@@ -106,7 +106,7 @@ run_called-returns-in-Ok-clause-ran t c =
 pub run_called-overflow_add-result : goal.run_called-overflow_add-result
 run_called-overflow_add-result t c =
     let at = seat_at c.args.seats.now c.args.instance c.in-Some.seat.now (sym c.in-Some.ensures.lookup.0) c.in-Some.ensures.lookup.1 in
-    record { fits = (number_below (frame_paths c.args.frames.now c.args.limit) c.args.seats.now c.args.instance c.in-Some.seat.now c.in-Frame.k c.in-Err.stop.path c.requires.own at c.in-Frame.is c.if-not-seat.false c.in-Err.ensures.path).fits }
+    record { fits = (number_below (frame_paths c.args.frames.now c.args.limit) c.args.seats.now c.args.instance c.in-Some.seat.now c.in-Frame.k c.in-Err.stop.place.path c.requires.own at c.in-Frame.is c.if-not-seat.false c.in-Err.ensures.path).fits }
 
 pub run_called-returns-in-Err-clause-ran : goal.run_called-returns-in-Err-clause-ran
 run_called-returns-in-Err-clause-ran t c =
@@ -116,7 +116,7 @@ run_called-returns-in-Err-clause-ran t c =
 pub run_called-returns-in-Err-clause-path : goal.run_called-returns-in-Err-clause-path
 run_called-returns-in-Err-clause-path t c =
     let at = seat_at c.args.seats.now c.args.instance c.in-Some.seat.now (sym c.in-Some.ensures.lookup.0) c.in-Some.ensures.lookup.1 in
-    (number_below (frame_paths c.args.frames.now c.args.limit) c.args.seats.now c.args.instance c.in-Some.seat.now c.in-Frame.k c.in-Err.stop.path c.requires.own at c.in-Frame.is c.if-not-seat.false c.in-Err.ensures.path).inside
+    (number_below (frame_paths c.args.frames.now c.args.limit) c.args.seats.now c.args.instance c.in-Some.seat.now c.in-Frame.k c.in-Err.stop.place.path c.requires.own at c.in-Frame.is c.if-not-seat.false c.in-Err.ensures.path).inside
 
 pub count_up-loop-at-smaller : goal.count_up-loop-at-smaller
 count_up-loop-at-smaller t c =

@@ -1,5 +1,6 @@
 use Rattle.std.proofs.Common.{◌≡◌, ◌+◌, ℕ, List, length, drop}
-use Rattle.block_walk.specs.Frames.{Path, seats_paths}
+use Rattle.plant_cells.specs.Runs.{Path}
+use Rattle.block_walk.specs.Frames.{seats_paths}
 use Rattle.code_sizes.specs.Counts.{paths_at}
 use Rattle.code_sizes.proofs.paths.routine_paths.Given as goal
 

@@ -1,5 +1,5 @@
 use Rattle.std.proofs.Common.{◌≡◌, ◌∙◌, ap, sym, subst, fold, map, rules}
-use Rattle.block_walk.specs.Cells.{value_at}
+use Rattle.plant_cells.specs.Cells.{value_at}
 use Rattle.engine.specs.System.{outputs_from, outs_from}
 use Rattle.engine.specs.Engines.{PlainState}
 use Rattle.plant_walk.specs.Runs.{HasCells}

@@ -1,5 +1,5 @@
 use Rattle.std.proofs.Common.{◌≡◌, map, take}
-use Rattle.block_walk.specs.Cells.{value_at}
+use Rattle.plant_cells.specs.Cells.{value_at}
 use Rattle.engine.specs.Steps.{output_in}
 use Rattle.engine.proofs.steps.renewed.Given as goal
 

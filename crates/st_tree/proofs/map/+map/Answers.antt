@@ -116,27 +116,25 @@ mapped_stmt-returns-in_ok-mapped_arguments-in-Call g t c =
     let arguments = c.in_ok-mapped_arguments-in-Call.ensures ∙ ap (λ a. map (mapped_argument m c.in-Call.instance) (map view_argument a)) c.deref.ensures.value in
     view_stmt-Call _ _ _ ∙ (λ i. call c.in-Call.number (own i) (arguments i)) ∙ ap (mapped_stmt m) (sym (view_stmt-Call _ _ _) ∙ ap view_stmt (sym c.in-Call.is))
 
-pub mapped_stmt-returns-in_ok-mapped_body-in-If : goal.mapped_stmt-returns-in_ok-mapped_body-in-If
-mapped_stmt-returns-in_ok-mapped_body-in-If g t c =
+pub mapped_stmt-returns-in-Ok : goal.mapped_stmt-returns-in-Ok
+mapped_stmt-returns-in-Ok g t c =
     let m = g.P.Pass.mapping c.args.pass.now in
     let branches = c.in_ok-branches-in-If.ensures ∙ ap (λ b. mapped_branches m (view_branches b)) c.deref-in-If.ensures.value in
-    let last = c.in_ok-mapped_body-in-If.ensures ∙ ap (λ b. mapped_body m (view_body b)) c.deref-in-If-2.ensures.value in
+    let last = c.in-Ok.ensures ∙ ap (λ b. mapped_body m (view_body b)) c.deref-in-If-2.ensures.value in
     view_stmt-If _ _ _ ∙ (λ i. choose c.in-If.number (branches i) (last i)) ∙ ap (mapped_stmt m) (sym (view_stmt-If _ _ _) ∙ ap view_stmt (sym c.in-If.is))
 
-pub mapped_stmt-returns-in_ok-mapped_body-in-Case : goal.mapped_stmt-returns-in_ok-mapped_body-in-Case
-mapped_stmt-returns-in_ok-mapped_body-in-Case g t c =
+pub mapped_stmt-returns-in-Ok-mapped_body : goal.mapped_stmt-returns-in-Ok-mapped_body
+mapped_stmt-returns-in-Ok-mapped_body g t c =
     let m = g.P.Pass.mapping c.args.pass.now in
     let selector = c.in_ok-selector-in-Case.ensures in
-    let choices = c.in_ok-choices-in-Case.ensures ∙ ap (λ b. mapped_choices m (view_choices b)) c.deref-in-Case.ensures.value in
-    let last = c.in_ok-mapped_body-in-Case.ensures ∙ ap (λ b. mapped_body m (view_body b)) c.deref-in-Case-2.ensures.value in
+    let choices = c.in-Ok-mapped_choices.ensures ∙ ap (λ b. mapped_choices m (view_choices b)) c.deref-in-Case.ensures.value in
+    let last = c.in-Ok-mapped_body.ensures ∙ ap (λ b. mapped_body m (view_body b)) c.deref-in-Case-2.ensures.value in
     view_stmt-Case _ _ _ _ ∙ (λ i. select c.in-Case.number (selector i) (choices i) (last i)) ∙ ap (mapped_stmt m) (sym (view_stmt-Case _ _ _ _) ∙ ap view_stmt (sym c.in-Case.is))
 
-pub mapped_stmt-returns-in_ok-mapped_body-in-For : goal.mapped_stmt-returns-in_ok-mapped_body-in-For
-mapped_stmt-returns-in_ok-mapped_body-in-For g t c =
+pub mapped_stmt-returns-in-Ok-mapped_body-2 : goal.mapped_stmt-returns-in-Ok-mapped_body-2
+mapped_stmt-returns-in-Ok-mapped_body-2 g t c =
     let m = g.P.Pass.mapping c.args.pass.now in
     let variable = c.in_ok-variable-in-For.ensures in
-    let from = c.in_ok-from-in-For.ensures in
-    let to = c.in_ok-to-in-For.ensures in
-    let by = c.in_ok-by-in-For.ensures in
-    let body = c.in_ok-mapped_body-in-For.ensures ∙ ap (λ b. mapped_body m (view_body b)) c.deref-in-For.ensures.value in
-    view_stmt-For _ _ _ _ _ _ ∙ (λ i. repeat c.in-For.number (variable i) (from i) (to i) (by i) (body i)) ∙ ap (mapped_stmt m) (sym (view_stmt-For _ _ _ _ _ _) ∙ ap view_stmt (sym c.in-For.is))
+    let bounds = c.in_ok-bounds-in-For.ensures in
+    let body = c.in-Ok-mapped_body-2.ensures ∙ ap (λ b. mapped_body m (view_body b)) c.deref-in-For.ensures.value in
+    c.for_of.ensures ∙ (λ i. repeat c.in-For.number (variable i) (bounds.from i) (bounds.to i) (bounds.by i) (body i)) ∙ ap (mapped_stmt m) (sym (view_stmt-For _ _ _ _ _ _) ∙ ap view_stmt (sym c.in-For.is))

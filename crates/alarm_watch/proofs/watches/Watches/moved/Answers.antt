@@ -1,5 +1,5 @@
 use Rattle.std.proofs.Common.{◌≡◌, ◌∙◌, true, rules}
-use Rattle.block_walk.specs.Cells.{value_at}
+use Rattle.plant_cells.specs.Cells.{value_at}
 use Rattle.alarm_watch.proofs.WatchLaws.{unmarked_stay}
 use Rattle.alarm_watch.proofs.watches.Watches.moved.Goals as goal
 

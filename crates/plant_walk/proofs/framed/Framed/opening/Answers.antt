@@ -3,7 +3,7 @@ use Rattle.std.proofs.lemmas.List.{length-map, get_or_default}
 use Rattle.plant_logic.specs.Source.{Source, view_routine, source_of}
 use Rattle.plant_logic.specs.Layout.{cell_paths}
 use Rattle.plant_logic.specs.Worlds.{opening}
-use Rattle.block_walk.specs.Cells.{PlainCells}
+use Rattle.plant_cells.specs.Cells.{PlainCells}
 use Rattle.block_frames.specs.Numbers.{HasAllNames}
 use Rattle.block_frames.specs.Stands.{StandFor}
 use Rattle.block_frames.specs.Opening.{programs_started, opening_cells}

@@ -5,10 +5,10 @@ use Rattle.std.proofs.lemmas.Option.{slice_get_read}
 use Rattle.plant_logic.specs.Source.{Source, source_of}
 use Rattle.plant_logic.specs.Worlds.{run_program}
 use Rattle.plant_logic.specs.Seats.{program_values_base, program_clocks_base}
+use Rattle.plant_cells.specs.Runs.{ended}
 use Rattle.block_frames.specs.Numbers.{HasAllNames}
 use Rattle.block_frames.specs.Frames.{program_base}
 use Rattle.block_frames.specs.Stands.{StandFor}
-use Rattle.block_walk.specs.Walks.{ended}
 use Rattle.program_codes.specs.Codes.{base_in, IsMade}
 use Rattle.plant_walk.specs.Bases.{program_paths_base}
 use Rattle.plant_walk.specs.Runs.{Agree, HasCells, IsWithin, TakesInstructions, ran}

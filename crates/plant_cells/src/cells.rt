@@ -1,0 +1,131 @@
+//! The values of variables, and the clocks of standard blocks' instances.
+
+ghost use Rattle.std.specs.Prelude.{◌≡◌, ◌<◌, ◌==◌, pos, length, slice_index_or, slice_get, slice_set, IfOk};
+ghost use Rattle.std_blocks.specs.Calls.{call};
+ghost use Rattle.plant_cells.specs.Cells.{zero_cells, value_at, assigned, clocked};
+
+use crate::clock::{Clock, Standard, new_clocks};
+use std::alloc::{AllocError, Global};
+use std::marker::Model;
+
+/// The values of variables, and the clocks of standard blocks' instances, in a row each. A BOOL is 0 or 1, a TIME is in milliseconds.
+/// Contracts see both lists.
+#[derive(Drop)]
+pub struct Cells {
+    values: Vec<i64>,
+    clocks: Vec<Clock>,
+}
+
+impl Model for Cells {
+    ghost use Rattle.plant_cells.specs.Cells.{PlainCells};
+
+    ghost Value = { PlainCells };
+
+    ghost view = { λ cells. record { values = cells.values.items; clocks = cells.clocks.items } };
+}
+
+impl Cells {
+    /// Cells of FALSE and 0, so many, and a clock before its first call for each of the given standard blocks. Fails if memory was refused.
+    pub fn zeros(alloc: Global, values: usize, standards: &[Standard]) -> Result<Cells, AllocError>
+        ensures { IfOk result (λ cells. cells ≡ zero_cells values standards.now) }
+    {
+        let clocks = new_clocks(alloc, standards)?;
+        let values = vec![in alloc; 0; values]?;
+        Ok(Cells::new(values, clocks))
+    }
+
+    /// Cells with the given values and clocks.
+    pub fn new(values: Vec<i64>, clocks: Vec<Clock>) -> Cells
+        ensures { result ≡ record { values = values.items; clocks = clocks.items } }
+    {
+        Cells { values, clocks }
+    }
+
+    /// The number of values.
+    pub fn len(&self) -> usize
+        ensures { result ≡ length self.now.values }
+    {
+        self.values.len()
+    }
+
+    /// Whether there are no values.
+    pub fn is_empty(&self) -> bool
+        ensures { result ≡ (length self.now.values == 0) }
+    {
+        self.values.is_empty()
+    }
+
+    /// The value of a number, from 0.
+    pub fn get(&self, slot: usize) -> i64
+        requires { slot < length self.now.values }
+        ensures { result ≡ slice_index_or self.now.values slot (pos 0) }
+    {
+        self.values[slot]
+    }
+
+    /// Assigns the value of a number.
+    pub fn set(&mut self, slot: usize, value: i64)
+        requires { slot < length self.old.values }
+        ensures { self.new ≡ assigned self.old slot value }
+    {
+        self.values[slot] = value;
+    }
+
+    /// The values as a slice.
+    pub fn as_slice(&self) -> &[i64]
+        ensures { result.now ≡ self.now.values }
+    {
+        self.values.as_slice()
+    }
+
+    /// The clocks as a slice.
+    pub fn clocks(&self) -> &[Clock]
+        ensures { result.now ≡ self.now.clocks }
+    {
+        self.clocks.as_slice()
+    }
+
+    /// The number of clocks.
+    pub fn clock_count(&self) -> usize
+        ensures { result ≡ length self.now.clocks }
+    {
+        self.clocks.len()
+    }
+
+    /// The clock of a number, from 0, if there is one.
+    pub fn clock(&self, slot: usize) -> Option<Clock>
+        ensures { result ≡ slice_get self.now.clocks slot }
+    {
+        self.clocks.get(slot).copied()
+    }
+
+    /// Calls the clock of a number with IN (or CLK) and PT at a moment, PT and the moment in milliseconds; does nothing if there is none.
+    pub fn call(&mut self, slot: usize, input: bool, pt: i64, moment: u64)
+        ensures { self.new ≡ clocked self.old slot (call input pt moment) }
+    {
+        if slot < self.clocks.len() {
+            let mut clock = self.clocks[slot];
+            clock.call(input, pt, moment);
+            self.clocks[slot] = clock;
+        }
+    }
+
+    /// A copy of the cells. Fails if memory was refused.
+    pub fn copy(&self, alloc: Global) -> Result<Cells, AllocError>
+        ensures { IfOk result (λ copy. copy ≡ self.now) }
+    {
+        let values = Vec::from_slice(alloc, self.values.as_slice())?;
+        let clocks = Vec::from_slice(alloc, self.clocks.as_slice())?;
+        Ok(Cells { values, clocks })
+    }
+
+    /// Copies the values and clocks of other cells, as many as these. It allocates nothing.
+    pub fn copy_from(&mut self, other: &Cells)
+        requires values { length self.old.values ≡ length other.now.values }
+        requires clocks { length self.old.clocks ≡ length other.now.clocks }
+        ensures { self.new ≡ other.now }
+    {
+        self.values.copy_from_slice(other.values.as_slice());
+        self.clocks.copy_from_slice(other.clocks.as_slice());
+    }
+}
