@@ -2,6 +2,7 @@
 use Rattle.std.specs.Prelude.{◌≡◌, ◌<◌, ◌^◌, ℕ, ◌+◌, ◌==◌, ◌||◌, not, Bool, true, false, List, [], ◌∷◌, length, take, slice_get, Some}
 use Rattle.std.specs.List.{list_any}
 use Rattle.std.specs.Option.{option_map_or}
+use Rattle.st_tree.specs.Plain.{PlainBody}
 use Rattle.st_tree.specs.View.{view_body}
 use Rattle.block_order.specs.Chains.{Among}
 use Rattle.st_tree.specs.Mapping.{mapped_body}
@@ -27,7 +28,8 @@ use Rattle.block_frames.specs.declared.names.Variables.{Variables}
 use Rattle.block_frames.specs.Numbers.{numbers}
 use Rattle.block_frames.specs.Reached.{flagged, AreReached}
 use Rattle.block_frames.specs.Frames.{place_in, IsFrame, framed, IsBlank}
-use Rattle.block_frames.specs.Scoped.{AreVariables, AreMembers, global_names, global_kinds}
+use Rattle.block_frames.specs.declared.scope.Scope.{Scope}
+use Rattle.block_frames.specs.Scoped.{AreVariables, AreMembers, IsNumberedIn, global_names, global_kinds}
 
 abbrev pub extent : (values clocks paths : ℕ) → Extent
 extent values clocks paths = record { values = values; clocks = clocks; paths = paths }
@@ -145,3 +147,11 @@ abbrev pub AllBegun : Variables → List Variables → List PlainRoutine → Lis
 AllBegun globals members programs table before k frames =
     (source : Source) (order : List ℕ) (used run : List Bool) → source.programs ≡ programs → AreOf source globals members → HasItsTypes source → AreReached false source used
     → AreBegun source order used run 0 before table → AreBegun source order used run k frames table
+
+-- a frame has initial values alone, which are numbered in a scope
+pub record IsStartIn (scope : Scope) (starts : PlainBody (List ℕ)) (frame : Frame) : Type 0 where
+  pub seats_are : frame.seats.items ≡ []
+  pub starts_are : IsNumberedIn scope starts (view_body frame.starts.items)
+  pub body_is : frame.body.items ≡ []
+  pub marked : frame.has_starts ≡ not (length frame.starts.items == 0)
+  pub counted : frame.clocks ≡ 0

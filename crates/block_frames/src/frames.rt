@@ -4,19 +4,22 @@ ghost use Rattle.std.specs.Prelude.{◌≡◌, ◌<◌, ◌^◌, true, false, ma
 ghost use Rattle.std.specs.List.{All};
 ghost use Rattle.st_tree.specs.View.{view_body};
 ghost use Rattle.plant_logic.specs.Source.{view_routine, source_of};
+ghost use Rattle.plant_logic.specs.Paths.{is_called};
 ghost use Rattle.plant_logic.specs.Blocks.{AreBelow, DeclaresThere, HasItsTypes};
 ghost use Rattle.plant_logic.specs.Layout.{AreNamedApart, IsDistinctlyNamed};
 ghost use Rattle.block_frames.specs.Scoped.{AreInstances, AreMembers, AreVariables, IsNumberedIn, local_kinds, local_names};
 ghost use Rattle.block_frames.specs.Frames.{framed, IsBlank, IsFrames, IsStart};
-ghost use Rattle.block_frames.specs.Built.{AllMade, AllBuilt, AllBegun};
+ghost use Rattle.block_frames.specs.Built.{first_of, seats_by, ends_by, AreOf, AllMade, AllBuilt, AllBegun, IsStartIn};
 
 use crate::called::called_in;
-use crate::names::{Variables, global_variables, instances_of, own_variables};
+use crate::names::{
+    Variables, global_variables, instances_of, no_instances, no_variables, own_variables,
+};
 use crate::reached::{flagged, reached};
 use crate::resolve::resolve_body;
 use crate::scope::Scope;
 use crate::seats::{Callee, Extent, has_starts, seats_by};
-use block_walk::Frame;
+use block_walk::{Frame, Seat};
 use plant_logic::{Logic, Routine, block_type_has_clocks, block_type_has_values};
 use plant_types::Text;
 use st_tree::Stmt;
@@ -61,6 +64,26 @@ fn statements_of(routine: &Routine, is_run: bool) -> &[Stmt<Text>]
     if is_run { &routine.body } else { &[] }
 }
 
+/// The seats of a routine's instances, which know whether the routine calls them, and where the last of them ends. A routine that nothing
+/// comes to call calls none. Fails if allocation fails.
+fn seats_of(
+    alloc: Global,
+    table: &[Callee],
+    routine: &Routine,
+    is_run: bool,
+) -> Result<(Vec<Seat>, Extent), AllocError>
+    ensures seats { IfOk result (λ made. made.0.items ≡ seats_by table.now (is_called (framed is_run (view_routine routine.now))) (first_of (view_routine routine.now)) (view_routine routine.now).instances) }
+    ensures end { IfOk result (λ made. made.1 ≡ ends_by table.now (is_called (framed is_run (view_routine routine.now))) (first_of (view_routine routine.now)) (view_routine routine.now).instances) }
+{
+    let called = called_in(alloc, statements_of(routine, is_run))?;
+    let first = Extent {
+        values: routine.locals.len(),
+        clocks: 0,
+        paths: 1,
+    };
+    seats_by(alloc, table, &called, first, &routine.instances)
+}
+
 /// The frame of a routine in the scope of its names, without its body if nothing comes to call it, and what it has. Fails if allocation fails.
 fn frame_in(
     alloc: Global,
@@ -75,13 +98,7 @@ fn frame_in(
     ensures made { IfOk result (λ made. AllMade scope.now.globals.now scope.now.members.now table.now (framed is_run (view_routine routine.now)) made.0 made.1) }
 {
     let statements = statements_of(routine, is_run);
-    let called = called_in(alloc, statements)?;
-    let first = Extent {
-        values: routine.locals.len(),
-        clocks: 0,
-        paths: 1,
-    };
-    let (seats, end) = seats_by(alloc, table, &called, first, &routine.instances)?;
+    let (seats, end) = seats_of(alloc, table, routine, is_run)?;
     let starts = number_body(alloc, scope, &routine.starts)?;
     let body = number_body(alloc, scope, statements)?;
     let has_starts = has_starts(table, &starts, &routine.instances);
@@ -217,6 +234,40 @@ fn add_programs(
     Ok(())
 }
 
+/// The variables of a source: the globals, and those of each block type. Fails if allocation fails.
+fn variables_of(alloc: Global, logic: &Logic) -> Result<(Variables, Vec<Variables>), AllocError>
+    requires { IsDistinctlyNamed (source_of logic.now) }
+    ensures { IfOk result (λ known. AreOf (source_of logic.now) known.0 known.1.items) }
+{
+    let globals = global_variables(alloc, &logic.globals)?;
+    Ok((globals, members_of(alloc, logic.blocks.as_slice())?))
+}
+
+/// The frames of a source whose variables are known, as `frames_of` gives them. Fails if allocation fails.
+fn frames_by(
+    alloc: Global,
+    logic: &Logic,
+    order: &[usize],
+    globals: &Variables,
+    members: &[Variables],
+) -> Result<Vec<Frame>, AllocError>
+    requires below { AreBelow (source_of logic.now).blocks order.now }
+    requires types { HasItsTypes (source_of logic.now) }
+    requires named { IsDistinctlyNamed (source_of logic.now) }
+    requires known { AreOf (source_of logic.now) globals.now members.now }
+    ensures { IfOk result (λ frames. IsFrames (source_of logic.now) order.now frames.items) }
+{
+    let blocks = logic.blocks.as_slice();
+    let programs = logic.programs.as_slice();
+    let used = reached(alloc, false, programs, blocks, order)?;
+    let run = reached(alloc, true, programs, blocks, order)?;
+    let (mut frames, table) = frames_of_blocks(
+        alloc, blocks, globals, members, order, &used, &run,
+    )?;
+    add_programs(alloc, programs, globals, members, &table, &mut frames)?;
+    Ok(frames)
+}
+
 /// The frames of a source: one for each block type in the order, and then one for each program, as `block_walk` runs them. The order lists
 /// each block type after those that it declares. Each body is gone through once, whatever the number of its instances.
 ///
@@ -228,35 +279,16 @@ pub fn frames_of(alloc: Global, logic: &Logic, order: &[usize]) -> Result<Vec<Fr
     requires named { IsDistinctlyNamed (source_of logic.now) }
     ensures { IfOk result (λ frames. IsFrames (source_of logic.now) order.now frames.items) }
 {
-    let blocks = logic.blocks.as_slice();
-    let programs = logic.programs.as_slice();
-    let globals = global_variables(alloc, &logic.globals)?;
-    let members = members_of(alloc, blocks)?;
-    let known = members.as_slice();
-    let used = reached(alloc, false, programs, blocks, order)?;
-    let run = reached(alloc, true, programs, blocks, order)?;
-    let (mut frames, table) = frames_of_blocks(alloc, blocks, &globals, known, order, &used, &run)?;
-    add_programs(alloc, programs, &globals, known, &table, &mut frames)?;
-    Ok(frames)
+    let (globals, members) = variables_of(alloc, logic)?;
+    frames_by(alloc, logic, order, &globals, &members)
 }
 
-/// The frame of the globals' initial values, as `block_walk` assigns them. Fails if allocation fails.
-pub fn start_of(alloc: Global, logic: &Logic) -> Result<Frame, AllocError>
-    requires { IsDistinctlyNamed (source_of logic.now) }
-    ensures { IfOk result (IsStart (source_of logic.now)) }
+/// The frame of initial values in the scope of their names. Fails if allocation fails.
+fn start_in(alloc: Global, scope: &Scope<'_>, starts: &[Stmt<Text>]) -> Result<Frame, AllocError>
+    ensures { IfOk result (λ frame. IsStartIn scope.now (view_body starts.now) frame) }
 {
-    let globals = global_variables(alloc, &logic.globals)?;
-    let members = members_of(alloc, logic.blocks.as_slice())?;
-    let own = own_variables(alloc, &[])?;
-    let instances = instances_of(alloc, &[])?;
-    let scope = Scope {
-        globals: &globals,
-        own: &own,
-        instances: &instances,
-        members: &members,
-    };
-    let starts = number_body(alloc, &scope, &logic.starts)?;
-    let has_starts = has_starts(&[], &starts, &[]);
+    let starts = number_body(alloc, scope, starts)?;
+    let has_starts = !starts.is_empty();
     Ok(Frame {
         seats: Vec::new(alloc),
         starts,
@@ -264,4 +296,34 @@ pub fn start_of(alloc: Global, logic: &Logic) -> Result<Frame, AllocError>
         has_starts,
         clocks: 0,
     })
+}
+
+/// The frame of the initial values of a source whose variables are known. Fails if allocation fails.
+fn start_by(
+    alloc: Global,
+    logic: &Logic,
+    globals: &Variables,
+    members: &[Variables],
+) -> Result<Frame, AllocError>
+    requires { AreOf (source_of logic.now) globals.now members.now }
+    ensures { IfOk result (IsStart (source_of logic.now)) }
+{
+    let own = no_variables(alloc);
+    let instances = no_instances(alloc);
+    let scope = Scope {
+        globals,
+        own: &own,
+        instances: &instances,
+        members,
+    };
+    start_in(alloc, &scope, &logic.starts)
+}
+
+/// The frame of the globals' initial values, as `block_walk` assigns them. Fails if allocation fails.
+pub fn start_of(alloc: Global, logic: &Logic) -> Result<Frame, AllocError>
+    requires { IsDistinctlyNamed (source_of logic.now) }
+    ensures { IfOk result (IsStart (source_of logic.now)) }
+{
+    let (globals, members) = variables_of(alloc, logic)?;
+    start_by(alloc, logic, &globals, &members)
 }

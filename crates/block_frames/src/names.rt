@@ -1,6 +1,6 @@
 //! The names of variables and of instances, which are found without a look at each.
 
-ghost use Rattle.std.specs.Prelude.{◌≡◌, false, map, IfOk, IfSome, ◌<◌, length};
+ghost use Rattle.std.specs.Prelude.{◌≡◌, [], false, map, IfOk, IfSome, ◌<◌, length};
 ghost use Rattle.st_names.specs.Taken.{repeats};
 ghost use Rattle.word_index.specs.Names.{find_name};
 ghost use Rattle.plant_logic.specs.Names.{global_words, own_words, instance_words};
@@ -79,6 +79,16 @@ pub fn own_variables(alloc: Global, locals: &[Local]) -> Result<Variables, Alloc
     })
 }
 
+/// No variables.
+pub fn no_variables(alloc: Global) -> Variables
+    ensures { AreVariables [] [] result }
+{
+    Variables {
+        names: Names::new(alloc),
+        kinds: Vec::new(alloc),
+    }
+}
+
 /// The names of globals, of which no two are the same word. Fails if allocation fails.
 fn names_of_globals(alloc: Global, globals: &[Variable]) -> Result<Names, AllocError>
     requires { repeats (global_words globals.now) ≡ false }
@@ -145,4 +155,14 @@ pub fn instances_of(alloc: Global, list: &[Instance]) -> Result<Instances, Alloc
         names: names_of_instances(alloc, list)?,
         blocks: blocks_of_instances(alloc, list)?,
     })
+}
+
+/// No instances.
+pub fn no_instances(alloc: Global) -> Instances
+    ensures { AreInstances [] result }
+{
+    Instances {
+        names: Names::new(alloc),
+        blocks: Vec::new(alloc),
+    }
 }

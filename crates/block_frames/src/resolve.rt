@@ -107,6 +107,23 @@ fn resolve_option(
     }
 }
 
+/// Resolves the bounds and the step of a FOR.
+fn resolve_range(
+    alloc: Global,
+    scope: &Scope<'_>,
+    from: &Expr<Text>,
+    to: &Expr<Text>,
+    by: &Option<Expr<Text>>,
+) -> Result<(Expr<usize>, Expr<usize>, Option<Expr<usize>>), AllocError>
+    ensures from { IfOk result (λ r. view_expr r.0 ≡ flat_expr scope.now (view_expr from.now)) }
+    ensures to { IfOk result (λ r. view_expr r.1 ≡ flat_expr scope.now (view_expr to.now)) }
+    ensures by { IfOk result (λ r. view_option r.2 ≡ flat_option scope.now (view_option by.now)) }
+{
+    let from = resolve_expr(alloc, scope, from)?;
+    let to = resolve_expr(alloc, scope, to)?;
+    Ok((from, to, resolve_option(alloc, scope, by)?))
+}
+
 /// Resolves an argument of a call of an instance.
 fn resolve_argument(
     alloc: Global,
@@ -187,9 +204,9 @@ fn resolve_stmt(
             Ok(Stmt::If(own, branches, resolve_body(alloc, scope, last, number)?))
         }
         Stmt::Case(_, selector, choices, last) => {
-            let selector = resolve_expr(alloc, scope, selector)?;
             let choices = resolve_choices(alloc, scope, choices, number)?;
             let last = resolve_body(alloc, scope, last, number)?;
+            let selector = resolve_expr(alloc, scope, selector)?;
             Ok(Stmt::Case(own, selector, choices, last))
         }
         Stmt::For {
@@ -201,10 +218,8 @@ fn resolve_stmt(
             ..
         } => {
             let target = scope.variable(variable.as_str());
-            let from = resolve_expr(alloc, scope, from)?;
-            let to = resolve_expr(alloc, scope, to)?;
-            let by = resolve_option(alloc, scope, by)?;
             let body = resolve_body(alloc, scope, body, number)?;
+            let (from, to, by) = resolve_range(alloc, scope, from, to, by)?;
             Ok(Stmt::For {
                 number: own,
                 variable: target,
@@ -230,8 +245,8 @@ fn resolve_branches(
 {
     let mut resolved = Vec::new(alloc);
     for branch in branches {
-        let test = resolve_expr(alloc, scope, &branch.test)?;
         let body = resolve_body(alloc, scope, &branch.body, number)?;
+        let test = resolve_expr(alloc, scope, &branch.test)?;
         resolved.push(Branch { test, body })?;
     }
     Ok(resolved)

@@ -4,19 +4,22 @@ ghost use Rattle.std.specs.Prelude.{◌≡◌, ◌<◌, ◌≤◌, ◌+◌, ◌*
 ghost use Rattle.plant_logic.specs.Source.{source_of, view_routine};
 ghost use Rattle.plant_logic.specs.Names.{find_global};
 ghost use Rattle.plant_logic.specs.Units.{source_in};
-ghost use Rattle.plant_logic.specs.Blocks.{AreBelow};
+ghost use Rattle.plant_logic.specs.Blocks.{AreBelow, HasItsTypes};
+ghost use Rattle.plant_logic.specs.Layout.{IsDistinctlyNamed};
 ghost use Rattle.plant_logic.specs.Worlds.{World, opening, run_program};
 ghost use Rattle.plant_logic.specs.Paths.{paths_of, path_text};
 ghost use Rattle.plant_limits.specs.Counts.{program_costs};
 ghost use Rattle.plant_limits.specs.Limits.{KeepsLimits, IsLimitFault};
+ghost use Rattle.block_frames.specs.Frames.{IsFrames};
 ghost use Rattle.block_frames.specs.Stands.{StandFor};
+ghost use Rattle.plant_walk.specs.Framed.{HasStart, IsFramed};
 ghost use Rattle.plant_walk.specs.Sound.{IsSound};
 ghost use Rattle.plant_walk.specs.Runs.{Agree, HasCells, IsWithin, TakesInstructions, ran, walked_by};
 
 use crate::names::global_names;
 use crate::opening::start_programs;
 use crate::paths::{path_bases, program_of};
-use crate::standards::standards_of;
+use crate::standards::{Standards, standards_of};
 use crate::values::value_bases;
 use crate::walking::Walked;
 use acc_vm::Code;
@@ -66,19 +69,54 @@ impl Model for Framed {
     ghost invariant = { λ framed. IsFramed (source_of framed.logic) framed.order.items framed.frames.items framed.start.items framed.names framed.standards.items framed.values.items framed.clocks.items framed.paths.items framed.codes.items };
 }
 
-/// A sound source made ready to run. Fails if allocation fails.
-fn ready(alloc: Global, logic: Logic, order: Vec<usize>) -> Result<Framed, AllocError>
-    requires sound { IsSound (source_of logic) }
-    requires below { AreBelow (source_of logic).blocks order.items }
-    ensures { IfOk result (λ framed. framed ≡ source_of logic) }
+/// What is made of a source, so that it can run.
+#[derive(Drop)]
+struct Made {
+    frames: Vec<Frame>,
+    start: Vec<Frame>,
+    names: Names,
+    standards: Standards,
+    values: Vec<usize>,
+    paths: Vec<u32>,
+    codes: Vec<Code>,
+}
+
+/// The frame of a source's initial values, in a table of its own. Fails if allocation fails.
+fn start_table(alloc: Global, logic: &Logic) -> Result<Vec<Frame>, AllocError>
+    requires { IsDistinctlyNamed (source_of logic.now) }
+    ensures { IfOk result (λ start. HasStart (source_of logic.now) start.items) }
 {
-    let frames = frames_of(alloc, &logic, &order)?;
     let mut start = Vec::new(alloc);
-    start.push(start_of(alloc, &logic)?)?;
-    let names = global_names(alloc, &logic.globals)?;
-    let standards = standards_of(alloc, &logic, &order, &frames)?;
-    let values = value_bases(alloc, &logic, &order)?;
-    let paths = path_bases(alloc, &logic, &order, &frames)?;
+    start.push(start_of(alloc, logic)?)?;
+    Ok(start)
+}
+
+/// The frames of a source, and the table of its initial values. Fails if allocation fails.
+fn tables_of(
+    alloc: Global,
+    logic: &Logic,
+    order: &[usize],
+) -> Result<(Vec<Frame>, Vec<Frame>), AllocError>
+    requires below { AreBelow (source_of logic.now).blocks order.now }
+    requires types { HasItsTypes (source_of logic.now) }
+    requires named { IsDistinctlyNamed (source_of logic.now) }
+    ensures frames { IfOk result (λ tables. IsFrames (source_of logic.now) order.now tables.0.items) }
+    ensures start { IfOk result (λ tables. HasStart (source_of logic.now) tables.1.items) }
+{
+    let start = start_table(alloc, logic)?;
+    Ok((frames_of(alloc, logic, order)?, start))
+}
+
+/// What is made of a sound source. Fails if allocation fails.
+fn made_of(alloc: Global, logic: &Logic, order: &[usize]) -> Result<Made, AllocError>
+    requires sound { IsSound (source_of logic.now) }
+    requires below { AreBelow (source_of logic.now).blocks order.now }
+    ensures { IfOk result (λ m. IsFramed (source_of logic.now) order.now m.frames.items m.start.items m.names m.standards.list.items m.values.items m.standards.bases.items m.paths.items m.codes.items) }
+{
+    let values = value_bases(alloc, logic, order)?;
+    let (frames, start) = tables_of(alloc, logic, order)?;
+    let paths = path_bases(alloc, logic, order, &frames)?;
+    let standards = standards_of(alloc, logic, order, &frames)?;
     let codes = codes_of(
         alloc,
         &frames,
@@ -87,6 +125,32 @@ fn ready(alloc: Global, logic: Logic, order: Vec<usize>) -> Result<Framed, Alloc
         &values,
         &standards.bases,
     )?;
+    Ok(Made {
+        names: global_names(alloc, &logic.globals)?,
+        frames,
+        start,
+        standards,
+        values,
+        paths,
+        codes,
+    })
+}
+
+/// A sound source made ready to run. Fails if allocation fails.
+fn ready(alloc: Global, logic: Logic, order: Vec<usize>) -> Result<Framed, AllocError>
+    requires sound { IsSound (source_of logic) }
+    requires below { AreBelow (source_of logic).blocks order.items }
+    ensures { IfOk result (λ framed. framed ≡ source_of logic) }
+{
+    let Made {
+        frames,
+        start,
+        names,
+        standards,
+        values,
+        paths,
+        codes,
+    } = made_of(alloc, &logic, &order)?;
     Ok(Framed {
         logic,
         order,
@@ -151,16 +215,16 @@ impl Framed {
         copied_frames_are_frames();
         copied_frames_have_codes();
         Ok(Framed {
-            logic: self.logic.copy(alloc)?,
             order: Vec::from_slice(alloc, &self.order)?,
-            frames: copy_frames(alloc, &self.frames)?,
-            start: copy_frames(alloc, &self.start)?,
-            names: self.names.copy()?,
             standards: Vec::from_slice(alloc, &self.standards)?,
             values: Vec::from_slice(alloc, &self.values)?,
             clocks: Vec::from_slice(alloc, &self.clocks)?,
             paths: Vec::from_slice(alloc, &self.paths)?,
+            frames: copy_frames(alloc, &self.frames)?,
+            start: copy_frames(alloc, &self.start)?,
             codes: copy_codes(alloc, &self.codes)?,
+            names: self.names.copy()?,
+            logic: self.logic.copy(alloc)?,
         })
     }
 

@@ -1,4 +1,5 @@
 ghost use Rattle.std.specs.Prelude.{◌≡◌, ◌<◌, length, IfOk};
+ghost use Rattle.plant_walk.specs.Runs.{HasCells};
 
 use plant_cells::{Cells, Clock};
 use plant_walk::{
@@ -57,21 +58,33 @@ fn show_alike(one: &[Clock], other: &[Clock]) -> bool {
     true
 }
 
+/// Cells before the first scan for each of the two ways, and memory for the runs. Fails if allocation fails.
+fn opened(alloc: Global, framed: &Framed) -> Result<(Cells, Cells, Stack), AllocError>
+    ensures { IfOk result (λ made. HasCells framed.now made.1) }
+{
+    standing_cells_are_there();
+    let stack = Stack::new(alloc)?;
+    let walked = framed.opening(alloc)?;
+    Ok((walked, framed.opening(alloc)?, stack))
+}
+
 impl Twin {
     /// The programs before the first scan. Fails if allocation fails.
     pub fn new(alloc: Global, framed: Framed) -> Result<Twin, AllocError>
         ensures { IfOk result (λ twin. twin ≡ framed) }
     {
-        standing_cells_are_there();
-        let walked = framed.opening(alloc)?;
-        let ran = framed.opening(alloc)?;
-        let stack = Stack::new(alloc)?;
-        Ok(Twin {
-            framed,
-            walked,
-            ran,
-            stack,
-        })
+        match opened(alloc, &framed) {
+            Ok((walked, ran, stack)) => Ok(Twin {
+                framed,
+                walked,
+                ran,
+                stack,
+            }),
+            Err(refused) => {
+                drop(framed);
+                Err(refused)
+            }
+        }
     }
 
     /// The logic.

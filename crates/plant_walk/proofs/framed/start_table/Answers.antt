@@ -1,0 +1,9 @@
+use Rattle.plant_walk.proofs.Started.{one_frame}
+use Rattle.plant_walk.proofs.framed.start_table.Goals as goal
+
+pub returns : goal.returns
+returns c = record {
+  start = c.in_ok-start_of.field-0;
+  table_is = one_frame c.new-start.result.items c.push.new.self.items c.in_ok-start_of.field-0 c.new-start.ensures.items c.in_ok-push.ensures.items;
+  is_start = c.in_ok-start_of.ensures;
+}
