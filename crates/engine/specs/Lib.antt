@@ -6,5 +6,6 @@ pub mod Watches
 pub mod Lawful
 pub mod Journal
 pub mod Reports
+pub mod Faults
 pub mod Engines
 pub mod Steps

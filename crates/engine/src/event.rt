@@ -70,3 +70,22 @@ impl From<AllocError> for EngineFault {
         EngineFault::Memory
     }
 }
+
+impl EngineFault {
+    ghost use Rattle.std.specs.Prelude.{◌≡◌};
+    ghost use Rattle.engine.specs.Faults.{fault_text};
+
+    /// The number by which it is printed, `E1` to `E6`; `""` for `Memory`, which is never printed.
+    pub fn text(self) -> &'static str
+        ensures { result.now ≡ fault_text self }
+    {
+        match self {
+            EngineFault::Memory => "",
+            EngineFault::MomentBack => "E1",
+            EngineFault::MomentRange => "E2",
+            EngineFault::ImageName => "E3",
+            EngineFault::ImageKind => "E4",
+            EngineFault::HistoryFull => "E6",
+        }
+    }
+}

@@ -122,8 +122,7 @@ pub fn line_text(alloc: Global, plant: &Plant, row: &Row) -> Result<String, Allo
     let epoch = plant.epoch();
     match row.entry {
         Entry::Fault(place, _) => {
-            let mut path = String::new(alloc);
-            plant.push_path(place.path, &mut path)?;
+            let path = plant.body_path(alloc, place.path)?;
             row_text(alloc, epoch, row, path.as_str())
         }
         Entry::Alarm(alarm, _) => row_text(alloc, epoch, row, plant.tag(alarm)),

@@ -12,7 +12,9 @@ use Rattle.alarm_db.specs.Databases.{first_fault, rows_of}
 use Rattle.plant_config.specs.Alarms.{first_unknown, alarms_of}
 use Rattle.plant_config.specs.Files.{Texts, same_texts}
 use Rattle.plant_config.specs.Limits.{first_limit}
-use Rattle.plant_config.specs.Plants.{PlainPlant, plant_with}
+use Rattle.plant_logic.specs.Source.{Source}
+use Rattle.plant_config.specs.declared.rows.AlarmRow.{AlarmRow}
+use Rattle.plant_config.specs.Plants.{PlainPlant, IsPlant, plant_with, tags_of}
 
 -- the plant file is right, and the sources handed in are those that it lists, in order
 pub record HasFile (t : Texts) (file : PlainPlantFile) : Type 0 where
@@ -66,3 +68,9 @@ pub record Accepted (t : Texts) (plant : PlainPlant) : Type 0 where
   pub units : List PlainUnit
   pub has_alarms : HasAlarms t file epoch units
   pub plant_is : plant ≡ plant_of t file epoch units
+
+-- a source, alarms and an index of tags are the parts of the plant that the texts are accepted as
+pub record AreParts (t : Texts) (file : PlainPlantFile) (epoch : ℕ) (source : Source) (alarms : List AlarmRow) (tags : List (List ℕ)) : Type 0 where
+  pub accepted : Accepted t (plant_with source file alarms epoch)
+  pub plant : IsPlant (plant_with source file alarms epoch)
+  pub tags_are : tags ≡ tags_of alarms

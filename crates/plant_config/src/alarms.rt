@@ -1,6 +1,6 @@
 //! The alarms of a database in a plant: their areas and variables by number.
 
-ghost use Rattle.std.specs.Prelude.{◌≡◌, ◌<◌, ◌≤◌, IfNone, IfSome, MatchResult, None, Some, false, length, option_map, option_and_then, true};
+ghost use Rattle.std.specs.Prelude.{◌≡◌, ◌<◌, ◌≤◌, IfNone, IfSome, IfErr, IfOk, MatchResult, None, Some, false, length, option_map, option_and_then, true};
 ghost use Rattle.plant_config.specs.Alarms.{area_number, is_bool, is_bool_at, bool_number, is_unknown, unknown_column, first_unknown, alarm_of, alarms_of, IsAlarmFault};
 
 use crate::rows::AlarmRow;
@@ -93,13 +93,19 @@ fn suppress_number(logic: &Framed, name: Option<&Text>) -> Option<Option<u32>>
     }
 }
 
-/// The alarm of a row, or the first column in which a name stands for nothing.
-fn alarm_of(areas: &[Text], logic: &Framed, row: DatabaseRow) -> Result<AlarmRow, Column>
+/// The numbers of a row's area, of its condition and of its suppression, or the first column in which a name stands for nothing.
+fn numbers_of(
+    areas: &[Text],
+    logic: &Framed,
+    row: &DatabaseRow,
+) -> Result<(u32, u32, Option<u32>), Column>
     requires areas { length areas.now ≤ 64 }
     requires globals { length logic.now.globals ≤ 65536 }
-    ensures { MatchResult result
-        (λ alarm. (unknown_column areas.now logic.now.globals row ≡ None) × (alarm ≡ alarm_of areas.now logic.now.globals row))
-        (λ column. unknown_column areas.now logic.now.globals row ≡ Some column) }
+    ensures known { IfOk result (λ _. unknown_column areas.now logic.now.globals row.now ≡ None) }
+    ensures area { IfOk result (λ numbers. numbers.0 ≡ (alarm_of areas.now logic.now.globals row.now).area) }
+    ensures condition { IfOk result (λ numbers. numbers.1 ≡ (alarm_of areas.now logic.now.globals row.now).condition) }
+    ensures suppress { IfOk result (λ numbers. numbers.2 ≡ (alarm_of areas.now logic.now.globals row.now).suppress) }
+    ensures unknown { IfErr result (λ column. unknown_column areas.now logic.now.globals row.now ≡ Some column) }
 {
     let Some(area) = area_number(areas, row.area.as_str()) else {
         return Err(Column::Area);
@@ -110,16 +116,33 @@ fn alarm_of(areas: &[Text], logic: &Framed, row: DatabaseRow) -> Result<AlarmRow
     let Some(suppress) = suppress_number(logic, row.suppress.as_ref()) else {
         return Err(Column::Suppress);
     };
-    Ok(AlarmRow {
-        tag: row.tag,
-        area: area as u32,
-        priority: row.priority,
-        condition: condition as u32,
-        suppress,
-        latching: row.latching,
-        max_shelve_ms: row.max_shelve_ms,
-        text: row.text,
-    })
+    Ok((area as u32, condition as u32, suppress))
+}
+
+/// The alarm of a row, or the first column in which a name stands for nothing.
+fn alarm_of(areas: &[Text], logic: &Framed, row: DatabaseRow) -> Result<AlarmRow, Column>
+    requires areas { length areas.now ≤ 64 }
+    requires globals { length logic.now.globals ≤ 65536 }
+    ensures { MatchResult result
+        (λ alarm. (unknown_column areas.now logic.now.globals row ≡ None) × (alarm ≡ alarm_of areas.now logic.now.globals row))
+        (λ column. unknown_column areas.now logic.now.globals row ≡ Some column) }
+{
+    match numbers_of(areas, logic, &row) {
+        Ok((area, condition, suppress)) => Ok(AlarmRow {
+            tag: row.tag,
+            area,
+            priority: row.priority,
+            condition,
+            suppress,
+            latching: row.latching,
+            max_shelve_ms: row.max_shelve_ms,
+            text: row.text,
+        }),
+        Err(column) => {
+            drop(row);
+            Err(column)
+        }
+    }
 }
 
 /// The alarms of rows, or the first row in which a name stands for nothing, numbered from 1, and in it the first column.

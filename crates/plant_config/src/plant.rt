@@ -2,6 +2,7 @@
 
 ghost use Rattle.std.specs.Prelude.{◌≡◌, ◌<◌, ◌++◌, Some, length, map, option_map, position, string_bytes, IfSome, IfOk, IfErr, MatchResult};
 ghost use Rattle.plant_types.specs.Words.{same_word};
+ghost use Rattle.st_parser.specs.Units.{view_unit};
 ghost use Rattle.plant_file.specs.Read.{plant_file_in};
 ghost use Rattle.plant_logic.specs.declared.logic.Routine.{Routine};
 ghost use Rattle.plant_config.specs.Files.{files_of, texts_of};
@@ -11,7 +12,7 @@ ghost use Rattle.plant_file.specs.PlantFiles.{IsPlantFile};
 ghost use Rattle.plant_config.specs.Alarms.{alarms_of};
 ghost use Rattle.plant_config.specs.Logics.{IsLogic};
 ghost use Rattle.plant_config.specs.Plants.{PlainPlant, IsPlant, plant_with, tags_of};
-ghost use Rattle.plant_config.specs.Stages.{Accepted, HasAlarms, HasEpoch, IsSized, IsWellFormed};
+ghost use Rattle.plant_config.specs.Stages.{Accepted, AreParts, HasAlarms, HasEpoch, HasUnits, IsSized, IsWellFormed};
 ghost use Rattle.plant_config.specs.Refusals.{IsFileFault, IsRefused};
 ghost use Rattle.plant_config.specs.declared.fault.ConfigFault.TheVariants as fault;
 ghost use Rattle.plant_config.specs.Names.{alarm_number, globals_of, global_number, program_number, programs_of, program_at, body_paths, body_path, tag_of, area_of, global_of, priority_of};
@@ -28,6 +29,7 @@ use plant_file::{Console, PlantFile};
 use plant_logic::Routine;
 use plant_types::same_word;
 use plant_walk::Framed;
+use st_parser::Unit;
 use st_typing::{Typed, check};
 use stamps::Epoch;
 use std::alloc::{AllocError, Global};
@@ -79,27 +81,6 @@ fn assembled(
     }
 }
 
-/// The plant of texts that are right.
-fn made(
-    handed: &Handed<'_>,
-    file: PlantFile,
-    epoch: Epoch,
-    typed: &Typed<'_>,
-    logic: Framed,
-    alarms: Vec<AlarmRow>,
-    tags: Tags,
-) -> Plant
-    requires has_alarms { HasAlarms handed.now file epoch typed.now }
-    requires logic { IsLogic typed.now logic }
-    requires file { IsPlantFile file }
-    requires database { IsDatabase (rows_of handed.now.alarms) }
-    requires alarms { alarms.items ≡ alarms_of file.areas (source_in typed.now).globals (rows_of handed.now.alarms) }
-    requires tags { tags ≡ database_tags (rows_of handed.now.alarms) }
-    ensures { Accepted handed.now result }
-{
-    assembled(file, epoch, logic, alarms, tags)
-}
-
 /// The alarms of a plant's database and the index of their tags, or why there are none.
 fn alarms_in(
     alloc: Global,
@@ -128,38 +109,74 @@ fn alarms_in(
     }
 }
 
-/// The plant of well-formed sources with logic, or why there is none.
+/// The parts of the plant of well-formed sources with logic, or why there are none.
 fn with_logic(
     alloc: Global,
     handed: &Handed<'_>,
-    file: PlantFile,
+    file: &PlantFile,
     epoch: Epoch,
     typed: &Typed<'_>,
     logic: Framed,
-) -> Result<Plant, ConfigFault>
-    requires sized { IsSized handed.now file epoch typed.now }
+) -> Result<(Framed, Vec<AlarmRow>, Tags), ConfigFault>
+    requires sized { IsSized handed.now file.now epoch typed.now }
     requires logic { IsLogic typed.now logic }
-    ensures { MatchResult result (Accepted handed.now) (IsRefused handed.now) }
+    ensures { MatchResult result (λ parts. AreParts handed.now file.now epoch parts.0 parts.1.items parts.2) (IsRefused handed.now) }
 {
-    match alarms_in(alloc, handed, &file, epoch, typed, &logic) {
-        Ok((alarms, tags)) => Ok(made(handed, file, epoch, typed, logic, alarms, tags)),
+    match alarms_in(alloc, handed, file, epoch, typed, &logic) {
+        Ok((alarms, tags)) => Ok((logic, alarms, tags)),
         Err(fault) => Err(fault),
     }
 }
 
-/// The plant of well-formed sources, or why there is none.
-fn plant_of(
+/// The parts of the plant of well-formed sources, or why there are none.
+fn parts_of(
     alloc: Global,
     handed: &Handed<'_>,
-    file: PlantFile,
+    file: &PlantFile,
     epoch: Epoch,
     typed: &Typed<'_>,
-) -> Result<Plant, ConfigFault>
-    requires { IsWellFormed handed.now file epoch typed.now }
-    ensures { MatchResult result (Accepted handed.now) (IsRefused handed.now) }
+) -> Result<(Framed, Vec<AlarmRow>, Tags), ConfigFault>
+    requires { IsWellFormed handed.now file.now epoch typed.now }
+    ensures { MatchResult result (λ parts. AreParts handed.now file.now epoch parts.0 parts.1.items parts.2) (IsRefused handed.now) }
 {
-    match logic_of(alloc, handed, &file, epoch, typed) {
+    match logic_of(alloc, handed, file, epoch, typed) {
         Ok(logic) => with_logic(alloc, handed, file, epoch, typed, logic),
+        Err(fault) => Err(fault),
+    }
+}
+
+/// The parts of the plant of units, or why there are none.
+fn with_units(
+    alloc: Global,
+    handed: &Handed<'_>,
+    file: &PlantFile,
+    epoch: Epoch,
+    units: &[Unit],
+) -> Result<(Framed, Vec<AlarmRow>, Tags), ConfigFault>
+    requires { HasUnits handed.now file.now epoch (map view_unit units.now) }
+    ensures { MatchResult result (λ parts. AreParts handed.now file.now epoch parts.0 parts.1.items parts.2) (IsRefused handed.now) }
+{
+    match check(alloc, units) {
+        Ok(typed) => parts_of(alloc, handed, file, epoch, &typed),
+        Err(fault) => Err(mistyped(alloc, handed, units, fault)),
+    }
+}
+
+/// The parts of the plant of texts whose plant file and epoch are right, or why there are none.
+fn parts_in(
+    alloc: Global,
+    handed: &Handed<'_>,
+    file: &PlantFile,
+    epoch: Epoch,
+) -> Result<(Framed, Vec<AlarmRow>, Tags), ConfigFault>
+    requires { HasEpoch handed.now file.now epoch }
+    ensures { MatchResult result (λ parts. AreParts handed.now file.now epoch parts.0 parts.1.items parts.2) (IsRefused handed.now) }
+{
+    if let Err(fault) = check_limits(handed, file, epoch) {
+        return Err(fault);
+    }
+    match units_of(alloc, handed, file, epoch) {
+        Ok(units) => with_units(alloc, handed, file, epoch, units.as_slice()),
         Err(fault) => Err(fault),
     }
 }
@@ -174,17 +191,9 @@ fn plant_in(
     requires { HasEpoch handed.now file epoch }
     ensures { MatchResult result (Accepted handed.now) (IsRefused handed.now) }
 {
-    if let Err(fault) = check_limits(handed, &file, epoch) {
-        return Err(fault);
-    }
-    let units = match units_of(alloc, handed, &file, epoch) {
-        Ok(units) => units,
-        Err(fault) => return Err(fault),
-    };
-    let units = units.as_slice();
-    match check(alloc, units) {
-        Ok(typed) => plant_of(alloc, handed, file, epoch, &typed),
-        Err(fault) => Err(mistyped(alloc, handed, units, fault)),
+    match parts_in(alloc, handed, &file, epoch) {
+        Ok((logic, alarms, tags)) => Ok(assembled(file, epoch, logic, alarms, tags)),
+        Err(fault) => Err(fault),
     }
 }
 
@@ -235,7 +244,11 @@ impl Plant {
         ensures refused { IfErr result (IsFileFault plant.now) }
     {
         match file_of(alloc, plant) {
-            Ok(file) => Ok(files_of(alloc, &file)?),
+            Ok(file) => {
+                let files = files_of(alloc, &file);
+                drop(file);
+                Ok(files?)
+            }
             Err(fault) => Err(fault),
         }
     }
@@ -335,7 +348,8 @@ impl Plant {
 
     /// The number of the alarm with a tag; `None` if there is none. Letter case counts.
     pub fn alarm_number(&self, tag: &str) -> Option<u32>
-        ensures { result ≡ alarm_number self.now tag.now }
+        ensures number { result ≡ alarm_number self.now tag.now }
+        ensures within { IfSome result (λ number. number < length self.now.alarms) }
     {
         let number = self.tags.number(tag)?;
         Some(number as u32)
@@ -352,7 +366,8 @@ impl Plant {
 
     /// The number of the program with a name, letter case ignored; `None` if there is none.
     pub fn program_number(&self, name: &str) -> Option<u32>
-        ensures { result ≡ program_number self.now name.now }
+        ensures number { result ≡ program_number self.now name.now }
+        ensures within { IfSome result (λ number. number < length (programs_of self.now)) }
     {
         match program_row(self.logic.programs(), name) {
             Some(number) => Some(number as u32),
@@ -400,13 +415,15 @@ impl Plant {
         self.logic.programs()[program as usize].name.as_str()
     }
 
-    /// Adds the path of the body in which a trap occurred, as a fault prints it: the names of the program and of the instances below it, as
-    /// declared, with points between them. Fails if allocation fails; what was added then is of no use.
-    pub fn push_path(&self, path: u32, text: &mut String) -> Result<(), AllocError>
+    /// The path of the body in which a trap occurred, as a fault prints it: the names of the program and of the instances below it, as
+    /// declared, with points between them. Fails if allocation fails.
+    pub fn body_path(&self, alloc: Global, path: u32) -> Result<String, AllocError>
         requires { path < length (body_paths self.now) }
-        ensures { IfOk result (λ _. string_bytes text.new ≡ string_bytes text.old ++ body_path self.now path) }
+        ensures { IfOk result (λ text. string_bytes text ≡ body_path self.now path) }
     {
-        self.logic.push_path(path, text)
+        let mut text = String::new(alloc);
+        self.logic.push_path(path, &mut text)?;
+        Ok(text)
     }
 }
 

@@ -154,7 +154,7 @@ fn stopped(alloc: Global, is_copy: bool) -> Result<String, AllocError> {
         return Ok(path);
     }
     if let Walked::Trapped(place, _) = walk(plant.logic(), 0, &mut cells, 0) {
-        plant.push_path(place.path, &mut path)?;
+        path.push_str(plant.body_path(alloc, place.path)?.as_str())?;
     }
     Ok(path)
 }

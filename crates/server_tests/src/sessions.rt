@@ -4,7 +4,7 @@ ghost use Rattle.std.specs.Prelude.{◌≡◌, false};
 
 use crate::example::example;
 use engine::{Engine, EngineFault};
-use serving::{Failed, Feed, Reading, ServeFault, Sink, Writing, fault_number, serve};
+use serving::{Failed, Feed, Reading, ServeFault, Sink, Writing, serve};
 use std::alloc::{AllocError, Global};
 use std::sync::Wait;
 use std::test::Fail;
@@ -412,7 +412,7 @@ fn texts(alloc: Global) -> Result<String, AllocError> {
         EngineFault::ImageKind,
         EngineFault::HistoryFull,
     ] {
-        text.push_str(fault_number(fault))?;
+        text.push_str(fault.text())?;
     }
     Ok(text)
 }

@@ -1,9 +1,7 @@
 -- What answers are made of.
-use Rattle.std.proofs.Common.{◌≡◌, ℕ, zero, suc, ◌<◌, map, Bool, true, false, List, [], ◌∷◌, length, Option, None, Some, IfSome, ap, refl, subst}
-use Rattle.std.specs.Prelude.{slice_index_or, position}
-use Rattle.std.specs.Str.{IsUtf8, is_utf8, bytes_eq}
-use Rattle.std.proofs.lemmas.List.{length-map}
-use Rattle.std.proofs.lemmas.List.Quantifiers.{position-Some}
+use Rattle.std.proofs.Common.{◌≡◌, ℕ, zero, suc, map, Bool, true, false, List, [], ◌∷◌, length, ap, refl}
+use Rattle.std.specs.Prelude.{slice_index_or}
+use Rattle.std.specs.Str.{IsUtf8, is_utf8}
 use Rattle.plant_types.specs.declared.values.Place.{Place}
 use Rattle.plant_types.specs.declared.values.Trap.{Trap}
 use Rattle.serving.specs.Answers.{spots_of}
@@ -11,9 +9,8 @@ use Rattle.plant_logic.specs.Source.{Source}
 use Rattle.plant_logic.specs.Worlds.{Path}
 use Rattle.plant_logic.specs.Paths.{paths_of, path_text}
 use Rattle.plant_walk.specs.Runs.{place_spot}
-use Rattle.plant_config.specs.declared.rows.AlarmRow.{AlarmRow}
-use Rattle.plant_config.specs.Plants.{PlainPlant, tags_of}
-use Rattle.plant_config.specs.Names.{alarm_number, body_path}
+use Rattle.plant_config.specs.Plants.{PlainPlant}
+use Rattle.plant_config.specs.Names.{body_path}
 use Rattle.std.proofs.lemmas.Str.{IsUtf8-from_is_utf8}
 
 not_text : (v : Bool) (bytes : List ℕ) → is_utf8 bytes ≡ v → (IsUtf8 bytes → ⊥) → v ≡ false
@@ -38,12 +35,3 @@ path_is plant place = path_of_number (paths_of plant.source) place.path
 pub spots_length : (source : Source) (faults : List (Place × Trap)) → length (spots_of source faults) ≡ length faults
 spots_length source [] = refl
 spots_length source (f ∷ faults) = ap suc (spots_length source faults)
-
--- the number of a tag is below how many tags there are
-within : (tags : List (List ℕ)) (tag : List ℕ) (r : Option ℕ) → position (bytes_eq tag) tags ≡ r → IfSome r (λ number. number < length tags)
-within tags tag None is = tt
-within tags tag (Some number) is = (position-Some (bytes_eq tag) tags number [] is).0
-
--- the number of a tag is that of an alarm
-pub alarm_within : (plant : PlainPlant) (tag : List ℕ) → IfSome (alarm_number plant tag) (λ alarm. alarm < length plant.alarms)
-alarm_within plant tag = subst (λ n. IfSome (alarm_number plant tag) (λ alarm. alarm < n)) (length-map plant.alarms (λ (row : AlarmRow). row.tag)) (within (tags_of plant.alarms) tag (alarm_number plant tag) refl)

@@ -15,7 +15,7 @@ use Rattle.plant_config.specs.Plants.{PlainPlant}
 use Rattle.plant_config.specs.Names.{alarm_number, program_number, tag_of, global_of}
 use Rattle.event_history.specs.declared.event.Event.{Event}
 use Rattle.engine.specs.declared.event.EngineFault.{EngineFault}
-use Rattle.engine.specs.declared.event.EngineFault.TheVariants as refusal
+use Rattle.engine.specs.Faults.{fault_text}
 use Rattle.event_history.specs.declared.event.Order.{Order as OrderMade}
 use Rattle.engine.specs.declared.event.Reply.{Reply}
 use Rattle.engine.specs.declared.event.Reply.TheVariants as reply
@@ -85,19 +85,10 @@ unfoldable pub order_text : ℕ → List ℕ → Reply → List ℕ
 order_text moment tag (reply.Done change) = reply_line None ++ change_line moment tag change
 order_text moment tag (reply.Refused fault) = reply_line (Some fault)
 
--- the number that is printed for a refusal; `Memory`, which is never printed, has none
-abbrev pub fault_number : EngineFault → List ℕ
-fault_number refusal.Memory = []
-fault_number refusal.MomentBack = codes "E1"
-fault_number refusal.MomentRange = codes "E2"
-fault_number refusal.ImageName = codes "E3"
-fault_number refusal.ImageKind = codes "E4"
-fault_number refusal.HistoryFull = codes "E6"
-
 -- the text for an event that was taken, or REFUSED and the number
 abbrev pub event_text : Result Event EngineFault → (Event → List ℕ) → List ℕ
 event_text (Ok e) text = text e
-event_text (Err fault) text = refused_line (fault_number fault)
+event_text (Err fault) text = refused_line (fault_text fault)
 
 -- the answer to an order: its reply with the moment of the last scan and the tag of its alarm, or REFUSED where the history is full
 abbrev pub order_answer : System → ℕ → OrderMade → List ℕ

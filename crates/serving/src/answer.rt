@@ -1,11 +1,11 @@
 ghost use Rattle.std.specs.Prelude.{◌≡◌, ◌++◌, ◌⊎◌, ◌<◌, ◌^◌, ◌+◌, ℕ, OnOk, OnErr, IfOk, IfSome, All, length, false, string_bytes, decimal};
 ghost use Rattle.engine.specs.Engines.{state_of};
-ghost use Rattle.plant_config.specs.Names.{alarm_number, tag_of, globals_of, global_of, body_paths};
+ghost use Rattle.plant_config.specs.Names.{tag_of, globals_of, global_of, body_paths};
 ghost use Rattle.plant_logic.specs.Paths.{path_text};
 ghost use Rattle.plant_walk.specs.Runs.{place_spot};
 ghost use Rattle.engine.specs.Orders.{is_restart};
 ghost use Rattle.engine.specs.System.{system, scan_event, order_event};
-ghost use Rattle.serving.specs.Answers.{spots_of, named_by, target_of, tag_for, order_for, order_answer, fault_lines, alarm_lines, out_lines, report_text, order_text, fault_number, event_text, scan_text, event_added, after_command, answer_after};
+ghost use Rattle.serving.specs.Answers.{spots_of, named_by, target_of, tag_for, order_for, order_answer, fault_lines, alarm_lines, out_lines, report_text, order_text, event_text, scan_text, event_added, after_command, answer_after};
 ghost use Rattle.serving.specs.Listings.{list_text, journal_text};
 ghost use Rattle.command_text.specs.Commands.{command_of};
 
@@ -55,9 +55,7 @@ fn path_text(alloc: Global, plant: &Plant, place: &Place) -> Result<String, Allo
     requires { place.now.path < length (body_paths plant.now) }
     ensures { IfOk result (λ path. string_bytes path ≡ path_text (place_spot plant.now.source place.now).path) }
 {
-    let mut path = String::new(alloc);
-    plant.push_path(place.path, &mut path)?;
-    Ok(path)
+    plant.body_path(alloc, place.path)
 }
 
 /// Appends a FAULT line for each program that stopped. The moment is given by its digits.
@@ -120,20 +118,6 @@ fn push_report(
     push_done(text, moment, lines)
 }
 
-/// Returns the number that is printed for a refusal; `""` for `Memory`, which is never printed.
-pub fn fault_number(fault: EngineFault) -> &'static str
-    ensures { result.now ≡ fault_number fault }
-{
-    match fault {
-        EngineFault::Memory => "",
-        EngineFault::MomentBack => "E1",
-        EngineFault::MomentRange => "E2",
-        EngineFault::ImageName => "E3",
-        EngineFault::ImageKind => "E4",
-        EngineFault::HistoryFull => "E6",
-    }
-}
-
 /// Does a scan, and appends its answer. It fails where an allocation failed: before the scan took effect or after it.
 fn answer_scan(
     alloc: Global,
@@ -155,16 +139,8 @@ fn answer_scan(
             told
         }
         Err(EngineFault::Memory) => Err(AllocError),
-        Err(fault) => push_refused(text, fault_number(fault)),
+        Err(fault) => push_refused(text, fault.text()),
     }
-}
-
-/// Returns the number of the alarm with a tag; `None` if there is none.
-fn alarm_named(plant: &Plant, tag: &str) -> Option<u32>
-    ensures number { result ≡ alarm_number plant.now tag.now }
-    ensures within { IfSome result (λ alarm. alarm < length plant.now.alarms) }
-{
-    plant.alarm_number(tag)
 }
 
 /// Returns the number of the program that a text names for a restart, and of the alarm that it names for every other order.
@@ -174,7 +150,7 @@ fn named_by(plant: &Plant, verb: Verb, name: &str) -> Option<u32>
 {
     match verb {
         Verb::Restart => plant.program_number(name),
-        _ => alarm_named(plant, name),
+        _ => plant.alarm_number(name),
     }
 }
 
@@ -231,7 +207,7 @@ fn answer_order(
     match engine.order(alloc, console, order) {
         Ok(reply) => push_order(text, last, tag_for(engine.plant(), order), reply),
         Err(EngineFault::Memory) => Err(AllocError),
-        Err(fault) => push_refused(text, fault_number(fault)),
+        Err(fault) => push_refused(text, fault.text()),
     }
 }
 

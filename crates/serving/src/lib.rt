@@ -14,7 +14,6 @@ mod session;
 mod spilling;
 mod verdict;
 
-pub use answer::fault_number;
 pub use byte_streams::{Failed, Feed, Reading, Sink, Writing};
 pub use fault::ServeFault;
 pub use laws::requests_end_in_lf;

@@ -43,7 +43,9 @@ fn serve_plant<H: Wait, F: Feed, S: Sink>(
     match Engine::new(alloc, plant) {
         Ok(engine) => {
             let mut engine = engine;
-            serve(rt, alloc, &mut engine, feed, sink)
+            let ended = serve(rt, alloc, &mut engine, feed, sink);
+            drop(engine);
+            ended
         }
         Err(_) => Err(ServeFault::Memory),
     }

@@ -25,7 +25,10 @@ fn told<S: Sink>(
 {
     match put_all(sink, line.as_bytes()) {
         Ok(()) => Ok(plant),
-        Err(fault) => Err(fault),
+        Err(fault) => {
+            drop(plant);
+            Err(fault)
+        }
     }
 }
 
@@ -88,7 +91,11 @@ pub fn check_from<F: Folder, S: Sink>(
     ensures write { S.broken sink.new ≡ is_write result }
 {
     match admit_from(alloc, folder, path, true, sink) {
-        Ok(plant) => Ok(plant.is_some()),
+        Ok(plant) => {
+            let is_accepted = plant.is_some();
+            drop(plant);
+            Ok(is_accepted)
+        }
         Err(fault) => Err(fault),
     }
 }

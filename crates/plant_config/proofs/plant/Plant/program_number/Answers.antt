@@ -2,8 +2,8 @@ use Rattle.std.proofs.Common.{◌∙◌}
 use Rattle.plant_config.proofs.Programs.{numbered}
 use Rattle.plant_config.proofs.plant.Plant.program_number.Goals as goal
 
-pub returns-in-Some : goal.returns-in-Some
-returns-in-Some c = rw (← c.self.view_is) (c.in-Some.ensures.number ∙ numbered c.self.inside.logic.programs c.programs.result.now c.args.name.now c.programs.ensures.programs)
+pub returns-in-Some-clause-number : goal.returns-in-Some-clause-number
+returns-in-Some-clause-number c = rw (← c.self.view_is) (c.in-Some.ensures.number ∙ numbered c.self.inside.logic.programs c.programs.result.now c.args.name.now c.programs.ensures.programs)
 
-pub returns-in-None : goal.returns-in-None
-returns-in-None c = rw (← c.self.view_is) (c.in-None.ensures.number ∙ numbered c.self.inside.logic.programs c.programs.result.now c.args.name.now c.programs.ensures.programs)
+pub returns-in-None-clause-number : goal.returns-in-None-clause-number
+returns-in-None-clause-number c = rw (← c.self.view_is) (c.in-None.ensures.number ∙ numbered c.self.inside.logic.programs c.programs.result.now c.args.name.now c.programs.ensures.programs)
