@@ -2,7 +2,7 @@
 
 use engine::Engine;
 use plant_config::Plant;
-use serving::{Reading, ServeFault, Writing, serve};
+use serving::{Feed, Reading, ServeFault, Sink, Writing, serve};
 use std::alloc::{AllocError, Global};
 use std::sync::Wait;
 
@@ -13,7 +13,7 @@ pub fn push_accepted(alloc: Global, text: &mut Vec<u8>, plant: &Plant) -> Result
     text.extend_from_slice(line.as_bytes())
 }
 
-/// What an input is answered.
+/// What an input is answered. Neither the feed nor the sink has failed then.
 fn served<H: Wait>(
     rt: &H,
     alloc: Global,
@@ -23,6 +23,9 @@ fn served<H: Wait>(
     let mut feed = Reading::new(input);
     let mut sink = Writing::new(Vec::new(alloc));
     serve(rt, alloc, engine, &mut feed, &mut sink)?;
+    if feed.failed() || sink.failed() {
+        return Err(ServeFault::Read);
+    }
     Ok(sink.to)
 }
 

@@ -49,6 +49,36 @@ impl File {
     }
 }
 
+/// What is to be done with a plant.
+#[derive(Clone, Copy, Drop)]
+pub enum Asked {
+    /// To read it, and run it beside the server.
+    Run,
+    /// To read it.
+    Check,
+    /// To list the files that its plant file names.
+    List,
+    /// To check it from a folder.
+    CheckFiles,
+    /// To run it from a folder.
+    RunFiles,
+    /// To run it from the texts of its one source and its alarms.
+    RunTexts,
+}
+
+/// A plant and what is to be done with it.
+#[derive(Clone, Copy, Drop)]
+pub struct Plan<'a> {
+    pub files: &'a [File],
+    /// The sources that are handed in for it, where the table names them.
+    pub handed: &'a str,
+    /// The text in the gap of its files.
+    pub given: &'a str,
+    pub asked: Asked,
+    /// The lines of its run.
+    pub lines: &'a str,
+}
+
 /// The files of a plant for which the table has given none: the last of them is `p.st`, and empty.
 pub fn first_files(alloc: Global) -> Result<Vec<File>, AllocError> {
     let mut files = Vec::new(alloc);
@@ -65,7 +95,7 @@ pub fn push_file(alloc: Global, files: &mut Vec<File>, name: &str) -> Result<(),
 }
 
 /// The bytes of files, with a line in place of a line `..`.
-fn texts_of(alloc: Global, files: &[File], given: &str) -> Result<Vec<Vec<u8>>, AllocError> {
+pub fn texts_of(alloc: Global, files: &[File], given: &str) -> Result<Vec<Vec<u8>>, AllocError> {
     let mut texts = Vec::new(alloc);
     for file in files {
         texts.push(file.text(alloc, given)?)?;
@@ -74,7 +104,7 @@ fn texts_of(alloc: Global, files: &[File], given: &str) -> Result<Vec<Vec<u8>>, 
 }
 
 /// The bytes of the last file with a name, if there is one.
-fn text_of<'a>(files: &[File], texts: &'a [Vec<u8>], name: &str) -> Option<&'a [u8]> {
+pub fn text_of<'a>(files: &[File], texts: &'a [Vec<u8>], name: &str) -> Option<&'a [u8]> {
     let mut found = None;
     for (file, text) in files.iter().zip(texts) {
         if file.name.as_str() == name {
@@ -127,22 +157,28 @@ fn refused(
     Ok(None)
 }
 
-/// The plant of files, with a line in place of a line `..`. Where there is none, a line that says why is added.
-pub fn plant_of(
+/// Adds the names of the files that a plant file names, each after a space.
+fn push_listed(printed: &mut Vec<u8>, listed: &Files) -> Result<(), AllocError> {
+    for source in listed.sources.as_slice() {
+        printed.push(b' ')?;
+        printed.extend_from_slice(source.as_bytes())?;
+    }
+    printed.push(b' ')?;
+    printed.extend_from_slice(listed.alarms.as_bytes())?;
+    printed.push(b'\n')?;
+    Ok(())
+}
+
+/// The plant of texts, of which the files that its plant file names are those of the plan. Where there is none, a line that says why is added.
+fn plant_in(
     alloc: Global,
     printed: &mut Vec<u8>,
-    files: &[File],
-    words: &str,
-    given: &str,
+    plan: &Plan<'_>,
+    texts: &[Vec<u8>],
+    listed: Files,
 ) -> Result<Option<Plant>, AllocError> {
-    let texts = texts_of(alloc, files, given)?;
-    let plant = text_of(files, &texts, "plant.toml").unwrap_or(&[]);
-    let listed = match Plant::files(alloc, plant) {
-        Ok(listed) => listed,
-        Err(fault) => return refused(alloc, printed, fault),
-    };
-    let names = names_of(alloc, words, listed)?;
-    let mut sources = named(alloc, files, &texts, &names)?;
+    let names = names_of(alloc, plan.handed, listed)?;
+    let mut sources = named(alloc, plan.files, texts, &names)?;
     if let Some(name) = names.get(sources.len()) {
         let name = name.as_str();
         push_line(printed, format!(in alloc; "FILE {name}")?.as_str())?;
@@ -151,8 +187,27 @@ pub fn plant_of(
     let Some((_, alarms)) = sources.pop() else {
         return Ok(None);
     };
+    let plant = text_of(plan.files, texts, "plant.toml").unwrap_or(&[]);
     match Plant::read(alloc, plant, &sources, alarms) {
         Ok(plant) => Ok(Some(plant)),
+        Err(fault) => refused(alloc, printed, fault),
+    }
+}
+
+/// The plant of a plan. Where there is none, or its files are to be listed, lines that say so are added.
+pub fn plant_of(
+    alloc: Global,
+    printed: &mut Vec<u8>,
+    plan: &Plan<'_>,
+) -> Result<Option<Plant>, AllocError> {
+    let texts = texts_of(alloc, plan.files, plan.given)?;
+    let plant = text_of(plan.files, &texts, "plant.toml").unwrap_or(&[]);
+    match Plant::files(alloc, plant) {
+        Ok(listed) if matches!(plan.asked, Asked::List) => {
+            push_listed(printed, &listed)?;
+            Ok(None)
+        }
+        Ok(listed) => plant_in(alloc, printed, plan, &texts, listed),
         Err(fault) => refused(alloc, printed, fault),
     }
 }

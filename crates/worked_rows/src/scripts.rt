@@ -2,7 +2,11 @@
 
 use crate::answers::{answers, push_accepted, push_seen};
 use crate::beside::Beside;
-use crate::plants::{File, plant_of};
+use crate::folders::{push_checked, push_ran};
+use crate::plants::{Asked, Plan, plant_of};
+use crate::sessions::{asks_for_sessions, push_sessions};
+use crate::shown::push_shown;
+use crate::steps::push_step;
 use engine::Engine;
 use plant_config::Plant;
 use row_text::push_line;
@@ -49,6 +53,44 @@ fn repeat<H: Wait>(
     give(rt, alloc, engine, beside, &mut commands, text)
 }
 
+/// Gives an engine the command of a line by its own calls. The programs beside it take the same command.
+fn step(
+    alloc: Global,
+    engine: &mut Engine,
+    beside: &mut Beside,
+    text: &mut Vec<u8>,
+    is_ready: bool,
+    line: &str,
+) -> Result<(), AllocError> {
+    push_step(alloc, text, engine, is_ready, line)?;
+    beside.take(alloc, engine, text, line.as_bytes())
+}
+
+/// Whether a line of a run is the table's own, and asks what the engine is given or shows next.
+fn is_own(line: &str) -> bool {
+    let (word, _) = line.split_once(" ").unwrap_or((line, ""));
+    matches!(word, "seen" | "repeat" | "show" | "ready" | "step")
+}
+
+/// Takes a line of the table's own.
+fn take_own<H: Wait>(
+    rt: &H,
+    alloc: Global,
+    engine: &mut Engine,
+    beside: &mut Beside,
+    text: &mut Vec<u8>,
+    line: &str,
+) -> Result<(), AllocError> {
+    let (word, words) = line.split_once(" ").unwrap_or((line, ""));
+    match word {
+        "repeat" => repeat(rt, alloc, engine, beside, text, words),
+        "show" => push_shown(alloc, text, engine.plant(), words),
+        "ready" => step(alloc, engine, beside, text, true, words),
+        "step" => step(alloc, engine, beside, text, false, words),
+        _ => push_seen(alloc, text, engine),
+    }
+}
+
 /// Takes a line of a run.
 fn take<H: Wait>(
     rt: &H,
@@ -59,18 +101,17 @@ fn take<H: Wait>(
     text: &mut Vec<u8>,
     line: &str,
 ) -> Result<(), AllocError> {
-    if line == "seen" {
-        give(rt, alloc, engine, beside, commands, text)?;
-        return push_seen(alloc, text, engine);
-    }
-    if let Some(words) = line.strip_prefix("repeat ") {
-        give(rt, alloc, engine, beside, commands, text)?;
-        return repeat(rt, alloc, engine, beside, text, words);
-    }
     if line.is_empty() {
         return Ok(());
     }
-    push_line(commands, line)
+    if asks_for_sessions(line) {
+        return push_sessions(rt, alloc, text, engine.plant(), commands.as_slice(), line);
+    }
+    if !is_own(line) {
+        return push_line(commands, line);
+    }
+    give(rt, alloc, engine, beside, commands, text)?;
+    take_own(rt, alloc, engine, beside, text, line)
 }
 
 /// Takes the lines of a run.
@@ -98,7 +139,9 @@ fn run_beside<H: Wait>(
     lines: &str,
 ) -> Result<(), AllocError> {
     let mut beside = Beside::new(alloc, engine.plant())?;
-    take_all(rt, alloc, engine, &mut beside, text, lines)
+    let ran = take_all(rt, alloc, engine, &mut beside, text, lines);
+    drop(beside);
+    ran
 }
 
 /// Runs a plant on the lines of a run. An engine is let go here alone.
@@ -110,28 +153,57 @@ fn run_plant<H: Wait>(
     lines: &str,
 ) -> Result<(), AllocError> {
     let mut engine = Engine::new(alloc, plant)?;
-    run_beside(rt, alloc, &mut engine, text, lines)
+    let ran = run_beside(rt, alloc, &mut engine, text, lines);
+    drop(engine);
+    ran
 }
 
-/// Adds what a run of the plant of files prints: why there is no such plant, what it has if it is only checked, or its answers.
-pub fn push_run<H: Wait>(
+/// Adds what there is of the plant of a plan: why there is no such plant, what it has if it is only checked, or its answers.
+fn push_read<H: Wait>(
     rt: &H,
     alloc: Global,
     text: &mut Vec<u8>,
-    files: &[File],
-    handed: &str,
-    given: &str,
-    is_checked: bool,
-    lines: &str,
+    plan: &Plan<'_>,
 ) -> Result<(), AllocError> {
-    match plant_of(alloc, text, files, handed, given)? {
+    match plant_of(alloc, text, plan)? {
         None => Ok(()),
+        Some(plant) if matches!(plan.asked, Asked::Run) => {
+            run_plant(rt, alloc, text, plant, plan.lines)
+        }
         Some(plant) => {
-            if is_checked {
-                push_accepted(alloc, text, &plant)
-            } else {
-                run_plant(rt, alloc, text, plant, lines)
-            }
+            let accepted = push_accepted(alloc, text, &plant);
+            drop(plant);
+            accepted
         }
     }
+}
+
+/// Adds what a plan asks for.
+fn push_plan<H: Wait>(
+    rt: &H,
+    alloc: Global,
+    text: &mut Vec<u8>,
+    plan: &Plan<'_>,
+) -> Result<(), AllocError> {
+    match plan.asked {
+        Asked::Run | Asked::Check | Asked::List => push_read(rt, alloc, text, plan),
+        Asked::CheckFiles => push_checked(alloc, text, plan),
+        Asked::RunFiles => push_ran(rt, alloc, text, plan, false),
+        Asked::RunTexts => push_ran(rt, alloc, text, plan, true),
+    }
+}
+
+/// Adds what a plan asks for. Where memory is refused it is asked for once more.
+pub fn push_plan_again<H: Wait>(
+    rt: &H,
+    alloc: Global,
+    text: &mut Vec<u8>,
+    plan: &Plan<'_>,
+) -> Result<(), AllocError> {
+    let start = text.len();
+    if push_plan(rt, alloc, text, plan).is_ok() {
+        return Ok(());
+    }
+    text.truncate(start);
+    push_plan(rt, alloc, text, plan)
 }

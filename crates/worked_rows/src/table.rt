@@ -1,7 +1,7 @@
 //! The lines of the table.
 
-use crate::plants::{File, first_files, push_file};
-use crate::scripts::push_run;
+use crate::plants::{Asked, File, Plan, first_files, push_file};
+use crate::scripts::push_plan_again;
 use std::alloc::{AllocError, Global};
 use std::sync::Wait;
 
@@ -12,8 +12,8 @@ struct Table {
     files: Vec<File>,
     /// Whether they go on.
     is_open: bool,
-    /// Whether the plant is only checked.
-    is_checked: bool,
+    /// What is to be done with the plant.
+    asked: Asked,
     /// The sources that are handed in for it, where the table names them.
     handed: String,
     /// Whether the plant is to be run.
@@ -26,12 +26,24 @@ struct Table {
     text: Vec<u8>,
 }
 
+/// What a line asks to do with a plant, after its files.
+fn asked_by(line: &str) -> Option<Asked> {
+    match line {
+        "run" => Some(Asked::Run),
+        "list files" => Some(Asked::List),
+        "check files" => Some(Asked::CheckFiles),
+        "run files" => Some(Asked::RunFiles),
+        "run texts" => Some(Asked::RunTexts),
+        _ => None,
+    }
+}
+
 impl Table {
     fn new(alloc: Global) -> Table {
         Table {
             files: Vec::new(alloc),
             is_open: false,
-            is_checked: false,
+            asked: Asked::Run,
             handed: String::new(alloc),
             is_run: false,
             given: String::new(alloc),
@@ -50,16 +62,14 @@ impl Table {
     /// Runs the plant, if it is to be run, on the lines of its run.
     fn flush<H: Wait>(&mut self, rt: &H, alloc: Global) -> Result<(), AllocError> {
         if self.is_run {
-            push_run(
-                rt,
-                alloc,
-                &mut self.text,
-                &self.files,
-                self.handed.as_str(),
-                self.given.as_str(),
-                self.is_checked,
-                self.script.as_str(),
-            )?;
+            let plan = Plan {
+                files: &self.files,
+                handed: self.handed.as_str(),
+                given: self.given.as_str(),
+                asked: self.asked,
+                lines: self.script.as_str(),
+            };
+            push_plan_again(rt, alloc, &mut self.text, &plan)?;
         }
         self.is_run = false;
         self.script.clear();
@@ -70,7 +80,7 @@ impl Table {
     fn plant(&mut self, alloc: Global, line: &str) -> Result<(), AllocError> {
         self.files = first_files(alloc)?;
         self.is_open = true;
-        self.is_checked = false;
+        self.asked = Asked::Run;
         self.handed.clear();
         self.print(line)
     }
@@ -83,9 +93,10 @@ impl Table {
         Ok(())
     }
 
-    /// Takes the end of the files.
-    fn end(&mut self) -> Result<(), AllocError> {
+    /// Takes the end of the files, and what is to be done with the plant.
+    fn end(&mut self, asked: Asked) -> Result<(), AllocError> {
         self.is_open = false;
+        self.asked = asked;
         if self.files.iter().any(|file| file.source.has_gap()) {
             return Ok(());
         }
@@ -97,13 +108,12 @@ impl Table {
         if let Some(name) = line.strip_prefix("file ") {
             return push_file(alloc, &mut self.files, name);
         }
-        if let Some(words) = line.strip_prefix("check") {
-            self.is_checked = true;
-            self.handed.push_str(words.trim_start())?;
-            return self.end();
+        if let Some(asked) = asked_by(line) {
+            return self.end(asked);
         }
-        if line == "run" {
-            return self.end();
+        if let Some(words) = line.strip_prefix("check") {
+            self.handed.push_str(words.trim_start())?;
+            return self.end(Asked::Check);
         }
         match self.files.last_mut() {
             Some(file) => file.source.add(line),

@@ -1,0 +1,122 @@
+//! The alarms of a bank (`alarm_bank`): what an order would be answered, which events it takes, and when the next shelf ends.
+
+use crate::alarms::verb_of;
+use crate::printing::{number_of, parts_of, push_all, push_number};
+use alarm_bank::{Bank, BankEvent, Site};
+use alarm_machine::{Alarm, Change, OrderFault, Verb};
+use plant_types::Items;
+use std::alloc::{AllocError, Global};
+
+/// A bank of three alarms before its first scan, of which the second one latches; each may be shelved for 5000 ms.
+fn bank(alloc: Global) -> Result<Bank, AllocError> {
+    let site = Site {
+        area: 0,
+        priority: 2,
+    };
+    let sites = Vec::from_slice(alloc, [site, site, site].as_slice())?;
+    let (plain, latching) = (Alarm::new(false, 5000), Alarm::new(true, 5000));
+    let alarms = Vec::from_slice(alloc, [plain, latching, plain].as_slice())?;
+    Bank::new(alloc, 1, sites, alarms)
+}
+
+/// A truth for each character of a word, which is TRUE for a 1.
+fn truths_of(alloc: Global, word: &str) -> Result<Items<bool>, AllocError> {
+    let mut truths = Vec::new(alloc);
+    for byte in word.as_bytes() {
+        truths.push(*byte == b'1')?;
+    }
+    Ok(Items::from_vec(truths))
+}
+
+/// A scan, as a word spells it: the moment, the conditions and the suppressions.
+fn scan_of(alloc: Global, word: &str) -> Result<BankEvent, AllocError> {
+    let (moment, given) = parts_of(word, "/");
+    let (conditions, suppressions) = parts_of(given, "/");
+    let sups = truths_of(alloc, suppressions)?;
+    let conds = truths_of(alloc, conditions)?;
+    Ok(BankEvent::Scan {
+        moment: number_of(moment),
+        conds,
+        sups,
+    })
+}
+
+/// An order, as a word spells it: the verb and the alarm's number.
+fn order_of(word: &str) -> BankEvent {
+    let (verb, alarm) = parts_of(word, ":");
+    BankEvent::Order {
+        alarm: alarm.parse::<u32>().unwrap_or(0),
+        verb: verb_of(verb),
+    }
+}
+
+/// Gives a bank the event of a word.
+fn advance(alloc: Global, bank: &mut Bank, word: &str) -> Result<(), AllocError> {
+    let event = match word.strip_prefix("scan/") {
+        Some(scan) => scan_of(alloc, scan)?,
+        None => order_of(word),
+    };
+    bank.advance(&event);
+    Ok(())
+}
+
+/// The code to which an order would bring an alarm, `-` where it would keep its code; or the refusal.
+fn told(reply: Result<Option<Change>, OrderFault>) -> &'static str {
+    match reply {
+        Ok(Some(change)) => change.to().text(),
+        Ok(None) => "-",
+        Err(fault) => fault.text(),
+    }
+}
+
+/// The orders whose answers are shown.
+const ORDERS: &str = "ack reset shelve=5000 shelve=5001 unshelve remove return restart";
+
+/// Adds what the three alarms, and one that isn't there, would answer to orders, each in a line.
+fn push_replies(text: &mut String, bank: &Bank) -> Result<(), AllocError> {
+    for alarm in 0..4 {
+        text.push_str("\n")?;
+        for word in ORDERS.split(" ") {
+            push_all(text, &[" ", told(bank.reply(alarm, verb_of(word)))])?;
+        }
+    }
+    Ok(())
+}
+
+/// Adds a bank's moment, its next end and what its first alarm would answer to ack.
+fn push_seen(alloc: Global, text: &mut String, bank: &Bank) -> Result<(), AllocError> {
+    text.push_str("\n")?;
+    push_number(alloc, text, i128::from(bank.moment()))?;
+    match bank.next_end() {
+        Some(end) => push_number(alloc, text, i128::from(end))?,
+        None => text.push_str(" -")?,
+    }
+    push_all(text, &[" ", told(bank.reply(0, Verb::Ack))])
+}
+
+/// Shows a lent bank at first and after each event of the words; for the word `replies` it shows all replies.
+fn push_shown(
+    alloc: Global,
+    text: &mut String,
+    bank: &mut Bank,
+    words: &str,
+) -> Result<(), AllocError> {
+    push_seen(alloc, text, bank)?;
+    for word in words.split(" ") {
+        if word == "replies" {
+            push_replies(text, bank)?;
+        } else {
+            advance(alloc, bank, word)?;
+            push_seen(alloc, text, bank)?;
+        }
+    }
+    Ok(())
+}
+
+/// Shows a bank at first and after each event of the words. It is let go here alone.
+pub fn push_bank(alloc: Global, text: &mut String, words: &str) -> Result<(), AllocError> {
+    let mut bank = bank(alloc)?;
+    let shown = push_shown(alloc, text, &mut bank, words);
+    drop(bank);
+    shown
+}

@@ -1,0 +1,99 @@
+//! The files of a plant as a folder in memory, and runs from there and from their texts.
+
+ghost use Rattle.std.specs.Prelude.{◌≡◌, false};
+
+use crate::plants::{File, Plan, text_of, texts_of};
+use row_text::push_line;
+use serving::{FileFault, Folder, Reading, RunEnd, ServeFault, Writing, check_from, run, run_from};
+use std::alloc::{AllocError, Global};
+use std::sync::Wait;
+
+/// A folder `plant` with the files of a plant.
+#[derive(Drop)]
+struct Shelf<'a> {
+    files: &'a [File],
+    texts: &'a [Vec<u8>],
+}
+
+impl Folder for Shelf<'_> {
+    ghost use Rattle.std.specs.Prelude.{⊤};
+
+    ghost finds = { λ _ _ _. ⊤ };
+
+    fn contents(&self, alloc: Global, path: &str) -> Result<Vec<u8>, FileFault> {
+        let name = path.strip_prefix("plant/").unwrap_or("");
+        let Some(bytes) = text_of(self.files, self.texts, name) else {
+            return Err(FileFault::Missing);
+        };
+        if bytes.len() > 16_777_217 {
+            return Err(FileFault::Missing);
+        }
+        Ok(Vec::from_slice(alloc, bytes)?)
+    }
+}
+
+/// The path of the plant file in the folder.
+const PATH: &str = "plant/plant.toml";
+
+/// Adds what there is to say of the plant of files in a folder.
+pub fn push_checked(alloc: Global, text: &mut Vec<u8>, plan: &Plan<'_>) -> Result<(), AllocError> {
+    let texts = texts_of(alloc, plan.files, plan.given)?;
+    let shelf = Shelf {
+        files: plan.files,
+        texts: &texts,
+    };
+    let mut sink = Writing::new(Vec::new(alloc));
+    if check_from(alloc, &shelf, PATH, &mut sink).is_err() {
+        return Err(AllocError);
+    }
+    text.extend_from_slice(sink.to.as_slice())
+}
+
+/// Runs the plant of a folder to the end of a feed: from its files, or from the texts of its plant file, of `p.st` and of its alarms.
+fn ran<H: Wait>(
+    rt: &H,
+    alloc: Global,
+    shelf: &Shelf<'_>,
+    is_of_texts: bool,
+    feed: &mut Reading<&[u8]>,
+    sink: &mut Writing<Vec<u8>>,
+) -> Result<RunEnd, ServeFault>
+    requires feed { feed.old.broken ≡ false }
+    requires sink { sink.old.broken ≡ false }
+{
+    if !is_of_texts {
+        return run_from(rt, alloc, shelf, PATH, feed, sink);
+    }
+    let plant = text_of(shelf.files, shelf.texts, "plant.toml").unwrap_or(&[]);
+    let source = text_of(shelf.files, shelf.texts, "p.st").unwrap_or(&[]);
+    let alarms = text_of(shelf.files, shelf.texts, "alarms.csv").unwrap_or(&[]);
+    run(rt, alloc, plant, &[("p.st", source)], alarms, feed, sink)
+}
+
+/// Adds what the run of a plant writes, how it ends, and how many bytes of the input it leaves.
+pub fn push_ran<H: Wait>(
+    rt: &H,
+    alloc: Global,
+    text: &mut Vec<u8>,
+    plan: &Plan<'_>,
+    is_of_texts: bool,
+) -> Result<(), AllocError> {
+    let texts = texts_of(alloc, plan.files, plan.given)?;
+    let shelf = Shelf {
+        files: plan.files,
+        texts: &texts,
+    };
+    let mut feed = Reading::new(plan.lines.as_bytes());
+    let mut sink = Writing::new(Vec::new(alloc));
+    let end = match ran(rt, alloc, &shelf, is_of_texts, &mut feed, &mut sink) {
+        Ok(RunEnd::Served) => "SERVED",
+        Ok(RunEnd::Refused) => "REFUSED",
+        Err(_) => return Err(AllocError),
+    };
+    text.extend_from_slice(sink.to.as_slice())?;
+    let (left, bytes) = (feed.from.len(), plan.lines.len());
+    push_line(
+        text,
+        format!(in alloc; "{end}, {left} of {bytes} bytes left")?.as_str(),
+    )
+}

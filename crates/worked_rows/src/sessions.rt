@@ -1,0 +1,251 @@
+//! The real `serve` over feeds and sinks that fail, or take little at a time.
+
+ghost use Rattle.std.specs.Prelude.{◌≡◌, false};
+
+use engine::Engine;
+use plant_config::Plant;
+use row_text::push_line;
+use serving::{Failed, Feed, ServeFault, Sink, serve};
+use std::alloc::{AllocError, Global};
+use std::sync::Wait;
+
+/// More calls than a session makes, and more bytes than it reads or writes.
+const NO_LIMIT: usize = 1_000_000_000;
+
+/// A feed that gives at most so many bytes a read, and fails after so many reads.
+#[derive(Drop)]
+struct Pieces<'a> {
+    bytes: &'a [u8],
+    most: usize,
+    reads: usize,
+    broken: bool,
+}
+
+impl Feed for Pieces<'_> {
+    ghost use Rattle.std.specs.Prelude.{None};
+
+    ghost remaining = { λ _. None };
+
+    ghost broken = { λ s. s.broken };
+
+    fn read(&mut self, buf: &mut [u8]) -> Result<usize, Failed> {
+        if self.reads == 0 {
+            self.broken = true;
+            return Err(Failed);
+        }
+        self.reads -= 1;
+        let n = self.bytes.len().min(self.most).min(buf.len());
+        let (now, rest) = self.bytes.split_at(n);
+        for (place, byte) in buf.iter_mut().zip(now) {
+            *place = *byte;
+        }
+        self.bytes = rest;
+        Ok(n)
+    }
+
+    fn failed(&self) -> bool {
+        self.broken
+    }
+}
+
+/// A sink that takes at most so many bytes a write, and fails after so many writes.
+#[derive(Drop)]
+struct Taken {
+    bytes: Vec<u8>,
+    most: usize,
+    writes: usize,
+    broken: bool,
+}
+
+impl Sink for Taken {
+    ghost use Rattle.std.specs.Prelude.{None};
+
+    ghost written = { λ _. None };
+
+    ghost broken = { λ s. s.broken };
+
+    fn write(&mut self, buf: &[u8]) -> Result<usize, Failed> {
+        let n = buf.len().min(self.most.max(1));
+        let (now, _) = buf.split_at(n);
+        if self.writes == 0 || self.bytes.extend_from_slice(now).is_err() {
+            self.broken = true;
+            return Err(Failed);
+        }
+        self.writes -= 1;
+        Ok(n)
+    }
+
+    fn failed(&self) -> bool {
+        self.broken
+    }
+}
+
+/// How many bytes a read and a write take at most, and how many reads and writes there are before one fails.
+#[derive(Clone, Copy, Drop)]
+struct Ends {
+    read: usize,
+    reads: usize,
+    write: usize,
+    writes: usize,
+}
+
+/// How a session ended, after how many events, and what it wrote.
+#[derive(Drop)]
+struct Ended {
+    outcome: &'static str,
+    events: u64,
+    bytes: Vec<u8>,
+}
+
+/// Serves an input to an engine that is lent. Fails where memory was refused.
+fn served<H: Wait>(
+    rt: &H,
+    alloc: Global,
+    engine: &mut Engine,
+    input: &[u8],
+    ends: Ends,
+) -> Result<Ended, AllocError> {
+    // Room for all answers: a growth that is refused would look like a write that failed.
+    let bytes = Vec::with_capacity(alloc, 1000)?;
+    let mut feed = Pieces {
+        bytes: input,
+        most: ends.read,
+        reads: ends.reads,
+        broken: false,
+    };
+    let mut sink = Taken {
+        bytes,
+        most: ends.write,
+        writes: ends.writes,
+        broken: false,
+    };
+    let outcome = match serve(rt, alloc, engine, &mut feed, &mut sink) {
+        Ok(()) => "DONE",
+        Err(ServeFault::Memory) => return Err(AllocError),
+        Err(fault) => fault.text(),
+    };
+    Ok(Ended {
+        outcome,
+        events: engine.events(),
+        bytes: sink.bytes,
+    })
+}
+
+/// Serves an input to a new engine of a plant, which is let go here alone.
+fn session<H: Wait>(
+    rt: &H,
+    alloc: Global,
+    plant: &Plant,
+    input: &[u8],
+    ends: Ends,
+) -> Result<Ended, AllocError> {
+    let mut engine = Engine::new(alloc, plant.copy(alloc)?)?;
+    let ended = served(rt, alloc, &mut engine, input, ends);
+    drop(engine);
+    ended
+}
+
+/// Adds how a session ended, how many bytes and line ends it wrote, and after how many events; `APART` where it wrote no beginning of the
+/// whole answers.
+fn push_ended(
+    alloc: Global,
+    text: &mut Vec<u8>,
+    name: &str,
+    ended: &Ended,
+    whole: &[u8],
+) -> Result<(), AllocError> {
+    let wrote = ended.bytes.as_slice();
+    let (outcome, bytes, events) = (ended.outcome, wrote.len(), ended.events);
+    let lines = wrote.iter().filter(|byte| **byte == b'\n').count();
+    let apart = if whole.starts_with(wrote) {
+        ""
+    } else {
+        " APART"
+    };
+    let line = format!(in alloc; "{name} {outcome} {bytes} {lines} {events}{apart}")?;
+    push_line(text, line.as_str())
+}
+
+/// The ends of a word: `feed 5` gives at most 5 bytes a read, `sink 5` takes at most 5 a write; the first call that fails is the one after so
+/// many.
+fn ends_of(word: &str, calls: usize) -> Ends {
+    let (name, most) = word.split_once(" ").unwrap_or((word, ""));
+    let most = most.parse::<usize>().unwrap_or(NO_LIMIT);
+    let is_feed = name == "feed";
+    Ends {
+        read: if is_feed { most } else { NO_LIMIT },
+        reads: if is_feed { calls } else { NO_LIMIT },
+        write: if is_feed { NO_LIMIT } else { most },
+        writes: if is_feed { NO_LIMIT } else { calls },
+    }
+}
+
+/// Adds the sessions of a plant in which the first call of a feed or sink fails, the second one, the third, and so on until none does.
+fn push_failing<H: Wait>(
+    rt: &H,
+    alloc: Global,
+    text: &mut Vec<u8>,
+    plant: &Plant,
+    input: &[u8],
+    word: &str,
+    whole: &[u8],
+) -> Result<(), AllocError> {
+    for calls in 0..1_000_000usize {
+        let ended = session(rt, alloc, plant, input, ends_of(word, calls))?;
+        push_ended(
+            alloc,
+            text,
+            format!(in alloc; "{calls}")?.as_str(),
+            &ended,
+            whole,
+        )?;
+        if ended.outcome == "DONE" {
+            return Ok(());
+        }
+    }
+    Ok(())
+}
+
+/// Adds the session of a plant whose feed and sink take little: `little 5 7` gives at most 5 bytes a read, and takes at most 7 a write.
+fn push_little<H: Wait>(
+    rt: &H,
+    alloc: Global,
+    text: &mut Vec<u8>,
+    plant: &Plant,
+    input: &[u8],
+    words: &str,
+    whole: &[u8],
+) -> Result<(), AllocError> {
+    let (read, write) = words.split_once(" ").unwrap_or((words, ""));
+    let ends = Ends {
+        read: read.parse::<usize>().unwrap_or(NO_LIMIT),
+        reads: NO_LIMIT,
+        write: write.parse::<usize>().unwrap_or(NO_LIMIT),
+        writes: NO_LIMIT,
+    };
+    let ended = session(rt, alloc, plant, input, ends)?;
+    push_ended(alloc, text, words, &ended, whole)
+}
+
+/// Whether a line of a run asks for sessions.
+pub fn asks_for_sessions(line: &str) -> bool {
+    line.starts_with("feed ") || line.starts_with("sink ") || line.starts_with("little ")
+}
+
+/// Adds the sessions of a line: each of a new engine of the plant, on the commands so far.
+pub fn push_sessions<H: Wait>(
+    rt: &H,
+    alloc: Global,
+    text: &mut Vec<u8>,
+    plant: &Plant,
+    input: &[u8],
+    line: &str,
+) -> Result<(), AllocError> {
+    push_line(text, line)?;
+    let whole = session(rt, alloc, plant, input, ends_of("sink", NO_LIMIT))?;
+    let answers = whole.bytes.as_slice();
+    match line.strip_prefix("little ") {
+        Some(words) => push_little(rt, alloc, text, plant, input, words, answers),
+        None => push_failing(rt, alloc, text, plant, input, line, answers),
+    }
+}
