@@ -1,0 +1,11 @@
+pub mod Steps
+pub mod Items
+pub mod Standing
+pub mod Runs
+pub mod Sound
+pub mod Places
+pub mod Carried
+pub mod Putting
+pub mod Made
+pub mod Overs
+pub mod Printed

@@ -1,0 +1,112 @@
+//! Numbers that are noted once each. A table has the place of each number that is noted; what it has for others doesn't matter, so it serves
+//! one code after another as it is.
+
+ghost use Rattle.std.specs.Prelude.{◌≡◌, ◌≤◌, ◌<◌, ◌^◌, ℕ, Some, length, slice_get, IfOk, IsTrue, ◌↔◌, Contains};
+ghost use Rattle.std.specs.List.{AllByRecursion};
+ghost use Rattle.acc_vm.specs.declared.instr.Instr.{Instr};
+ghost use Rattle.acc_vm.specs.Codes.{values_past, clocks_past};
+ghost use Rattle.code_slices.specs.Slots.{slots_read, slots_written, clocks_of, SomeHas};
+ghost use Rattle.code_slices.specs.Lists.{listed};
+ghost use Rattle.code_slices.specs.Noting.{IsNoted, AreOnce, Notes};
+
+use crate::named::{clock_by, read_by, written_by};
+use acc_vm::Instr;
+use std::alloc::AllocError;
+
+/// Whether a number is noted.
+fn is_noted(places: &[u32], numbers: &[u32], number: u32) -> bool
+    requires { number < length places.now }
+    ensures { IsTrue result ↔ IsNoted places.now numbers.now number }
+{
+    let place = places[number as usize] as usize;
+    if place >= numbers.len() {
+        return false;
+    }
+    numbers[place] == number
+}
+
+/// Notes a number behind the others, if it isn't noted yet. Fails if memory was refused.
+fn note(places: &mut [u32], numbers: &mut Vec<u32>, number: u32) -> Result<(), AllocError>
+    requires there { number < length places.old }
+    requires few { length places.old ≤ 2 ^ 32 }
+    requires once { AreOnce places.old numbers.old.items }
+    ensures { IfOk result (λ _. Notes (λ s. s ≡ number) places.old numbers.old.items places.new numbers.new.items) }
+{
+    if is_noted(places, numbers.as_slice(), number) {
+        return Ok(());
+    }
+    let next = numbers.len() as u32;
+    numbers.push(number)?;
+    places[number as usize] = next;
+    Ok(())
+}
+
+/// Notes a number that may be there.
+fn note_some(
+    places: &mut [u32],
+    numbers: &mut Vec<u32>,
+    number: Option<u32>,
+) -> Result<(), AllocError>
+    requires there { AllByRecursion (λ s. s < length places.old) (listed number) }
+    requires few { length places.old ≤ 2 ^ 32 }
+    requires once { AreOnce places.old numbers.old.items }
+    ensures { IfOk result (λ _. Notes (Contains (listed number)) places.old numbers.old.items places.new numbers.new.items) }
+{
+    if let Some(number) = number {
+        note(places, numbers, number)?;
+    }
+    Ok(())
+}
+
+/// Notes the slots that instructions write. Fails if memory was refused.
+pub(crate) fn note_written(
+    places: &mut [u32],
+    numbers: &mut Vec<u32>,
+    instrs: &[Instr],
+) -> Result<(), AllocError>
+    requires there { (pc : ℕ) (i : Instr) → slice_get instrs.now pc ≡ Some i → values_past i ≤ length places.old }
+    requires few { length places.old ≤ 2 ^ 32 }
+    requires once { AreOnce places.old numbers.old.items }
+    ensures { IfOk result (λ _. Notes (SomeHas slots_written instrs.now) places.old numbers.old.items places.new numbers.new.items) }
+{
+    for i in instrs {
+        note_some(places, numbers, written_by(i))?;
+    }
+    Ok(())
+}
+
+/// Notes the slots that instructions read. Fails if memory was refused.
+pub(crate) fn note_read(
+    places: &mut [u32],
+    numbers: &mut Vec<u32>,
+    instrs: &[Instr],
+) -> Result<(), AllocError>
+    requires there { (pc : ℕ) (i : Instr) → slice_get instrs.now pc ≡ Some i → values_past i ≤ length places.old }
+    requires few { length places.old ≤ 2 ^ 32 }
+    requires once { AreOnce places.old numbers.old.items }
+    ensures { IfOk result (λ _. Notes (SomeHas slots_read instrs.now) places.old numbers.old.items places.new numbers.new.items) }
+{
+    for i in instrs {
+        let (one, other) = read_by(i);
+        note_some(places, numbers, one)?;
+        note_some(places, numbers, other)?;
+    }
+    Ok(())
+}
+
+/// Notes the clocks that instructions name. Fails if memory was refused.
+pub(crate) fn note_clocks(
+    places: &mut [u32],
+    numbers: &mut Vec<u32>,
+    instrs: &[Instr],
+) -> Result<(), AllocError>
+    requires there { (pc : ℕ) (i : Instr) → slice_get instrs.now pc ≡ Some i → clocks_past i ≤ length places.old }
+    requires few { length places.old ≤ 2 ^ 32 }
+    requires once { AreOnce places.old numbers.old.items }
+    ensures { IfOk result (λ _. Notes (SomeHas clocks_of instrs.now) places.old numbers.old.items places.new numbers.new.items) }
+{
+    for i in instrs {
+        note_some(places, numbers, clock_by(i))?;
+    }
+    Ok(())
+}

@@ -1,0 +1,183 @@
+//! A program's part of the cells: its code by numbers of its own.
+
+ghost use Rattle.std.specs.Prelude.{◌≡◌, ◌≤◌, ◌<◌, ◌^◌, ℕ, pos, [], Some, map, length, take, slice_get, slice_index_or, IfOk, IsTrue, ◌↔◌};
+ghost use Rattle.plant_cells.specs.declared.clock.Standard.{Standard};
+ghost use Rattle.plant_cells.specs.Clocks.{clock_of};
+ghost use Rattle.acc_vm.specs.declared.instr.Instr.{Instr};
+ghost use Rattle.acc_vm.specs.Codes.{values_past, clocks_past};
+ghost use Rattle.code_slices.specs.Parts.{IsPart, IsPartOf, HasPart, AreSlots, AreClocks, loaded};
+
+use crate::noting::{note_clocks, note_read, note_written};
+use crate::prints::same_code;
+use crate::renaming::renamed_all;
+use acc_vm::{Code, Instr};
+use plant_cells::{Cells, Clock, Standard};
+use std::alloc::{AllocError, Global};
+use std::marker::Model;
+
+/// The code of a program by the numbers of its part: from 0 on the slots that it names, those that it writes in front, and the clocks.
+#[derive(Drop)]
+pub struct Part {
+    code: Code,
+    slots: Vec<u32>,
+    written: usize,
+    clocks: Vec<u32>,
+}
+
+impl Model for Part {
+    ghost use Rattle.code_slices.specs.Parts.{PlainPart, IsPart};
+
+    ghost Value = { PlainPart };
+
+    ghost view = { λ p. record { code = p.code; slots = p.slots.items; written = p.written; clocks = p.clocks.items } };
+
+    ghost invariant = { λ p. IsPart (record { code = p.code; slots = p.slots.items; written = p.written; clocks = p.clocks.items }) };
+}
+
+/// The slots that instructions name, those that they write in front, and how many these are. Fails if memory was refused.
+fn named_slots(
+    alloc: Global,
+    places: &mut [u32],
+    instrs: &[Instr],
+) -> Result<(Vec<u32>, usize), AllocError>
+    requires there { (pc : ℕ) (i : Instr) → slice_get instrs.now pc ≡ Some i → values_past i ≤ length places.old }
+    requires few { length places.old ≤ 2 ^ 32 }
+    ensures { IfOk result (λ r. AreSlots instrs.now places.new r.0.items r.1) }
+{
+    let mut slots = Vec::new(alloc);
+    note_written(places, &mut slots, instrs)?;
+    let written = slots.len();
+    note_read(places, &mut slots, instrs)?;
+    Ok((slots, written))
+}
+
+/// The clocks that instructions name. Fails if memory was refused.
+fn named_clocks(alloc: Global, places: &mut [u32], instrs: &[Instr]) -> Result<Vec<u32>, AllocError>
+    requires there { (pc : ℕ) (i : Instr) → slice_get instrs.now pc ≡ Some i → clocks_past i ≤ length places.old }
+    requires few { length places.old ≤ 2 ^ 32 }
+    ensures { IfOk result (λ clocks. AreClocks instrs.now places.new clocks.items) }
+{
+    let mut clocks = Vec::new(alloc);
+    note_clocks(places, &mut clocks, instrs)?;
+    Ok(clocks)
+}
+
+/// The part of a code. Two tables are needed, of a number for each slot and for each clock that the code may name; what they hold doesn't
+/// matter, and they serve one code after another. Fails if memory was refused.
+pub fn relocate(
+    alloc: Global,
+    code: &Code,
+    slot_table: &mut [u32],
+    clock_table: &mut [u32],
+) -> Result<Part, AllocError>
+    requires slots { code.now.values ≤ length slot_table.old }
+    requires clocks { code.now.clocks ≤ length clock_table.old }
+    requires few_slots { length slot_table.old ≤ 2 ^ 32 }
+    requires few_clocks { length clock_table.old ≤ 2 ^ 32 }
+    ensures { IfOk result (IsPartOf code.now) }
+{
+    let program = code.instrs();
+    let (slots, written) = named_slots(alloc, slot_table, program)?;
+    let clocks = named_clocks(alloc, clock_table, program)?;
+    let instrs = renamed_all(alloc, slot_table, clock_table, program)?;
+    let places = Vec::from_slice(alloc, code.places())?;
+    let moved = Code::new(
+        instrs,
+        places,
+        code.paths(),
+        slots.len(),
+        clocks.len(),
+        code.stack(),
+        code.cost(),
+    );
+    Ok(Part {
+        code: moved,
+        slots,
+        written,
+        clocks,
+    })
+}
+
+/// The values of slots in a row of them. Fails if memory was refused.
+fn picked_values(alloc: Global, slots: &[u32], values: &[i64]) -> Result<Vec<i64>, AllocError>
+    requires { (i s : ℕ) → slice_get slots.now i ≡ Some s → s < length values.now }
+    ensures { IfOk result (λ v. v.items ≡ map (λ s. slice_index_or values.now s (pos 0)) slots.now) }
+{
+    let mut picked = Vec::with_capacity(alloc, slots.len())?;
+    for slot in slots {
+        picked.push(values[*slot as usize])?;
+    }
+    Ok(picked)
+}
+
+/// The clock of a number in a row of them.
+#[tactic(auto, using(crate::proofs::Items::any_default))]
+fn picked_clock(clocks: &[Clock], number: u32) -> Clock
+    requires { number < length clocks.now }
+    ensures { result ≡ slice_index_or clocks.now number (clock_of Standard.Ton []) }
+{
+    clocks[number as usize]
+}
+
+/// The clocks of numbers in a row of them. Fails if memory was refused.
+fn picked_clocks(alloc: Global, numbers: &[u32], clocks: &[Clock]) -> Result<Vec<Clock>, AllocError>
+    requires { (i k : ℕ) → slice_get numbers.now i ≡ Some k → k < length clocks.now }
+    ensures { IfOk result (λ v. v.items ≡ map (λ k. slice_index_or clocks.now k (clock_of Standard.Ton [])) numbers.now) }
+{
+    let mut picked = Vec::with_capacity(alloc, numbers.len())?;
+    for number in numbers {
+        picked.push(picked_clock(clocks, *number))?;
+    }
+    Ok(picked)
+}
+
+impl Part {
+    /// The code by the part's numbers.
+    pub fn code(&self) -> &Code
+        ensures is { result.now ≡ self.now.code }
+        ensures part { IsPart self.now }
+    {
+        &self.code
+    }
+
+    /// The slots that the code names, those that it writes in front.
+    pub fn slots(&self) -> &[u32]
+        ensures { result.now ≡ self.now.slots }
+    {
+        self.slots.as_slice()
+    }
+
+    /// The slots that the code writes.
+    pub fn written(&self) -> &[u32]
+        ensures { result.now ≡ take self.now.written self.now.slots }
+    {
+        &self.slots[..self.written]
+    }
+
+    /// The clocks that the code names.
+    pub fn clocks(&self) -> &[u32]
+        ensures { result.now ≡ self.now.clocks }
+    {
+        self.clocks.as_slice()
+    }
+
+    /// The part's cells, with the values and clocks that they have among all of them. Fails if memory was refused.
+    pub fn load(&self, alloc: Global, values: &[i64], clocks: &[Clock]) -> Result<Cells, AllocError>
+        requires { HasPart self.now (record { values = values.now; clocks = clocks.now }) }
+        ensures { IfOk result (λ cells. cells ≡ loaded self.now (record { values = values.now; clocks = clocks.now })) }
+    {
+        let values = picked_values(alloc, self.slots(), values)?;
+        let clocks = picked_clocks(alloc, self.clocks(), clocks)?;
+        Ok(Cells::new(values, clocks))
+    }
+
+    /// Whether another part is the same.
+    pub fn same(&self, other: &Part) -> bool
+        ensures { IsTrue result ↔ (self.now ≡ other.now) }
+    {
+        self.written == other.written
+            && self.slots.as_slice() == other.slots.as_slice()
+            && self.clocks.as_slice() == other.clocks.as_slice()
+            && same_code(&self.code, &other.code)
+    }
+}
