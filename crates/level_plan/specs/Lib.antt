@@ -1,0 +1,5 @@
+pub mod Accesses
+pub mod Conflicts
+pub mod Levellings
+pub mod Plans
+pub mod Tables

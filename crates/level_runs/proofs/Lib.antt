@@ -1,0 +1,4 @@
+pub mod Globals
+pub mod Local
+pub mod Named
+pub mod Planned

@@ -1,0 +1,12 @@
+-- The plan of codes.
+use Rattle.std.specs.Prelude.{ℕ, List}
+use Rattle.acc_vm.specs.Codes.{PlainCode}
+use Rattle.level_plan.specs.Accesses.{PlainAccess}
+use Rattle.level_plan.specs.Plans.{IsPlan}
+use Rattle.level_runs.specs.Accesses.{AreAccessesOf}
+
+-- levels are the plan of what codes do to so many globals
+pub record IsPlanOf (globals : ℕ) (codes : List PlainCode) (levels : List ℕ) : Type 0 where
+  pub accesses : List PlainAccess
+  pub are : AreAccessesOf globals codes accesses
+  pub plan : IsPlan accesses levels

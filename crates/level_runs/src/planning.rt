@@ -1,0 +1,54 @@
+//! The plan of codes, read off their parts of the cells.
+
+ghost use Rattle.std.specs.Prelude.{◌<◌, ◌^◌, List, length, IfOk};
+ghost use Rattle.acc_vm.specs.Codes.{PlainCode};
+ghost use Rattle.code_slices.specs.Parts.{IsPartOf};
+ghost use Rattle.level_plan.specs.Accesses.{StaysWithin};
+ghost use Rattle.level_runs.specs.Accesses.{AreGlobalsOf, ArePartsOf, IsAccessOf};
+ghost use Rattle.level_runs.specs.Plans.{IsPlanOf};
+
+use code_slices::Part;
+use level_plan::{Access, Extent, Levels, plan};
+use std::alloc::{AllocError, Global};
+
+/// The globals among slots, each in an extent of its own.
+fn globals_among(alloc: Global, slots: &[u32], globals: usize) -> Result<Vec<Extent>, AllocError>
+    ensures { IfOk result (λ extents. AreGlobalsOf globals slots.now extents.items) }
+{
+    let mut extents = Vec::new(alloc);
+    for slot in slots {
+        if (*slot as usize) < globals {
+            extents.push(Extent {
+                first: *slot,
+                count: 1,
+            })?;
+        }
+    }
+    Ok(extents)
+}
+
+/// What a code does to so many globals, by its part. One that it writes isn't told among those that it reads: this changes no level.
+fn access_of(alloc: Global, part: &Part, globals: usize) -> Result<Access, AllocError>
+    ensures within { IfOk result (λ access. StaysWithin globals access) }
+    ensures tells { IfOk result (λ access. (whole : PlainCode) → IsPartOf whole part.now → IsAccessOf globals whole.instrs access) }
+{
+    let slots = part.slots();
+    let written = part.written();
+    Ok(Access {
+        reads: globals_among(alloc, &slots[written.len()..], globals)?,
+        writes: globals_among(alloc, written, globals)?,
+    })
+}
+
+/// The levels of codes, by their parts and the number of globals, which come first among the slots. It takes time in proportion to the globals
+/// and to the slots of all parts together. Fails only where memory was refused.
+pub fn plan_of(alloc: Global, parts: &[Part], globals: usize) -> Result<Levels, AllocError>
+    requires { length parts.now < 2 ^ 32 }
+    ensures { IfOk result (λ levels. (codes : List PlainCode) → ArePartsOf codes parts.now → IsPlanOf globals codes levels) }
+{
+    let mut accesses = Vec::with_capacity(alloc, parts.len())?;
+    for part in parts {
+        accesses.push(access_of(alloc, part, globals)?)?;
+    }
+    plan(alloc, accesses.as_slice(), globals)
+}
