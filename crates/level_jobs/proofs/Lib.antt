@@ -1,0 +1,6 @@
+mod Numbers
+pub mod Taken
+pub mod Turns
+pub mod Telling
+pub mod Again
+pub mod Planned

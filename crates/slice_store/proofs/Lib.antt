@@ -1,0 +1,5 @@
+pub mod Ticks
+pub mod Taking
+pub mod Splitting
+pub mod Whole
+pub mod Parting

@@ -1,0 +1,43 @@
+use Rattle.std.proofs.Common.{◌≡◌, ◌<◌, ◌+◌, ◌∷◌, ◌++◌, [], true, false, map, length, Some, refl, ap, sym, ◌∙◌, subst, arith}
+use Rattle.std.specs.Prelude.{slice_get, option_map}
+use Rattle.std.specs.Arc.{arc_value}
+use Rattle.std.proofs.lemmas.Option.{slice_get-map, slice_get_read}
+use Rattle.slice_store.specs.Splits.{IsChosen, AreJobsBefore}
+use Rattle.slice_store.proofs.Splitting.{jobs_none, jobs_skip, jobs_push}
+use Rattle.slice_store.proofs.store.Store.begin_level.Goals as goal
+use Rattle.slice_store.proofs.store.Store.begin_level.Goals.{then-is_chosen+in_ok-job+in_ok-push, else-is_chosen}
+
+pub loop-p-init : goal.loop-p-init
+loop-p-init c =
+    subst (AreJobsBefore (map arc_value c.args.parts.now) c.args.levels.now c.args.level c.args.self.now 0) (sym c.new-jobs.ensures.items)
+    (jobs_none (map arc_value c.args.parts.now) c.args.levels.now c.args.level c.args.self.now)
+
+pub begin_program-requires-clause-there : goal.begin_program-requires-clause-there
+begin_program-requires-clause-there c =
+    c.requires.inside c.loop-p.p (arc_value c.index-parts-p.result)
+    (slice_get-map arc_value c.args.parts.now c.loop-p.p ∙ ap (option_map arc_value) (slice_get_read c.args.parts.now (length c.args.parts.now) c.loop-p.p c.index-parts-p.result refl c.loop-p-test.true c.index-parts-p.is))
+
+pub loop-p-preserved : goal.loop-p-preserved
+loop-p-preserved c =
+    let parts = map arc_value c.args.parts.now in
+    elim c.if-is_chosen.branch [
+      | then-is_chosen+in_ok-job+in_ok-push w ↦
+          let at : slice_get parts c.loop-p.p ≡ Some (arc_value w.index-parts-p.result)
+          = slice_get-map arc_value c.args.parts.now c.loop-p.p ∙ ap (option_map arc_value) (slice_get_read c.args.parts.now (length c.args.parts.now) c.loop-p.p w.index-parts-p.result refl c.loop-p-test.true w.index-parts-p.is) in
+          let chosen : IsChosen c.args.levels.now c.args.level c.args.self.now.faulted c.loop-p.p
+          = record { level_is = c.is_chosen.ensures.level w.if-is_chosen.true; sound = c.is_chosen.ensures.sound w.if-is_chosen.true } in
+          let items : c.if-is_chosen.jobs.items ≡ c.loop-p.jobs.items ++ w.in_ok-job.job ∷ [] = cc (w.in_ok-push.ensures.items) in
+          subst (AreJobsBefore parts c.args.levels.now c.args.level c.args.self.now (c.loop-p.p + 1)) (sym items)
+          (jobs_push parts c.args.levels.now c.args.level c.args.self.now c.loop-p.p c.loop-p.jobs.items (arc_value w.index-parts-p.result) w.in_ok-job.job c.loop-p.invariant chosen at w.in_ok-job.ensures)
+      | else-is_chosen w ↦
+          let items : c.if-is_chosen.jobs.items ≡ c.loop-p.jobs.items = cc in
+          subst (AreJobsBefore parts c.args.levels.now c.args.level c.args.self.now (c.loop-p.p + 1)) (sym items)
+          (jobs_skip parts c.args.levels.now c.args.level c.args.self.now c.loop-p.p c.loop-p.jobs.items c.loop-p.invariant
+          (λ chosen. let yes : c.is_chosen.result ≡ true = c.is_chosen.ensures.chosen chosen.level_is chosen.sound in let no : c.is_chosen.result ≡ false = w.if-is_chosen.false in cc))
+    ]
+
+pub returns : goal.returns
+returns c =
+    let low = c.loop-p.auto.p-end in let high = c.loop-p-test.false in
+    let end : c.loop-p.p ≡ length c.args.parts.now = omega arith in
+    subst (λ n. AreJobsBefore (map arc_value c.args.parts.now) c.args.levels.now c.args.level c.args.self.now n c.loop-p.jobs.items) end c.loop-p.invariant

@@ -1,0 +1,26 @@
+-- Where jobs start, and what their code gives from there.
+use Rattle.std.specs.Prelude.{◌≡◌, ◌≤◌, ℕ, List, length, Result}
+use Rattle.plant_cells.specs.declared.stop.Stop.{Stop}
+use Rattle.plant_cells.specs.Cells.{PlainCells}
+use Rattle.plant_cells.specs.Runs.{Path, ended}
+use Rattle.acc_vm.specs.Machine.{Over}
+use Rattle.acc_vm.specs.Codes.{SameShape, run_of}
+use Rattle.code_slices.specs.Parts.{PlainPart, IsPart}
+
+-- a job's number, the part of its program, the moment, and the part's cells as they were
+pub record Begun : Type 0 where
+  pub number : ℕ
+  pub part : PlainPart
+  pub moment : ℕ
+  pub cells : PlainCells
+
+-- a job can run: its part is one, and its cells have each slot and each clock of it
+pub record CanRun (s : Begun) : Type 0 where
+  pub part : IsPart s.part
+  pub values : length s.cells.values ≡ length s.part.slots
+  pub clocks : length s.cells.clocks ≡ length s.part.clocks
+
+-- from a start the code gives a result, and leaves cells
+pub record Gives (s : Begun) (result : Result (Unit {0}) Stop) (after : PlainCells) : Type 0 where
+  pub ran : (names : List Path) → (left : ℕ) × (run_of s.moment names s.part.code s.cells ≡ Over (ended names result after) left)
+  pub shape : SameShape after s.cells

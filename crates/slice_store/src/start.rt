@@ -1,0 +1,85 @@
+//! Where a job starts.
+
+ghost use Rattle.std.specs.Prelude.{◌≡◌, ◌↔◌, IsTrue};
+ghost use Rattle.std.specs.Arc.{arc_value};
+ghost use Rattle.slice_store.specs.Starts.{Begun, CanRun};
+
+use code_slices::{Part, same_cells};
+use plant_cells::Cells;
+use std::marker::Model;
+use std::sync::Arc;
+
+/// Where a job starts: its number, which is 1 more than its program's, the part of the program, the moment in milliseconds, and the part's
+/// cells as they were.
+#[derive(Drop)]
+pub struct Start {
+    number: u32,
+    part: Arc<Part>,
+    moment: u64,
+    cells: Cells,
+}
+
+impl Model for Start {
+    ghost use Rattle.std.specs.Arc.{arc_value};
+    ghost use Rattle.slice_store.specs.Starts.{Begun, CanRun};
+
+    ghost Value = { Begun };
+
+    ghost view = { λ s. record { number = s.number; part = arc_value s.part; moment = s.moment; cells = s.cells } };
+
+    ghost invariant = { λ s. CanRun (record { number = s.number; part = arc_value s.part; moment = s.moment; cells = s.cells }) };
+}
+
+impl Start {
+    /// A start of a number, with the cells of a part at a moment.
+    pub(crate) fn new(number: u32, part: Arc<Part>, moment: u64, cells: Cells) -> Start
+        requires { CanRun (record { number = number; part = arc_value part; moment = moment; cells = cells }) }
+        ensures { result ≡ record { number = number; part = arc_value part; moment = moment; cells = cells } }
+    {
+        Start {
+            number,
+            part,
+            moment,
+            cells,
+        }
+    }
+
+    /// The job's number: 1 more than its program's.
+    pub fn number(&self) -> u32
+        ensures { result ≡ self.now.number }
+    {
+        self.number
+    }
+
+    /// The part of the job's program. It fits the cells.
+    pub fn part(&self) -> &Part
+        ensures is { result.now ≡ self.now.part }
+        ensures runs { CanRun self.now }
+    {
+        &self.part
+    }
+
+    /// The moment of the run, in milliseconds.
+    pub fn moment(&self) -> u64
+        ensures { result ≡ self.now.moment }
+    {
+        self.moment
+    }
+
+    /// The part's cells as they were.
+    pub fn cells(&self) -> &Cells
+        ensures { result.now ≡ self.now.cells }
+    {
+        &self.cells
+    }
+
+    /// Whether another start is the same.
+    pub fn same(&self, other: &Start) -> bool
+        ensures { IsTrue result ↔ (self.now ≡ other.now) }
+    {
+        self.number == other.number
+            && self.moment == other.moment
+            && same_cells(&self.cells, &other.cells)
+            && self.part.same(&other.part)
+    }
+}

@@ -1,0 +1,260 @@
+//! The store that jobs are split from and gathered into.
+
+ghost use Rattle.std.specs.Prelude.{◌≡◌, ◌+◌, ◌<◌, ◌^◌, ℕ, [], length, map, replicate, false, slice_index, slice_index_or, slice_set, IsTrue, OnOk, IfOk, IfErr};
+ghost use Rattle.std.specs.Arc.{arc_value};
+ghost use Rattle.slice_store.specs.Level.{TakesRuns, IsEachOnce, AreJobsOf};
+ghost use Rattle.plant_cells.specs.Cells.{assigned};
+ghost use Rattle.code_slices.specs.Parts.{HasPart};
+ghost use Rattle.slice_store.specs.Splits.{CanSplit, AreJobsBefore, SameStore, begun};
+ghost use Rattle.slice_store.specs.Fits.{IsMisfit};
+
+use crate::done::{Done, Job};
+use crate::matching::{Out, match_up};
+use crate::misfit::Misfit;
+use crate::start::Start;
+use code_slices::Part;
+use level_plan::Levels;
+use plant_cells::{Cells, Clock};
+use std::alloc::{AllocError, Global};
+use std::marker::Model;
+use std::sync::Arc;
+
+/// The values and clocks of all programs, which programs are faulted, and a scan's moment, in milliseconds; and the starts of the jobs that
+/// are out. Contracts see these.
+#[derive(Drop)]
+pub struct Store {
+    values: Vec<i64>,
+    clocks: Vec<Clock>,
+    faulted: Vec<bool>,
+    moment: u64,
+    out: Vec<Out>,
+    ticks: Vec<bool>,
+}
+
+impl Model for Store {
+    ghost use Rattle.slice_store.specs.Level.{Stored, IsReady};
+
+    ghost Value = { Stored };
+
+    ghost view = { λ s. record { cells = record { values = s.values.items; clocks = s.clocks.items }; faulted = s.faulted.items; moment = s.moment; out = s.out.items } };
+
+    ghost invariant = { λ s. IsReady (record { values = s.values.items; clocks = s.clocks.items }) s.faulted.items s.moment s.out.items s.ticks.items };
+}
+
+/// Puts into all values and clocks what each run's program wrote, and flags each that trapped.
+fn take_all(values: &mut [i64], clocks: &mut [Clock], faulted: &mut [bool], runs: &[Done])
+    requires { (moment : ℕ) × AreJobsOf (record { values = values.old; clocks = clocks.old }) (length faulted.old) moment runs.now }
+    ensures { TakesRuns (record { values = values.old; clocks = clocks.old }) faulted.old runs.now (record { values = values.new; clocks = clocks.new }) faulted.new }
+{
+    for done in runs {
+        done.take_into(values, clocks, faulted);
+    }
+}
+
+/// The job that starts from a part's cells. Fails if memory was refused.
+fn begin(
+    alloc: Global,
+    number: u32,
+    part: &Arc<Part>,
+    moment: u64,
+    cells: Cells,
+) -> Result<Job, AllocError>
+    requires values { length cells.values ≡ length (arc_value part.now).slots }
+    requires clocks { length cells.clocks ≡ length (arc_value part.now).clocks }
+    ensures { IfOk result (λ job. job ≡ record { number = number; part = arc_value part.now; moment = moment; cells = cells }) }
+{
+    let stack = vec![in alloc; 0; part.code().stack()]?;
+    let own = cells.copy(alloc)?;
+    let part = Arc::try_clone(part)?;
+    let start = Start::new(number, part, moment, cells);
+    let Ok(start) = Arc::new(alloc, start) else {
+        return Err(AllocError);
+    };
+    Ok(Job::new(start, own, stack))
+}
+
+/// The starts of jobs. Fails if memory was refused.
+fn starts_of(alloc: Global, jobs: &[Job]) -> Result<Vec<Out>, AllocError>
+    ensures { IfOk result (λ out. out.items ≡ jobs.now) }
+{
+    let mut out = Vec::with_capacity(alloc, jobs.len())?;
+    for job in jobs {
+        out.push(Out::new(Arc::try_clone(job.start())?))?;
+    }
+    Ok(out)
+}
+
+/// Ticks for so many jobs, all off. Fails if memory was refused.
+fn no_ticks(alloc: Global, many: usize) -> Result<Vec<bool>, AllocError>
+    ensures { IfOk result (λ ticks. ticks.items ≡ replicate many false) }
+{
+    let ticks = vec![in alloc; false; many]?;
+    Ok(ticks)
+}
+
+impl Store {
+    /// A store of the values and clocks of all programs, none of which is faulted. Fails if memory was refused.
+    pub fn new(alloc: Global, cells: &Cells, programs: usize) -> Result<Store, AllocError>
+        ensures { IfOk result (λ store. store ≡ record { cells = cells.now; faulted = replicate programs false; moment = 0; out = [] }) }
+    {
+        let values = Vec::from_slice(alloc, cells.as_slice())?;
+        let clocks = Vec::from_slice(alloc, cells.clocks())?;
+        let faulted = vec![in alloc; false; programs]?;
+        Ok(Store {
+            values,
+            clocks,
+            faulted,
+            moment: 0,
+            out: Vec::new(alloc),
+            ticks: Vec::new(alloc),
+        })
+    }
+
+    /// The values of all programs.
+    pub fn values(&self) -> &[i64]
+        ensures { result.now ≡ self.now.cells.values }
+    {
+        self.values.as_slice()
+    }
+
+    /// The clocks of all programs.
+    pub fn clocks(&self) -> &[Clock]
+        ensures { result.now ≡ self.now.cells.clocks }
+    {
+        self.clocks.as_slice()
+    }
+
+    /// Whether a program is faulted.
+    pub fn is_faulted(&self, program: usize) -> bool
+        requires { program < length self.now.faulted }
+        ensures { result ≡ slice_index_or self.now.faulted program false }
+    {
+        self.faulted[program]
+    }
+
+    /// The moment of the scan, in milliseconds.
+    pub fn moment(&self) -> u64
+        ensures { result ≡ self.now.moment }
+    {
+        self.moment
+    }
+
+    /// Sets the moment of the scan, in milliseconds. All jobs that were out have been gathered.
+    pub fn set_moment(&mut self, moment: u64)
+        requires { self.old.out ≡ [] }
+        ensures { self.new ≡ record { cells = self.old.cells; faulted = self.old.faulted; moment = moment; out = [] } }
+    {
+        self.moment = moment;
+    }
+
+    /// Sets the value of a slot. All jobs that were out have been gathered.
+    pub fn set_value(&mut self, slot: usize, value: i64)
+        requires there { slot < length self.old.cells.values }
+        requires gathered { self.old.out ≡ [] }
+        ensures { self.new ≡ record { cells = assigned self.old.cells slot value; faulted = self.old.faulted; moment = self.old.moment; out = [] } }
+    {
+        self.values[slot] = value;
+    }
+
+    /// A faulted program runs again from the next level that is split on. All jobs that were out have been gathered.
+    pub fn restart(&mut self, program: usize)
+        requires there { program < length self.old.faulted }
+        requires gathered { self.old.out ≡ [] }
+        ensures { self.new ≡ record { cells = self.old.cells; faulted = slice_set self.old.faulted program false; moment = self.old.moment; out = [] } }
+    {
+        self.faulted[program] = false;
+    }
+
+    /// Whether a program is in a level and isn't faulted.
+    fn is_chosen(&self, levels: &Levels, level: u32, program: usize) -> bool
+        requires levelled { program < length levels.now }
+        requires few { program < 2 ^ 32 }
+        requires flagged { program < length self.now.faulted }
+        ensures level { IsTrue result → slice_index levels.now program ≡ level }
+        ensures sound { IsTrue result → slice_index_or self.now.faulted program false ≡ false }
+        ensures chosen { slice_index levels.now program ≡ level → slice_index_or self.now.faulted program false ≡ false → IsTrue result }
+    {
+        levels.of(program as u32) == level && !self.is_faulted(program)
+    }
+
+    /// The job of a program, from the cells and at the moment of the store. Fails if memory was refused.
+    fn begin_program(
+        &self,
+        alloc: Global,
+        program: usize,
+        part: &Arc<Part>,
+    ) -> Result<Job, AllocError>
+        requires there { HasPart (arc_value part.now) self.now.cells }
+        requires few { program + 1 < 2 ^ 32 }
+        ensures { IfOk result (λ job. job ≡ begun (program + 1) (arc_value part.now) self.now.moment self.now.cells) }
+    {
+        let cells = part.load(alloc, self.values(), self.clocks())?;
+        let job = begin(alloc, program as u32 + 1, part, self.moment(), cells)?;
+        Ok(job)
+    }
+
+    /// The jobs of a level's programs that aren't faulted, in program order. Fails if memory was refused.
+    fn begin_level(
+        &self,
+        alloc: Global,
+        parts: &[Arc<Part>],
+        levels: &Levels,
+        level: u32,
+    ) -> Result<Vec<Job>, AllocError>
+        requires { CanSplit (map arc_value parts.now) levels.now level self.now.cells (length self.now.faulted) }
+        ensures { IfOk result (λ jobs. AreJobsBefore (map arc_value parts.now) levels.now level self.now (length parts.now) jobs.items) }
+    {
+        let mut jobs = Vec::new(alloc);
+        for p in 0..parts.len() {
+            if self.is_chosen(levels, level, p) {
+                let job = self.begin_program(alloc, p, &parts[p])?;
+                jobs.push(job)?;
+            }
+        }
+        Ok(jobs)
+    }
+
+    /// Splits a level: a job for each program of it that isn't faulted, in program order, from the cells and at the moment of the store. All
+    /// jobs that were out have been gathered. Fails if memory was refused; then none is out.
+    pub fn split(
+        &mut self,
+        alloc: Global,
+        parts: &[Arc<Part>],
+        levels: &Levels,
+        level: u32,
+    ) -> Result<Vec<Job>, AllocError>
+        requires gathered { self.old.out ≡ [] }
+        requires programs { CanSplit (map arc_value parts.now) levels.now level self.old.cells (length self.old.faulted) }
+        ensures jobs { IfOk result (λ jobs. AreJobsBefore (map arc_value parts.now) levels.now level self.old (length parts.now) jobs.items) }
+        ensures out { IfOk result (λ jobs. self.new.out ≡ jobs.items) }
+        ensures refused { IfErr result (λ e. self.new.out ≡ []) }
+        ensures same { SameStore self.new self.old }
+    {
+        let jobs = self.begin_level(alloc, parts, levels, level)?;
+        let out = starts_of(alloc, jobs.as_slice())?;
+        let ticks = no_ticks(alloc, jobs.len())?;
+        self.out = out;
+        self.ticks = ticks;
+        Ok(jobs)
+    }
+
+    /// Takes in one run for each job that is out, in any order. After a misfit the store isn't used again. It allocates nothing.
+    pub fn gather(&mut self, runs: Vec<Done>) -> Result<(), Misfit>
+        ensures fits { OnOk result (IsEachOnce self.old.out runs.items × TakesRuns self.old.cells self.old.faulted runs.items self.new.cells self.new.faulted) }
+        ensures after { OnOk result ((self.new.out ≡ []) × (self.new.moment ≡ self.old.moment)) }
+        ensures misfit { IfErr result (λ e. IsMisfit self.old.out runs.items e) }
+    {
+        let fits = match_up(&self.out, &runs, self.ticks.as_mut_slice());
+        if fits.is_ok() {
+            take_all(
+                self.values.as_mut_slice(),
+                self.clocks.as_mut_slice(),
+                self.faulted.as_mut_slice(),
+                &runs,
+            );
+        }
+        self.out.clear();
+        self.ticks.clear();
+        fits
+    }
+}
