@@ -1,0 +1,3 @@
+pub mod Same
+pub mod Rising
+pub mod Batches

@@ -1,0 +1,43 @@
+//! Crews that run jobs: each job once, by the caller alone or in threads.
+//!
+//! A crew is generic in what it runs (`Work`), and its answer has one run of each job that was handed in, in any order. Nobody is told
+//! which thread ran what, so what follows from the runs is the same for every crew.
+#![tactic(auto)]
+
+ghost use Rattle.std.specs.Prelude.{◌≡◌, ℕ, IfOk, map};
+ghost use Rattle.crew.specs.Faults.{faults_after};
+ghost use Rattle.crew.specs.Runs.{AreNumbered, IsEachOnce};
+
+use std::alloc::Global;
+
+mod alone;
+mod fault;
+mod gate;
+mod scoped;
+mod work;
+
+pub use alone::Alone;
+pub use fault::CrewFault;
+pub use gate::{BoxedGate, Gate, Ungated};
+pub use scoped::Scoped;
+pub use work::{Work, numbers_rise};
+
+/// Who runs jobs. `J` is a job, `S` what it starts from, `D` a run of it that ended, and `H` the handle that a crew is lent.
+pub trait Crew<J: Work<S, D>, S, D, H> {
+    /// What `faults` tells.
+    ghost faulted: { Self → ℕ };
+
+    /// What the crew asks of the handle, as that threads may share it.
+    ghost asks: { Type 0 };
+
+    /// Runs each job once. The runs come in any order. After an `Err` nothing of this call is to be used, and the jobs are gone.
+    fn run(&mut self, rt: &H, alloc: Global, jobs: Vec<J>) -> Result<Vec<D>, CrewFault>
+        requires asked { asks }
+        requires numbered { AreNumbered J.number_of (map J.start_of jobs.items) }
+        ensures each { IfOk result (λ runs. IsEachOnce (map J.start_of jobs.items) (map J.ended_from runs.items)) }
+        ensures faults { faulted self.new ≡ faults_after (faulted self.old) result };
+
+    /// How many runs answered a fault other than `Memory`; at the greatest `u64` it stays.
+    fn faults(&self) -> u64
+        ensures { result ≡ faulted self.now };
+}

@@ -1,0 +1,130 @@
+//! What comes back: the same runs of each crew, whatever the number of workers; what `assemble` refuses; and what retired workers answer.
+ghost use Rattle.std.specs.Prelude.{◌<◌, ◌≤◌};
+ghost use Rattle.std.specs.Thread.{IsSync};
+
+use crate::toy::jobs_to;
+use crate::{Done, Job, Start};
+use crew::{Alone, Crew, CrewFault, Scoped, Ungated, Work};
+use standing_crew::{Standing, assemble, starts_of};
+use std::alloc::{AllocError, Global};
+use std::sync::{Arc, Wait};
+use std::test::Fail;
+use std::thread::Threads;
+
+// The numbers and sums of the runs that a crew gives of jobs, in the order of the numbers.
+fn told<H, C: Crew<Job, Start, Done, H>>(
+    rt: &H,
+    alloc: Global,
+    crew: &mut C,
+    last: u32,
+) -> Result<Vec<(u32, u64)>, AllocError>
+    requires { C.asks }
+{
+    let jobs = jobs_to(alloc, last)?;
+    let Ok(runs) = crew.run(rt, alloc, jobs) else {
+        return Err(AllocError);
+    };
+    let mut told = Vec::with_capacity(alloc, runs.len())?;
+    for run in runs.as_slice() {
+        told.push((run.number(), run.sum))?;
+    }
+    told.sort()?;
+    Ok(told)
+}
+
+fn new_standing<H: Threads + Wait + Clone + Send + Drop + 'static>(
+    rt: &H,
+    alloc: Global,
+    workers: u32,
+) -> Result<Standing<Job, Start, Done, Ungated>, AllocError>
+    requires { (0 < workers) × (workers ≤ 64) }
+{
+    let Ok(gate) = Arc::new(alloc, Ungated) else {
+        return Err(AllocError);
+    };
+    match Standing::new(rt, alloc, workers, gate) {
+        Ok(crew) => Ok(crew),
+        Err(_) => Err(AllocError),
+    }
+}
+
+// Whether so many workers, of one call or standing, give what the caller alone gives of so many jobs.
+fn give_the_same<H: Threads + Wait + Clone + Send + Sync + Drop + 'static>(
+    rt: &H,
+    alloc: Global,
+    workers: u32,
+    last: u32,
+) -> Result<bool, AllocError>
+    requires workers { (0 < workers) × (workers ≤ 64) }
+    requires shared { IsSync H.row }
+{
+    let mut alone = Alone;
+    let want = told(rt, alloc, &mut alone, last)?;
+    let mut crew = Scoped::new(workers, Ungated);
+    let scoped = told(rt, alloc, &mut crew, last)?;
+    let mut crew = new_standing(rt, alloc, workers)?;
+    let first = told(rt, alloc, &mut crew, last)?;
+    let second = told(rt, alloc, &mut crew, last)?;
+    crew.close(rt);
+    let whole = want.len() == last as usize && scoped.as_slice() == want.as_slice();
+    Ok(whole && first.as_slice() == want.as_slice() && second.as_slice() == want.as_slice())
+}
+
+// No job, one and many, by one, two and eight workers of each kind.
+#[test]
+fn all_crews_give_the_same(rt: HostRuntime) -> Result<(), Fail> {
+    let alloc = rt.alloc();
+    for last in [0, 1, 2, 40] {
+        assert!(rt; give_the_same(&rt, alloc, 1, last)?);
+        assert!(rt; give_the_same(&rt, alloc, 2, last)?);
+        assert!(rt; give_the_same(&rt, alloc, 8, last)?);
+    }
+    Ok(())
+}
+
+// What comes of runs of these jobs, where jobs 1 and 2 were handed out.
+fn assembled(alloc: Global, numbers: &[u32]) -> Result<Result<usize, CrewFault>, AllocError> {
+    let jobs = jobs_to(alloc, 2)?;
+    let mut got = Vec::new(alloc);
+    for number in numbers {
+        got.push(Job::new(alloc, *number, u64::from(*number) * 1_000, 1)?.run())?;
+    }
+    let starts = starts_of::<Job, Start, Done>(alloc, jobs.as_slice())?;
+    match assemble::<Job, Start, Done>(alloc, starts.as_slice(), got) {
+        Ok(runs) => Ok(Ok(runs.len())),
+        Err(CrewFault::Memory) => Err(AllocError),
+        Err(fault) => Ok(Err(fault)),
+    }
+}
+
+#[test]
+fn runs_are_held_against_jobs(rt: HostRuntime) -> Result<(), Fail> {
+    let alloc = rt.alloc();
+    assert!(rt; assembled(alloc, [2, 1].as_slice())? == Ok(2));
+    assert!(rt; assembled(alloc, [1].as_slice())? == Err(CrewFault::Lost));
+    assert!(rt; assembled(alloc, [1, 1].as_slice())? == Err(CrewFault::Misfit));
+    assert!(rt; assembled(alloc, [1, 2, 3].as_slice())? == Err(CrewFault::Misfit));
+    Ok(())
+}
+
+fn faults_of<H, C: Crew<Job, Start, Done, H>>(_rt: &H, crew: &C) -> u64 {
+    crew.faults()
+}
+
+// Once its workers are retired a crew answers that it is lost, and counts it.
+#[test]
+fn retired_workers_are_a_fault(rt: HostRuntime) -> Result<(), Fail> {
+    let alloc = rt.alloc();
+    let mut crew = new_standing(&rt, alloc, 2)?;
+    assert!(rt; told(&rt, alloc, &mut crew, 2)?.len() == 2);
+    assert!(rt; faults_of(&rt, &crew) == 0);
+    crew.retire(&rt);
+    for count in 1..=2u64 {
+        let jobs = jobs_to(alloc, 2)?;
+        let answer = crew.run(&rt, alloc, jobs);
+        assert!(rt; matches!(answer, Err(CrewFault::Lost)));
+        assert!(rt; faults_of(&rt, &crew) == count);
+    }
+    crew.close(&rt);
+    Ok(())
+}

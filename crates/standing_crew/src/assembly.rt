@@ -1,0 +1,104 @@
+//! Runs that came back, held against what was handed out.
+ghost use Rattle.std.specs.Prelude.{◌≡◌, ◌⊎◌, ℕ, ◌<◌, true, false, length, map, slice_index_or, Contains, IsTrue, IsFalse, MatchOption, MatchResult};
+ghost use Rattle.crew.specs.Runs.{IsDistinct, IsEachOnce};
+ghost use Rattle.standing_crew.specs.Assembled.{HasStranger, HasDouble, IsTicked, IsCollectFault};
+
+use crate::Begun;
+use crew::{CrewFault, Work};
+use std::alloc::Global;
+
+/// The runs that came back, where there is one of each job that was handed out, in any order. `Misfit` where one is of no job that was handed
+/// out, or comes twice; else `Lost` where one is missing.
+pub fn assemble<J: Work<S, D>, S, D: Drop>(
+    alloc: Global,
+    starts: &[Begun<S>],
+    got: Vec<D>,
+) -> Result<Vec<D>, CrewFault>
+    requires { IsDistinct starts.now }
+    ensures { MatchResult result (λ runs. (runs ≡ got) × IsEachOnce starts.now (map J.ended_from got.items)) (λ fault. IsCollectFault starts.now (map J.ended_from got.items) fault) }
+{
+    let Ok(mut ticks) = vec![in alloc; false; starts.len()] else {
+        return Err(CrewFault::Memory);
+    };
+    match match_up::<J, S, D>(starts, got.as_slice(), ticks.as_mut_slice()) {
+        Ok(()) => Ok(got),
+        Err(fault) => Err(fault),
+    }
+}
+
+// Compares runs with what was handed out. Every tick has to be off.
+#[tactic(auto, using(crate::proofs::Ticks::all_there))]
+fn match_up<J: Work<S, D>, S, D>(
+    starts: &[Begun<S>],
+    got: &[D],
+    ticks: &mut [bool],
+) -> Result<(), CrewFault>
+    requires sized { length ticks.old ≡ length starts.now }
+    requires clear { (i : ℕ) → i < length ticks.old → slice_index_or ticks.old i false ≡ false }
+    requires distinct { IsDistinct starts.now }
+    ensures { MatchResult result (λ _. IsEachOnce starts.now (map J.ended_from got.now)) (λ fault. IsCollectFault starts.now (map J.ended_from got.now) fault) }
+{
+    if !tick_off::<J, S, D>(starts, got, ticks) {
+        return Err(CrewFault::Misfit);
+    }
+    if !all_ticked(ticks) {
+        return Err(CrewFault::Lost);
+    }
+    Ok(())
+}
+
+// Ticks off each run, and tells whether all are known and none comes twice.
+#[tactic(auto, using(crate::proofs::Ticks::none_ticked, crate::proofs::Ticks::tick_next, crate::proofs::Ticks::stranger_next, crate::proofs::Ticks::double_next))]
+fn tick_off<J: Work<S, D>, S, D>(starts: &[Begun<S>], got: &[D], ticks: &mut [bool]) -> bool
+    requires sized { length ticks.old ≡ length starts.now }
+    requires clear { (i : ℕ) → i < length ticks.old → slice_index_or ticks.old i false ≡ false }
+    requires distinct { IsDistinct starts.now }
+    ensures ticked { IsTrue result → IsTicked starts.now ticks.new (map J.ended_from got.now) }
+    ensures misfit { IsFalse result → HasStranger starts.now (map J.ended_from got.now) ⊎ HasDouble (map J.ended_from got.now) }
+{
+    let mut next = 0usize;
+    for ended in got {
+        let Some(place) = place_near::<J, S, D>(starts, ended, next) else {
+            return false;
+        };
+        if ticks[place] {
+            return false;
+        }
+        ticks[place] = true;
+        next = place.saturating_add(1);
+    }
+    true
+}
+
+// The place of what a run started from. It is sought near a place first, since the runs of one message stand in their order.
+fn place_near<J: Work<S, D>, S, D>(starts: &[Begun<S>], ended: &D, near: usize) -> Option<usize>
+    ensures { MatchOption result (Contains starts.now (J.ended_from ended.now) → ⊥) (λ place. (place < length starts.now) × (slice_index_or starts.now place (J.ended_from ended.now) ≡ J.ended_from ended.now)) }
+{
+    if near < starts.len() && J::is_run_of(ended, starts[near].start()) {
+        return Some(near);
+    }
+    place_of::<J, S, D>(starts, ended)
+}
+
+fn place_of<J: Work<S, D>, S, D>(starts: &[Begun<S>], ended: &D) -> Option<usize>
+    ensures { MatchOption result (Contains starts.now (J.ended_from ended.now) → ⊥) (λ place. (place < length starts.now) × (slice_index_or starts.now place (J.ended_from ended.now) ≡ J.ended_from ended.now)) }
+{
+    for (place, start) in starts.iter().enumerate() {
+        if J::is_run_of(ended, start.start()) {
+            return Some(place);
+        }
+    }
+    None
+}
+
+fn all_ticked(ticks: &[bool]) -> bool
+    ensures all { IsTrue result → (i : ℕ) → i < length ticks.now → slice_index_or ticks.now i false ≡ true }
+    ensures one { IsFalse result → (i : ℕ) × (i < length ticks.now) × (slice_index_or ticks.now i false ≡ false) }
+{
+    for tick in ticks {
+        if !*tick {
+            return false;
+        }
+    }
+    true
+}

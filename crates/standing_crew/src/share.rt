@@ -1,0 +1,44 @@
+//! How jobs are shared out: several in one message, by their costs.
+ghost use Rattle.std.specs.Prelude.{◌<◌, length};
+
+use crew::Work;
+
+// What a message is to carry at least, in steps of some nanoseconds: about what it takes to send one and to hear of it.
+const LEAST_SHARE: u64 = 2_000;
+
+/// The cost that a message is to carry, where jobs are shared out among so many hands: a fraction of the whole, so that nobody waits long for
+/// the last one, but no less than a message costs, and never so much that two jobs would go to one of two hands.
+pub(crate) fn share_of<J: Work<S, D>, S, D>(jobs: &[J], hands: u32) -> u64 {
+    if hands < 2 {
+        return u64::MAX;
+    }
+    let whole = cost_of::<J, S, D>(jobs);
+    let fraction = whole / (4 * u64::from(hands)) + 1;
+    fraction.max(LEAST_SHARE).min(whole / 2)
+}
+
+// The cost of jobs. Each costs something.
+fn cost_of<J: Work<S, D>, S, D>(jobs: &[J]) -> u64 {
+    let mut whole = 0u64;
+    for job in jobs {
+        whole = whole.saturating_add(job.cost().max(1));
+    }
+    whole
+}
+
+/// The place from which the last jobs cost no more than a share, but for the last one.
+pub(crate) fn cut<J: Work<S, D>, S, D>(jobs: &[J], share: u64) -> usize
+    requires { 0 < length jobs.now }
+    ensures { result < length jobs.now }
+{
+    let mut at = jobs.len() - 1;
+    let mut cost = jobs[at].cost().max(1);
+    while at > 0 {
+        cost = cost.saturating_add(jobs[at - 1].cost().max(1));
+        if cost > share {
+            break;
+        }
+        at -= 1;
+    }
+    at
+}

@@ -1,0 +1,52 @@
+//! What jobs started from, kept by the caller while the jobs are away.
+ghost use Rattle.std.specs.Prelude.{◌≡◌, IfOk, map};
+ghost use Rattle.std.specs.Arc.{arc_value};
+
+use crew::Work;
+use std::alloc::{AllocError, Global};
+use std::marker::Model;
+use std::sync::Arc;
+
+/// What a job started from, which contracts see as that value.
+#[derive(Drop)]
+pub struct Begun<S> {
+    start: Arc<S>,
+}
+
+impl<S> Model for Begun<S> {
+    ghost use Rattle.std.specs.Arc.{arc_value};
+
+    ghost Value = { S };
+
+    ghost view = { λ b. arc_value b.start };
+}
+
+impl<S> Begun<S> {
+    /// What starts so.
+    pub fn new(start: Arc<S>) -> Begun<S>
+        ensures { result ≡ arc_value start }
+    {
+        Begun { start }
+    }
+
+    /// What it starts from.
+    pub fn start(&self) -> &S
+        ensures { result.now ≡ self.now }
+    {
+        &self.start
+    }
+}
+
+/// What jobs start from, in their order.
+pub fn starts_of<J: Work<S, D>, S: Drop, D>(
+    alloc: Global,
+    jobs: &[J],
+) -> Result<Vec<Begun<S>>, AllocError>
+    ensures { IfOk result (λ starts. starts.items ≡ map J.start_of jobs.now) }
+{
+    let mut starts = Vec::with_capacity(alloc, jobs.len())?;
+    for job in jobs {
+        starts.push(Begun::new(job.start().clone()?))?;
+    }
+    Ok(starts)
+}
