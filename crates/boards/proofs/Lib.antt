@@ -1,0 +1,3 @@
+pub mod Prefixes
+pub mod Sights
+pub mod Takes

@@ -1,0 +1,13 @@
+use Rattle.std.proofs.Common.{rules}
+use Rattle.boards.specs.Readers.{story_of}
+use Rattle.boards.proofs.Sights.{admits, forks, merges}
+use Rattle.boards.proofs.writer.BoardWriter.reader.Goals as goal
+
+pub reader-requires : goal.reader-requires
+reader-requires c = admits story_of
+
+pub tell-requires : goal.tell-requires
+tell-requires c = forks story_of _ _
+
+pub learn-requires : goal.learn-requires
+learn-requires c = record { own = search rules; rule = merges story_of _ _ _ _ }

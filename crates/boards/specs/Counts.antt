@@ -1,0 +1,31 @@
+-- How many entries of a list are orders of a console.
+use Rattle.std.specs.Prelude.{ℕ, ◌+◌, ◌==◌, List, [], ◌∷◌, if◌then◌else◌}
+use Rattle.boards.specs.declared.entry.Answer.{Answer}
+use Rattle.boards.specs.declared.entry.Entry.{Entry}
+use Rattle.boards.specs.declared.entry.Entry.TheVariants as entry
+use Rattle.boards.specs.declared.tally.Tally.{Tally}
+
+-- 1 for an order of this console, else 0
+abbrev pub counts_as : ℕ → Entry → ℕ
+counts_as console (entry.Scan s) = 0
+counts_as console (entry.Order n a) = if console == n then 1 else 0
+
+-- how many of the entries are orders of this console
+abbrev pub count_of : ℕ → List Entry → ℕ
+count_of console [] = 0
+count_of console (e ∷ es) = counts_as console e + count_of console es
+
+-- the orders of this console with their replies, in order
+abbrev pub answers_of : ℕ → List Entry → List Answer
+answers_of console [] = []
+answers_of console (entry.Scan s ∷ es) = answers_of console es
+answers_of console (entry.Order n a ∷ es) = if console == n then a ∷ answers_of console es else answers_of console es
+
+-- a tally after one more order of this console
+abbrev pub counted : ℕ → Tally → Tally
+counted console t = record { console = t.console; orders = (if t.console == console then 1 else 0) + t.orders }
+
+-- a tally after one more entry
+abbrev pub tallied : Entry → Tally → Tally
+tallied (entry.Scan s) t = t
+tallied (entry.Order n a) t = counted n t

@@ -1,0 +1,5 @@
+pub mod Counts
+pub mod Readers
+pub mod Replies
+pub mod Stories
+pub mod Views

@@ -1,0 +1,38 @@
+-- What a contract sees of a board's reader and of its writer.
+use Rattle.std.specs.Prelude.{Option, List, drop}
+use Rattle.left_right.specs.Sides.{view}
+use Rattle.alarm_bank.specs.Banks.{PlainBank}
+use Rattle.boards.specs.declared.entry.Entry.{Entry}
+use Rattle.boards.specs.declared.board.Board.{Board}
+use Rattle.boards.specs.declared.reader.BoardReader.{BoardReader}
+use Rattle.boards.specs.declared.reader.BoardReading.{BoardReading}
+use Rattle.boards.specs.declared.writer.BoardWriter.{BoardWriter}
+use Rattle.boards.specs.Stories.{Story}
+
+-- the story of a board
+abbrev pub story_of : Board → Story PlainBank Entry
+story_of b = (b.opening.value, b.list)
+
+-- the story that a reader saw last, if it saw one
+abbrev pub seen : BoardReader → Option (Story PlainBank Entry)
+seen r = (view r.reader.place).seen
+
+-- the story that it was told of, if it was
+abbrev pub told : BoardReader → Option (Story PlainBank Entry)
+told r = (view r.reader.place).told
+
+-- the story that is read
+abbrev pub story_read : BoardReading → Story PlainBank Entry
+story_read r = story_of r.reading.part.value
+
+-- the story of which its reader was told before
+abbrev pub told_before : BoardReading → Option (Story PlainBank Entry)
+told_before r = (view r.reading.place).told
+
+-- the story that readers take now
+abbrev pub published : BoardWriter → Story PlainBank Entry
+published w = story_of w.writer.desk.shown.value
+
+-- the entries that were laid by, and aren't published yet
+abbrev pub pending : BoardWriter → List Entry
+pending w = drop w.writer.behind w.writer.log.items

@@ -1,0 +1,74 @@
+-- What an entry does to the alarms that a board shows, and whether it may come next.
+use Rattle.std.specs.Prelude.{ℕ, ◌==◌, Bool, true, false, ◌&&◌, ◌||◌, if◌then◌else◌, Option, Some, None, Result, Ok, Err, slice_get}
+use Rattle.alarm_machine.specs.declared.states.Verb.{Verb}
+use Rattle.alarm_machine.specs.declared.states.Verb.TheVariants as verb
+use Rattle.alarm_machine.specs.declared.states.OrderFault.{OrderFault}
+use Rattle.alarm_machine.specs.declared.states.OrderFault.TheVariants as fault
+use Rattle.alarm_machine.specs.declared.states.AlarmState.{AlarmState}
+use Rattle.alarm_machine.specs.Codes.{PlainChange, same_code}
+use Rattle.alarm_bank.specs.declared.event.BankEvent.{BankEvent}
+use Rattle.alarm_bank.specs.declared.event.BankEvent.TheVariants as event
+use Rattle.alarm_bank.specs.Banks.{PlainBank, after_event, reply_of}
+use Rattle.boards.specs.declared.entry.Answer.{Answer}
+use Rattle.boards.specs.declared.entry.Entry.{Entry}
+use Rattle.boards.specs.declared.entry.Entry.TheVariants as entry
+
+-- the number of a refusal
+abbrev pub fault_number : OrderFault → ℕ
+fault_number fault.UnknownTarget = 1
+fault_number fault.NotYourArea = 2
+fault_number fault.WrongState = 3
+fault_number fault.ShelveTime = 4
+fault_number fault.NotFaulted = 5
+
+-- whether two changes of a code are the same
+abbrev pub same_change : Option PlainChange → Option PlainChange → Bool
+same_change None None = true
+same_change None (Some d) = false
+same_change (Some c) None = false
+same_change (Some c) (Some d) = same_code c.from d.from && same_code c.to d.to
+
+-- whether two replies are the same
+abbrev pub same_reply : Result (Option PlainChange) OrderFault → Result (Option PlainChange) OrderFault → Bool
+same_reply (Ok c) (Ok d) = same_change c d
+same_reply (Ok c) (Err f) = false
+same_reply (Err e) (Ok d) = false
+same_reply (Err e) (Err f) = fault_number e == fault_number f
+
+-- whether an order is for a program
+abbrev pub is_restart : Verb → Bool
+is_restart verb.Restart = true
+is_restart _ = false
+
+-- whether a reply refuses the order before any alarm is asked: no such target, or not the console's
+abbrev pub is_outside : Result (Option PlainChange) OrderFault → Bool
+is_outside (Err fault.UnknownTarget) = true
+is_outside (Err fault.NotYourArea) = true
+is_outside _ = false
+
+-- the alarms after an order with its reply: one that is refused before any alarm is asked changes nothing
+abbrev pub after_answer : PlainBank → Answer → PlainBank
+after_answer b a = if is_outside a.reply then b else elim a.order.target [ None ↦ b | Some n ↦ after_event (event.Order n a.order.verb) b ]
+
+-- whether an order may have this reply: an alarm's reply is the one that the table gives now
+abbrev pub may_answer : PlainBank → Answer → Bool
+may_answer b a = is_restart a.order.verb || (is_outside a.reply || elim a.order.target [ None ↦ false | Some n ↦ same_reply a.reply (reply_of n a.order.verb b) ])
+
+-- whether an event is a scan
+abbrev pub is_scan : BankEvent → Bool
+is_scan (event.Scan t cs ss) = true
+is_scan (event.Order n v) = false
+
+-- the alarms after an entry
+abbrev pub after : PlainBank → Entry → PlainBank
+after b (entry.Scan ev) = after_event ev b
+after b (entry.Order n a) = after_answer b a
+
+-- whether an entry may come next
+abbrev pub allows : PlainBank → Entry → Bool
+allows b (entry.Scan ev) = is_scan ev
+allows b (entry.Order n a) = may_answer b a
+
+-- the state of the alarm of a number, if it is there
+abbrev pub state_at : ℕ → PlainBank → Option AlarmState
+state_at n b = elim (slice_get b.alarms n) [ None ↦ None | Some a ↦ Some a.state ]

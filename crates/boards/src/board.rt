@@ -1,0 +1,28 @@
+//! The value that is shown.
+ghost use Rattle.std.specs.Prelude.{◌≡◌, true, length, All};
+ghost use Rattle.boards.specs.Stories.{shown, is_lawful};
+ghost use Rattle.boards.specs.Replies.{after, allows};
+ghost use Rattle.boards.specs.Counts.{count_of};
+
+use crate::entry::Entry;
+use crate::tally::Tally;
+use alarm_bank::Bank;
+use std::snapshot::Snapshot;
+use trace::Trace;
+
+/// The alarms of a plant after a list of entries, which contracts alone see. Each of the entries might come after those before it.
+#[derive(Drop)]
+pub struct Board {
+    bank: Bank,
+    pub opening: Snapshot<Bank>,
+    pub list: Trace<Entry>,
+    events: u64,
+    tallies: Vec<Tally>,
+    ghost is_shown: { bank ≡ shown after opening.value list },
+    ghost lawful: { is_lawful after allows opening.value list ≡ true },
+    ghost all_counted: { events ≡ length list },
+    ghost each_counted: { All (λ t. t.orders ≡ count_of t.console list) tallies.items },
+}
+
+mod looking;
+mod taking;

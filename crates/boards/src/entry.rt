@@ -1,0 +1,22 @@
+use alarm_bank::BankEvent;
+use alarm_machine::{Change, OrderFault};
+use event_history::Order;
+
+/// What an order is answered: the change of its alarm's code, if there is one, or why it is refused.
+pub type Reply = Result<Option<Change>, OrderFault>;
+
+/// An order with its reply.
+#[derive(Clone, Copy, Drop)]
+pub struct Answer {
+    pub order: Order,
+    pub reply: Reply,
+}
+
+/// One event of the history, as a board takes it in.
+#[derive(Drop)]
+pub enum Entry {
+    /// A scan, by what it gives to the alarms.
+    Scan(BankEvent),
+    /// An order of the console of a number, with its reply.
+    Order(u32, Answer),
+}

@@ -1,0 +1,28 @@
+//! Boards: what consoles see of the history, read without a lock.
+//!
+//! A board shows the alarms of a plant after a list of entries, one for each event of the history. The owner of the engine has the writer, which
+//! takes in entries and publishes; each console has a reader. There are two copies of the board, and readers have the one that was published
+//! last, so that a reader never waits. Beside its alarms a board keeps, for contracts alone, the list of its entries: what a reader sees is
+//! always the alarms after a list that begins with every list that this reader saw before.
+//!
+//! A reply is the one of an alarm bank (`Reply`), so that the crate stands below the engine, whose replies say the same.
+#![tactic(auto)]
+
+mod board;
+mod entry;
+mod guard;
+mod reader;
+mod replies;
+mod rule;
+mod tally;
+mod view;
+mod writer;
+
+pub use board::Board;
+pub use entry::{Answer, Entry, Reply};
+pub use guard::{BoardView, Home, Leaves};
+pub use reader::{BoardReader, BoardReading};
+pub use rule::Grows;
+pub use tally::Tally;
+pub use view::View;
+pub use writer::BoardWriter;

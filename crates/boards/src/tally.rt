@@ -1,0 +1,61 @@
+//! How many orders of each console a board has.
+ghost use Rattle.std.specs.Prelude.{◌≡◌, ◌^◌, ◌+◌, ◌<◌, All, map, IfSome, Contains};
+ghost use Rattle.boards.specs.Counts.{counted, tallied};
+
+use crate::entry::Entry;
+
+/// A console, by its number, and how many of its orders there are.
+#[derive(Clone, Copy, Debug, PartialEq, Eq, Drop)]
+pub struct Tally {
+    pub console: u32,
+    pub orders: u64,
+}
+
+/// The tally with one more order of the console of a number.
+fn one_more(tally: Tally, console: u32) -> Tally
+    requires { tally.orders + 1 < 2 ^ 64 }
+    ensures { result ≡ counted console tally }
+{
+    if tally.console == console {
+        Tally {
+            console,
+            orders: tally.orders + 1,
+        }
+    } else {
+        tally
+    }
+}
+
+/// Counts one more order of the console of a number.
+fn count(tallies: &mut [Tally], console: u32)
+    requires { All (λ t. t.orders + 1 < 2 ^ 64) tallies.old }
+    ensures { tallies.new ≡ map (counted console) tallies.old }
+{
+    for tally in tallies.iter_mut() {
+        *tally = one_more(*tally, console);
+    }
+}
+
+/// Counts one more entry.
+#[tactic(auto, using(crate::proofs::Takes::none_more))]
+pub(crate) fn count_entry(tallies: &mut Vec<Tally>, entry: &Entry)
+    requires { All (λ t. t.orders + 1 < 2 ^ 64) tallies.old.items }
+    ensures { tallies.new.items ≡ map (tallied entry.now) tallies.old.items }
+{
+    match entry {
+        Entry::Scan(_) => {}
+        Entry::Order(console, _) => count(tallies.as_mut_slice(), *console),
+    }
+}
+
+/// The tally of the console of a number; `None` where it isn't there.
+pub(crate) fn tally_of(tallies: &[Tally], console: u32) -> Option<Tally>
+    ensures { IfSome result (λ t. Contains tallies.now t × (t.console ≡ console)) }
+{
+    for tally in tallies {
+        if tally.console == console {
+            return Some(*tally);
+        }
+    }
+    None
+}

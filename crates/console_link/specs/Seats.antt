@@ -1,0 +1,74 @@
+-- What a contract sees of a console, and of the owner's ends of its rings.
+use Rattle.std.specs.Prelude.{◌≡◌, ℕ, ◌≤◌, List}
+use mathlib.Core.List.{IsPrefix}
+use Rattle.rtrb.specs.Ring.{sent, received, known_free, known_items, IsPair, all_sent, Finishes, IsFinishedOf, SameProducer, SameConsumer}
+use Rattle.console_link.specs.declared.answer.Answer.{Answer}
+use Rattle.console_link.specs.declared.console.Console.{Console}
+use Rattle.console_link.specs.declared.console.Finished.{Finished}
+use Rattle.console_link.specs.declared.lane.Lane.{Lane}
+use Rattle.console_link.specs.declared.lane.Left.{Left}
+
+module _ {O R : Type 0} where
+  -- every order that the console submitted, in order
+  abbrev pub submitted : Console O R → List O
+  submitted c = sent c.orders
+
+  -- every answer that it took, in order
+  abbrev pub taken : Console O R → List (Answer O R)
+  taken c = received c.answers
+
+  -- how many places for orders it knows to be free
+  abbrev pub known_room : Console O R → ℕ
+  known_room c = known_free c.orders
+
+  -- every order that the owner took, in order
+  abbrev pub orders_taken : Lane O R → List O
+  orders_taken l = received l.orders
+
+  -- the orders that the owner knows to wait
+  abbrev pub orders_known : Lane O R → List O
+  orders_known l = known_items l.orders
+
+  -- every answer that the owner gave, in order
+  abbrev pub answers_given : Lane O R → List (Answer O R)
+  answers_given l = sent l.answers
+
+  -- how many places for answers the owner knows to be free
+  abbrev pub answer_room : Lane O R → ℕ
+  answer_room l = known_free l.answers
+
+  -- the same two rings
+  abbrev pub SameConsole : Console O R → Console O R → Type 0
+  SameConsole a b = SameProducer a.orders b.orders × SameConsumer a.answers b.answers
+
+  abbrev pub SameLane : Lane O R → Lane O R → Type 0
+  SameLane a b = SameConsumer a.orders b.orders × SameProducer a.answers b.answers
+
+  -- the lane is the owner's end of this console's rings
+  abbrev pub IsConsoleOf : Console O R → Lane O R → Type 0
+  IsConsoleOf c l = IsPair c.orders l.orders × IsPair l.answers c.answers
+
+  -- the lane is the owner's end of the rings of this console, which has ended
+  abbrev pub IsEndOf : Finished O R → Lane O R → Type 0
+  IsEndOf f l = IsFinishedOf f.orders l.orders × IsPair l.answers f.answers
+
+  -- every order that a console submitted, and every answer that it took, before it ended
+  abbrev pub all_submitted : Finished O R → List O
+  all_submitted f = all_sent f.orders
+
+  abbrev pub all_taken : Finished O R → List (Answer O R)
+  all_taken f = received f.answers
+
+  -- the console ended as this one, with the same rings
+  abbrev pub Ends : Console O R → Finished O R → Type 0
+  Ends c f = Finishes c.orders f.orders × (f.answers ≡ c.answers)
+
+  -- nothing was taken or given, and no more is known than before
+  abbrev pub LaneLooked : Lane O R → Lane O R → Type 0
+  LaneLooked a b =
+      SameLane a b × (orders_taken b ≡ orders_taken a) × (answers_given b ≡ answers_given a) × IsPrefix (orders_known a) (orders_known b)
+      × (answer_room a ≤ answer_room b)
+
+-- the orders that were left, in order
+abbrev pub left_of : {O : Type 0} → Left O → List O
+left_of l = known_items l.orders

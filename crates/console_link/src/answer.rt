@@ -1,0 +1,6 @@
+/// An order with its reply.
+#[derive(Clone, Copy, Debug, PartialEq, Eq, Drop)]
+pub struct Answer<O, R> {
+    pub order: O,
+    pub reply: R,
+}

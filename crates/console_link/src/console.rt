@@ -1,0 +1,68 @@
+//! A console's ends of its rings.
+ghost use Rattle.std.specs.Prelude.{◌≡◌};
+ghost use Rattle.rtrb.specs.Ring.{producer_capacity};
+
+use crate::answer::Answer;
+use rtrb::{Consumer, Producer, PushError};
+
+/// A console: it submits orders and takes their answers. It may go to a thread of its own.
+#[derive(Drop)]
+pub struct Console<O, R> {
+    pub(crate) orders: Producer<O>,
+    pub(crate) answers: Consumer<Answer<O, R>>,
+    ghost places: { producer_capacity orders ≡ 64 },
+}
+
+/// A console that has ended: it submits and takes nothing more.
+#[derive(Drop)]
+pub struct Finished<O, R> {
+    pub(crate) orders: rtrb::Finished<O>,
+    pub(crate) answers: Consumer<Answer<O, R>>,
+}
+
+impl<O: Drop, R: Drop> Console<O, R> {
+    ghost use Rattle.std.specs.Prelude.{◌≡◌, ◌<◌, ◌≤◌, [], ◌∷◌, ◌++◌, OnOk, IfErr, IfSome, IsOk, IfNone};
+    ghost use Rattle.console_link.specs.Seats.{submitted, taken, known_room, SameConsole, all_submitted, all_taken, Ends};
+
+    /// How many places of the order ring the console knows to be free, at most 64.
+    pub fn room(&mut self) -> u32
+        ensures seat { SameConsole self.old self.new }
+        ensures same { (submitted self.new ≡ submitted self.old) × (taken self.new ≡ taken self.old) }
+        ensures room { (result ≡ known_room self.new) × (known_room self.old ≤ known_room self.new) }
+    {
+        self.orders.slots() as u32
+    }
+
+    /// Submits an order. It comes back where no place is free, and then nothing is submitted.
+    pub fn submit(&mut self, order: O) -> Result<(), O>
+        ensures seat { SameConsole self.old self.new }
+        ensures ok { OnOk result (submitted self.new ≡ submitted self.old ++ order ∷ []) }
+        ensures full { IfErr result (λ e. (e ≡ order) × (submitted self.new ≡ submitted self.old) × (known_room self.new ≡ 0)) }
+        ensures taken { taken self.new ≡ taken self.old }
+        ensures succeeds { 0 < known_room self.old → IsOk result }
+    {
+        match self.orders.push(order) {
+            Ok(()) => Ok(()),
+            Err(PushError::Full(back)) => Err(back),
+        }
+    }
+
+    /// Takes the next answer; `None` where none is there.
+    pub fn answer(&mut self) -> Option<Answer<O, R>>
+        ensures seat { SameConsole self.old self.new }
+        ensures some { IfSome result (λ a. taken self.new ≡ taken self.old ++ a ∷ []) }
+        ensures none { IfNone result (taken self.new ≡ taken self.old) }
+        ensures submitted { submitted self.new ≡ submitted self.old }
+    {
+        self.answers.pop().ok()
+    }
+
+    /// Ends the console. `None` where the order ring can't be ended; then nothing is known of the orders that are left in it.
+    pub fn finish(self) -> Option<Finished<O, R>>
+        ensures { IfSome result (λ f. Ends self f × (all_submitted f ≡ submitted self) × (all_taken f ≡ taken self)) }
+    {
+        let Console { orders, answers } = self;
+        let orders = orders.finish()?;
+        Some(Finished { orders, answers })
+    }
+}
