@@ -1,19 +1,18 @@
 -- What is loaded into a part's cells, and what its code leaves there.
 use Rattle.std.proofs.Common.{◌≡◌, ◌<◌, ℕ, pos, List, [], map, length, get_or, Some, ap, sym, ◌∙◌, subst}
 use Rattle.std.specs.Prelude.{slice_get, option_map}
-use Rattle.std.proofs.lemmas.Option.{slice_get-map, slice_get-get_or, same_Some, slice_get_within}
+use Rattle.std.proofs.lemmas.Option.{slice_get-map, slice_get-get_or, same_Some}
 use Rattle.plant_cells.specs.declared.clock.Standard.TheVariants as standard
 use Rattle.plant_cells.specs.Clocks.{clock_of}
-use Rattle.plant_cells.specs.Cells.{PlainCells, value_at}
+use Rattle.plant_cells.specs.Cells.{PlainCells}
 use Rattle.plant_cells.specs.Runs.{Path}
 use Rattle.acc_vm.specs.declared.instr.Instr.{Instr}
-use Rattle.acc_vm.specs.Machine.{Run}
 use Rattle.acc_vm.specs.Codes.{PlainCode, fuel_of, run_of}
 use Rattle.code_slices.specs.Slots.{Names, Writes, NamesClock}
 use Rattle.code_slices.specs.Renaming.{renamed_code, StandsFor, TellsApart}
 use Rattle.code_slices.specs.Alike.{IsKept, GoAlike}
 use Rattle.code_slices.specs.Laws.{BothAfter}
-use Rattle.code_slices.specs.Parts.{PlainPart, IsPartOf, HasPart, PartAfter, loaded, clock_at}
+use Rattle.code_slices.specs.Parts.{PlainPart, IsPartOf, HasPart, PartAfter, loaded}
 use Rattle.code_slices.proofs.Runs.{weaker, renamed_runs}
 
 -- cells stand for others as long as a run of another code writes nothing that the code names

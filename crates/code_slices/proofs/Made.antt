@@ -1,13 +1,13 @@
 -- The part that is made of a code.
-use Rattle.std.proofs.Common.{◌≡◌, ◌<◌, ◌≤◌, ℕ, List, [], map, length, get_or, Some, ap, sym, ◌∙◌, subst, arith, inl, inr, ◌⊎◌}
+use Rattle.std.proofs.Common.{◌≡◌, ◌<◌, ◌≤◌, ℕ, List, [], map, length, get_or, Some, ap, sym, ◌∙◌, subst, arith, inl, inr}
 use Rattle.std.specs.Prelude.{slice_get}
 use Rattle.std.proofs.lemmas.Bool.{cases_lt}
 use Rattle.std.proofs.lemmas.Option.{same_Some, slice_get_within, slice_get-get_or}
 use Rattle.plant_types.specs.declared.values.Place.{Place}
 use Rattle.acc_vm.specs.declared.instr.Instr.{Instr}
 use Rattle.acc_vm.specs.Codes.{PlainCode, IsSound}
-use Rattle.code_slices.specs.Slots.{slots_read, slots_written, clocks_of, SomeHas, Names, Writes, NamesClock}
-use Rattle.code_slices.specs.Renaming.{renamed, renamed_code, TellsApart, HasRoom}
+use Rattle.code_slices.specs.Slots.{slots_read, slots_written, clocks_of, SomeHas, Names, Writes}
+use Rattle.code_slices.specs.Renaming.{renamed, renamed_code}
 use Rattle.code_slices.specs.Noting.{AreOnce, Notes}
 use Rattle.code_slices.specs.Parts.{PlainPart, IsPart, IsPartOf, AreSlots, AreClocks}
 use Rattle.code_slices.proofs.Sound.{sound_again}

@@ -1,5 +1,5 @@
 -- A program's part of the cells: the slots and clocks that its code names, and the code by their numbers in the part.
-use Rattle.std.specs.Prelude.{◌≡◌, ◌<◌, ◌≤◌, ℕ, ℤ, pos, List, [], map, length, get_or, Some, slice_get}
+use Rattle.std.specs.Prelude.{◌≡◌, ◌<◌, ◌≤◌, ℕ, List, [], map, length, get_or, Some, slice_get}
 use Rattle.plant_cells.specs.declared.clock.Clock.{Clock}
 use Rattle.plant_cells.specs.declared.clock.Standard.TheVariants as standard
 use Rattle.plant_cells.specs.Clocks.{clock_of}

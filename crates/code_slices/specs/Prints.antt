@@ -1,5 +1,5 @@
 -- Instructions as numbers in fixed places, and back.
-use Rattle.std.specs.Prelude.{ℕ, ℤ, pos, nat_eq, if◌then◌else◌}
+use Rattle.std.specs.Prelude.{ℕ, pos, nat_eq, if◌then◌else◌}
 use Rattle.st_tree.specs.declared.tree.Unary.{Unary}
 use Rattle.st_tree.specs.declared.tree.Unary.TheVariants as unary
 use Rattle.st_tree.specs.declared.tree.Binary.{Binary}

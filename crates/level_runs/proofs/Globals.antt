@@ -1,5 +1,5 @@
 -- The globals among slots, and what a part tells of a code.
-use Rattle.std.proofs.Common.{◌≡◌, ◌↔◌, ◌<◌, ◌≤◌, ℕ, List, [], ◌∷◌, ◌++◌, length, get_or, take, drop, ◌+◌, arith, refl, sym, ap, subst, ◌∙◌, inl, inr, ⊎_elim, All}
+use Rattle.std.proofs.Common.{◌≡◌, ◌<◌, ◌≤◌, ℕ, List, [], ◌∷◌, ◌++◌, length, get_or, take, drop, ◌+◌, arith, refl, sym, ap, subst, ◌∙◌, inl, inr, ⊎_elim}
 use Rattle.std.specs.Prelude.{Contains, Some, slice_get, slice_index_or}
 use Rattle.std.proofs.lemmas.Bool.{cases_lt}
 use Rattle.std.proofs.lemmas.List.{take-append-drop, get_or-take, length-take-le, length_push, get_or_append_left, get_or_push, get_or_read}
@@ -10,7 +10,7 @@ use Rattle.code_slices.specs.Slots as slots
 use Rattle.code_slices.specs.Slots.{Names}
 use Rattle.code_slices.specs.Parts.{PlainPart, IsPartOf}
 use Rattle.level_plan.specs.declared.access.Extent.{Extent}
-use Rattle.level_plan.specs.Accesses.{PlainAccess, Covers, EndsWithin, HaveGlobal, StaysWithin, StayWithin, access_at, no_access}
+use Rattle.level_plan.specs.Accesses.{PlainAccess, Covers, EndsWithin, StaysWithin, StayWithin, access_at, no_access}
 use Rattle.level_plan.proofs.Extents.{have_none, have_left, have_last, have_cases}
 use Rattle.level_runs.specs.Accesses.{AreGlobalsOf, IsAccessOf, AreAccessesOf, ArePartsOf}
 use Rattle.level_runs.specs.Programs.{code_at, no_code}

@@ -1,9 +1,8 @@
 -- Programs of compiled code are local.
-use Rattle.std.proofs.Common.{◌≡◌, ◌<◌, ℕ, ℤ, pos, Bool, true, false, List, [], ◌∷◌, map, refl, sym, ap, subst, length, inl, inr, ◌⊎◌}
-use Rattle.std.specs.Prelude.{Option, Some, None, slice_get}
+use Rattle.std.proofs.Common.{◌≡◌, ℕ, ℤ, pos, true, false, List, [], ◌∷◌, map, refl, sym, ap, subst, inl, inr, ◌⊎◌}
+use Rattle.std.specs.Prelude.{Option, Some, slice_get}
 use Rattle.std.proofs.lemmas.Bool.{both_ways, or_right}
-use Rattle.plant_types.specs.declared.values.Trap.{Trap}
-use Rattle.st_tree.specs.Meaning.{Ran, Done, Trapped, Spot}
+use Rattle.st_tree.specs.Meaning.{Ran, Done, Trapped}
 use Rattle.plant_cells.specs.Cells.{PlainCells}
 use Rattle.plant_cells.specs.Runs.{Path}
 use Rattle.plant_cells.specs.declared.clock.Clock.{Clock}
@@ -11,7 +10,7 @@ use Rattle.acc_vm.specs.Machine.{Run, Over, Unfinished, Stuck}
 use Rattle.acc_vm.specs.Codes.{PlainCode, SameShape, fuel_of, run_of}
 use Rattle.acc_vm.specs.declared.instr.Instr.{Instr}
 use Rattle.acc_vm.specs.declared.instr.Instr.TheVariants as instr
-use Rattle.code_slices.specs.Slots.{slots_read, slots_written, Names, Writes, NamesClock}
+use Rattle.code_slices.specs.Slots.{slots_read, slots_written}
 use Rattle.code_slices.specs.Renaming.{renamed, StandsFor}
 use Rattle.code_slices.specs.Alike.{EndAlike, GoAlike, IsKept, Leaves}
 use Rattle.code_slices.specs.Laws.{BothAfter}

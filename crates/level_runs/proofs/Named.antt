@@ -1,6 +1,6 @@
 -- Whether code names and writes slots: by tests, and by definition.
 use Rattle.std.proofs.Common.{◌≡◌, ℕ, ◌==◌, true, List, length, refl, sym, subst, inl, inr, ⊎_elim}
-use Rattle.std.specs.Prelude.{slice_get, Contains}
+use Rattle.std.specs.Prelude.{Contains}
 use Rattle.std.specs.List.{list_any}
 use Rattle.std.proofs.lemmas.Bool.{eq-eqb, eqb-true, or_cases, or_left, or_right}
 use Rattle.std.proofs.lemmas.List.Folds.{Any-from_list_any, list_any-from_Any}

@@ -1,5 +1,5 @@
 -- The plan of codes gives levels.
-use Rattle.std.proofs.Common.{◌≡◌, ◌<◌, ◌≤◌, ℕ, true, List, length, arith, subst, sym, inl, inr, ⊎_elim}
+use Rattle.std.proofs.Common.{◌≡◌, ◌<◌, ℕ, true, List, length, arith, subst, sym, inl, inr, ⊎_elim}
 use Rattle.std.specs.Prelude.{slice_index}
 use Rattle.std.proofs.lemmas.Bool.{cases_lt}
 use Rattle.st_tree.specs.Meaning.{Spot}
@@ -7,7 +7,6 @@ use Rattle.plant_types.specs.declared.values.Trap.{Trap}
 use Rattle.plant_cells.specs.Cells.{PlainCells}
 use Rattle.plant_cells.specs.Runs.{Path}
 use Rattle.acc_vm.specs.Codes.{PlainCode}
-use Rattle.code_slices.specs.Slots.{Names, Writes}
 use Rattle.level_order.specs.Levels.{AreLevels, Midway, RunsLevels, IsAsInOrder}
 use Rattle.level_order.specs.Programs.{in_order}
 use Rattle.level_order.proofs.Levels.{levels_are_as_in_order}

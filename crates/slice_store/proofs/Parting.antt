@@ -1,5 +1,5 @@
 -- Parts of codes that are apart.
-use Rattle.std.proofs.Common.{◌≡◌, ◌<◌, ◌≤◌, ◌^◌, ℕ, List, length, Some, arith, inl, inr}
+use Rattle.std.proofs.Common.{◌≡◌, ◌<◌, ◌^◌, ℕ, List, length, Some, arith, inl, inr}
 use Rattle.std.specs.Prelude.{slice_get}
 use Rattle.std.specs.List.{AllByRecursion}
 use Rattle.std.proofs.lemmas.List.Elements.{All-from_recursion, All-contains}
@@ -7,7 +7,7 @@ use Rattle.plant_cells.specs.Cells.{PlainCells}
 use Rattle.acc_vm.specs.declared.instr.Instr.{Instr}
 use Rattle.acc_vm.specs.Codes.{PlainCode, IsSound}
 use Rattle.code_slices.specs.Slots.{SomeHas, slots_read, slots_written, clocks_of, Names, NamesClock}
-use Rattle.code_slices.specs.Parts.{PlainPart, IsPartOf, HasPart}
+use Rattle.code_slices.specs.Parts.{PlainPart}
 use Rattle.code_slices.proofs.Sound.{read_past, written_past, clock_past}
 use Rattle.slice_store.specs.Splits.{CanSplit, AreApartCodes, ArePartsOf}
 

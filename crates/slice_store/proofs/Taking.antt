@@ -1,5 +1,5 @@
 -- Taking in what runs give, one after another.
-use Rattle.std.proofs.Common.{◌≡◌, ◌≢◌, ℕ, ℤ, ◌+◌, ◌-◌, ◌<◌, ◌≤◌, Bool, List, [], ◌∷◌, ◌++◌, length, take, set, get_or, slice_index_or, Contains, Some, Result, Ok, Err, refl, sym, ◌∙◌, ap, subst, arith, zero, suc, inl, inr, ◌⊎◌, ⊎_elim, lit<, length-take, get_or-take, get_or-set_same}
+use Rattle.std.proofs.Common.{◌≡◌, ℕ, ℤ, ◌-◌, ◌<◌, ◌≤◌, Bool, List, [], ◌∷◌, ◌++◌, length, take, set, slice_index_or, Contains, Some, Result, Ok, Err, refl, sym, ◌∙◌, ap, subst, arith, zero, suc, ⊎_elim, lit<, length-take, get_or-take, get_or-set_same}
 use Rattle.std.specs.Prelude.{slice_get}
 use Rattle.std.specs.Result.{is_err}
 use Rattle.std.proofs.lemmas.List.{length-set}
@@ -9,9 +9,9 @@ use Rattle.plant_cells.specs.declared.stop.Stop.{Stop}
 use Rattle.plant_cells.specs.declared.clock.Clock.{Clock}
 use Rattle.plant_cells.specs.Cells.{PlainCells}
 use Rattle.code_slices.specs.Parts.{PlainPart, IsPart, HasPart, loaded}
-use Rattle.code_slices.specs.Puts.{AreApartIn, Puts}
+use Rattle.code_slices.specs.Puts.{AreApartIn}
 use Rattle.slice_store.specs.Starts.{Begun, Gives}
-use Rattle.slice_store.specs.Level.{PutsPart, WritesSlot, NamesSlot, HasClock, HasTaken, Takes, TakesRuns, IsDistinct, AreJobsOf, IsEachOnce, IsReady, trapped}
+use Rattle.slice_store.specs.Level.{PutsPart, WritesSlot, HasClock, HasTaken, Takes, TakesRuns, AreJobsOf, IsEachOnce, IsReady, trapped}
 
 -- the first items of a list
 pub front : {A : Type 0} (n : ℕ) (xs : List A) (i : ℕ) (x : A) → i < n → slice_get xs i ≡ Some x → slice_get (take n xs) i ≡ Some x

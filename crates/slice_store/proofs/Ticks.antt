@@ -1,5 +1,5 @@
 -- What an empty tick means.
-use Rattle.std.proofs.Common.{◌≡◌, ℕ, ◌<◌, List, [], ◌∷◌, length, slice_index_or, Contains, Bool, true, false, refl, sym, ◌∙◌, arith, zero, suc}
+use Rattle.std.proofs.Common.{◌≡◌, ℕ, ◌<◌, List, [], ◌∷◌, length, slice_index_or, Contains, Bool, true, false, refl, arith, zero, suc}
 use Rattle.slice_store.specs.Starts.{Begun}
 use Rattle.slice_store.specs.Level.{IsTicked, HasStranger, HasDouble, LacksOne, IsDistinct}
 

@@ -1,12 +1,11 @@
 -- A gathered run is the run of its program's code from all cells.
-use Rattle.std.proofs.Common.{◌≡◌, ℕ, List, Bool, ap, sym, ◌∙◌, subst, inr}
-use Rattle.std.specs.Prelude.{slice_get, Result}
+use Rattle.std.proofs.Common.{◌≡◌, ℕ, List, Bool, ap, sym, ◌∙◌, inr}
+use Rattle.std.specs.Prelude.{Result}
 use Rattle.plant_cells.specs.Cells.{PlainCells}
-use Rattle.plant_cells.specs.Runs.{Path, ended}
+use Rattle.plant_cells.specs.Runs.{Path}
 use Rattle.plant_cells.specs.declared.stop.Stop.{Stop}
-use Rattle.acc_vm.specs.Machine.{Over}
 use Rattle.acc_vm.specs.Codes.{PlainCode, run_of}
-use Rattle.code_slices.specs.Slots.{Names, Writes}
+use Rattle.code_slices.specs.Slots.{Names}
 use Rattle.code_slices.specs.Parts.{IsPartOf, HasPart, loaded}
 use Rattle.code_slices.specs.Runs.{RunsWhole}
 use Rattle.code_slices.proofs.Overs.{runs_whole}

@@ -1,5 +1,5 @@
 -- Where jobs start, and what their code gives from there.
-use Rattle.std.specs.Prelude.{◌≡◌, ◌≤◌, ℕ, List, length, Result}
+use Rattle.std.specs.Prelude.{◌≡◌, ℕ, List, length, Result}
 use Rattle.plant_cells.specs.declared.stop.Stop.{Stop}
 use Rattle.plant_cells.specs.Cells.{PlainCells}
 use Rattle.plant_cells.specs.Runs.{Path, ended}

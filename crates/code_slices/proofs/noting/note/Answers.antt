@@ -1,6 +1,6 @@
-use Rattle.std.proofs.Common.{◌≡◌, ◌<◌, ◌∷◌, ◌++◌, [], Bool, true, false, ℕ, length, get_or, ap, ◌∙◌, sym, refl, subst, arith}
+use Rattle.std.proofs.Common.{◌≡◌, ◌∷◌, ◌++◌, [], true, false, length, get_or, ap, ◌∙◌, sym, refl, subst, arith}
 use Rattle.std.specs.Prelude.{slice_get}
-use Rattle.code_slices.specs.Noting.{IsNoted, Notes}
+use Rattle.code_slices.specs.Noting.{IsNoted}
 use Rattle.code_slices.proofs.Places.{notes_none, notes_one, room_more}
 use Rattle.code_slices.proofs.noting.note.Goals as goal
 

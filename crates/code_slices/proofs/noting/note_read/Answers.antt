@@ -1,9 +1,8 @@
-use Rattle.std.proofs.Common.{◌≡◌, ◌<◌, ◌≤◌, ◌++◌, List, ℕ, length, get_or, sym, subst, arith}
+use Rattle.std.proofs.Common.{◌<◌, ◌++◌, length, get_or, sym, subst, arith}
 use Rattle.std.specs.List.{AllByRecursion}
 use Rattle.std.specs.Prelude.{Contains}
 use Rattle.std.proofs.lemmas.Option.{slice_get-get_or}
 use Rattle.acc_vm.specs.declared.instr.Instr.TheVariants.{End}
-use Rattle.acc_vm.specs.Codes.{values_past}
 use Rattle.code_slices.specs.Slots.{slots_read}
 use Rattle.code_slices.specs.Lists.{listed}
 use Rattle.code_slices.specs.Noting.{Notes}

@@ -1,4 +1,4 @@
-use Rattle.std.proofs.Common.{◌≡◌, [], length, sym, subst, ap, arith, List, ℕ}
+use Rattle.std.proofs.Common.{◌≡◌, [], length, sym, subst, arith, List, ℕ}
 use Rattle.code_slices.specs.Slots.{SomeHas, slots_written, slots_read}
 use Rattle.code_slices.specs.Noting.{AreOnce, Notes}
 use Rattle.code_slices.specs.Parts.{AreSlots}

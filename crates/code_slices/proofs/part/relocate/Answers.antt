@@ -1,9 +1,9 @@
-use Rattle.std.proofs.Common.{◌≡◌, ◌≤◌, List, map, length, get_or, sym, ap, ◌∙◌, subst, arith}
+use Rattle.std.proofs.Common.{◌≡◌, List, map, length, get_or, sym, ap, ◌∙◌, subst, arith}
 use Rattle.std.specs.Prelude.{slice_get}
 use Rattle.acc_vm.specs.declared.instr.Instr.{Instr}
-use Rattle.acc_vm.specs.Codes.{IsSound, clocks_past}
+use Rattle.acc_vm.specs.Codes.{IsSound}
 use Rattle.code_slices.specs.Renaming.{renamed}
-use Rattle.code_slices.specs.Parts.{PlainPart, IsPartOf, AreSlots, AreClocks}
+use Rattle.code_slices.specs.Parts.{IsPartOf, AreSlots, AreClocks}
 use Rattle.code_slices.proofs.Made.{moved_is_sound, is_part_of, part_is, same_code}
 use Rattle.code_slices.proofs.part.relocate.Goals as goal
 

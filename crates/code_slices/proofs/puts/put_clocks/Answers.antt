@@ -1,4 +1,4 @@
-use Rattle.std.proofs.Common.{◌≡◌, ◌<◌, ◌≤◌, length, get_or, refl, subst, arith}
+use Rattle.std.proofs.Common.{◌≡◌, length, get_or, refl, subst, arith}
 use Rattle.std.proofs.lemmas.Option.{slice_get-get_or, slice_get_read}
 use Rattle.code_slices.proofs.Putting.{PutUpTo, none_put, more_put, all_put}
 use Rattle.code_slices.proofs.puts.put_clocks.Goals as goal

@@ -1,4 +1,4 @@
-use Rattle.std.proofs.Common.{◌≡◌, ◌+◌, ◌<◌, ◌≤◌, ℤ, FitsSigned, w64, rules, set, pos, length, get_or, ap, sym, ◌∙◌, subst, arith, Some}
+use Rattle.std.proofs.Common.{◌≡◌, ◌+◌, ℤ, FitsSigned, w64, rules, set, pos, length, get_or, ap, sym, ◌∙◌, subst, arith, Some}
 use Rattle.std.proofs.lemmas.Int.{to_z-of_z}
 use Rattle.std.proofs.lemmas.Option.{slice_get-get_or}
 use Rattle.code_slices.proofs.Putting.{PutUpTo, none_put, more_put, all_put}

@@ -1,4 +1,4 @@
-use Rattle.std.proofs.Common.{◌≡◌, ◌≤◌, ℕ, ℤ, List, length, take, ap, sym, subst, arith}
+use Rattle.std.proofs.Common.{◌≡◌, ℕ, ℤ, List, length, take, ap, sym, subst, arith}
 use Rattle.plant_cells.specs.declared.clock.Clock.{Clock}
 use Rattle.code_slices.specs.Puts.{AreApartIn, Puts}
 use Rattle.slice_store.proofs.Taking.{written_apart, written_many}

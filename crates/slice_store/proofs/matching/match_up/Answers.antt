@@ -1,4 +1,4 @@
-use Rattle.std.proofs.Common.{◌≡◌, ◌<◌, length, refl, arith}
+use Rattle.std.proofs.Common.{refl, arith}
 use Rattle.slice_store.specs.Level.{IsTicked}
 use Rattle.slice_store.proofs.Ticks.{no_stranger, no_double, lacks}
 use Rattle.slice_store.proofs.matching.match_up.Goals as goal

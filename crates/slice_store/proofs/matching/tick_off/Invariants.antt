@@ -1,4 +1,4 @@
-use Rattle.std.proofs.Common.{◌≡◌, take, length}
+use Rattle.std.proofs.Common.{take}
 use Rattle.slice_store.specs.Level.{IsTicked}
 use Rattle.slice_store.proofs.matching.tick_off.Given as goal
 

@@ -1,4 +1,4 @@
-use Rattle.std.proofs.Common.{◌<◌, ◌≡◌, length, slice_index_or, arith, sym, subst, take, ℕ, List, ◌++◌, ◌∷◌, []}
+use Rattle.std.proofs.Common.{length, arith, sym, subst, take, ◌++◌, ◌∷◌, []}
 use Rattle.std.proofs.lemmas.List.{take_more}
 use Rattle.plant_cells.specs.Cells.{PlainCells}
 use Rattle.slice_store.specs.Starts.{Begun}

@@ -1,8 +1,8 @@
-use Rattle.std.proofs.Common.{◌≡◌, ◌+◌, length, ap, sym, ◌∙◌, arith}
+use Rattle.std.proofs.Common.{◌≡◌, ◌+◌, length, ap, ◌∙◌}
 use Rattle.std.specs.Arc.{arc_value}
 use Rattle.std.proofs.lemmas.List.{length-map}
 use Rattle.plant_cells.specs.Cells.{PlainCells}
-use Rattle.code_slices.specs.Parts.{PlainPart, loaded}
+use Rattle.code_slices.specs.Parts.{loaded}
 use Rattle.slice_store.proofs.Taking.{has_by, loaded_by, starts_by}
 use Rattle.slice_store.proofs.store.Store.begin_program.Goals as goal
 

@@ -1,9 +1,6 @@
-use Rattle.std.proofs.Common.{◌≡◌, length, List, ℕ, [], Result, Ok, Err, MatchResult, IfErr, refl, ap, ◌∙◌, sym, true}
+use Rattle.std.proofs.Common.{◌≡◌, Result, Ok, Err, MatchResult, IfErr, sym, true}
 use Rattle.std.specs.Result.{is_ok}
-use Rattle.slice_store.specs.Starts.{Begun}
-use Rattle.slice_store.specs.Level.{AreJobsOf, IsEachOnce}
-use Rattle.slice_store.specs.Fits.{IsMisfit}
-use Rattle.slice_store.specs.declared.misfit.Misfit.{Misfit}
+use Rattle.slice_store.specs.Level.{IsEachOnce}
 use Rattle.slice_store.proofs.Taking.{jobs_of_runs, ready_empty}
 use Rattle.slice_store.proofs.store.Store.gather.Goals as goal
 

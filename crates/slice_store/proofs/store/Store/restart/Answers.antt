@@ -1,4 +1,4 @@
-use Rattle.std.proofs.Common.{◌≡◌, [], ap, ◌∙◌}
+use Rattle.std.proofs.Common.{ap, ◌∙◌}
 use Rattle.slice_store.specs.Level.{Stored}
 use Rattle.slice_store.proofs.Taking.{ready_still}
 use Rattle.slice_store.proofs.store.Store.restart.Goals as goal

@@ -1,7 +1,6 @@
-use Rattle.std.proofs.Common.{◌≡◌, ℕ, List, map, length, ap, sym, ◌∙◌, subst, arith}
+use Rattle.std.proofs.Common.{◌≡◌, map, length, ap, sym, ◌∙◌, subst, arith}
 use Rattle.std.specs.Arc.{arc_value}
 use Rattle.std.proofs.lemmas.List.{length-map}
-use Rattle.slice_store.specs.Starts.{Begun}
 use Rattle.slice_store.specs.Level.{Stored, AreJobsOf}
 use Rattle.slice_store.specs.Splits.{AreJobsBefore}
 use Rattle.slice_store.proofs.Splitting.{jobs_are, ready_out}
