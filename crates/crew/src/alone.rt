@@ -33,9 +33,13 @@ impl<J: Work<S, D>, S, D: Drop, H> Crew<J, S, D, H> for Alone {
     {
         0
     }
+
+    fn is_alone(&self) -> bool {
+        true
+    }
 }
 
-// Runs jobs one after another.
+/// Runs jobs one after another.
 fn run_in_turn<J: Work<S, D>, S, D: Drop>(alloc: Global, jobs: Vec<J>) -> Result<Vec<D>, AllocError>
     ensures { IfOk result (λ runs. map J.ended_from runs.items ≡ map J.start_of jobs.items) }
 {

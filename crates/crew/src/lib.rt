@@ -40,4 +40,7 @@ pub trait Crew<J: Work<S, D>, S, D, H> {
     /// How many runs answered a fault other than `Memory`; at the greatest `u64` it stays.
     fn faults(&self) -> u64
         ensures { result ≡ faulted self.now };
+
+    /// Whether all jobs are run in the caller's thread, so that a caller loses nothing where it does its work itself, without jobs.
+    fn is_alone(&self) -> bool;
 }

@@ -50,7 +50,7 @@ impl<G: Gate + Sync> Scoped<G> {
     }
 }
 
-// Runs each job of a batch in a thread of its own.
+/// Runs each job of a batch in a thread of its own.
 fn run_each<G: Gate + Sync, J: Work<S, D> + Send, S, D: Drop + Send, H: Threads + Sync>(
     rt: &H,
     gate: &G,
@@ -71,6 +71,7 @@ fn run_each<G: Gate + Sync, J: Work<S, D> + Send, S, D: Drop + Send, H: Threads 
     )
 }
 
+/// Runs a batch.
 fn run_batch<G: Gate + Sync, J: Work<S, D> + Send, S, D: Drop + Send, H: Threads + Sync>(
     rt: &H,
     gate: &G,
@@ -82,7 +83,7 @@ fn run_batch<G: Gate + Sync, J: Work<S, D> + Send, S, D: Drop + Send, H: Threads
     Ok(runs)
 }
 
-// Runs jobs in batches, one batch after another.
+/// Runs jobs in batches, one batch after another.
 fn run_in_batches<G: Gate + Sync, J: Work<S, D> + Send, S, D: Drop + Send, H: Threads + Sync>(
     rt: &H,
     alloc: Global,

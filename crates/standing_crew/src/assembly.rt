@@ -26,7 +26,7 @@ pub fn assemble<J: Work<S, D>, S, D: Drop>(
     }
 }
 
-// Compares runs with what was handed out. Every tick has to be off.
+/// Compares runs with what was handed out. Every tick has to be off.
 #[tactic(auto, using(crate::proofs::Ticks::all_there))]
 fn match_up<J: Work<S, D>, S, D>(
     starts: &[Begun<S>],
@@ -47,7 +47,7 @@ fn match_up<J: Work<S, D>, S, D>(
     Ok(())
 }
 
-// Ticks off each run, and tells whether all are known and none comes twice.
+/// Ticks off each run, and tells whether all are known and none comes twice.
 #[tactic(auto, using(crate::proofs::Ticks::none_ticked, crate::proofs::Ticks::tick_next, crate::proofs::Ticks::stranger_next, crate::proofs::Ticks::double_next))]
 fn tick_off<J: Work<S, D>, S, D>(starts: &[Begun<S>], got: &[D], ticks: &mut [bool]) -> bool
     requires sized { length ticks.old ≡ length starts.now }
@@ -70,7 +70,7 @@ fn tick_off<J: Work<S, D>, S, D>(starts: &[Begun<S>], got: &[D], ticks: &mut [bo
     true
 }
 
-// The place of what a run started from. It is sought near a place first, since the runs of one message stand in their order.
+/// The place of what a run started from. It is sought near a place first, since the runs of one message stand in their order.
 fn place_near<J: Work<S, D>, S, D>(starts: &[Begun<S>], ended: &D, near: usize) -> Option<usize>
     ensures { MatchOption result (Contains starts.now (J.ended_from ended.now) → ⊥) (λ place. (place < length starts.now) × (slice_index_or starts.now place (J.ended_from ended.now) ≡ J.ended_from ended.now)) }
 {
@@ -80,6 +80,7 @@ fn place_near<J: Work<S, D>, S, D>(starts: &[Begun<S>], ended: &D, near: usize) 
     place_of::<J, S, D>(starts, ended)
 }
 
+/// The first place of what a run started from.
 fn place_of<J: Work<S, D>, S, D>(starts: &[Begun<S>], ended: &D) -> Option<usize>
     ensures { MatchOption result (Contains starts.now (J.ended_from ended.now) → ⊥) (λ place. (place < length starts.now) × (slice_index_or starts.now place (J.ended_from ended.now) ≡ J.ended_from ended.now)) }
 {
@@ -91,6 +92,7 @@ fn place_of<J: Work<S, D>, S, D>(starts: &[Begun<S>], ended: &D) -> Option<usize
     None
 }
 
+/// Whether all are ticked.
 fn all_ticked(ticks: &[bool]) -> bool
     ensures all { IsTrue result → (i : ℕ) → i < length ticks.now → slice_index_or ticks.now i false ≡ true }
     ensures one { IsFalse result → (i : ℕ) × (i < length ticks.now) × (slice_index_or ticks.now i false ≡ false) }

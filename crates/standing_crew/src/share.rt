@@ -3,7 +3,7 @@ ghost use Rattle.std.specs.Prelude.{◌<◌, length};
 
 use crew::Work;
 
-// What a message is to carry at least, in steps of some nanoseconds: about what it takes to send one and to hear of it.
+/// What a message is to carry at least, in steps of some nanoseconds: about what it takes to send one and to hear of it.
 const LEAST_SHARE: u64 = 2_000;
 
 /// The cost that a message is to carry, where jobs are shared out among so many hands: a fraction of the whole, so that nobody waits long for
@@ -17,7 +17,7 @@ pub(crate) fn share_of<J: Work<S, D>, S, D>(jobs: &[J], hands: u32) -> u64 {
     fraction.max(LEAST_SHARE).min(whole / 2)
 }
 
-// The cost of jobs. Each costs something.
+/// The cost of jobs. Each costs something.
 fn cost_of<J: Work<S, D>, S, D>(jobs: &[J]) -> u64 {
     let mut whole = 0u64;
     for job in jobs {

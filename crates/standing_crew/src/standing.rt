@@ -34,7 +34,7 @@ pub struct Standing<J, S, D, G> {
     faults: u64,
 }
 
-// The runs of a round that are here, how many messages are away, and the first fault.
+/// The runs of a round that are here, how many messages are away, and the first fault.
 #[derive(Drop)]
 struct Gathered<D> {
     runs: Vec<D>,
@@ -42,7 +42,7 @@ struct Gathered<D> {
     fault: Option<CrewFault>,
 }
 
-// The jobs that stay with the caller, how many messages went out, and the fault that ended the handing out.
+/// The jobs that stay with the caller, how many messages went out, and the fault that ended the handing out.
 #[derive(Drop)]
 struct HandedOut<J> {
     own: Vec<J>,
@@ -50,7 +50,7 @@ struct HandedOut<J> {
     fault: Option<CrewFault>,
 }
 
-// The handing out ends, and the jobs that are left are given up.
+/// The handing out ends, and the jobs that are left are given up.
 fn given_up<J>(alloc: Global, messages: u64, fault: CrewFault) -> HandedOut<J> {
     HandedOut {
         own: Vec::new(alloc),
@@ -110,7 +110,7 @@ impl<
     }
 }
 
-// Starts a thread that runs what is handed out.
+/// Starts a thread that runs what is handed out.
 fn add_thread<
     J: Work<S, D> + Send + 'static,
     S: 'static,
@@ -151,7 +151,7 @@ fn add_thread<
     }
 }
 
-// Runs what is handed out until no more can come.
+/// Runs what is handed out until no more can come.
 fn stand<J: Work<S, D>, S, D: Drop, G: Gate, H: Wait>(
     rt: &H,
     gate: &Arc<G>,
@@ -171,7 +171,7 @@ fn stand<J: Work<S, D>, S, D: Drop, G: Gate, H: Wait>(
     }
 }
 
-// Waits until threads have ended, so many at most.
+/// Waits until threads have ended, so many at most.
 fn join_all<H: Threads>(rt: &H, threads: &mut Vec<JoinHandle<()>>, most: u32) {
     for _ in 0..most {
         let Some(thread) = threads.pop() else {
@@ -200,7 +200,7 @@ impl<J: Drop, S: Drop, D: Drop, G: Drop> Standing<J, S, D, G> {
 }
 
 impl<J: Work<S, D>, S: Drop, D: Drop, G: Gate> Standing<J, S, D, G> {
-    // A round: the jobs are handed out, and a run of each comes back.
+    /// A round: the jobs are handed out, and a run of each comes back.
     fn round<H: Wait>(&mut self, rt: &H, alloc: Global, jobs: Vec<J>) -> Result<Vec<D>, CrewFault>
         requires { AreNumbered J.number_of (map J.start_of jobs.items) }
         ensures each { IfOk result (λ runs. IsEachOnce (map J.start_of jobs.items) (map J.ended_from runs.items)) }
@@ -223,7 +223,7 @@ impl<J: Work<S, D>, S: Drop, D: Drop, G: Gate> Standing<J, S, D, G> {
         answer
     }
 
-    // Hands jobs out, runs the caller's share and what nobody has begun, and hears of each message that went out.
+    /// Hands jobs out, runs the caller's share and what nobody has begun, and hears of each message that went out.
     fn exchange<H: Wait>(&self, rt: &H, alloc: Global, jobs: Vec<J>) -> Result<Vec<D>, CrewFault> {
         let Ok(runs) = Vec::with_capacity(alloc, jobs.len()) else {
             return Err(CrewFault::Memory);
@@ -252,7 +252,7 @@ impl<J: Work<S, D>, S: Drop, D: Drop, G: Gate> Standing<J, S, D, G> {
         }
     }
 
-    // Hands out the jobs by shares, from the last on. The first share stays with the caller.
+    /// Hands out the jobs by shares, from the last on. The first share stays with the caller.
     fn hand_out<H: Wait>(&self, rt: &H, alloc: Global, jobs: Vec<J>) -> HandedOut<J> {
         let share = share_of::<J, S, D>(jobs.as_slice(), self.hands);
         let mut own = jobs;
@@ -277,7 +277,7 @@ impl<J: Work<S, D>, S: Drop, D: Drop, G: Gate> Standing<J, S, D, G> {
         }
     }
 
-    // Hands out some jobs in one message.
+    /// Hands out some jobs in one message.
     fn hand<H: Wait>(&self, rt: &H, alloc: Global, jobs: Vec<J>) -> Result<(), CrewFault> {
         let Some(parcels) = &self.parcels else {
             return Err(CrewFault::Lost);
@@ -294,14 +294,14 @@ impl<J: Work<S, D>, S: Drop, D: Drop, G: Gate> Standing<J, S, D, G> {
         }
     }
 
-    // Runs jobs in the caller's thread.
+    /// Runs jobs in the caller's thread.
     fn run_here(&self, jobs: Vec<J>, gathered: &mut Gathered<D>) {
         if !run_all::<J, S, D, G>(&*self.gate, jobs, &mut gathered.runs) {
             gathered.fault = Some(CrewFault::Memory);
         }
     }
 
-    // Takes back what no worker has begun, and runs it.
+    /// Takes back what no worker has begun, and runs it.
     fn run_waiting<H: Wait>(&self, rt: &H, gathered: &mut Gathered<D>) {
         for _ in rt.forever() {
             let Ok(parcel) = self.waiting.try_recv(rt) else {
@@ -319,7 +319,7 @@ impl<J: Work<S, D>, S: Drop, D: Drop, G: Gate> Standing<J, S, D, G> {
         }
     }
 
-    // Hears of each message of this round that is away. What comes of another round is dropped.
+    /// Hears of each message of this round that is away. What comes of another round is dropped.
     fn hear<H: Wait>(&self, rt: &H, gathered: &mut Gathered<D>) {
         for _ in rt.forever() {
             if gathered.away == 0 {
@@ -374,5 +374,9 @@ impl<J: Work<S, D>, S: Drop, D: Drop, G: Gate, H: Threads + Wait> Crew<J, S, D, 
         ensures { result ≡ self.now.faults }
     {
         self.faults
+    }
+
+    fn is_alone(&self) -> bool {
+        self.hands < 2
     }
 }
