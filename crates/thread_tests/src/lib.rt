@@ -1,5 +1,7 @@
-//! Tests of the crates for workers and for consoles in threads, of what no contract says: plans of levels worked out by hand (`level_plan`), and that
-//! the ends of a console's rings see each other's progress, also in threads of their own (`console_link`; an order is a number here, and so is a reply).
+//! Tests of the crates for workers and for consoles in threads, of what no contract says: plans of levels worked out by hand (`level_plan`); that
+//! the ends of a console's rings see each other's progress, also in threads of their own (`console_link`; an order is a number here, and so is a
+//! reply); that the jobs of a crew are under way at the same time, that what is handed out comes back, and which fault comes when the workers are
+//! gone (`crew`, `standing_crew`; the jobs are toys).
 //!
 //! Each call that may answer that memory was refused is made again then, so the tests pass with ample memory and where one allocation fails.
 #![tactic(auto)]
@@ -15,11 +17,22 @@ macro_rules! again {
     };
 }
 
+mod crews;
+mod gates;
+mod toy;
+
+pub use gates::{Holding, Watch};
+pub use toy::{Done, Job, Start};
+
+#[cfg(test)]
+mod gathered;
 #[cfg(test)]
 mod levels;
 #[cfg(test)]
 mod rings;
 #[cfg(test)]
 mod threads;
+#[cfg(test)]
+mod together;
 #[cfg(test)]
 mod turns;

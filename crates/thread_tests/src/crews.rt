@@ -30,6 +30,10 @@ impl<H: Threads + Wait + Sync> Crew<Job, Start, Done, H> for Scoped<Ungated> {
     {
         0
     }
+
+    fn is_alone(&self) -> bool {
+        false
+    }
 }
 
 impl<H: Threads + Wait + Sync> Crew<Job, Start, Done, H> for Scoped<BoxedGate> {
@@ -50,5 +54,9 @@ impl<H: Threads + Wait + Sync> Crew<Job, Start, Done, H> for Scoped<BoxedGate> {
         ensures { result ≡ 0 }
     {
         0
+    }
+
+    fn is_alone(&self) -> bool {
+        false
     }
 }

@@ -78,7 +78,7 @@ impl Work<Start, Done> for Job {
     }
 }
 
-// The sum of a hundred numbers, modulo 2 ^ 64.
+/// The sum of a hundred numbers, modulo 2 ^ 64.
 fn added(first: u64) -> u64 {
     let mut sum = first;
     for n in 0..100u64 {

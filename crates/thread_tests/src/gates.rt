@@ -5,7 +5,7 @@ use std::sync::Arc;
 use std::sync::atomic::{AtomicU64, Ordering};
 use std::thread;
 
-// For so many turns a job is held at most.
+/// For so many turns a job is held at most.
 const TURNS: u32 = 2_000_000;
 
 /// How many jobs have passed that others wait for, and how many were held until the limit.

@@ -11,7 +11,7 @@ use std::sync::{Arc, Wait};
 use std::test::Fail;
 use std::thread::Threads;
 
-// The numbers and sums of the runs that a crew gives of jobs, in the order of the numbers.
+/// The numbers and sums of the runs that a crew gives of jobs, in the order of the numbers.
 fn told<H, C: Crew<Job, Start, Done, H>>(
     rt: &H,
     alloc: Global,
@@ -32,6 +32,7 @@ fn told<H, C: Crew<Job, Start, Done, H>>(
     Ok(told)
 }
 
+/// So many workers that stand ready.
 fn new_standing<H: Threads + Wait + Clone + Send + Drop + 'static>(
     rt: &H,
     alloc: Global,
@@ -48,7 +49,7 @@ fn new_standing<H: Threads + Wait + Clone + Send + Drop + 'static>(
     }
 }
 
-// Whether so many workers, of one call or standing, give what the caller alone gives of so many jobs.
+/// Whether so many workers, of one call or standing, give what the caller alone gives of so many jobs.
 fn give_the_same<H: Threads + Wait + Clone + Send + Sync + Drop + 'static>(
     rt: &H,
     alloc: Global,
@@ -70,7 +71,7 @@ fn give_the_same<H: Threads + Wait + Clone + Send + Sync + Drop + 'static>(
     Ok(whole && first.as_slice() == want.as_slice() && second.as_slice() == want.as_slice())
 }
 
-// No job, one and many, by one, two and eight workers of each kind.
+/// No job, one and many, by one, two and eight workers of each kind.
 #[test]
 fn all_crews_give_the_same(rt: HostRuntime) -> Result<(), Fail> {
     let alloc = rt.alloc();
@@ -82,7 +83,7 @@ fn all_crews_give_the_same(rt: HostRuntime) -> Result<(), Fail> {
     Ok(())
 }
 
-// What comes of runs of these jobs, where jobs 1 and 2 were handed out.
+/// What comes of runs of these jobs, where jobs 1 and 2 were handed out.
 fn assembled(alloc: Global, numbers: &[u32]) -> Result<Result<usize, CrewFault>, AllocError> {
     let jobs = jobs_to(alloc, 2)?;
     let mut got = Vec::new(alloc);
@@ -107,11 +108,12 @@ fn runs_are_held_against_jobs(rt: HostRuntime) -> Result<(), Fail> {
     Ok(())
 }
 
+/// How many faults a crew tells.
 fn faults_of<H, C: Crew<Job, Start, Done, H>>(_rt: &H, crew: &C) -> u64 {
     crew.faults()
 }
 
-// Once its workers are retired a crew answers that it is lost, and counts it.
+/// Once its workers are retired a crew answers that it is lost, and counts it.
 #[test]
 fn retired_workers_are_a_fault(rt: HostRuntime) -> Result<(), Fail> {
     let alloc = rt.alloc();

@@ -9,6 +9,7 @@ use std::sync::{Arc, Wait};
 use std::test::Fail;
 use std::thread::Threads;
 
+/// A watch that gates share.
 fn new_watch(alloc: Global) -> Result<Arc<Watch>, AllocError> {
     match Arc::new(alloc, Watch::new()) {
         Ok(watch) => Ok(watch),
@@ -16,7 +17,7 @@ fn new_watch(alloc: Global) -> Result<Arc<Watch>, AllocError> {
     }
 }
 
-// Two workers of one call, the first job held until the second has passed.
+/// Two workers of one call, the first job held until the second has passed.
 #[test]
 fn scoped_workers_run_at_once(rt: HostRuntime) -> Result<(), Fail> {
     let alloc = rt.alloc();
@@ -32,7 +33,7 @@ fn scoped_workers_run_at_once(rt: HostRuntime) -> Result<(), Fail> {
     Ok(())
 }
 
-// Whether two standing workers run two jobs at once, of which one is held until the other has passed, round after round.
+/// Whether two standing workers run two jobs at once, of which one is held until the other has passed, round after round.
 fn stand_together<H: Threads + Wait + Clone + Send + Drop + 'static>(
     rt: &H,
     alloc: Global,
