@@ -5,13 +5,15 @@ use Rattle.std.proofs.lemmas.Bool.{cases_lt}
 use Rattle.std.proofs.lemmas.List.Elements.{Contains-append_left, Contains-append_right, Contains-append_cases}
 use Rattle.std.proofs.lemmas.Option.{slice_get-get_or, slice_get_within, get_or_from_slice_get, same_Some}
 use Rattle.std.proofs.lemmas.List.{length-replicate}
+use Rattle.crew.specs.Runs.{AreNumbered, IsDistinct}
 use Rattle.plant_cells.specs.Cells.{PlainCells}
 use Rattle.code_slices.specs.Parts.{PlainPart}
 use Rattle.code_slices.proofs.Places.{split_last}
 use Rattle.slice_store.specs.Starts.{Begun}
-use Rattle.slice_store.specs.Level.{Stored, IsDistinct, AreJobsOf, IsReady}
+use Rattle.slice_store.specs.Level.{Stored, AreJobsOf, IsReady}
 use Rattle.slice_store.specs.Splits.{CanSplit, IsChosen, IsJobBefore, AreJobsBefore, begun}
 use Rattle.slice_store.proofs.Taking.{one}
+use Rattle.slice_store.proofs.Ticks.{read_any}
 
 at_of : (xs : List Begun) (i : ℕ) (x : Begun) → i < length xs → slice_index_or xs i x ≡ x → slice_get xs i ≡ Some x
 at_of xs i x lt e = slice_get-get_or xs i x lt ∙ ap Some e
@@ -104,6 +106,19 @@ module _ (parts : List PlainPart) (levels : List ℕ) (level : ℕ) (store : Sto
       clocks_apart = λ s t a b k w v. same_job s t a b (
           let x = h.each s a in let y = h.each t b in can.clocks_apart x.program y.program s.part t.part k x.part_is y.part_is w v);
     }
+
+-- no two jobs have one number
+pub jobs_numbered : (cells : PlainCells) (programs moment : ℕ) (jobs : List Begun) → AreJobsOf cells programs moment jobs → AreNumbered (λ (s : Begun). s.number) jobs
+jobs_numbered cells programs moment jobs h i j d lt inside e =
+    let s : Begun = slice_index_or jobs i d in
+    let t : Begun = slice_index_or jobs j d in
+    let before : i < length jobs = omega (arith, lt, inside) in
+    let at : slice_index_or jobs i s ≡ s = read_any jobs i s d before in
+    let there : slice_index_or jobs j t ≡ t = read_any jobs j t d inside in
+    let same : t ≡ s = h.one_program t s (j, inside, there) (i, before, at) (sym e) in
+    let P : Begun → Type 0 = λ u. slice_index_or jobs j u ≡ u in
+    let again : i ≡ j = h.distinct i j s before inside at (subst P same there) in
+    omega (arith, lt, again)
 
 none_ticked : (n i : ℕ) → slice_index_or (replicate n false) i false ≡ false
 none_ticked zero i = refl

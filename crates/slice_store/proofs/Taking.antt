@@ -5,13 +5,14 @@ use Rattle.std.specs.Result.{is_err}
 use Rattle.std.proofs.lemmas.List.{length-set}
 use Rattle.std.proofs.lemmas.List.Elements.{Contains-append_left, Contains-append_right, Contains-append_cases}
 use Rattle.std.proofs.lemmas.Option.{slice_get-get_or}
+use Rattle.crew.specs.Runs.{IsEachOnce}
 use Rattle.plant_cells.specs.declared.stop.Stop.{Stop}
 use Rattle.plant_cells.specs.declared.clock.Clock.{Clock}
 use Rattle.plant_cells.specs.Cells.{PlainCells}
 use Rattle.code_slices.specs.Parts.{PlainPart, IsPart, HasPart, loaded}
 use Rattle.code_slices.specs.Puts.{AreApartIn}
 use Rattle.slice_store.specs.Starts.{Begun, Gives}
-use Rattle.slice_store.specs.Level.{PutsPart, WritesSlot, HasClock, HasTaken, Takes, TakesRuns, AreJobsOf, IsEachOnce, IsReady, trapped}
+use Rattle.slice_store.specs.Level.{PutsPart, WritesSlot, HasClock, HasTaken, Takes, TakesRuns, AreJobsOf, IsReady, trapped}
 
 -- the first items of a list
 pub front : {A : Type 0} (n : ℕ) (xs : List A) (i : ℕ) (x : A) → i < n → slice_get xs i ≡ Some x → slice_get (take n xs) i ≡ Some x
@@ -168,15 +169,6 @@ pub has_still : (part : PlainPart) (old new : PlainCells) → length new.values 
 has_still part old new values clocks has = record {
   slots = λ i s at. let within = has.slots i s at in omega arith;
   clocks = λ i k at. let within = has.clocks i k at in omega arith;
-}
-
--- where no job is out a store is ready, whatever it holds
-pub ready_still : (cells : PlainCells) (faulted : List Bool) (moment : ℕ) (out : List Begun) (ticks : List Bool) (next : PlainCells) (flags : List Bool) (later : ℕ) → IsReady cells faulted moment out ticks → out ≡ []
-    → IsReady next flags later out ticks
-ready_still cells faulted moment out ticks next flags later h none = record {
-  jobs = subst (AreJobsOf next (length flags) later) (sym none) (ready_empty next flags later).jobs;
-  sized = h.sized;
-  clear = h.clear;
 }
 
 -- a part that cells have, by other names of it and of their lists

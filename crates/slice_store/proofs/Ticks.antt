@@ -1,7 +1,8 @@
 -- What an empty tick means.
 use Rattle.std.proofs.Common.{◌≡◌, ℕ, ◌<◌, List, [], ◌∷◌, length, slice_index_or, Contains, Bool, true, false, refl, arith, zero, suc}
+use Rattle.crew.specs.Runs.{IsDistinct}
 use Rattle.slice_store.specs.Starts.{Begun}
-use Rattle.slice_store.specs.Level.{IsTicked, HasStranger, HasDouble, LacksOne, IsDistinct}
+use Rattle.slice_store.specs.Level.{IsTicked, HasStranger, HasDouble, LacksOne}
 
 nobody : Begun
 nobody = record {

@@ -1,5 +1,6 @@
 -- What a gathered level is.
 use Rattle.std.specs.Prelude.{◌≡◌, ℕ, suc, ◌<◌, ◌≤◌, List, length, take, slice_index_or, slice_get, Contains, Bool, true, false, Some, Result, Ok, Err}
+use Rattle.crew.specs.Runs.{IsDistinct}
 use Rattle.plant_cells.specs.declared.stop.Stop.{Stop}
 use Rattle.plant_cells.specs.Cells.{PlainCells}
 use Rattle.acc_vm.specs.Codes.{SameShape}
@@ -65,10 +66,6 @@ pub record TakesRuns (old : PlainCells) (old_faulted : List Bool) (runs : List B
   pub clocks : (k : ℕ) → ((s : Begun) → Contains runs s → HasClock s.part k → ⊥) → slice_get new.clocks k ≡ slice_get old.clocks k
   pub others : (p : ℕ) → ((s : Begun) → Contains runs s → s.number ≡ suc p → ⊥) → slice_get faulted p ≡ slice_get old_faulted p
 
--- no two places hold the same
-abbrev pub IsDistinct : {X : Type 0} → List X → Type 0
-IsDistinct {X} xs = (i j : ℕ) (x : X) → i < length xs → j < length xs → slice_index_or xs i x ≡ x → slice_index_or xs j x ≡ x → i ≡ j
-
 -- jobs begin from cells, at a moment: no two are of one program, none writes a slot that another names, and no two name one clock
 pub record AreJobsOf (cells : PlainCells) (programs moment : ℕ) (jobs : List Begun) : Type 0 where
   pub distinct : IsDistinct jobs
@@ -88,12 +85,6 @@ HasDouble runs = (s : Begun) × (i : ℕ) × (j : ℕ) × (i < j) × (j < length
 
 abbrev pub LacksOne : List Begun → List Begun → Type 0
 LacksOne out runs = (s : Begun) × Contains out s × (Contains runs s → ⊥)
-
--- one run for each start that is out, in any order
-pub record IsEachOnce (out runs : List Begun) : Type 0 where
-  pub no_stranger : (s : Begun) → Contains runs s → Contains out s
-  pub no_double : IsDistinct runs
-  pub none_lacking : (s : Begun) → Contains out s → Contains runs s
 
 -- a start is ticked where a run of it has come, and no run has come twice
 pub record IsTicked (out : List Begun) (ticks : List Bool) (runs : List Begun) : Type 0 where

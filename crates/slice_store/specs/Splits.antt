@@ -1,11 +1,12 @@
 -- How a level is split into jobs.
 use Rattle.std.specs.Prelude.{◌≡◌, ◌<◌, ◌≤◌, ◌^◌, ℕ, suc, List, length, Contains, Bool, false, Some, slice_get, slice_index, slice_index_or}
+use Rattle.crew.specs.Runs.{IsDistinct}
 use Rattle.plant_cells.specs.Cells.{PlainCells}
 use Rattle.acc_vm.specs.Codes.{PlainCode, IsSound}
 use Rattle.code_slices.specs.Slots.{Names, Writes, NamesClock}
 use Rattle.code_slices.specs.Parts.{PlainPart, IsPartOf, HasPart, loaded}
 use Rattle.slice_store.specs.Starts.{Begun}
-use Rattle.slice_store.specs.Level.{Stored, WritesSlot, NamesSlot, HasClock, IsDistinct}
+use Rattle.slice_store.specs.Level.{Stored, WritesSlot, NamesSlot, HasClock}
 
 -- a level of programs can be split: each program has a level and a flag, and the cells have its part; in the level none writes a slot that another names, and no two programs name one clock
 pub record CanSplit (parts : List PlainPart) (levels : List ℕ) (level : ℕ) (cells : PlainCells) (flags : ℕ) : Type 0 where

@@ -1,5 +1,5 @@
 -- Where jobs start, and what their code gives from there.
-use Rattle.std.specs.Prelude.{◌≡◌, ℕ, List, length, Result}
+use Rattle.std.specs.Prelude.{◌≡◌, ◌<◌, ℕ, List, length, Result, IfErr}
 use Rattle.plant_cells.specs.declared.stop.Stop.{Stop}
 use Rattle.plant_cells.specs.Cells.{PlainCells}
 use Rattle.plant_cells.specs.Runs.{Path, ended}
@@ -20,7 +20,8 @@ pub record CanRun (s : Begun) : Type 0 where
   pub values : length s.cells.values ≡ length s.part.slots
   pub clocks : length s.cells.clocks ≡ length s.part.clocks
 
--- from a start the code gives a result, and leaves cells
+-- from a start the code gives a result, and leaves cells; the path of a trap is one of the code's
 pub record Gives (s : Begun) (result : Result (Unit {0}) Stop) (after : PlainCells) : Type 0 where
   pub ran : (names : List Path) → (left : ℕ) × (run_of s.moment names s.part.code s.cells ≡ Over (ended names result after) left)
   pub shape : SameShape after s.cells
+  pub path : IfErr result (λ stop. stop.place.path < s.part.code.paths)

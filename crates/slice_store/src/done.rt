@@ -1,6 +1,6 @@
 //! Jobs, and their runs that ended.
 
-ghost use Rattle.std.specs.Prelude.{◌≡◌, ◌+◌, ◌*◌, ◌-◌, ◌<◌, ◌≤◌, List, length};
+ghost use Rattle.std.specs.Prelude.{◌≡◌, ◌+◌, ◌*◌, ◌-◌, ◌<◌, ◌≤◌, List, length, IfErr};
 ghost use Rattle.std.specs.Arc.{arc_value};
 ghost use Rattle.plant_cells.specs.Runs.{Path, ended};
 ghost use Rattle.acc_vm.specs.Machine.{Over};
@@ -13,6 +13,7 @@ ghost use Rattle.slice_store.specs.Level.{PutsPart, Takes};
 use crate::start::Start;
 use acc_vm::{Code, Own, Shared};
 use code_slices::{Part, put_clocks, put_values};
+use crew::Work;
 use plant_cells::{Cells, Clock, Stop};
 use std::marker::Model;
 use std::sync::Arc;
@@ -68,6 +69,7 @@ fn run_in(
     requires clocks { code.now.clocks ≤ length cells.old.clocks }
     requires room { code.now.stack ≤ length stack.old }
     ensures ran { (names : List Path) → run_of moment names code.now cells.old ≡ Over (ended names result.0 cells.new) (4 * code.now.cost + 4 - result.1) }
+    ensures path { IfErr result.0 (λ stop. stop.place.path < code.now.paths) }
     ensures shape { SameShape cells.new cells.old }
 {
     let mut own = Own { cells, stack };
@@ -109,25 +111,30 @@ impl Job {
             stack,
         }
     }
+}
 
-    /// Where the job starts.
-    pub fn start(&self) -> &Arc<Start>
-        ensures { arc_value result.now ≡ self.now }
-    {
-        &self.start
-    }
+/// A job is its start, and so is a run of it.
+impl Work<Start, Done> for Job {
+    ghost start_of = { λ job. job };
 
-    /// The job's number: 1 more than its program's.
-    pub fn number(&self) -> u32
-        ensures { result ≡ self.now.number }
-    {
+    ghost ended_from = { λ done. done };
+
+    ghost number_of = { λ start. start.number };
+
+    fn number(&self) -> u32 {
         self.start.number()
     }
 
+    fn cost(&self) -> u64 {
+        self.start.part().code().cost()
+    }
+
+    fn start(&self) -> &Arc<Start> {
+        &self.start
+    }
+
     /// Runs the job. It allocates nothing.
-    pub fn run(self) -> Done
-        ensures { result ≡ self }
-    {
+    fn run(self) -> Done {
         let Job {
             start,
             mut cells,
@@ -140,6 +147,10 @@ impl Job {
             cells,
             result,
         }
+    }
+
+    fn is_run_of(ended: &Done, start: &Start) -> bool {
+        ended.start.same(start)
     }
 }
 

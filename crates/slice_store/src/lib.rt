@@ -1,9 +1,11 @@
 //! The store of a plant's cells, and the jobs that the programs of a level are run by.
 //!
-//! A job begins from a program's part of the cells as they are, and holds them by itself, so jobs may run anywhere and in any order. What they
-//! give is gathered: each run is compared with the starts that are out, and what its program wrote goes into the store (`specs/Level.antt`).
+//! A job begins from a program's part of the cells as they are, and holds them by itself, so any crew may run it, in any order. What jobs give
+//! is gathered: what each run's program wrote goes into the store (`specs/Level.antt`). Runs of which a crew doesn't promise that they are one
+//! of each job are compared with the starts that are out.
 #![tactic(auto)]
 
+mod crews;
 mod done;
 mod laws;
 mod matching;

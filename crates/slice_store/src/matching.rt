@@ -2,8 +2,9 @@
 
 ghost use Rattle.std.specs.Prelude.{◌≡◌, ℕ, ◌<◌, length, slice_index_or, Contains, MatchOption, MatchResult, IsTrue, IsFalse, ◌↔◌, true, false};
 ghost use Rattle.std.specs.Arc.{arc_value};
+ghost use Rattle.crew.specs.Runs.{IsEachOnce, IsDistinct};
 ghost use Rattle.slice_store.specs.Starts.{Begun};
-ghost use Rattle.slice_store.specs.Level.{IsEachOnce, IsDistinct, HasStranger, HasDouble, IsTicked};
+ghost use Rattle.slice_store.specs.Level.{HasStranger, HasDouble, IsTicked};
 ghost use Rattle.slice_store.specs.Fits.{IsMisfit};
 
 use crate::done::Done;

@@ -1,9 +1,9 @@
 //! The store that jobs are split from and gathered into.
 
-ghost use Rattle.std.specs.Prelude.{◌≡◌, ◌+◌, ◌<◌, ◌^◌, ℕ, [], length, map, replicate, false, slice_index, slice_index_or, slice_set, IsTrue, OnOk, IfOk, IfErr};
+ghost use Rattle.std.specs.Prelude.{◌≡◌, ◌+◌, ◌<◌, ◌^◌, ℕ, [], length, map, replicate, false, slice_index, slice_index_or, IsTrue, OnOk, IfOk, IfErr};
 ghost use Rattle.std.specs.Arc.{arc_value};
-ghost use Rattle.slice_store.specs.Level.{TakesRuns, IsEachOnce, AreJobsOf};
-ghost use Rattle.plant_cells.specs.Cells.{assigned};
+ghost use Rattle.slice_store.specs.Level.{TakesRuns, AreJobsOf};
+ghost use Rattle.crew.specs.Runs.{AreNumbered, IsEachOnce};
 ghost use Rattle.code_slices.specs.Parts.{HasPart};
 ghost use Rattle.slice_store.specs.Splits.{CanSplit, AreJobsBefore, SameStore, begun};
 ghost use Rattle.slice_store.specs.Fits.{IsMisfit};
@@ -13,6 +13,7 @@ use crate::matching::{Out, match_up};
 use crate::misfit::Misfit;
 use crate::start::Start;
 use code_slices::Part;
+use crew::Work;
 use level_plan::Levels;
 use plant_cells::{Cells, Clock};
 use std::alloc::{AllocError, Global};
@@ -93,21 +94,45 @@ fn no_ticks(alloc: Global, many: usize) -> Result<Vec<bool>, AllocError>
 }
 
 impl Store {
-    /// A store of the values and clocks of all programs, none of which is faulted. Fails if memory was refused.
-    pub fn new(alloc: Global, cells: &Cells, programs: usize) -> Result<Store, AllocError>
-        ensures { IfOk result (λ store. store ≡ record { cells = cells.now; faulted = replicate programs false; moment = 0; out = [] }) }
+    /// A store that holds a copy of the values and clocks of all programs, and of which programs are faulted, at a moment in milliseconds. No job
+    /// is out. Fails if memory was refused.
+    pub fn new(
+        alloc: Global,
+        cells: &Cells,
+        faulted: &[bool],
+        moment: u64,
+    ) -> Result<Store, AllocError>
+        ensures { IfOk result (λ store. store ≡ record { cells = cells.now; faulted = faulted.now; moment = moment; out = [] }) }
     {
         let values = Vec::from_slice(alloc, cells.as_slice())?;
         let clocks = Vec::from_slice(alloc, cells.clocks())?;
-        let faulted = vec![in alloc; false; programs]?;
+        let faulted = Vec::from_slice(alloc, faulted)?;
         Ok(Store {
             values,
             clocks,
             faulted,
-            moment: 0,
+            moment,
             out: Vec::new(alloc),
             ticks: Vec::new(alloc),
         })
+    }
+
+    /// The values and clocks of all programs, and which programs are faulted. It copies nothing.
+    pub fn into_parts(self) -> (Cells, Vec<bool>)
+        ensures cells { result.0 ≡ self.cells }
+        ensures faulted { result.1.items ≡ self.faulted }
+    {
+        let Store {
+            values,
+            clocks,
+            faulted,
+            moment: _,
+            out,
+            ticks,
+        } = self;
+        drop(out);
+        drop(ticks);
+        (Cells::new(values, clocks), faulted)
     }
 
     /// The values of all programs.
@@ -137,32 +162,6 @@ impl Store {
         ensures { result ≡ self.now.moment }
     {
         self.moment
-    }
-
-    /// Sets the moment of the scan, in milliseconds. All jobs that were out have been gathered.
-    pub fn set_moment(&mut self, moment: u64)
-        requires { self.old.out ≡ [] }
-        ensures { self.new ≡ record { cells = self.old.cells; faulted = self.old.faulted; moment = moment; out = [] } }
-    {
-        self.moment = moment;
-    }
-
-    /// Sets the value of a slot. All jobs that were out have been gathered.
-    pub fn set_value(&mut self, slot: usize, value: i64)
-        requires there { slot < length self.old.cells.values }
-        requires gathered { self.old.out ≡ [] }
-        ensures { self.new ≡ record { cells = assigned self.old.cells slot value; faulted = self.old.faulted; moment = self.old.moment; out = [] } }
-    {
-        self.values[slot] = value;
-    }
-
-    /// A faulted program runs again from the next level that is split on. All jobs that were out have been gathered.
-    pub fn restart(&mut self, program: usize)
-        requires there { program < length self.old.faulted }
-        requires gathered { self.old.out ≡ [] }
-        ensures { self.new ≡ record { cells = self.old.cells; faulted = slice_set self.old.faulted program false; moment = self.old.moment; out = [] } }
-    {
-        self.faulted[program] = false;
     }
 
     /// Whether a program is in a level and isn't faulted.
@@ -226,6 +225,7 @@ impl Store {
         requires gathered { self.old.out ≡ [] }
         requires programs { CanSplit (map arc_value parts.now) levels.now level self.old.cells (length self.old.faulted) }
         ensures jobs { IfOk result (λ jobs. AreJobsBefore (map arc_value parts.now) levels.now level self.old (length parts.now) jobs.items) }
+        ensures numbered { IfOk result (λ jobs. AreNumbered (λ s. s.number) jobs.items) }
         ensures out { IfOk result (λ jobs. self.new.out ≡ jobs.items) }
         ensures refused { IfErr result (λ e. self.new.out ≡ []) }
         ensures same { SameStore self.new self.old }
@@ -236,6 +236,23 @@ impl Store {
         self.out = out;
         self.ticks = ticks;
         Ok(jobs)
+    }
+
+    /// Takes in runs of which the caller knows that they are one for each job that is out, in any order. It compares none, and allocates nothing.
+    pub fn take_in(&mut self, runs: Vec<Done>)
+        requires { IsEachOnce self.old.out runs.items }
+        ensures taken { TakesRuns self.old.cells self.old.faulted runs.items self.new.cells self.new.faulted }
+        ensures gathered { self.new.out ≡ [] }
+        ensures moment { self.new.moment ≡ self.old.moment }
+    {
+        take_all(
+            self.values.as_mut_slice(),
+            self.clocks.as_mut_slice(),
+            self.faulted.as_mut_slice(),
+            &runs,
+        );
+        self.out.clear();
+        self.ticks.clear();
     }
 
     /// Takes in one run for each job that is out, in any order. After a misfit the store isn't used again. It allocates nothing.

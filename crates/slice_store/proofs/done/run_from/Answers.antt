@@ -1,4 +1,5 @@
-use Rattle.std.proofs.Common.{◌≡◌, length, ap, sym, ◌∙◌, arith}
+use Rattle.std.proofs.Common.{◌≡◌, ◌<◌, length, ap, sym, ◌∙◌, subst, arith}
+use Rattle.std.specs.Prelude.{IfErr}
 use Rattle.plant_cells.specs.Cells.{PlainCells}
 use Rattle.acc_vm.specs.Codes.{PlainCode, run_of}
 use Rattle.code_slices.specs.Parts.{PlainPart}
@@ -33,4 +34,5 @@ returns c =
     record {
       ran = λ names. (_, (λ i. run_of (sym c.moment.ensures i) names (sym same i) (sym c.requires.cells i)) ∙ c.run_in-result.ensures.ran names);
       shape = record { values = shape.values ∙ ap (λ (x : PlainCells). length x.values) c.requires.cells; clocks = shape.clocks ∙ ap (λ (x : PlainCells). length x.clocks) c.requires.cells };
+      path = subst (λ (x : PlainCode). IfErr c.run_in-result.result.0 (λ stop. stop.place.path < x.paths)) same c.run_in-result.ensures.path;
     }

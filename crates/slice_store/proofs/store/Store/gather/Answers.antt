@@ -1,6 +1,6 @@
 use Rattle.std.proofs.Common.{◌≡◌, Result, Ok, Err, MatchResult, IfErr, sym, true}
 use Rattle.std.specs.Result.{is_ok}
-use Rattle.slice_store.specs.Level.{IsEachOnce}
+use Rattle.crew.specs.Runs.{IsEachOnce}
 use Rattle.slice_store.proofs.Taking.{jobs_of_runs, ready_empty}
 use Rattle.slice_store.proofs.store.Store.gather.Goals as goal
 
