@@ -1,3 +1,4 @@
 pub mod Accesses
+pub mod Owners
 pub mod Plans
 pub mod Programs
