@@ -4,3 +4,5 @@ pub mod Turns
 pub mod Telling
 pub mod Again
 pub mod Planned
+pub mod Paths
+pub mod Sorting

@@ -1,12 +1,14 @@
 -- The faults of one run more.
-use Rattle.std.proofs.Common.{◌≡◌, ℕ, zero, suc, ◌<◌, ◌-◌, List, [], ◌∷◌, ◌++◌, Option, Some, None, Result, Ok, Err, refl, sym, ap, ◌∙◌, arith}
+use Rattle.std.proofs.Common.{◌≡◌, ℕ, zero, suc, ◌<◌, ◌-◌, List, [], ◌∷◌, ◌++◌, Option, Some, None, Result, Ok, Err, refl, sym, ap, ◌∙◌, subst, arith}
+use Rattle.std.specs.Prelude.{All}
+use Rattle.std.proofs.lemmas.List.Elements.{All-nil, All-push, All-weaker, Contains-append_left, Contains-push}
 use Rattle.plant_cells.specs.declared.stop.Stop.{Stop}
 use Rattle.plant_cells.specs.Cells.{PlainCells}
 use Rattle.plant_cells.specs.Runs.{Path}
 use Rattle.level_order.specs.Programs.{with_fault}
 use Rattle.slice_store.specs.Starts.{Begun, Gives}
 use Rattle.level_jobs.specs.Faults.{before, program_of, trap_told, AreResultsOf, faults_told}
-use Rattle.level_jobs.specs.Spotted.{Tell, spotted, spotted_fault}
+use Rattle.level_jobs.specs.Spotted.{IsOfRun, Tell, spotted, spotted_fault}
 use Rattle.level_jobs.specs.declared.fault.ProgramFault.{ProgramFault}
 
 results_more : (runs : List Begun) (results : List (Result (Unit {0}) Stop)) (s : Begun) (result : Result (Unit {0}) Stop) (after : PlainCells)
@@ -37,13 +39,23 @@ append_none : {X : Type 0} (xs : List X) → xs ++ [] ≡ xs
 append_none [] = refl
 append_none (x ∷ xs) = ap (λ rest. x ∷ rest) (append_none xs)
 
+-- faults of some runs are faults of one run more
+of_more : (runs : List Begun) (s : Begun) (faults : List ProgramFault) → All (IsOfRun runs) faults → All (IsOfRun (runs ++ s ∷ [])) faults
+of_more runs s faults = All-weaker (IsOfRun runs) (IsOfRun (runs ++ s ∷ [])) (λ fault is. record {
+  run = is.run;
+  there = Contains-append_left runs (s ∷ []) is.run is.there;
+  program = is.program;
+  path = is.path;
+}) faults
+
 pub tell_none : Tell [] []
-tell_none = record { results = []; ended = tt; told = λ paths. refl }
+tell_none = record { results = []; ended = tt; told = λ paths. refl; of_runs = All-nil (IsOfRun []) }
 
 pub tell_end : (runs : List Begun) (faults : List ProgramFault) (s : Begun) (done : Unit {0}) (after : PlainCells) → Tell runs faults → Gives s (Ok done) after → Tell (runs ++ s ∷ []) faults
 tell_end runs faults s done after tell gives = record {
   results = tell.results ++ Ok done ∷ [];
   ended = results_more runs tell.results s (Ok done) after tell.ended gives;
+  of_runs = of_more runs s faults tell.of_runs;
   told = λ paths. tell.told paths ∙ sym (append_none (faults_told paths runs tell.results)) ∙ sym (told_more paths runs tell.results s (Ok done) tell.ended);
 }
 
@@ -52,6 +64,12 @@ pub tell_stop : (runs : List Begun) (faults : List ProgramFault) (s : Begun) (st
 tell_stop runs faults s stop after fault tell gives is = record {
   results = tell.results ++ Err stop ∷ [];
   ended = results_more runs tell.results s (Err stop) after tell.ended gives;
+  of_runs = All-push (IsOfRun (runs ++ s ∷ [])) faults fault (of_more runs s faults tell.of_runs) (record {
+    run = s;
+    there = Contains-push runs s;
+    program = ap (λ (f : ProgramFault). f.program) is;
+    path = subst (λ (f : ProgramFault). f.stop.place.path < s.part.code.paths) (sym is) gives.path;
+  });
   told = λ paths.
       spotted_append paths faults (fault ∷ [])
       ∙ (λ i. tell.told paths i ++ spotted_fault paths (is i) ∷ [])

@@ -1,17 +1,23 @@
 -- Levels that are split into jobs, run and gathered.
-use Rattle.std.specs.Prelude.{◌≡◌, ◌≤◌, ℕ, suc, List, [], ◌++◌, length, Some, slice_get, Result}
+use Rattle.std.specs.Prelude.{◌≡◌, ◌≤◌, ℕ, suc, List, [], ◌++◌, length, Some, slice_get, IsPermutation, Result}
+use Rattle.std.specs.List.Sorted.{IsNonDecreasingBy}
 use Rattle.plant_types.specs.declared.values.Trap.{Trap}
 use Rattle.st_tree.specs.Meaning.{Spot}
+use Rattle.crew.specs.Runs.{IsEachOnce}
 use Rattle.plant_cells.specs.declared.stop.Stop.{Stop}
 use Rattle.plant_cells.specs.Cells.{PlainCells}
 use Rattle.plant_cells.specs.Runs.{Path}
 use Rattle.acc_vm.specs.Codes.{PlainCode, IsSound}
 use Rattle.code_slices.specs.Parts.{PlainPart}
 use Rattle.level_order.specs.Levels.{Midway}
+use Rattle.level_order.specs.Programs.{Outcome}
+use Rattle.level_plan.specs.Plans.{last_of}
 use Rattle.slice_store.specs.Starts.{Begun}
-use Rattle.slice_store.specs.Level.{Stored, IsEachOnce, TakesRuns}
+use Rattle.slice_store.specs.Level.{Stored, TakesRuns}
 use Rattle.slice_store.specs.Splits.{CanSplit, AreJobsBefore}
 use Rattle.level_jobs.specs.Faults.{AreResultsOf, faults_told}
+use Rattle.level_jobs.specs.Spotted.{spotted}
+use Rattle.level_jobs.specs.declared.fault.ProgramFault.{ProgramFault}
 
 -- how things stand between two levels by a store: the cells and the flags
 abbrev pub midway : Stored → Midway PlainCells
@@ -35,6 +41,19 @@ pub data GathersLevels (paths : ℕ → List Path) (parts : List PlainPart) (lev
   no_level : GathersLevels paths parts levels start 0 start []
   next_level : {k : ℕ} {old new : Stored} {faults here : List (ℕ × (Spot × Trap))} → GathersLevels paths parts levels start k old faults → GathersLevel paths parts levels (suc k) old new here
       → GathersLevels paths parts levels start (suc k) new (faults ++ here)
+
+-- all levels were gathered in turn, and faults are those that they told, by rising numbers of their programs
+pub record GathersAll (parts : List PlainPart) (levels : List ℕ) (start end : Stored) (faults : List ProgramFault) : Type 0 where
+  pub told : List ProgramFault
+  pub gathers : (paths : ℕ → List Path) → GathersLevels paths parts levels start (last_of levels) end (spotted paths told)
+  pub same : IsPermutation told faults
+  pub rising : IsNonDecreasingBy (λ (fault : ProgramFault). fault.program) faults
+
+-- the cells and the flags of a store, and faults, are those of program order
+pub record EndsInOrder (order : Outcome PlainCells (Spot × Trap)) (end : Stored) (told : List (ℕ × (Spot × Trap))) : Type 0 where
+  pub cells : end.cells ≡ order.store
+  pub faulted : end.faulted ≡ order.faulted
+  pub faults : told ≡ order.faults
 
 -- codes are sound, and cells have what each may name
 pub record FitCells (codes : List PlainCode) (cells : PlainCells) : Type 0 where

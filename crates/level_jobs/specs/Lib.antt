@@ -1,3 +1,3 @@
 pub mod Faults
-pub mod Gathers
 pub mod Spotted
+pub mod Gathers

@@ -3,7 +3,7 @@
 //! A level is split from the store into the jobs of its programs, each job runs by itself, and the runs are gathered in any order
 //! (`specs/Gathers.antt`). The faults are those that the runs tell (`specs/Faults.antt`).
 //!
-//! `run_levels` runs all levels so on the caller's thread. The laws are for those who run the jobs in any other way.
+//! `run_levels` runs all levels so, the jobs of each by a crew. The laws are for those who run the jobs in any other way.
 #![tactic(auto)]
 
 mod fault;

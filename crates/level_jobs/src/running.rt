@@ -1,36 +1,43 @@
-//! Levels one after another, the jobs of each in their order.
+//! Levels one after another, the jobs of each by a crew.
 
-ghost use Rattle.std.specs.Prelude.{◌≡◌, ◌<◌, ℕ, [], List, length, map, Contains, IfOk, OnOk};
+ghost use Rattle.std.specs.Prelude.{◌≡◌, ◌<◌, ℕ, [], All, List, length, map, Contains, IsPermutation, IfOk, OnOk};
+ghost use Rattle.std.specs.List.Sorted.{IsNonDecreasingBy};
 ghost use Rattle.std.specs.Arc.{arc_value};
+ghost use Rattle.crew.specs.Faults.{faults_after};
+ghost use Rattle.crew.specs.Runs.{AreNumbered, IsEachOnce};
 ghost use Rattle.plant_cells.specs.Runs.{Path};
 ghost use Rattle.acc_vm.specs.Codes.{PlainCode};
 ghost use Rattle.level_order.specs.Programs.{in_order};
-ghost use Rattle.level_order.specs.Levels.{IsAsInOrder};
 ghost use Rattle.level_plan.specs.Plans.{last_of};
 ghost use Rattle.level_runs.specs.Accesses.{HaveOwnCells};
 ghost use Rattle.level_runs.specs.Plans.{IsPlanOf};
 ghost use Rattle.level_runs.specs.Programs.{programs_at};
 ghost use Rattle.slice_store.specs.Starts.{Begun};
 ghost use Rattle.slice_store.specs.Splits.{ArePartsOf, CanSplit};
-ghost use Rattle.level_jobs.specs.Gathers.{GathersLevel, GathersLevels, midway};
-ghost use Rattle.level_jobs.specs.Spotted.{Tell, spotted};
+ghost use Rattle.level_jobs.specs.Gathers.{GathersLevel, GathersLevels, GathersAll, EndsInOrder};
+ghost use Rattle.level_jobs.specs.Spotted.{Tell, HasItsPath, spotted};
 
 use crate::fault::ProgramFault;
 use code_slices::Part;
+use crew::{Crew, CrewFault};
 use level_plan::Levels;
-use slice_store::{Done, Job, Store};
+use slice_store::{Done, Job, Start, Store};
 use std::alloc::{AllocError, Global};
 use std::sync::Arc;
 
-/// Runs jobs one after another. Fails if memory was refused.
-fn run_jobs(alloc: Global, jobs: Vec<Job>) -> Result<Vec<Done>, AllocError>
-    ensures { IfOk result (λ runs. runs.items ≡ jobs.items) }
+/// Has a crew run jobs, each once.
+fn run_jobs<C: Crew<Job, Start, Done, H>, H>(
+    rt: &H,
+    alloc: Global,
+    crew: &mut C,
+    jobs: Vec<Job>,
+) -> Result<Vec<Done>, CrewFault>
+    requires asked { C.asks }
+    requires numbered { AreNumbered (λ s. s.number) jobs.items }
+    ensures each { IfOk result (λ runs. IsEachOnce jobs.items runs.items) }
+    ensures counted { C.faulted crew.new ≡ faults_after (C.faulted crew.old) result }
 {
-    let mut runs = Vec::with_capacity(alloc, jobs.len())?;
-    for job in jobs {
-        runs.push(job.run())?;
-    }
-    Ok(runs)
+    crew.run(rt, alloc, jobs)
 }
 
 /// The faults of runs, as they came. Fails if memory was refused.
@@ -51,47 +58,92 @@ fn faults_of(alloc: Global, runs: &[Done]) -> Result<Vec<ProgramFault>, AllocErr
     Ok(faults)
 }
 
-/// Runs a level from the store, and tells its faults. Fails if memory was refused; then the store isn't used again.
-fn run_level(
+/// Runs a level from the store by a crew, and tells its faults. After an error the store isn't used again.
+fn run_level<C: Crew<Job, Start, Done, H>, H>(
+    rt: &H,
     alloc: Global,
+    crew: &mut C,
     parts: &[Arc<Part>],
     levels: &Levels,
     level: u32,
     store: &mut Store,
-) -> Result<Vec<ProgramFault>, AllocError>
+) -> Result<Vec<ProgramFault>, CrewFault>
+    requires asked { C.asks }
     requires gathered { store.old.out ≡ [] }
     requires programs { CanSplit (map arc_value parts.now) levels.now level store.old.cells (length store.old.faulted) }
     ensures level { IfOk result (λ faults. (paths : ℕ → List Path) → GathersLevel paths (map arc_value parts.now) levels.now level store.old store.new (spotted paths faults.items)) }
+    ensures paths { IfOk result (λ faults. (codes : List PlainCode) → ArePartsOf codes (map arc_value parts.now) → All (HasItsPath codes) faults.items) }
     ensures gathered { OnOk result (store.new.out ≡ []) }
+    ensures counted { C.faulted crew.new ≡ faults_after (C.faulted crew.old) result }
 {
-    let jobs = store.split(alloc, parts, levels, level)?;
-    let runs = run_jobs(alloc, jobs)?;
-    let faults = faults_of(alloc, &runs)?;
-    let Ok(()) = store.gather(runs) else {
-        unreachable!()
+    let Ok(jobs) = store.split(alloc, parts, levels, level) else {
+        return Err(CrewFault::Memory);
     };
+    let runs = run_jobs(rt, alloc, crew, jobs)?;
+    let Ok(faults) = faults_of(alloc, runs.as_slice()) else {
+        return Err(CrewFault::Memory);
+    };
+    store.take_in(runs);
     Ok(faults)
 }
 
-/// Runs all levels in turn, and tells the faults. Fails if memory was refused; then the store isn't used again.
-pub fn run_levels(
+/// Runs all levels in turn by a crew, and tells the faults level by level. After an error the store isn't used again.
+fn run_in_turn<C: Crew<Job, Start, Done, H>, H>(
+    rt: &H,
     alloc: Global,
+    crew: &mut C,
     parts: &[Arc<Part>],
     levels: &Levels,
     store: &mut Store,
-) -> Result<Vec<ProgramFault>, AllocError>
+) -> Result<Vec<ProgramFault>, CrewFault>
+    requires asked { C.asks }
     requires gathered { store.old.out ≡ [] }
     requires programs { (level : ℕ) → CanSplit (map arc_value parts.now) levels.now level store.old.cells (length store.old.faulted) }
     ensures levels { IfOk result (λ faults. (paths : ℕ → List Path) → GathersLevels paths (map arc_value parts.now) levels.now store.old (last_of levels.now) store.new (spotted paths faults.items)) }
+    ensures paths { IfOk result (λ faults. (codes : List PlainCode) → ArePartsOf codes (map arc_value parts.now) → All (HasItsPath codes) faults.items) }
     ensures gathered { OnOk result (store.new.out ≡ []) }
-    ensures in_order { IfOk result (λ faults. (paths : ℕ → List Path) (globals : ℕ) (codes : List PlainCode) → ArePartsOf codes (map arc_value parts.now) → IsPlanOf globals codes levels.now → HaveOwnCells globals codes
-        → length store.old.faulted ≡ length codes
-        → IsAsInOrder (in_order (programs_at store.old.moment paths codes levels.now).run 0 store.old.faulted store.old.cells) (midway store.new) (spotted paths faults.items)) }
+    ensures counted { C.faulted crew.new ≡ faults_after (C.faulted crew.old) result }
 {
     let mut faults = Vec::new(alloc);
     for below in 0..levels.last() {
-        let mut here = run_level(alloc, parts, levels, below + 1, store)?;
-        faults.append(&mut here)?;
+        let mut here = run_level(rt, alloc, crew, parts, levels, below + 1, store)?;
+        let Ok(()) = faults.append(&mut here) else {
+            return Err(CrewFault::Memory);
+        };
     }
+    Ok(faults)
+}
+
+/// Sorts faults by the numbers of their programs, in place.
+fn sort_faults(faults: &mut Vec<ProgramFault>)
+    ensures same { IsPermutation faults.old.items faults.new.items }
+    ensures rising { IsNonDecreasingBy (λ (fault : ProgramFault). fault.program) faults.new.items }
+{
+    faults.sort_unstable_by_key(|fault| fault.program);
+}
+
+/// Runs all levels in turn, the jobs of each by a crew, and tells the faults in program order. Refused memory is the fault `Memory`, and any
+/// other is the crew's own, after which no later level is run. After an error the store isn't used again.
+pub fn run_levels<C: Crew<Job, Start, Done, H>, H>(
+    rt: &H,
+    alloc: Global,
+    crew: &mut C,
+    parts: &[Arc<Part>],
+    levels: &Levels,
+    store: &mut Store,
+) -> Result<Vec<ProgramFault>, CrewFault>
+    requires asked { C.asks }
+    requires gathered { store.old.out ≡ [] }
+    requires programs { (level : ℕ) → CanSplit (map arc_value parts.now) levels.now level store.old.cells (length store.old.faulted) }
+    ensures levels { IfOk result (λ faults. GathersAll (map arc_value parts.now) levels.now store.old store.new faults.items) }
+    ensures gathered { OnOk result (store.new.out ≡ []) }
+    ensures paths { IfOk result (λ faults. (codes : List PlainCode) → ArePartsOf codes (map arc_value parts.now) → All (HasItsPath codes) faults.items) }
+    ensures in_order { IfOk result (λ faults. (paths : ℕ → List Path) (globals : ℕ) (codes : List PlainCode) → ArePartsOf codes (map arc_value parts.now) → IsPlanOf globals codes levels.now → HaveOwnCells globals codes
+        → length store.old.faulted ≡ length codes
+        → EndsInOrder (in_order (programs_at store.old.moment paths codes levels.now).run 0 store.old.faulted store.old.cells) store.new (spotted paths faults.items)) }
+    ensures faults { C.faulted crew.new ≡ faults_after (C.faulted crew.old) result }
+{
+    let mut faults = run_in_turn(rt, alloc, crew, parts, levels, store)?;
+    sort_faults(&mut faults);
     Ok(faults)
 }

@@ -1,46 +1,17 @@
-use Rattle.std.proofs.Common.{◌≡◌, ◌+◌, ◌++◌, ℕ, suc, [], List, map, sym, ap, ◌∙◌, subst, arith}
+use Rattle.std.proofs.Common.{map}
 use Rattle.std.specs.Arc.{arc_value}
-use Rattle.plant_cells.specs.Runs.{Path}
-use Rattle.level_plan.specs.Plans.{last_of}
-use Rattle.level_jobs.specs.Gathers.{GathersLevel, GathersLevels, no_level, next_level}
-use Rattle.level_jobs.specs.Spotted.{spotted}
-use Rattle.level_jobs.specs.declared.fault.ProgramFault.{ProgramFault}
-use Rattle.level_jobs.proofs.Again.{shape_lasts, can_again}
-use Rattle.level_jobs.proofs.Telling.{spotted_append}
-use Rattle.level_jobs.proofs.Turns.{as_in_order}
+use Rattle.std.proofs.lemmas.List.Sorted.{All-permutation}
+use Rattle.level_jobs.specs.Spotted.{HasItsPath}
+use Rattle.level_jobs.proofs.Sorting.{ends_in_order}
 use Rattle.level_jobs.proofs.running.run_levels.Goals as goal
 
-pub loop-below-init : goal.loop-below-init
-loop-below-init c =
-    let parts = map arc_value c.args.parts.now in
-    (c.requires.gathered, λ paths. subst (λ (xs : List ProgramFault). GathersLevels paths parts c.args.levels.now c.args.store.now 0 c.args.store.now (spotted paths xs)) (sym c.new-faults.ensures.items) no_level)
+pub returns-clause-levels : goal.returns-clause-levels
+returns-clause-levels g c = record { told = c.in_ok-faults.faults.items; gathers = c.in_ok-faults.ensures.levels; same = c.sort_faults.ensures.same; rising = c.sort_faults.ensures.rising }
 
-pub run_level-requires-clause-programs : goal.run_level-requires-clause-programs
-run_level-requires-clause-programs c =
-    let parts = map arc_value c.args.parts.now in
-    let none : ℕ → List Path = λ p. [] in
-    let shape = shape_lasts none parts c.args.levels.now c.args.store.now c.loop-below.below c.loop-below.store (spotted none c.loop-below.faults.items) (c.loop-below.invariant.1 none) in
-    can_again parts c.args.levels.now (c.loop-below.below + 1) c.args.store.now c.loop-below.store shape.0 shape.1 (c.requires.programs (c.loop-below.below + 1))
-
-pub loop-below-preserved : goal.loop-below-preserved
-loop-below-preserved c =
-    let parts = map arc_value c.args.parts.now in
-    let next : c.loop-below.below + 1 ≡ suc c.loop-below.below = omega arith in
-    let items : c.loop-below.faults.items ++ c.in_ok-here.here.items ≡ c.append.new.self.items = sym c.in_ok-append.ensures.items in (
-      c.in_ok-here.ensures.gathered,
-      λ paths.
-          let level : GathersLevel paths parts c.args.levels.now (suc c.loop-below.below) c.loop-below.store c.run_level.new.store (spotted paths c.in_ok-here.here.items)
-          = subst (λ n. GathersLevel paths parts c.args.levels.now n c.loop-below.store c.run_level.new.store (spotted paths c.in_ok-here.here.items)) next (c.in_ok-here.ensures.level paths) in
-          let turn : GathersLevels paths parts c.args.levels.now c.args.store.now (suc c.loop-below.below) c.run_level.new.store (spotted paths c.loop-below.faults.items ++ spotted paths c.in_ok-here.here.items)
-          = next_level (c.loop-below.invariant.1 paths) level in
-          let told = sym (spotted_append paths c.loop-below.faults.items c.in_ok-here.here.items) ∙ ap (spotted paths) items in
-          rw next (subst (GathersLevels paths parts c.args.levels.now c.args.store.now (suc c.loop-below.below) c.run_level.new.store) told turn),
-    )
+pub returns-clause-paths : goal.returns-clause-paths
+returns-clause-paths g c = λ codes are. All-permutation (HasItsPath codes) c.in_ok-faults.faults.items c.sort_faults.new.faults.items c.sort_faults.ensures.same (c.in_ok-faults.ensures.paths codes are)
 
 pub returns-clause-in_order : goal.returns-clause-in_order
-returns-clause-in_order c = λ paths globals codes are is own many.
-    let low = c.loop-below.auto.below-end in let high = c.loop-below-test.false in let last = c.last-below-end.ensures in
-    let end : c.loop-below.below ≡ last_of c.args.levels.now = omega arith in
-    let parts = map arc_value c.args.parts.now in
-    as_in_order paths codes parts c.args.levels.now are c.args.store.now globals is own c.loop-below.store (spotted paths c.loop-below.faults.items) many
-    (subst (λ n. GathersLevels paths parts c.args.levels.now c.args.store.now n c.loop-below.store (spotted paths c.loop-below.faults.items)) end (c.loop-below.invariant.1 paths))
+returns-clause-in_order g c = λ paths globals codes are is own many.
+    ends_in_order paths globals codes (map arc_value c.args.parts.now) c.args.levels.now are is own c.args.store.now c.run_in_turn.new.store c.sort_faults.new.faults.items many
+    (record { told = c.in_ok-faults.faults.items; gathers = c.in_ok-faults.ensures.levels; same = c.sort_faults.ensures.same; rising = c.sort_faults.ensures.rising })
