@@ -1,5 +1,5 @@
 ghost use Rattle.std.specs.Prelude.{◌≡◌, ◌<◌, ◌≤◌, ◌-◌, [], length, map, slice_get, Some, OnOk};
-ghost use Rattle.journal_core.specs.Kept.{entry_of, HasPlace};
+ghost use Rattle.journal_core.specs.Kept.{row_of, HasPlace};
 ghost use Rattle.journal_core.specs.Rows.{after_entry, after_entries, fault_entry, change_entry, last_moment, AreNumbered, AreInOrder};
 
 use crate::row::{Entry, Row};
@@ -8,22 +8,24 @@ use plant_types::{Place, Trap};
 use std::alloc::{AllocError, Global};
 use std::marker::Model;
 
-/// How many entries are kept apart at most.
-const MOST_APART: usize = 4_294_967_296;
-
-/// The entry of a row as it is kept: the change of an alarm's code, or the place of another entry in the list of these.
-// The small field stands first, so that the tag and it fill the word before the number: 8 bytes in all.
+/// A row as it is kept, in less memory: its number is its place. The change of an alarm's code stands in it, and of another row the place
+/// in the list apart.
+// The small field stands first, so that the tag and it fill the word before the number: 16 bytes in all.
 #[derive(Clone, Copy, Drop)]
-enum KeptEntry {
-    Alarm(Change, u32),
-    Apart(u32),
+enum KeptRow {
+    Alarm {
+        change: Change,
+        alarm: u32,
+        moment: u64,
+    },
+    Apart(usize),
 }
 
-/// A row as it is kept, in less memory: its number is its place.
+/// A row that is kept apart, without its number.
 #[derive(Clone, Copy, Drop)]
-struct KeptRow {
+struct ApartRow {
     moment: u64,
-    entry: KeptEntry,
+    entry: Entry,
 }
 
 /// The rows of a journal, numbered from 1 in their order; their moments never go back. Contracts see the rows, and for how many more
@@ -31,8 +33,8 @@ struct KeptRow {
 #[derive(Drop)]
 pub struct Log {
     rows: Vec<KeptRow>,
-    /// The entries that aren't the change of an alarm's code.
-    apart: Vec<Entry>,
+    /// The rows that aren't the change of an alarm's code.
+    apart: Vec<ApartRow>,
     /// For how many more rows there is room, whatever their entries are.
     room: usize,
 }
@@ -49,14 +51,29 @@ impl Model for Log {
     ghost invariant = { λ l. IsKept l.rows.items l.apart.items l.room (vec_capacity l.rows) (vec_capacity l.apart) };
 }
 
-/// The entry of a row that is kept, with the list of those that are kept apart.
-fn entry_of(apart: &[Entry], kept: &KeptEntry) -> Entry
+/// The row of a number, by how it is kept, with the list of those that are kept apart.
+fn row_of(apart: &[ApartRow], number: u64, kept: &KeptRow) -> Row
     requires { HasPlace (length apart.now) kept.now }
-    ensures { result ≡ entry_of apart.now kept.now }
+    ensures { result ≡ row_of apart.now number kept.now }
 {
     match kept {
-        KeptEntry::Alarm(change, alarm) => Entry::Alarm(*alarm, *change),
-        KeptEntry::Apart(place) => apart[*place as usize],
+        KeptRow::Alarm {
+            change,
+            alarm,
+            moment,
+        } => Row {
+            number,
+            moment: *moment,
+            entry: Entry::Alarm(*alarm, *change),
+        },
+        KeptRow::Apart(place) => {
+            let row = apart[*place];
+            Row {
+                number,
+                moment: row.moment,
+                entry: row.entry,
+            }
+        }
     }
 }
 
@@ -90,12 +107,7 @@ impl Log {
         ensures { slice_get self.now.rows (number - 1) ≡ Some result }
     {
         let kept = &self.rows[(number - 1) as usize];
-        let entry = entry_of(self.apart.as_slice(), &kept.entry);
-        Row {
-            number,
-            moment: kept.moment,
-            entry,
-        }
+        row_of(self.apart.as_slice(), number, kept)
     }
 
     /// Makes room for so many more rows. Fails if allocation fails; the rows stay as they are, and no room is lost.
@@ -106,9 +118,6 @@ impl Log {
     {
         if count <= self.room {
             return Ok(());
-        }
-        if count > MOST_APART - self.apart.len() {
-            return Err(AllocError);
         }
         self.rows.reserve(count)?;
         self.apart.reserve(count)?;
@@ -122,25 +131,23 @@ impl Log {
         requires in_order { last_moment self.old.rows ≤ moment }
         ensures { self.new ≡ after_entry moment self.old (change_entry (alarm, change)) }
     {
-        self.rows.push_reserved(KeptRow {
+        self.rows.push_reserved(KeptRow::Alarm {
+            change,
+            alarm,
             moment,
-            entry: KeptEntry::Alarm(change, alarm),
         });
         self.room -= 1;
     }
 
-    /// Adds a row whose entry is kept apart, as `push`.
+    /// Adds a row that is kept apart, as `push`.
     fn push_apart(&mut self, moment: u64, entry: Entry)
         requires room { 0 < self.old.room }
         requires in_order { last_moment self.old.rows ≤ moment }
         ensures { self.new ≡ after_entry moment self.old entry }
     {
-        let place = self.apart.len() as u32;
-        self.apart.push_reserved(entry);
-        self.rows.push_reserved(KeptRow {
-            moment,
-            entry: KeptEntry::Apart(place),
-        });
+        let place = self.apart.len();
+        self.apart.push_reserved(ApartRow { moment, entry });
+        self.rows.push_reserved(KeptRow::Apart(place));
         self.room -= 1;
     }
 

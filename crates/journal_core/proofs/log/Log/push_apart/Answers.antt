@@ -1,7 +1,7 @@
 use Rattle.std.proofs.Common.{ap, ◌≡◌, ◌∙◌, ◌-◌, ◌++◌, ◌∷◌, [], length, arith}
 use Rattle.journal_core.specs.Rows.{after_entry}
 use Rattle.journal_core.specs.Kept.{rows_of}
-use Rattle.journal_core.proofs.KeptLaws.{apart_seen, apart_kept, log_of}
+use Rattle.journal_core.proofs.KeptLaws.{apart_seen, apart_kept, apart_row, log_of}
 use Rattle.journal_core.proofs.log.Log.push_apart.Goals as goal
 
 pub invariant_of-self : goal.invariant_of-self
@@ -17,6 +17,6 @@ returns c =
     let place : c.len-place.result ≡ length c.self.inside.apart.items = omega (arith, c.len-place.ensures) in
     let left = c.self.inside.room - 1 in
     ap (λ apart. log_of (rows_of apart 0 c.push_reserved-2.new.self.items) left) c.push_reserved.ensures.items
-    ∙ ap (λ rows. log_of (rows_of (c.self.inside.apart.items ++ c.args.entry ∷ []) 0 rows) left) c.push_reserved-2.ensures.items
+    ∙ ap (λ rows. log_of (rows_of (c.self.inside.apart.items ++ apart_row c.args.moment c.args.entry ∷ []) 0 rows) left) c.push_reserved-2.ensures.items
     ∙ ap (λ rows. log_of rows left) (apart_seen c.self.inside.apart.items c.self.inside.rows.items c.args.moment c.len-place.result c.args.entry place c.self.invariant.places)
     ∙ ap (λ l. after_entry c.args.moment l c.args.entry) c.self.view_is

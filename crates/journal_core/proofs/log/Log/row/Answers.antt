@@ -1,12 +1,12 @@
-use Rattle.std.proofs.Common.{◌-◌, ◌<◌, ◌∙◌, length, arith, ap}
-use Rattle.journal_core.specs.declared.row.Entry.{Entry}
-use Rattle.std.specs.Prelude.{List}
-use Rattle.journal_core.specs.Kept.{entry_of}
+use Rattle.std.proofs.Common.{◌-◌, ◌<◌, ◌∙◌, length, arith, ap, sym}
+use Rattle.std.specs.Prelude.{List, Some}
+use Rattle.journal_core.specs.declared.log.ApartRow.{ApartRow}
+use Rattle.journal_core.specs.Kept.{row_of}
 use Rattle.journal_core.proofs.KeptLaws.{rows_length, row_is, place_is}
 use Rattle.journal_core.proofs.log.Log.row.Goals as goal
 
-pub entry_of-entry-requires : goal.entry_of-entry-requires
-entry_of-entry-requires c =
+pub row_of-requires : goal.row_of-requires
+row_of-requires c =
     let apart = c.self.inside.apart.items in
     let rows = c.self.inside.rows.items in
     let many = rows_length apart rows in
@@ -22,5 +22,5 @@ returns c =
     let last = rw (← c.self.view_is) at c.requires.last in
     let inside : c.args.number - 1 < length rows = omega (arith, c.requires.first, last, many) in
     let row = c.index-kept.result.now in
-    let has = c.entry_of-entry.ensures ∙ ap (λ (es : List Entry). entry_of es row.entry) c.as_slice.ensures.value in
-    rw (← c.self.view_is) (row_is apart rows c.args.number row c.entry_of-entry.result c.requires.first inside c.index-kept.ensures has)
+    let has = c.row_of.ensures ∙ ap (λ (rows : List ApartRow). row_of rows c.args.number row) c.as_slice.ensures.value in
+    rw (← c.self.view_is) (row_is apart rows c.args.number row c.requires.first inside c.index-kept.ensures ∙ ap (λ r. Some r) (sym has))
