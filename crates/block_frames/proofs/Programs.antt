@@ -19,8 +19,8 @@ use Rattle.block_walk.specs.Frames.{frame_paths, InTurn}
 use Rattle.block_walk.specs.Starts.{seat_has_starts, frame_has_starts}
 use Rattle.block_walk.specs.Standards.{seats_standards, frame_standards}
 use Rattle.block_walk.proofs.Growing.{marked_more, counted_more}
-use Rattle.block_frames.specs.declared.seats.Extent.{Extent}
-use Rattle.block_frames.specs.declared.seats.Callee.{Callee}
+use Rattle.block_seats.specs.declared.seats.Extent.{Extent}
+use Rattle.block_seats.specs.declared.seats.Callee.{Callee}
 use Rattle.block_frames.specs.Reached.{flagged, AreReached}
 use Rattle.block_frames.specs.Frames.{AreSeats, IsFrame, framed, IsBlank, IsFrames, IsStart}
 use Rattle.block_frames.specs.Numbers.{numbers}

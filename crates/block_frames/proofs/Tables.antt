@@ -34,12 +34,13 @@ use Rattle.block_walk.specs.Standards.{seat_standards, seats_standards, frame_st
 use Rattle.block_walk.proofs.Firsts.{first_is, paths_is}
 use Rattle.block_walk.proofs.Marks.{standards_is}
 use Rattle.block_walk.proofs.Growing.{paths_more, starts_more, standards_more, each_more, marked_more, counted_more}
-use Rattle.block_frames.specs.declared.seats.Extent.{Extent}
-use Rattle.block_frames.specs.declared.seats.Callee.{Callee}
+use Rattle.block_seats.specs.declared.seats.Extent.{Extent}
+use Rattle.block_seats.specs.declared.seats.Callee.{Callee}
 use Rattle.block_frames.specs.Numbers.{numbers}
 use Rattle.block_frames.specs.Reached.{flagged, AreReached}
 use Rattle.block_frames.specs.Frames.{place_in, seated, AreSeats, IsFrame, framed, IsBlank}
-use Rattle.block_frames.specs.Built.{extent, plus, extent_called, extent_by, seated_by, starts_by, any_starts, seats_by, ends_by, first_of, IsKnown, IsMade, AreBuilt}
+use Rattle.block_seats.specs.Seats.{extent, plus, extent_called, extent_by, seated_by, starts_by, any_starts, seats_by, ends_by}
+use Rattle.block_frames.specs.Built.{first_of, IsKnown, IsMade, AreBuilt}
 use Rattle.block_frames.proofs.Flags.{declared_asks, get_or_is}
 
 -- frames behind others change nothing for these

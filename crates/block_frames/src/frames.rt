@@ -9,16 +9,16 @@ ghost use Rattle.plant_logic.specs.Blocks.{AreBelow, DeclaresThere, HasItsTypes}
 ghost use Rattle.plant_logic.specs.Layout.{AreNamedApart, IsDistinctlyNamed};
 ghost use Rattle.block_frames.specs.Scoped.{AreInstances, AreMembers, AreVariables, IsNumberedIn, local_kinds, local_names};
 ghost use Rattle.block_frames.specs.Frames.{framed, IsBlank, IsFrames, IsStart};
-ghost use Rattle.block_frames.specs.Built.{first_of, seats_by, ends_by, AreOf, AllMade, AllBuilt, AllBegun, IsStartIn};
+ghost use Rattle.block_seats.specs.Seats.{seats_by, ends_by};
+ghost use Rattle.block_frames.specs.Built.{first_of, AreOf, AllMade, AllBuilt, AllBegun, IsStartIn};
 
-use crate::called::called_in;
 use crate::names::{
     Variables, global_variables, instances_of, no_instances, no_variables, own_variables,
 };
 use crate::reached::{flagged, reached};
 use crate::resolve::resolve_body;
 use crate::scope::Scope;
-use crate::seats::{Callee, Extent, has_starts, seats_by};
+use block_seats::{Callee, Extent, called_in, has_starts, seats_by};
 use block_walk::{Frame, Seat};
 use plant_logic::{Logic, Routine, block_type_has_clocks, block_type_has_values};
 use plant_types::Text;

@@ -11,14 +11,12 @@
 //! `frames_have_paths` and `frames_have_standards` say that the paths and the standard blocks of a program's frame are the program's.
 #![tactic(auto)]
 
-mod called;
 mod frames;
 mod laws;
 mod names;
 mod reached;
 mod resolve;
 mod scope;
-mod seats;
 
 pub use frames::{frames_of, start_of};
 pub use laws::{

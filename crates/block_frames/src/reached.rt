@@ -5,7 +5,7 @@ ghost use Rattle.word_index.specs.Names.{is_among};
 ghost use Rattle.plant_logic.specs.Source.{view_routine};
 ghost use Rattle.block_frames.specs.Reached.{flagged, number_of, numbers_of, flag_all, flag_asked, flag_programs, flag_onward, flag_back, reached};
 
-use crate::called::{called_in, is_among};
+use block_seats::{called_in, is_among};
 use plant_logic::{BlockRef, Instance, Routine};
 use std::alloc::{AllocError, Global};
 use word_index::Names;

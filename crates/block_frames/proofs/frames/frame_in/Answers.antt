@@ -6,7 +6,7 @@ use Rattle.plant_logic.specs.Source.{view_routine}
 use Rattle.plant_logic.specs.Names.{meant_in}
 use Rattle.block_walk.specs.declared.frame.Frame.{Frame}
 use Rattle.block_frames.specs.Numbers.{numbers}
-use Rattle.block_frames.specs.Built.{any_starts}
+use Rattle.block_seats.specs.Seats.{any_starts}
 use Rattle.block_frames.proofs.Tables.{made_framed}
 use Rattle.block_frames.proofs.frames.frame_in.Goals as goal
 

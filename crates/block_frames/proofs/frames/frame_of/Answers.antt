@@ -1,6 +1,5 @@
 use Rattle.std.proofs.Common.{◌∙◌, ap}
 use Rattle.st_names.specs.Taken.{repeats}
-use Rattle.plant_logic.specs.Source.{view_routine}
 use Rattle.plant_logic.specs.Names.{own_words, instance_words}
 use Rattle.plant_logic.proofs.Layouts.{later_apart}
 use Rattle.block_frames.proofs.Built.{earlier_apart}

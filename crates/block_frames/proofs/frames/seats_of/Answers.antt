@@ -6,7 +6,7 @@ use Rattle.word_index.specs.Names.{is_among}
 use Rattle.plant_logic.specs.Source.{view_routine}
 use Rattle.plant_logic.specs.Paths.{called_in, is_called}
 use Rattle.block_frames.specs.Frames.{framed}
-use Rattle.block_frames.specs.Built.{extent, seats_by, ends_by}
+use Rattle.block_seats.specs.Seats.{extent, seats_by, ends_by}
 use Rattle.block_frames.proofs.frames.seats_of.Goals as goal
 
 pub returns-clause-seats : goal.returns-clause-seats

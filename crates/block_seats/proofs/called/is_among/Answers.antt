@@ -1,8 +1,8 @@
 use Rattle.std.proofs.Common.{◌∙◌, ap}
 use Rattle.std.specs.Prelude.{is_some}
 use Rattle.word_index.specs.Names.{find_name}
-use Rattle.block_frames.proofs.Callings.{found_there}
-use Rattle.block_frames.proofs.called.is_among.Goals as goal
+use Rattle.block_seats.proofs.Gathered.{found_there}
+use Rattle.block_seats.proofs.called.is_among.Goals as goal
 
 pub returns : goal.returns
 returns c =

@@ -2,7 +2,7 @@
 
 ghost use Rattle.std.specs.Prelude.{◌≡◌, ◌+◌, ◌==◌, ◌||◌, not, length, IfOk};
 ghost use Rattle.word_index.specs.Names.{is_among};
-ghost use Rattle.block_frames.specs.Built.{plus, extent_called, extent_by, starts_by, any_starts, seated_by, seat_by, seats_by, ends_by};
+ghost use Rattle.block_seats.specs.Seats.{plus, extent_called, extent_by, starts_by, any_starts, seated_by, seat_by, seats_by, ends_by};
 
 use crate::called::is_among;
 use block_walk::{Seat, SeatOf};

@@ -1,8 +1,8 @@
 use Rattle.std.proofs.Common.{drop}
 use Rattle.st_tree.specs.View.{view_body, view_branches, view_choices}
 use Rattle.plant_logic.specs.Paths.{called_in, called_in_branches, called_in_choices}
-use Rattle.block_frames.proofs.Callings.{Left}
-use Rattle.block_frames.proofs.called.+calls.Given as goal
+use Rattle.block_seats.proofs.Gathered.{Left}
+use Rattle.block_seats.proofs.called.+calls.Given as goal
 
 -- the names so far, and those of what is left, are all
 abbrev pub invariant-add_body-loop-stmt : goal.invariant-add_body-loop-stmt

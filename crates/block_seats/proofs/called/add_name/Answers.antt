@@ -1,5 +1,5 @@
-use Rattle.block_frames.proofs.Callings.{name_added}
-use Rattle.block_frames.proofs.called.add_name.Goals as goal
+use Rattle.block_seats.proofs.Gathered.{name_added}
+use Rattle.block_seats.proofs.called.add_name.Goals as goal
 
 pub returns : goal.returns
 returns c =

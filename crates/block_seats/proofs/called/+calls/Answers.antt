@@ -5,8 +5,8 @@ use Rattle.std.proofs.lemmas.List.{drop_all}
 use Rattle.plant_types.specs.Words.{same_word}
 use Rattle.st_tree.specs.View.{view_body, view_branches, view_choices}
 use Rattle.plant_logic.specs.Paths.{called_in, called_in_branches, called_in_choices}
-use Rattle.block_frames.proofs.Callings.{left_none, body_left, branches_left, choices_left}
-use Rattle.block_frames.proofs.called.+calls.Goals as goal
+use Rattle.block_seats.proofs.Gathered.{left_none, body_left, branches_left, choices_left}
+use Rattle.block_seats.proofs.called.+calls.Goals as goal
 
 pub add_body-loop-stmt-preserved : goal.add_body-loop-stmt-preserved
 add_body-loop-stmt-preserved t c =

@@ -1,8 +1,8 @@
 use Rattle.std.proofs.Common.{◌∙◌, ◌++◌, ap, refl}
 use Rattle.word_index.specs.Names.{is_among}
-use Rattle.block_frames.specs.Built.{plus, extent_called, seat_by, seats_by}
-use Rattle.block_frames.proofs.Built.{seats_more, seats_whole}
-use Rattle.block_frames.proofs.seats.seats_by.Goals as goal
+use Rattle.block_seats.specs.Seats.{plus, extent_called, seat_by, seats_by}
+use Rattle.block_seats.proofs.Seated.{seats_more, seats_whole}
+use Rattle.block_seats.proofs.seats.seats_by.Goals as goal
 
 pub loop-instance-init : goal.loop-instance-init
 loop-instance-init c = record { seats_are = ap (λ l. l ++ seats_by c.args.table.now (is_among c.args.called.now) c.args.first c.args.list.now) c.new-seats.ensures.items; end_is = refl }
