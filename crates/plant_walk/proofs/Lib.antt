@@ -5,10 +5,12 @@ mod Counted
 mod Bases
 mod Numbered
 mod Placed
+mod Spots
 mod Found
 mod Started
 mod Walks
 mod Coded
+mod OwnCodes
 mod Weighed
 mod Costs
 mod Known

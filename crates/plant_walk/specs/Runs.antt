@@ -1,19 +1,19 @@
 -- Runs over cells, and runs in the worlds that they stand for.
-use Rattle.std.specs.Prelude.{◌≡◌, ◌<◌, ◌+◌, ℕ, List, [], length, Result, Ok, Err}
+use Rattle.std.specs.Prelude.{◌≡◌, ◌<◌, ◌≤◌, ◌+◌, ◌++◌, ℕ, List, [], ◌∷◌, map, length, Option, Some, None, Result, Ok, Err, slice_get}
 use Rattle.plant_types.specs.declared.values.Place.{Place}
 use Rattle.st_tree.specs.Meaning.{Spot, Ran, Done, Trapped}
-use Rattle.plant_logic.specs.Source.{Source}
-use Rattle.plant_logic.specs.Worlds.{World}
+use Rattle.plant_logic.specs.Source.{PlainRoutine, Source}
+use Rattle.plant_logic.specs.Worlds.{World, run_program}
 use Rattle.plant_logic.specs.Layout.{cell_paths, all_clocks}
-use Rattle.plant_logic.specs.Paths.{paths_of}
+use Rattle.plant_logic.specs.Paths.{paths_rule, type_paths, paths_of}
 use Rattle.plant_cells.specs.declared.stop.Stop.{Stop}
 use Rattle.plant_cells.specs.Cells.{PlainCells}
-use Rattle.plant_cells.specs.Runs.{spot_of}
+use Rattle.plant_cells.specs.Runs.{Path, spot_of}
 use Rattle.block_walk.specs.declared.frame.Frame.{Frame}
 use Rattle.block_frames.specs.Frames.{IsFrames, program_base}
 use Rattle.block_frames.specs.Stands.{StandFor}
 use Rattle.acc_vm.specs.Machine.{Over}
-use Rattle.acc_vm.specs.Codes.{PlainCode, fuel_of, run_of}
+use Rattle.acc_vm.specs.Codes.{PlainCode, IsSound, fuel_of, run_of}
 use Rattle.program_codes.specs.Codes.{IsMade}
 use Rattle.plant_walk.specs.declared.walking.Walked.{Walked}
 use Rattle.plant_walk.specs.declared.walking.Walked.TheVariants as walked
@@ -21,6 +21,10 @@ use Rattle.plant_walk.specs.declared.walking.Walked.TheVariants as walked
 -- the spot of a place: the path of its body, and the statement's number
 abbrev pub place_spot : Source → Place → Spot
 place_spot source place = spot_of (paths_of source) place
+
+-- a place by a program's own paths, counted among those of the source: the program's first path has a number there
+abbrev pub placed_from : ℕ → Place → Place
+placed_from base place = record { path = base + place.path; statement = place.statement }
 
 -- how a walk ends, with the cells that it leaves
 abbrev pub ran : Source → Walked → PlainCells → Ran PlainCells
@@ -30,7 +34,7 @@ ran source (walked.Trapped place trap) cells = Trapped cells (place_spot source 
 -- how a run of the program whose first path has a number ends, by how the run of its frame ended
 abbrev pub walked_by : ℕ → Result (Unit {0}) Stop → Walked
 walked_by base (Ok _) = walked.Done
-walked_by base (Err stop) = walked.Trapped (record { path = base + stop.place.path; statement = stop.place.statement }) stop.trap
+walked_by base (Err stop) = walked.Trapped (placed_from base stop.place) stop.trap
 
 -- a trap's place has a path of the source
 abbrev pub IsWithin : Source → Walked → Type 0
@@ -60,3 +64,27 @@ pub record TakesInstructions (source : Source) (n t : ℕ) (cells : PlainCells) 
   pub left : ℕ
   pub runs : run_of t [] code cells ≡ Over result left
   pub count_is : count + left ≡ fuel_of code
+
+-- the paths of a program: its own, and those of the instances that it calls, each with the program's name at its end
+abbrev pub paths_below : List PlainRoutine → Option PlainRoutine → List Path
+paths_below blocks None = []
+paths_below blocks (Some p) = map (λ path. path ++ p.name ∷ []) (paths_rule (type_paths blocks) p)
+
+-- the paths of the program of a number, by the numbers that its code has; none if there is no such program
+abbrev pub paths_in : Source → ℕ → List Path
+paths_in source n = paths_below source.blocks (slice_get source.programs n)
+
+-- from cells, code is over at a moment, and ends as the program of a number does in a world
+pub record EndsAsProgram (source : Source) (n t : ℕ) (code : PlainCode) (cells : PlainCells) (w : World) : Type 0 where
+  pub result : Ran PlainCells
+  pub left : ℕ
+  pub runs : run_of t (paths_in source n) code cells ≡ Over result left
+  pub agrees : Agree source (run_program source n t w) result
+
+-- code is that of the program of a number: it is sound, cells of the source have what it names, its paths are the program's, and from cells that stand for a world it ends as the program does there
+pub record IsProgramCode (source : Source) (n : ℕ) (code : PlainCode) : Type 0 where
+  pub sound : IsSound code
+  pub values : (cells : PlainCells) → HasCells source cells → code.values ≤ length cells.values
+  pub clocks : (cells : PlainCells) → HasCells source cells → code.clocks ≤ length cells.clocks
+  pub paths : code.paths ≡ length (paths_in source n)
+  pub ends : (t : ℕ) (cells : PlainCells) (w : World) → StandFor source cells w → EndsAsProgram source n t code cells w

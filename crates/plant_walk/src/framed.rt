@@ -14,7 +14,8 @@ ghost use Rattle.block_frames.specs.Frames.{IsFrames};
 ghost use Rattle.block_frames.specs.Stands.{StandFor};
 ghost use Rattle.plant_walk.specs.Framed.{HasStart, IsFramed};
 ghost use Rattle.plant_walk.specs.Sound.{IsSound};
-ghost use Rattle.plant_walk.specs.Runs.{Agree, HasCells, IsWithin, TakesInstructions, ran, walked_by};
+ghost use Rattle.plant_walk.specs.Bases.{program_paths_base};
+ghost use Rattle.plant_walk.specs.Runs.{Agree, HasCells, IsProgramCode, IsWithin, TakesInstructions, paths_in, ran, walked_by};
 
 use crate::names::global_names;
 use crate::opening::start_programs;
@@ -316,6 +317,30 @@ impl Framed {
         typed_names_are_known();
         let (ended, count) = run_code_counted(&self.codes[program], stack, cells, moment);
         (walked(self.paths[program], ended), count)
+    }
+
+    /// The code of the program of a number, from 0. Its paths are those of the program, the program's own first: `path_base` tells which number
+    /// that one has among all paths.
+    pub fn code(&self, program: usize) -> &Code
+        requires { program < length self.now.programs }
+        ensures { IsProgramCode self.now program result.now }
+    {
+        frames_agree();
+        frames_have_paths();
+        typed_names_are_known();
+        let code = &self.codes[program];
+        let _instrs = code.instrs();
+        code
+    }
+
+    /// The number that the first path of the program of a number has among all paths. The program's other paths follow it, and all these numbers
+    /// are below 2^32.
+    pub fn path_base(&self, program: usize) -> u32
+        requires { program < length self.now.programs }
+        ensures base { result ≡ program_paths_base self.now program }
+        ensures fits { program_paths_base self.now program + length (paths_in self.now program) < 2 ^ 32 }
+    {
+        self.paths[program]
     }
 
     /// Adds the text of the path of a number: the names of the program and of the instances below it, as declared, with points between them.

@@ -1,18 +1,22 @@
 //! Laws of sources that run. These functions do nothing: each has a law as its contract, for the crates above.
 
-ghost use Rattle.std.specs.Prelude.{◌≡◌, ◌≤◌, ℕ, ℤ, List, Some, length, slice_get, true};
+ghost use Rattle.std.specs.Prelude.{◌≡◌, ◌<◌, ◌≤◌, ◌+◌, ℕ, ℤ, List, Some, length, slice_get, true};
 ghost use Rattle.plant_types.specs.Values.{is_in_range};
+ghost use Rattle.plant_types.specs.declared.values.Place.{Place};
 ghost use Rattle.st_tree.specs.Ranges.{Leaves};
 ghost use Rattle.plant_logic.specs.declared.logic.Variable.{Variable};
 ghost use Rattle.plant_logic.specs.Source.{Source};
 ghost use Rattle.plant_logic.specs.Names.{find_global};
 ghost use Rattle.plant_logic.specs.Layout.{cell_paths};
+ghost use Rattle.plant_logic.specs.Paths.{paths_of};
 ghost use Rattle.plant_logic.specs.Worlds.{World, assign, opening, path_of, run_program};
 ghost use Rattle.plant_logic.specs.Ranges.{AllInRange};
 ghost use Rattle.plant_cells.specs.Cells.{PlainCells, value_at, assigned};
+ghost use Rattle.plant_cells.specs.Runs.{spot_of};
 ghost use Rattle.block_frames.specs.Stands.{StandFor};
 ghost use Rattle.plant_walk.specs.Sound.{IsSound};
-ghost use Rattle.plant_walk.specs.Runs.{HasCells};
+ghost use Rattle.plant_walk.specs.Bases.{program_paths_base};
+ghost use Rattle.plant_walk.specs.Runs.{HasCells, paths_in, place_spot, placed_from};
 
 /// There are as many cells with values as values of the source: the globals are the first of these.
 pub fn as_many_cells()
@@ -68,4 +72,10 @@ pub fn assigned_global_stays_in_range()
 /// The value of each global is in the range of its kind.
 pub fn global_is_in_range()
     ensures { (source : Source) (w : World) (i : ℕ) (global : Variable) → AllInRange source w → slice_get source.globals i ≡ Some global → is_in_range global.kind (w.values (path_of global.name)) ≡ true }
+{}
+
+/// A place by the paths of the program of a number is the same spot by the paths of the source, where it is counted from the program's first path.
+pub fn place_is_in_source()
+    ensures spot { (source : Source) (n : ℕ) (place : Place) → place.path < length (paths_in source n) → spot_of (paths_in source n) place ≡ place_spot source (placed_from (program_paths_base source n) place) }
+    ensures within { (source : Source) (n path : ℕ) → path < length (paths_in source n) → program_paths_base source n + path < length (paths_of source) }
 {}

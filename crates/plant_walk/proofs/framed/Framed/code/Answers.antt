@@ -1,0 +1,46 @@
+use Rattle.std.proofs.Common.{◌≡◌, ◌<◌, ◌+◌, sym, subst, refl, length, Some, arith}
+use Rattle.std.specs.Prelude.{slice_get}
+use Rattle.std.proofs.lemmas.Option.{slice_get_read}
+use Rattle.plant_logic.specs.Source.{Source, source_of}
+use Rattle.block_frames.specs.Numbers.{HasAllNames}
+use Rattle.block_frames.specs.Frames.{program_base}
+use Rattle.program_codes.specs.Codes.{base_in, IsCodeOf}
+use Rattle.plant_walk.specs.Runs.{IsProgramCode}
+use Rattle.plant_walk.proofs.Small.{sound_named, sound_types}
+use Rattle.plant_walk.proofs.Walks.{the_program, is_there}
+use Rattle.plant_walk.proofs.Within.{code_there}
+use Rattle.plant_walk.proofs.OwnCodes.{as_many_paths, ends_as_program}
+use Rattle.plant_walk.proofs.framed.Framed.code.Goals as goal
+
+pub returns : goal.returns
+returns c =
+    let inside = c.self.inside in
+    let source = source_of inside.logic in
+    let are = c.self.invariant in
+    let frames = inside.frames.items in
+    let order = inside.order.items in
+    let n = c.args.program in
+    let there : n < length source.programs = subst (λ (s : Source). n < length s.programs) (sym c.self.view_is) c.requires in
+    let long = are.codes_are.long in
+    let rows = are.values_begin.long in
+    let code = c.index-code.result.now in
+    let at : slice_get inside.codes.items n ≡ Some code = slice_get_read inside.codes.items (length inside.codes.items) n code refl (omega (arith, there, long, rows)) c.index-code.ensures in
+    let made = are.codes_are.each n code at in
+    let values_are = are.values_begin.each n (omega (arith, there)) in
+    let clocks_are = are.clocks_begin.each n (omega (arith, there)) in
+    let base_is : base_in inside.values.items inside.clocks.items n ≡ program_base source n = λ i. record { values = values_are i; clocks = clocks_are i } in
+    let is : IsCodeOf frames (length source.globals) (length order + n) (program_base source n) code = subst (λ base. IsCodeOf frames (length source.globals) (length order + n) base code) base_is made in
+    let p = the_program source n in
+    let found = is_there source n there in
+    let types = sound_types source are.sound in
+    let names : HasAllNames source = subst HasAllNames (sym are.sound.are_theirs) (c.typed_names_are_known.ensures are.sound.units are.sound.typed) in
+    let have_paths = c.frames_have_paths.ensures source order frames are.are_frames are.below types n p found in
+    let own = code_there source order are.below frames are.are_frames types names inside.values.items inside.clocks.items are.values_begin are.clocks_begin n there code made in
+    let whole : IsProgramCode source n code = record {
+      sound = c.instrs-instrs.ensures.sound;
+      values = λ cells has. let all = has.values in let enough = own.0 in omega (arith, enough, all);
+      clocks = λ cells has. let all = has.clocks in let enough = own.1 in omega (arith, enough, all);
+      paths = as_many_paths source order frames n p found have_paths code is;
+      ends = λ t cells w stands. ends_as_program source order frames n p found have_paths code is t cells w (c.frames_agree.ensures source order frames are.are_frames are.below types (sound_named source are.sound) names t n p found w cells stands);
+    } in
+    subst (λ (s : Source). IsProgramCode s n code) c.self.view_is whole
