@@ -1,0 +1,5 @@
+mod CodeRuns
+mod PlacedFaults
+mod ByLevels
+mod FirstParts
+pub mod ProgramRuns

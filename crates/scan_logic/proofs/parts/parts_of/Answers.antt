@@ -1,0 +1,12 @@
+use Rattle.scan_logic.proofs.FirstParts.{first_more}
+use Rattle.scan_logic.proofs.parts.parts_of.Goals as goal
+
+pub loop-program-preserved : goal.loop-program-preserved
+loop-program-preserved c =
+    let l = c.loop-program in
+    record {
+      all = l.invariant.all;
+      slots = c.in_ok-part_of.ensures.slots;
+      clocks = c.in_ok-part_of.ensures.clocks;
+      first = rw (c.in_ok-push.ensures.items) (first_more c.args.framed.now l.program l.parts.items c.code-code.result.now c.in_ok-part_of.field-0 l.invariant.first c.code-code.ensures c.in_ok-part_of.ensures.part);
+    }

@@ -1,0 +1,4 @@
+pub mod Faults
+pub mod Levels
+pub mod Runs
+pub mod Scans

@@ -1,0 +1,68 @@
+//! The programs of a scan, one after another on the caller's thread.
+
+ghost use Rattle.std.specs.Prelude.{◌≡◌, ◌<◌, length, IfOk, IfSome, All};
+ghost use Rattle.plant_logic.specs.Worlds.{World};
+ghost use Rattle.plant_logic.specs.Paths.{paths_of};
+ghost use Rattle.block_frames.specs.Stands.{StandFor};
+ghost use Rattle.plant_walk.specs.Runs.{Agree, HasCells};
+ghost use Rattle.scan_logic.specs.Scans.{programs_from};
+ghost use Rattle.scan_logic.specs.Runs.{run_by, ended_by, ProgramsRan};
+
+use plant_cells::Cells;
+use plant_types::{Place, Trap};
+use plant_walk::{Framed, Stack, Walked, run, sound_source_is_small};
+use std::alloc::AllocError;
+
+/// Runs the program of a number, from 0, unless it is faulted, and returns its fault. What it assigned before a fault is kept.
+fn run_program(
+    framed: &Framed,
+    program: u32,
+    moment: u64,
+    stack: &mut Stack,
+    cells: &mut Cells,
+    is_faulted: bool,
+) -> Option<(Place, Trap)>
+    requires there { program < length framed.now.programs }
+    requires cells { HasCells framed.now cells.old }
+    ensures cells { HasCells framed.now cells.new }
+    ensures ran { (w : World) → StandFor framed.now cells.old w → Agree framed.now (run_by is_faulted framed.now program moment w) (ended_by framed.now result cells.new) }
+    ensures within { IfSome result (λ fault. fault.0.path < length (paths_of framed.now)) }
+{
+    if is_faulted {
+        return None;
+    }
+    match run(framed, program, stack, cells, moment) {
+        Walked::Done => None,
+        Walked::Trapped(place, trap) => Some((place, trap)),
+    }
+}
+
+/// Runs the programs in order, but for those that are faulted, and returns the faults in the room of other faults. A program that traps is
+/// faulted from then on. The moment is that of the scan, in milliseconds.
+///
+/// Fails if allocation fails.
+pub fn run_in_order(
+    framed: &Framed,
+    moment: u64,
+    stack: &mut Stack,
+    cells: &mut Cells,
+    faulted: &mut Vec<bool>,
+    room: Vec<(Place, Trap)>,
+) -> Result<Vec<(Place, Trap)>, AllocError>
+    requires flags { length faulted.old.items ≡ length framed.now.programs }
+    requires cells { HasCells framed.now cells.old }
+    ensures ran { IfOk result (λ faults. (w : World) → StandFor framed.now cells.old w → ProgramsRan framed.now (programs_from framed.now moment 0 faulted.old.items w) cells.new faulted.new.items faults.items) }
+    ensures within { IfOk result (λ faults. All (λ f. f.0.path < length (paths_of framed.now)) faults.items) }
+{
+    sound_source_is_small();
+    let mut faults = room;
+    faults.clear();
+    for at in 0..framed.programs().len() {
+        let fault = run_program(framed, at as u32, moment, stack, cells, faulted[at]);
+        if let Some(fault) = fault {
+            faulted[at] = true;
+            faults.push(fault)?;
+        }
+    }
+    Ok(faults)
+}

@@ -1,0 +1,74 @@
+//! The programs of a plant, each in its part of the cells, and their levels.
+
+ghost use Rattle.std.specs.Prelude.{◌≡◌, map, IfOk};
+ghost use Rattle.std.specs.Arc.{arc_value};
+ghost use Rattle.scan_logic.specs.Levels.{AreLevelsOf};
+
+use crate::parts::{parts_of, shared};
+use code_slices::Part;
+use level_plan::Levels;
+use level_runs::{own_cells, plan_of};
+use plant_walk::{Framed, sound_source_is_small};
+use std::alloc::{AllocError, Global};
+use std::marker::Model;
+use std::sync::Arc;
+
+/// The programs of a plant, each in its part of the cells, the levels in which they may run together, and whether beside the globals no two
+/// have a cell in common. Contracts see these.
+#[derive(Drop)]
+pub struct Levelled {
+    parts: Vec<Arc<Part>>,
+    levels: Levels,
+    apart: bool,
+}
+
+impl Model for Levelled {
+    ghost use Rattle.std.specs.Prelude.{map};
+    ghost use Rattle.std.specs.Arc.{arc_value};
+    ghost use Rattle.scan_logic.specs.Levels.{PlainLevelled};
+
+    ghost Value = { PlainLevelled };
+
+    ghost view = { λ l. record { parts = map arc_value l.parts.items; levels = l.levels; apart = l.apart } };
+}
+
+impl Levelled {
+    /// The programs of a plant in levels. It takes time in proportion to the plant's values and to the size of its programs. Fails only where
+    /// memory was refused.
+    pub fn of(alloc: Global, framed: &Framed) -> Result<Levelled, AllocError>
+        ensures { IfOk result (AreLevelsOf framed.now) }
+    {
+        sound_source_is_small();
+        let globals = framed.globals().len();
+        let parts = parts_of(alloc, framed)?;
+        let levels = plan_of(alloc, parts.as_slice(), globals)?;
+        let apart = own_cells(alloc, parts.as_slice(), globals)?;
+        let parts = shared(alloc, parts)?;
+        Ok(Levelled {
+            parts,
+            levels,
+            apart,
+        })
+    }
+
+    /// The programs' parts of the cells.
+    pub(crate) fn parts(&self) -> &[Arc<Part>]
+        ensures { map arc_value result.now ≡ self.now.parts }
+    {
+        self.parts.as_slice()
+    }
+
+    /// The programs' levels.
+    pub(crate) fn levels(&self) -> &Levels
+        ensures { result.now ≡ self.now.levels }
+    {
+        &self.levels
+    }
+
+    /// Whether beside the globals no two programs have a cell in common. Where two have, a crew isn't asked to run them.
+    pub fn is_apart(&self) -> bool
+        ensures { result ≡ self.now.apart }
+    {
+        self.apart
+    }
+}

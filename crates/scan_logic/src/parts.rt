@@ -1,0 +1,73 @@
+//! The programs' parts of the cells.
+
+ghost use Rattle.std.specs.Prelude.{◌≡◌, ◌≤◌, ◌^◌, length, map, IfOk, OnOk};
+ghost use Rattle.std.specs.Arc.{arc_value};
+ghost use Rattle.code_slices.specs.Parts.{IsPartOf};
+ghost use Rattle.scan_logic.specs.Levels.{AreProgramParts};
+
+use acc_vm::Code;
+use code_slices::{Part, relocate};
+use plant_walk::Framed;
+use std::alloc::{AllocError, Global};
+use std::sync::Arc;
+
+/// Makes a table as long as a code needs it. Fails if memory was refused, and past 2^32 numbers, which no plant has.
+fn make_room(table: &mut Vec<u32>, many: usize) -> Result<(), AllocError>
+    requires { length table.old.items ≤ 2 ^ 32 }
+    ensures long { IfOk result (λ _. many ≤ length table.new.items) }
+    ensures few { OnOk result (length table.new.items ≤ 2 ^ 32) }
+{
+    if many > u32::MAX as usize {
+        return Err(AllocError);
+    }
+    if table.len() < many {
+        table.resize(many, 0)?;
+    }
+    Ok(())
+}
+
+/// The part of a code, made with tables that may have served other codes. Fails if memory was refused.
+fn part_of(
+    alloc: Global,
+    code: &Code,
+    slots: &mut Vec<u32>,
+    clocks: &mut Vec<u32>,
+) -> Result<Part, AllocError>
+    requires slots { length slots.old.items ≤ 2 ^ 32 }
+    requires clocks { length clocks.old.items ≤ 2 ^ 32 }
+    ensures part { IfOk result (IsPartOf code.now) }
+    ensures slots { OnOk result (length slots.new.items ≤ 2 ^ 32) }
+    ensures clocks { OnOk result (length clocks.new.items ≤ 2 ^ 32) }
+{
+    make_room(slots, code.values())?;
+    make_room(clocks, code.clocks())?;
+    relocate(alloc, code, slots.as_mut_slice(), clocks.as_mut_slice())
+}
+
+/// The parts of all programs' codes, in program order. Fails if memory was refused.
+pub fn parts_of(alloc: Global, framed: &Framed) -> Result<Vec<Part>, AllocError>
+    ensures { IfOk result (λ parts. AreProgramParts framed.now parts.items) }
+{
+    let mut slots = Vec::new(alloc);
+    let mut clocks = Vec::new(alloc);
+    let mut parts = Vec::new(alloc);
+    for program in 0..framed.programs().len() {
+        let code = framed.code(program);
+        parts.push(part_of(alloc, code, &mut slots, &mut clocks)?)?;
+    }
+    Ok(parts)
+}
+
+/// Parts that threads may share. Fails if memory was refused.
+pub fn shared(alloc: Global, parts: Vec<Part>) -> Result<Vec<Arc<Part>>, AllocError>
+    ensures { IfOk result (λ shared. map arc_value shared.items ≡ parts.items) }
+{
+    let mut shared = Vec::with_capacity(alloc, parts.len())?;
+    for part in parts {
+        let Ok(part) = Arc::new(alloc, part) else {
+            return Err(AllocError);
+        };
+        shared.push(part)?;
+    }
+    Ok(shared)
+}

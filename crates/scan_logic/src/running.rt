@@ -1,0 +1,74 @@
+//! The programs of a scan, by whatever crew there is.
+
+ghost use Rattle.std.specs.Prelude.{◌≡◌, ◌<◌, length, All, IfOk, IfSome};
+ghost use Rattle.crew.specs.Faults.{faults_after};
+ghost use Rattle.plant_logic.specs.Worlds.{World};
+ghost use Rattle.plant_logic.specs.Paths.{paths_of};
+ghost use Rattle.block_frames.specs.Stands.{StandFor};
+ghost use Rattle.plant_walk.specs.Runs.{HasCells};
+ghost use Rattle.scan_logic.specs.Scans.{programs_from};
+ghost use Rattle.scan_logic.specs.Runs.{ProgramsRan};
+ghost use Rattle.scan_logic.specs.Levels.{AreLevelsOf};
+
+use crate::by_crew::run_by_crew;
+use crate::in_order::run_in_order;
+use crate::levels::Levelled;
+use crew::{Crew, CrewFault};
+use plant_cells::Cells;
+use plant_types::{Place, Trap};
+use plant_walk::{Framed, Stack};
+use slice_store::{Done, Job, Start};
+use std::alloc::{AllocError, Global};
+
+/// Makes the levels of a plant's programs, unless they are there or the crew that is to run these is alone. Fails if memory was refused.
+pub fn plan_levels(
+    alloc: Global,
+    framed: &Framed,
+    is_alone: bool,
+    levels: &mut Option<Levelled>,
+) -> Result<(), AllocError>
+    requires { IfSome levels.old (AreLevelsOf framed.now) }
+    ensures { IfSome levels.new (AreLevelsOf framed.now) }
+{
+    if is_alone || levels.is_some() {
+        return Ok(());
+    }
+    *levels = Some(Levelled::of(alloc, framed)?);
+    Ok(())
+}
+
+/// Runs the programs and returns the faults: level by level by the crew, or where this is alone or there are no levels, one after another on
+/// the caller's thread. Both leave the same. A program that traps is faulted from then on. The moment is that of the scan, in milliseconds.
+///
+/// Fails as the crew does, with `Memory` where memory was refused; then neither the cells nor the flags are of use. The faults take the room of
+/// others where they can.
+pub fn run_programs<C: Crew<Job, Start, Done, H>, H>(
+    rt: &H,
+    alloc: Global,
+    crew: &mut C,
+    framed: &Framed,
+    levels: &Option<Levelled>,
+    moment: u64,
+    stack: &mut Stack,
+    cells: &mut Cells,
+    faulted: &mut Vec<bool>,
+    room: Vec<(Place, Trap)>,
+) -> Result<Vec<(Place, Trap)>, CrewFault>
+    requires asked { C.asks }
+    requires levels { IfSome levels.now (AreLevelsOf framed.now) }
+    requires flags { length faulted.old.items ≡ length framed.now.programs }
+    requires cells { HasCells framed.now cells.old }
+    ensures ran { IfOk result (λ faults. (w : World) → StandFor framed.now cells.old w → ProgramsRan framed.now (programs_from framed.now moment 0 faulted.old.items w) cells.new faulted.new.items faults.items) }
+    ensures within { IfOk result (λ faults. All (λ f. f.0.path < length (paths_of framed.now)) faults.items) }
+    ensures faults { C.faulted crew.new ≡ faults_after (C.faulted crew.old) result }
+{
+    match levels {
+        Some(levels) if !crew.is_alone() => {
+            run_by_crew(rt, alloc, crew, framed, levels, moment, cells, faulted)
+        }
+        _ => match run_in_order(framed, moment, stack, cells, faulted, room) {
+            Ok(faults) => Ok(faults),
+            Err(_) => Err(CrewFault::Memory),
+        },
+    }
+}
