@@ -1,5 +1,5 @@
 -- The image of a scan that is taken names only globals.
-use Rattle.std.proofs.Common.{◌≡◌, ℕ, ◌<◌, ◌≤◌, Bool, true, false, if◌then◌else◌, List, [], ◌∷◌, All, length, refl, subst, Option, Some, None, Ok, Err, arith}
+use Rattle.std.proofs.Common.{◌≡◌, ℕ, ◌<◌, ◌≤◌, ap, Bool, true, false, if◌then◌else◌, List, [], ◌∷◌, All, length, refl, subst, Option, Some, None, Ok, Err, arith}
 use Rattle.std.specs.Prelude.{slice_get, nat_lt, nat_le}
 use Rattle.std.specs.declared.result.Result.{Result}
 use Rattle.std.specs.Option.{option_map, option_and_then}
@@ -16,10 +16,13 @@ use Rattle.alarm_machine.specs.declared.limits.TheConstants.{LAST_MOMENT}
 use Rattle.engine.specs.declared.event.TheConstants.{MOST_EVENTS}
 use Rattle.event_history.specs.declared.event.Event.{Event}
 use Rattle.event_history.specs.declared.event.Event.TheVariants as event
+use Rattle.crew.specs.declared.fault.CrewFault.{CrewFault}
+use Rattle.crew.specs.declared.fault.CrewFault.TheVariants as crew_fault
 use Rattle.engine.specs.declared.event.EngineFault.{EngineFault}
 use Rattle.engine.specs.declared.event.EngineFault.TheVariants as refusal
 use Rattle.engine.specs.declared.image.Input.{Input}
-use Rattle.engine.specs.Image.{input_at, input_of, inputs_of, has_twin, values_of, image_of}
+use Rattle.engine.specs.Faults.{faults_with}
+use Rattle.engine.specs.Image.{input_at, input_of, inputs_of, has_twin, values_of, image_of, IsDue}
 use Rattle.engine.specs.System.{taken_scan}
 
 -- an input, or a value, is that of a number below
@@ -150,3 +153,34 @@ pub taken_image : (globals : List Variable) (last events : ℕ) (pairs : List Pl
 unfolding taken_scan
 taken_image globals last events pairs t u image h =
     image_given globals pairs image (in_time (nat_lt LAST_MOMENT t) (nat_lt t last) (nat_le MOST_EVENTS events) (image_of globals pairs) t u image h)
+
+-- a crew's fault that is due shows in some count of faults
+shows : {A : Type 0} (fault : CrewFault) (r : Result A EngineFault) → IsDue (refusal.Crew fault) r → ((n : ℕ) → faults_with n (refusal.Crew fault) ≡ n) → ⊥
+shows crew_fault.Memory r due none = due
+shows crew_fault.NoThread r due none = let e : 1 ≡ 0 = none 0 in omega (arith, e)
+shows crew_fault.Lost r due none = let e : 1 ≡ 0 = none 0 in omega (arith, e)
+shows crew_fault.Misfit r due none = let e : 1 ≡ 0 = none 0 in omega (arith, e)
+
+refused_image : (e : EngineFault) (full : Bool) (t : ℕ) (r : Result (List (ℕ × Value)) EngineFault) → ((n : ℕ) → faults_with n e ≡ n) → IsDue e r → IsDue e (by_image full t r)
+refused_image refusal.Memory full t r none due = tt
+refused_image refusal.MomentBack full t r none due = ap (by_image full t) due
+refused_image refusal.MomentRange full t r none due = ap (by_image full t) due
+refused_image refusal.ImageName full t r none due = ap (by_image full t) due
+refused_image refusal.ImageKind full t r none due = ap (by_image full t) due
+refused_image (refusal.Crew fault) full t r none due = absurd (shows fault r due none)
+refused_image refusal.HistoryFull full t r none due = ap (by_image full t) due
+
+refused_in_time : (late early full : Bool) (r : Result (List (ℕ × Value)) EngineFault) (t : ℕ) (e : EngineFault) → late ≡ false → early ≡ false → ((n : ℕ) → faults_with n e ≡ n) → IsDue e r
+    → IsDue e (if late then Err refusal.MomentRange else if early then Err refusal.MomentBack else by_image full t r)
+refused_in_time true early full r t e within forward none due = absurd (cc)
+refused_in_time false true full r t e within forward none due = absurd (cc)
+refused_in_time false false full r t e within forward none due = refused_image e full t r none due
+
+-- a refusal of the image in time, by no crew, is due of the scan
+pub refused_scan : (globals : List Variable) (last events : ℕ) (pairs : List PlainPair) (t : ℕ) (e : EngineFault) → t ≤ LAST_MOMENT → last ≤ t → ((n : ℕ) → faults_with n e ≡ n) → IsDue e (image_of globals pairs)
+    → IsDue e (taken_scan globals last events pairs t)
+unfolding taken_scan
+refused_scan globals last events pairs t e below after none due =
+    let within : nat_lt LAST_MOMENT t ≡ false = grind (arith, nat_tests) in
+    let forward : nat_lt t last ≡ false = grind (arith, nat_tests) in
+    refused_in_time (nat_lt LAST_MOMENT t) (nat_lt t last) (nat_le MOST_EVENTS events) (image_of globals pairs) t e within forward none due

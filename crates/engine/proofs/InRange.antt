@@ -35,10 +35,12 @@ use Rattle.event_history.specs.declared.event.Event.{Event}
 use Rattle.event_history.specs.declared.event.Event.TheVariants as event
 use Rattle.engine.specs.declared.image.Input.{Input}
 use Rattle.engine.specs.Image.{input_at, input_of, inputs_of, values_of, FitsGlobal}
-use Rattle.engine.specs.Programs.{Scanned, with_input, with_inputs, after_run, programs_from, world_after}
+use Rattle.scan_logic.specs.Scans.{Scanned, after_run, programs_from}
+use Rattle.engine.specs.Programs.{with_input, with_inputs, world_after}
 use Rattle.engine.specs.System.{System, system, after_event, taken_scan}
 use Rattle.engine.specs.Lawful.{IsTaken, IsLawfulHistory, HasValuesInRange}
-use Rattle.engine.specs.Steps.{with_cell, ProgramsRan, StandInRange}
+use Rattle.scan_logic.specs.Runs.{ProgramsRan}
+use Rattle.engine.specs.Steps.{with_cell, StandInRange}
 use Rattle.engine.proofs.CellWorlds.{inputs_stand}
 use Rattle.engine.proofs.Images.{has_number, same_some, mapped_some, chosen_input, taken_image}
 use Rattle.engine.proofs.Lawful.{lawful_keeps}

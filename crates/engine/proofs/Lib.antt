@@ -3,7 +3,6 @@ pub mod CellWorlds
 pub mod Images
 pub mod OrderLaws
 pub mod Outs
-pub mod ProgramRuns
 pub mod Systems
 pub mod Twins
 mod Lawful

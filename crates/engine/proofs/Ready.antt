@@ -1,30 +1,15 @@
 -- What an engine holds, by the plant with which it began.
-use Rattle.std.proofs.Common.{◌≡◌, true, List, length, subst}
-use Rattle.plant_cells.specs.Cells.{value_at}
-use Rattle.plant_walk.specs.Sound.{IsSound}
+use Rattle.std.proofs.Common.{List, subst}
 use Rattle.journal_core.specs.declared.row.Row.{Row}
 use Rattle.plant_config.specs.Plants.{PlainPlant}
-use Rattle.plant_config.specs.Names.{globals_of, programs_of}
 use Rattle.event_history.specs.declared.event.Event.{Event}
-use Rattle.engine.specs.System.{system, outputs_from}
-use Rattle.alarm_watch.specs.Watched.{Follow}
-use Rattle.engine.specs.Watches.{watches_of}
+use Rattle.engine.specs.System.{system}
 use Rattle.engine.specs.Engines.{PlainState, IsEngine}
-use Rattle.engine.specs.Steps.{StandInRange}
+use Rattle.engine.specs.Steps.{IsReady}
 use Rattle.engine.proofs.InRange.{lawful_in_range}
 use Rattle.engine.proofs.Systems.{system_keeps_its_plant, kept_alarms, kept_faulted, kept_outputs}
 
--- what the parts of an event ask of a plant and of what is kept
-pub record IsReady (plant : PlainPlant) (k : PlainState) : Type 0 where
-  pub sound : IsSound plant.source
-  pub programs : length k.faulted ≡ length (programs_of plant)
-  pub alarms : length k.alarms ≡ length plant.alarms
-  pub watches : k.watches ≡ watches_of plant.alarms
-  pub follow : k.follows ≡ true → Follow (value_at k.cells) k.watches k.alarms
-  pub outputs : k.outputs ≡ outputs_from 0 (globals_of plant) (value_at k.cells)
-  pub values : StandInRange plant.source k.cells
-
--- an engine has it
+-- an engine has what the parts of an event ask
 pub ready : (plant : PlainPlant) (history : List Event) (rows : List Row) (k : PlainState) → IsEngine plant history rows k → IsReady plant k
 ready plant history rows k is =
     let sys = system plant history in

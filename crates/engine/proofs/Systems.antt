@@ -34,7 +34,8 @@ use Rattle.engine.specs.declared.event.EngineFault.TheVariants as refusal
 use Rattle.engine.specs.declared.state.Effect.{Effect}
 use Rattle.engine.specs.declared.state.Effect.TheVariants as effect
 use Rattle.plant_config.specs.Names.{globals_of, programs_of, body_paths}
-use Rattle.engine.specs.Programs.{Scanned, opening_faulted, after_run, programs_from, with_inputs, global_in, world_after}
+use Rattle.scan_logic.specs.Scans.{Scanned, after_run, programs_from}
+use Rattle.engine.specs.Programs.{opening_faulted, with_inputs, global_in, world_after}
 use Rattle.engine.specs.Orders.{order_outcome, alarms_by, faulted_by, reply_by}
 use Rattle.engine.specs.System.{System, system, after_event, taken_scan, scan_event, order_event, opening_system, opening_alarm, scanned_by, after_scan_event, ordered, conditions, suppressions, alarms_after, sites_of, outputs_from, out_at, outs_from}
 use Rattle.alarm_watch.specs.declared.watched.Watch.{Watch}
@@ -44,7 +45,8 @@ use Rattle.engine.specs.Journal.{IsJournal}
 use Rattle.engine.specs.Lawful.{IsTaken, IsLawfulHistory}
 use Rattle.engine.specs.Reports.{PlainReport}
 use Rattle.engine.specs.Engines.{PlainEngine, PlainState, PlainScanEffect, PlainPrepared, PlainPreparedOrder, after_effect, Fits, FitsOrder, IsState, IsEngine, IsReport, state_of}
-use Rattle.engine.specs.Steps.{ProgramsRan, ScanRan, IsPreparedScan, IsPreparedOrder}
+use Rattle.scan_logic.specs.Runs.{ProgramsRan}
+use Rattle.engine.specs.Steps.{ScanRan, IsPreparedScan, IsPreparedOrder}
 use Rattle.engine.proofs.CellWorlds.{inputs_stand, values_stand, alarms_same, outputs_stand, outs_stand}
 use Rattle.engine.proofs.Follows.{follow_order}
 use Rattle.engine.proofs.Images.{has_number, taken_within}

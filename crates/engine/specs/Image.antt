@@ -8,6 +8,7 @@ use Rattle.plant_types.specs.declared.values.Value.{Value}
 use Rattle.st_names.specs.Scopes.{is_input}
 use Rattle.plant_logic.specs.declared.logic.Variable.{Variable}
 use Rattle.plant_logic.specs.Names.{find_global}
+use Rattle.crew.specs.declared.fault.CrewFault.TheVariants as crew_fault
 use Rattle.engine.specs.declared.event.EngineFault.{EngineFault}
 use Rattle.engine.specs.declared.event.EngineFault.TheVariants as refusal
 use Rattle.engine.specs.declared.image.Input.{Input}
@@ -46,11 +47,13 @@ image_of globals pairs = elim (inputs_of globals pairs) [
 abbrev pub FitsGlobal : List Variable → ℕ × Value → Type 0
 FitsGlobal globals input = (global : Variable) × (slice_get globals input.0 ≡ Some global) × (is_in_range global.kind (worth input.1) ≡ true)
 
--- a refusal is the one that is due; allocation may fail at any time
+-- a refusal is the one that is due; allocation may fail at any time, and a crew, but for memory, where the event would be taken
 abbrev pub IsDue : {A : Type 0} → EngineFault → Result A EngineFault → Type 0
 IsDue refusal.Memory due = Unit {0}
 IsDue refusal.MomentBack due = due ≡ Err refusal.MomentBack
 IsDue refusal.MomentRange due = due ≡ Err refusal.MomentRange
 IsDue refusal.ImageName due = due ≡ Err refusal.ImageName
 IsDue refusal.ImageKind due = due ≡ Err refusal.ImageKind
+IsDue (refusal.Crew crew_fault.Memory) due = ⊥
+IsDue {A} (refusal.Crew _) due = (a : A) × (due ≡ Ok a)
 IsDue refusal.HistoryFull due = due ≡ Err refusal.HistoryFull

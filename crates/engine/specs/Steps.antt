@@ -6,23 +6,24 @@ use Rattle.plant_types.specs.declared.values.Trap.{Trap}
 use Rattle.plant_types.specs.Pairs.{PlainPair}
 use Rattle.plant_types.specs.Values.{kind_of, worth, value_of_kind, is_in_range}
 use Rattle.plant_types.specs.declared.values.Place.{Place}
-use Rattle.st_tree.specs.Meaning.{Ran, Done, Trapped}
 use Rattle.plant_logic.specs.declared.logic.Variable.{Variable}
 use Rattle.plant_logic.specs.Source.{Source}
-use Rattle.plant_logic.specs.Worlds.{World, run_program}
+use Rattle.plant_logic.specs.Worlds.{World}
 use Rattle.plant_logic.specs.Ranges.{AllInRange}
 use Rattle.plant_logic.specs.Paths.{paths_of}
 use Rattle.plant_cells.specs.Cells.{PlainCells, value_at, assigned}
 use Rattle.block_frames.specs.Stands.{StandFor}
-use Rattle.plant_walk.specs.Runs.{place_spot}
 use Rattle.plant_config.specs.Plants.{PlainPlant}
-use Rattle.plant_config.specs.Names.{globals_of}
+use Rattle.plant_config.specs.Names.{globals_of, programs_of}
+use Rattle.plant_walk.specs.Sound.{IsSound}
 use Rattle.alarm_bank.specs.Moves.{changes_from}
 use Rattle.alarm_machine.specs.declared.limits.TheConstants.{LAST_MOMENT}
 use Rattle.event_history.specs.declared.event.Event.TheVariants as event
 use Rattle.engine.specs.Reports.{PlainReport}
-use Rattle.engine.specs.Programs.{Scanned, programs_from}
+use Rattle.scan_logic.specs.Scans.{programs_from}
+use Rattle.scan_logic.specs.Runs.{ProgramsRan}
 use Rattle.engine.specs.System.{taken_scan, alarms_after, outputs_from, outs_from}
+use Rattle.engine.specs.Watches.{watches_of}
 use Rattle.engine.specs.Engines.{PlainState, PlainPrepared, PlainPreparedOrder, after_effect}
 use Rattle.event_history.specs.declared.event.Order.{Order}
 use Rattle.alarm_watch.specs.Watched.{Follow}
@@ -46,6 +47,16 @@ pub record StandInRange (source : Source) (cells : PlainCells) : Type 0 where
   pub stands : StandFor source cells world
   pub in_range : AllInRange source world
 
+-- what the parts of an event ask of a plant and of what is kept
+pub record IsReady (plant : PlainPlant) (k : PlainState) : Type 0 where
+  pub sound : IsSound plant.source
+  pub programs : length k.faulted ≡ length (programs_of plant)
+  pub alarms : length k.alarms ≡ length plant.alarms
+  pub watches : k.watches ≡ watches_of plant.alarms
+  pub follow : k.follows ≡ true → Follow (value_at k.cells) k.watches k.alarms
+  pub outputs : k.outputs ≡ outputs_from 0 (globals_of plant) (value_at k.cells)
+  pub values : StandInRange plant.source k.cells
+
 -- whether the number of an output isn't what it was before
 abbrev pub differs : (ℕ → ℤ) → (ℕ → ℤ) → ℕ × Value → Bool
 differs before now output = not (int_eq (before output.0) (now output.0))
@@ -53,22 +64,6 @@ differs before now output = not (int_eq (before output.0) (now output.0))
 -- an input gets its value
 abbrev pub with_cell : PlainCells → ℕ × Value → PlainCells
 with_cell cells input = assigned cells input.0 (worth input.1)
-
--- what a program does, by its flag: a faulted one is skipped
-abbrev pub run_by : Bool → Source → ℕ → ℕ → World → Ran World
-run_by true source n t w = Done w
-run_by false source n t w = run_program source n t w
-
--- how a run over cells ended, by its fault
-abbrev pub ended_by : Source → Option (Place × Trap) → PlainCells → Ran PlainCells
-ended_by source None cells = Done cells
-ended_by source (Some fault) cells = Trapped cells (place_spot source fault.0) fault.1
-
--- cells, flags and faults by place are what the programs leave in worlds
-pub record ProgramsRan (source : Source) (r : Scanned) (cells : PlainCells) (faulted : List Bool) (faults : List (Place × Trap)) : Type 0 where
-  pub world_stands : StandFor source cells r.world
-  pub faulted_is : faulted ≡ r.faulted
-  pub faults_are : map (λ f. (place_spot source f.0, f.1)) faults ≡ r.faults
 
 -- what a scan with an image at moment t leaves and reports
 pub record ScanRan (plant : PlainPlant) (old : PlainState) (image : List (ℕ × Value)) (t : ℕ) (new : PlainState) (r : PlainReport) : Type 0 where

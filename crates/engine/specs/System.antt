@@ -30,7 +30,8 @@ use Rattle.engine.specs.declared.event.EngineFault.TheVariants as refusal
 use Rattle.event_history.specs.declared.event.Order.{Order}
 use Rattle.engine.specs.declared.event.Reply.{Reply}
 use Rattle.engine.specs.declared.state.Effect.{Effect}
-use Rattle.engine.specs.Programs.{Scanned, opening_faulted, global_in, world_after}
+use Rattle.scan_logic.specs.Scans.{Scanned}
+use Rattle.engine.specs.Programs.{opening_faulted, global_in, world_after}
 use Rattle.engine.specs.Image.{image_of}
 use Rattle.engine.specs.Orders.{order_outcome, alarms_by, faulted_by, reply_by}
 

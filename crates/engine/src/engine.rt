@@ -2,6 +2,7 @@
 
 ghost use Rattle.std.specs.Prelude.{◌≡◌, ◌+◌, ◌<◌, ◌≤◌, ◌++◌, [], ◌∷◌, length, slice_get, string_bytes, Some, Ok, IfOk, OnOk, OnErr, IfErr};
 ghost use Rattle.std.specs.Option.{option_map};
+ghost use Rattle.engine.specs.Faults.{faults_by, IsNoCrews};
 ghost use Rattle.engine.specs.Image.{IsDue};
 ghost use Rattle.engine.specs.Orders.{restart_of};
 ghost use Rattle.engine.specs.System.{scan_event, order_event, reply_to, outputs_of, summary_of};
@@ -13,15 +14,18 @@ use crate::event::{EngineFault, MOST_EVENTS, Reply, Report};
 use crate::image::widest_image;
 use crate::journal::{line_text, push_order, push_scan, row_count};
 use crate::orders::{PreparedOrder, prepared_order};
-use crate::scan::{Prepared, Room, prepared_scan};
+use crate::scan::{Before, Prepared, Room, RunRoom, prepared_scan};
 use crate::state::{State, alarm_state, apply, apply_scan, opening_state};
 use alarm_bank::Summary;
 use alarm_machine::{AlarmState, Verb};
+use crew::Crew;
 use event_history::{Event, History, Order};
 use journal_core::Log;
 use plant_config::Plant;
 use plant_types::{Pair, Value};
 use plant_walk::Stack;
+use scan_logic::{Levelled, plan_levels};
+use slice_store::{Done, Job, Start};
 use std::alloc::{AllocError, Global};
 use std::marker::Model;
 
@@ -33,9 +37,12 @@ pub struct Engine {
     log: Log,
     state: State,
     room: Room,
+    levels: Option<Levelled>,
 }
 
 impl Model for Engine {
+    ghost use Rattle.std.specs.Prelude.{IfSome};
+    ghost use Rattle.scan_logic.specs.Levels.{AreLevelsOf};
     ghost use Rattle.engine.specs.Engines.{PlainEngine, IsEngine, engine_code, room_for};
 
     ghost Value = { PlainEngine };
@@ -44,7 +51,7 @@ impl Model for Engine {
 
     ghost view = { λ e. record { plant = e.plant; history = e.history.events; room = room_for e.plant e.history; row_room = e.log.room } };
 
-    ghost invariant = { λ e. IsEngine e.plant e.history.events e.log.rows e.state };
+    ghost invariant = { λ e. IsEngine e.plant e.history.events e.log.rows e.state × IfSome e.levels (AreLevelsOf e.plant.source) };
 }
 
 /// The state before the first event, and room for events. Fails if allocation fails.
@@ -53,13 +60,16 @@ fn opening(alloc: Global, plant: &Plant) -> Result<(State, Room), AllocError>
 {
     let stack = Stack::new(alloc)?;
     let state = opening_state(alloc, plant)?;
-    let room = Room {
+    let run = RunRoom {
         spare: None,
         report: None,
-        inputs: Vec::new(alloc),
-        image: Vec::new(alloc),
         stack,
         marks: Vec::new(alloc),
+    };
+    let room = Room {
+        inputs: Vec::new(alloc),
+        image: Vec::new(alloc),
+        run,
     };
     Ok((state, room))
 }
@@ -77,6 +87,7 @@ impl Engine {
             log: Log::new(alloc),
             state,
             room,
+            levels: None,
         })
     }
 
@@ -143,30 +154,53 @@ impl Engine {
         line_text(alloc, &self.plant, &row)
     }
 
+    /// Makes what a crew of several needs to run the programs: the levels in which they may run together. The first scan by such a crew makes it
+    /// too, unless it is there. The engine stays as it is. Fails if allocation fails.
+    pub fn plan_levels(&mut self, alloc: Global) -> Result<(), AllocError>
+        ensures { self.new ≡ self.old }
+    {
+        plan_levels(alloc, self.plant.logic(), false, &mut self.levels)
+    }
+
     /// Makes a scan ready: runs the programs on copies, and allocates all that `commit` needs, room for the rows of the journal too. It
-    /// changes neither plant nor history.
+    /// changes neither plant nor history. A crew that is alone leaves the programs to the caller, who runs them in order; any other runs those of
+    /// one level after another. Both leave the same.
     ///
     /// The pairs name inputs, letter case ignored; the moment is in milliseconds. The refusals, in the order in which they are tested:
     /// `MomentRange` (E2) above 4,000,000,000,000, `MomentBack` (E1) before the last scan, `ImageName` (E3) for a name that is no input
     /// or comes twice, `ImageKind` (E4) for a value that doesn't fit its input, `HistoryFull` (E6) at 1,000,000 events. `Memory` comes
     /// only if allocation fails: of room for the image and its inputs, for what it leaves of the variables and outputs and for the alarms that it
-    /// moves, of a mark for each alarm, of a flag for each global if the image has more than 16 inputs, of the report's lists and of its rows.
-    pub fn prepare(
+    /// moves, of a mark for each alarm, of a flag for each global if the image has more than 16 inputs, of the report's lists and of its rows; by a
+    /// crew, of the levels, and of what a crew's jobs need. `Crew` (E5) comes only if the crew failed, and not for memory: just then does its
+    /// count of faults rise, or stay at its end.
+    pub fn prepare<C: Crew<Job, Start, Done, H>, H>(
         &mut self,
+        rt: &H,
         alloc: Global,
+        crew: &mut C,
         pairs: &[Pair],
         moment: u64,
     ) -> Result<Prepared, EngineFault>
+        requires asked { C.asks }
         ensures plant { self.new.plant ≡ self.old.plant }
         ensures history { self.new.history ≡ self.old.history }
         ensures room { self.old.room ≤ self.new.room }
         ensures row_room { self.old.row_room ≤ self.new.row_room }
         ensures ok { IfOk result (λ p. Fits self.new p × (scan_event (state_of self.old) pairs.now moment ≡ Ok p.event)) }
         ensures err { IfErr result (λ e. IsDue e (scan_event (state_of self.old) pairs.now moment)) }
+        ensures crew { C.faulted crew.new ≡ faults_by (C.faulted crew.old) result }
     {
+        let is_alone = crew.is_alone();
+        plan_levels(alloc, self.plant.logic(), is_alone, &mut self.levels)?;
         let events = self.history.len();
+        let before = Before {
+            plant: &self.plant,
+            state: &self.state,
+            events,
+            levels: &self.levels,
+        };
         let room = &mut self.room;
-        let prepared = prepared_scan(alloc, &self.plant, &self.state, room, events, pairs, moment)?;
+        let prepared = prepared_scan(rt, alloc, crew, &before, room, pairs, moment)?;
         self.log.reserve(row_count(&prepared.report))?;
         self.history.reserve(widest_image(&self.plant))?;
         Ok(prepared)
@@ -191,7 +225,7 @@ impl Engine {
         push_scan(&mut self.log, &report);
         self.history.push_scan(image.as_slice(), moment);
         self.room.image = image;
-        self.room.spare = Some(apply_scan(effect, &mut self.state));
+        self.room.run.spare = Some(apply_scan(effect, &mut self.state));
         report
     }
 
@@ -199,7 +233,7 @@ impl Engine {
     pub fn reuse(&mut self, report: Report)
         ensures { self.new ≡ self.old }
     {
-        self.room.report = Some(report);
+        self.room.run.report = Some(report);
     }
 
     /// Makes an order of the console of a number ready. It changes neither plant nor history.
@@ -217,6 +251,7 @@ impl Engine {
         ensures row_room { self.old.row_room ≤ self.new.row_room }
         ensures ok { IfOk result (λ p. FitsOrder self.new p × (order_event (state_of self.old) console order ≡ Ok (Event.Order p.console p.order)) × (p.console ≡ console) × (p.order ≡ order)) }
         ensures err { IfErr result (λ e. IsDue e (order_event (state_of self.old) console order)) }
+        ensures no_crew { IsNoCrews result }
     {
         if self.history.len() >= MOST_EVENTS {
             return Err(EngineFault::HistoryFull);
@@ -252,20 +287,24 @@ impl Engine {
     }
 
     /// Makes a scan ready and commits it. The refusals are those of `prepare`.
-    pub fn scan(
+    pub fn scan<C: Crew<Job, Start, Done, H>, H>(
         &mut self,
+        rt: &H,
         alloc: Global,
+        crew: &mut C,
         pairs: &[Pair],
         moment: u64,
     ) -> Result<Report, EngineFault>
+        requires asked { C.asks }
         ensures plant { self.new.plant ≡ self.old.plant }
         ensures ok { IfOk result (λ r. TakesScan self.old self.new pairs.now moment r) }
         ensures err { IfErr result (λ e. IsDue e (scan_event (state_of self.old) pairs.now moment)) }
         ensures kept { OnErr result (self.new.history ≡ self.old.history) }
         ensures room { OnErr result (self.old.room ≤ self.new.room) }
         ensures row_room { OnErr result (self.old.row_room ≤ self.new.row_room) }
+        ensures crew { C.faulted crew.new ≡ faults_by (C.faulted crew.old) result }
     {
-        let prepared = self.prepare(alloc, pairs, moment)?;
+        let prepared = self.prepare(rt, alloc, crew, pairs, moment)?;
         Ok(self.commit(prepared))
     }
 
@@ -276,6 +315,7 @@ impl Engine {
         ensures allowed { OnOk result (order_event (state_of self.old) console order ≡ Ok (Event.Order console order)) }
         ensures reply { IfOk result (λ r. r ≡ reply_to (state_of self.old) console order) }
         ensures err { IfErr result (λ e. IsDue e (order_event (state_of self.old) console order)) }
+        ensures no_crew { IsNoCrews result }
         ensures kept { OnErr result (self.new.history ≡ self.old.history) }
         ensures room { OnErr result (self.old.room ≤ self.new.room) }
         ensures row_room { OnErr result (self.old.row_room ≤ self.new.row_room) }
@@ -300,6 +340,7 @@ impl Engine {
         ensures allowed { OnOk result (order_event (state_of self.old) console (restart_of program) ≡ Ok (Event.Order console (restart_of program))) }
         ensures reply { IfOk result (λ r. r ≡ reply_to (state_of self.old) console (restart_of program)) }
         ensures err { IfErr result (λ e. IsDue e (order_event (state_of self.old) console (restart_of program))) }
+        ensures no_crew { IsNoCrews result }
         ensures kept { OnErr result (self.new.history ≡ self.old.history) }
         ensures room { OnErr result (self.old.room ≤ self.new.room) }
         ensures row_room { OnErr result (self.old.row_room ≤ self.new.row_room) }

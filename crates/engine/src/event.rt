@@ -1,4 +1,5 @@
 use alarm_machine::{Change, LAST_MOMENT, OrderFault};
+use crew::CrewFault;
 use plant_types::{Place, Trap, Value};
 use std::alloc::AllocError;
 use std::marker::Model;
@@ -55,6 +56,10 @@ pub enum EngineFault {
     /// E4: a value that doesn't fit its input's kind.
     #[error("E4: a value doesn't fit its input")]
     ImageKind,
+    /// E5: the crew that ran the programs failed, and why. It has no place in the order of the others: it comes only where the event would be
+    /// taken, and never for memory.
+    #[error("E5: the crew failed")]
+    Crew(CrewFault),
     /// E6: the history has 1,000,000 events.
     #[error("E6: the history has {limit} events", limit = MOST_EVENTS)]
     HistoryFull,
@@ -68,6 +73,20 @@ impl From<AllocError> for EngineFault {
 
     fn from(_refused: AllocError) -> EngineFault {
         EngineFault::Memory
+    }
+}
+
+impl From<CrewFault> for EngineFault {
+    ghost use Rattle.std.specs.Prelude.{◌≡◌};
+    ghost use Rattle.engine.specs.Faults.{refusal_by};
+
+    ghost from_gives = { λ fault e. e ≡ refusal_by fault };
+
+    fn from(fault: CrewFault) -> EngineFault {
+        match fault {
+            CrewFault::Memory => EngineFault::Memory,
+            fault => EngineFault::Crew(fault),
+        }
     }
 }
 
@@ -85,6 +104,7 @@ impl EngineFault {
             EngineFault::MomentRange => "E2",
             EngineFault::ImageName => "E3",
             EngineFault::ImageKind => "E4",
+            EngineFault::Crew(_) => "E5",
             EngineFault::HistoryFull => "E6",
         }
     }

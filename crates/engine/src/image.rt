@@ -3,6 +3,7 @@
 ghost use Rattle.std.specs.Prelude.{◌≡◌, ◌<◌, length, All, IfOk, IfErr, IfSome, OnOk, Ok, Some, None, ◌≤◌, ◌==◌, if◌then◌else◌};
 ghost use Rattle.std.specs.List.{list_any};
 ghost use Rattle.plant_config.specs.Names.{globals_of};
+ghost use Rattle.engine.specs.Faults.{IsNoCrews};
 ghost use Rattle.engine.specs.Image.{input_of, inputs_of, has_twin, values_of, image_of, IsDue};
 ghost use Rattle.engine.specs.System.{taken_scan};
 ghost use Rattle.event_history.specs.declared.event.Event.TheVariants.{Scan};
@@ -132,6 +133,7 @@ fn image_of(
 ) -> Result<(), EngineFault>
     ensures ok { OnOk result (image_of (globals_of plant.now) pairs.now ≡ Ok room.new.image.items) }
     ensures err { IfErr result (λ e. IsDue e (image_of (globals_of plant.now) pairs.now)) }
+    ensures no_crew { IsNoCrews result }
 {
     if !list_inputs(plant, pairs, &mut room.inputs)? {
         return Err(EngineFault::ImageName);
@@ -159,6 +161,7 @@ pub fn taken_image(
     ensures ok { OnOk result (taken_scan (globals_of plant.now) last events pairs.now moment ≡ Ok (Scan room.new.image.items moment)) }
     ensures range { OnOk result (moment ≤ LAST_MOMENT) }
     ensures err { IfErr result (λ e. IsDue e (taken_scan (globals_of plant.now) last events pairs.now moment)) }
+    ensures no_crew { IsNoCrews result }
 {
     if moment > LAST_MOMENT {
         return Err(EngineFault::MomentRange);

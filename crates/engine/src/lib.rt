@@ -3,6 +3,8 @@
 //! Contracts see an engine as its plant, its history, and its room for more events and for more rows of the journal. All else that it keeps
 //! is what the system, a fold over that history, has, and the journal, the rows that its events added. An event is first made ready, which
 //! may be refused and changes nothing but the room, and then committed, which allocates nothing and can't fail.
+//!
+//! The programs of a scan are run by any crew: what follows from a scan is the same for each.
 #![tactic(auto)]
 
 mod engine;
@@ -17,6 +19,7 @@ mod steps;
 
 pub use alarm_bank::Summary;
 pub use alarm_machine::{AlarmState, Change, OrderFault, Verb};
+pub use crew::{Alone, Crew, CrewFault};
 pub use engine::Engine;
 pub use event::{EngineFault, Reply, Report};
 pub use event_history::{Event, Order};
@@ -30,4 +33,5 @@ pub use plant_config::{AlarmRow, ConfigFault, Files, Limit, Plant};
 pub use plant_file::Console;
 pub use plant_types::{Kind, Pair, Place, Region, Trap, Value};
 pub use scan::Prepared;
+pub use slice_store::{Done, Job, Start};
 pub use stamps::Epoch;

@@ -1,24 +1,26 @@
 //! How a scan is made ready.
 
-ghost use Rattle.std.specs.Prelude.{◌≡◌, ◌≤◌, true, length, All, IfOk, IfErr};
+ghost use Rattle.std.specs.Prelude.{◌≡◌, ◌≤◌, All, Ok, IfOk, IfErr, IfSome};
 ghost use Rattle.alarm_machine.specs.declared.limits.TheConstants.{LAST_MOMENT};
-ghost use Rattle.plant_cells.specs.Cells.{value_at};
-ghost use Rattle.plant_config.specs.Names.{globals_of, programs_of};
-ghost use Rattle.plant_walk.specs.Sound.{IsSound};
+ghost use Rattle.plant_config.specs.Names.{globals_of};
+ghost use Rattle.event_history.specs.declared.event.Event.TheVariants.{Scan};
+ghost use Rattle.scan_logic.specs.Levels.{AreLevelsOf};
+ghost use Rattle.engine.specs.Faults.{faults_by};
 ghost use Rattle.engine.specs.Image.{IsDue, FitsGlobal};
-ghost use Rattle.engine.specs.System.{taken_scan, outputs_from};
+ghost use Rattle.engine.specs.System.{taken_scan};
 ghost use Rattle.engine.specs.Engines.{after_effect};
-ghost use Rattle.alarm_watch.specs.Watched.{Follow};
-ghost use Rattle.engine.specs.Watches.{watches_of};
-ghost use Rattle.engine.specs.Steps.{ScanRan, IsPreparedScan, StandInRange};
+ghost use Rattle.engine.specs.Steps.{ScanRan, IsPreparedScan, IsReady};
 
 use crate::event::{EngineFault, Report};
 use crate::image::{Input, taken_image};
 use crate::state::{ScanEffect, State, copied_cells, copied_flags, empty_effect};
-use crate::steps::{changed, renewed, run_programs, set_inputs, step_alarms};
+use crate::steps::{changed, renewed, set_inputs, step_alarms};
+use crew::Crew;
 use plant_config::Plant;
 use plant_types::{Pair, Value};
 use plant_walk::Stack;
+use scan_logic::{Levelled, run_programs};
+use slice_store::{Done, Job, Start};
 use std::alloc::{AllocError, Global};
 use std::marker::Model;
 use std::mem::replace;
@@ -44,18 +46,38 @@ impl Model for Prepared {
 /// Memory that one scan after another uses. What it holds doesn't matter.
 #[derive(Drop)]
 pub struct Room {
-    /// What an earlier scan replaced.
-    pub spare: Option<ScanEffect>,
-    /// What an earlier scan reported.
-    pub report: Option<Report>,
     /// For the inputs of an image.
     pub inputs: Vec<Input>,
     /// For an image.
     pub image: Vec<(u32, Value)>,
+    /// For all that comes of an image.
+    pub run: RunRoom,
+}
+
+/// Memory for what comes of the image of a scan. What it holds doesn't matter.
+#[derive(Drop)]
+pub struct RunRoom {
+    /// What an earlier scan replaced.
+    pub spare: Option<ScanEffect>,
+    /// What an earlier scan reported.
+    pub report: Option<Report>,
     /// For the programs' runs.
     pub stack: Stack,
     /// For the marks of the alarms that may move.
     pub marks: Vec<bool>,
+}
+
+/// What a scan begins from.
+#[derive(Clone, Copy)]
+pub struct Before<'a> {
+    /// The plant.
+    pub plant: &'a Plant,
+    /// The state after the events so far.
+    pub state: &'a State,
+    /// How many events these are.
+    pub events: usize,
+    /// The levels by which a crew runs the programs, if they were made.
+    pub levels: &'a Option<Levelled>,
 }
 
 /// A report of nothing, to be written over.
@@ -69,29 +91,33 @@ fn empty_report(alloc: Global) -> Report {
 }
 
 /// Runs a scan on copies of what a state has, and returns what it does to the state and what it reports, in the room of another's. Fails if
-/// allocation fails.
-fn run_scan(
+/// allocation fails, or the crew.
+fn run_scan<C: Crew<Job, Start, Done, H>, H>(
+    rt: &H,
     alloc: Global,
-    plant: &Plant,
-    old: &State,
-    stack: &mut Stack,
-    marks: &mut Vec<bool>,
-    room: (ScanEffect, Report),
+    crew: &mut C,
+    before: &Before<'_>,
+    room: &mut RunRoom,
     image: &[(u32, Value)],
     moment: u64,
-) -> Result<(ScanEffect, Report), AllocError>
-    requires programs { length old.now.faulted ≡ length (programs_of plant.now) }
-    requires alarms { length old.now.alarms ≡ length plant.now.alarms }
-    requires watches { old.now.watches ≡ watches_of plant.now.alarms }
-    requires follow { old.now.follows ≡ true → Follow (value_at old.now.cells) old.now.watches old.now.alarms }
-    requires outputs { old.now.outputs ≡ outputs_from 0 (globals_of plant.now) (value_at old.now.cells) }
+) -> Result<(ScanEffect, Report), EngineFault>
+    requires asked { C.asks }
+    requires ready { IsReady before.now.plant.now before.now.state.now }
+    requires levels { IfSome before.now.levels.now (AreLevelsOf before.now.plant.now.source) }
     requires range { moment ≤ LAST_MOMENT }
-    requires sound { IsSound plant.now.source }
-    requires image { All (FitsGlobal (globals_of plant.now)) image.now }
-    requires values { StandInRange plant.now.source old.now.cells }
-    ensures { IfOk result (λ r. ScanRan plant.now old.now image.now moment (after_effect r.0 old.now) r.1) }
+    requires image { All (FitsGlobal (globals_of before.now.plant.now)) image.now }
+    ensures ok { IfOk result (λ r. ScanRan before.now.plant.now before.now.state.now image.now moment (after_effect r.0 before.now.state.now) r.1) }
+    ensures err { IfErr result (λ e. IsDue e (Ok (Scan image.now moment))) }
+    ensures crew { C.faulted crew.new ≡ faults_by (C.faulted crew.old) result }
 {
-    let (spare, report) = room;
+    let Before {
+        plant,
+        state: old,
+        events: _,
+        levels,
+    } = *before;
+    let spare = room.spare.take().unwrap_or(empty_effect(alloc));
+    let report = room.report.take().unwrap_or(empty_report(alloc));
     let ScanEffect {
         cells: room_of_cells,
         faulted: room_of_flags,
@@ -108,10 +134,23 @@ fn run_scan(
     let mut cells = copied_cells(alloc, &old.cells, room_of_cells)?;
     set_inputs(image, &mut cells);
     let mut faulted = copied_flags(old.faulted.as_slice(), room_of_flags)?;
+    let framed = plant.logic();
+    let stack = &mut room.stack;
     let flags = &mut faulted;
-    let faults = run_programs(plant, moment, stack, &mut cells, flags, room_of_faults)?;
+    let faults = run_programs(
+        rt,
+        alloc,
+        crew,
+        framed,
+        levels,
+        moment,
+        stack,
+        &mut cells,
+        flags,
+        room_of_faults,
+    )?;
     let lists = (room_of_moved, room_of_changes);
-    let (moved, changes) = step_alarms(alloc, old, &cells, moment, marks, lists)?;
+    let (moved, changes) = step_alarms(alloc, old, &cells, moment, &mut room.marks, lists)?;
     let outputs = renewed(old.outputs.as_slice(), &cells, room_of_outputs)?;
     let outs = changed(outputs.as_slice(), &old.cells, &cells, room_of_outs)?;
     let effect = ScanEffect {
@@ -130,34 +169,36 @@ fn run_scan(
     Ok((effect, report))
 }
 
-/// Makes a scan ready after so many events, in the room that there is, or returns why it is refused.
-pub fn prepared_scan(
+/// Makes a scan ready, in the room that there is, or returns why it is refused.
+pub fn prepared_scan<C: Crew<Job, Start, Done, H>, H>(
+    rt: &H,
     alloc: Global,
-    plant: &Plant,
-    old: &State,
+    crew: &mut C,
+    before: &Before<'_>,
     room: &mut Room,
-    events: usize,
     pairs: &[Pair],
     moment: u64,
 ) -> Result<Prepared, EngineFault>
-    requires programs { length old.now.faulted ≡ length (programs_of plant.now) }
-    requires alarms { length old.now.alarms ≡ length plant.now.alarms }
-    requires watches { old.now.watches ≡ watches_of plant.now.alarms }
-    requires follow { old.now.follows ≡ true → Follow (value_at old.now.cells) old.now.watches old.now.alarms }
-    requires outputs { old.now.outputs ≡ outputs_from 0 (globals_of plant.now) (value_at old.now.cells) }
-    requires sound { IsSound plant.now.source }
-    requires values { StandInRange plant.now.source old.now.cells }
-    ensures ok { IfOk result (IsPreparedScan plant.now old.now events pairs.now moment) }
-    ensures err { IfErr result (λ e. IsDue e (taken_scan (globals_of plant.now) old.now.moment events pairs.now moment)) }
+    requires asked { C.asks }
+    requires ready { IsReady before.now.plant.now before.now.state.now }
+    requires levels { IfSome before.now.levels.now (AreLevelsOf before.now.plant.now.source) }
+    ensures ok { IfOk result (IsPreparedScan before.now.plant.now before.now.state.now before.now.events pairs.now moment) }
+    ensures err { IfErr result (λ e. IsDue e (taken_scan (globals_of before.now.plant.now) before.now.state.now.moment before.now.events pairs.now moment)) }
+    ensures crew { C.faulted crew.new ≡ faults_by (C.faulted crew.old) result }
 {
-    taken_image(alloc, plant, room, old.bank.moment(), events, pairs, moment)?;
-    let spare = room.spare.take().unwrap_or(empty_effect(alloc));
-    let lists = room.report.take().unwrap_or(empty_report(alloc));
+    let old = before.state;
+    let last = old.bank.moment();
+    taken_image(
+        alloc,
+        before.plant,
+        room,
+        last,
+        before.events,
+        pairs,
+        moment,
+    )?;
     let image = room.image.as_slice();
-    let stack = &mut room.stack;
-    let marks = &mut room.marks;
-    let used = (spare, lists);
-    let (effect, report) = run_scan(alloc, plant, old, stack, marks, used, image, moment)?;
+    let (effect, report) = run_scan(rt, alloc, crew, before, &mut room.run, image, moment)?;
     let image = replace(&mut room.image, Vec::new(alloc));
     Ok(Prepared {
         image,

@@ -1,30 +1,23 @@
-//! The parts of a scan: inputs, programs, alarms and outputs.
+//! The parts of a scan: inputs, alarms and outputs.
 
-ghost use Rattle.std.specs.Prelude.{◌≡◌, ◌<◌, ◌^◌, true, length, fold, map, IfOk, IfSome, All, ◌≤◌};
+ghost use Rattle.std.specs.Prelude.{◌≡◌, ◌<◌, ◌^◌, true, length, fold, map, IfOk, All, ◌≤◌};
 ghost use Rattle.std.specs.List.{filter};
 ghost use Rattle.alarm_machine.specs.declared.limits.TheConstants.{LONGEST_SHELVE_MS};
-ghost use Rattle.plant_logic.specs.Worlds.{World};
-ghost use Rattle.plant_logic.specs.Paths.{paths_of};
 ghost use Rattle.plant_cells.specs.Cells.{value_at};
-ghost use Rattle.block_frames.specs.Stands.{StandFor};
-ghost use Rattle.plant_walk.specs.Runs.{Agree, HasCells};
-ghost use Rattle.plant_config.specs.Names.{programs_of};
-ghost use Rattle.engine.specs.Programs.{programs_from};
 ghost use Rattle.engine.specs.System.{opening_alarm, sites_of, is_output, outputs_from};
 ghost use Rattle.engine.specs.Watches.{watches_of};
 ghost use Rattle.alarm_watch.specs.Watched.{alarms_watched, Follow};
 ghost use Rattle.alarm_bank.specs.Moves.{put_all, changes_from};
-ghost use Rattle.engine.specs.Steps.{with_cell, run_by, ended_by, ProgramsRan, output_in, differs, IsShowable, AreShowable};
+ghost use Rattle.engine.specs.Steps.{with_cell, output_in, differs, IsShowable, AreShowable};
 
 use crate::state::State;
 use alarm_bank::Site;
 use alarm_machine::{Alarm, Change};
 use alarm_watch::{Watch, value_at};
 use plant_cells::Cells;
-use plant_config::{AlarmRow, Plant};
+use plant_config::AlarmRow;
 use plant_logic::Variable;
-use plant_types::{Place, Region, Trap, Value};
-use plant_walk::{Stack, Walked, run};
+use plant_types::{Region, Value};
 use std::alloc::{AllocError, Global};
 
 /// Gives the inputs of an image their values.
@@ -37,60 +30,6 @@ pub fn set_inputs(image: &[(u32, Value)], cells: &mut Cells)
             cells.set(slot, value.worth());
         }
     }
-}
-
-/// Runs the program of a number, from 0, unless it is faulted, and returns its fault. What it assigned before a fault is kept.
-fn run_program(
-    plant: &Plant,
-    program: u32,
-    moment: u64,
-    stack: &mut Stack,
-    cells: &mut Cells,
-    is_faulted: bool,
-) -> Option<(Place, Trap)>
-    requires there { program < length (programs_of plant.now) }
-    requires cells { HasCells plant.now.source cells.old }
-    ensures cells { HasCells plant.now.source cells.new }
-    ensures ran { (w : World) → StandFor plant.now.source cells.old w → Agree plant.now.source (run_by is_faulted plant.now.source program moment w) (ended_by plant.now.source result cells.new) }
-    ensures within { IfSome result (λ fault. fault.0.path < length (paths_of plant.now.source)) }
-{
-    if is_faulted {
-        return None;
-    }
-    match run(plant.logic(), program, stack, cells, moment) {
-        Walked::Done => None,
-        Walked::Trapped(place, trap) => Some((place, trap)),
-    }
-}
-
-/// Runs the programs in order, but for those that are faulted, and returns the faults in the room of other faults. A program that traps is
-/// faulted from then on.
-///
-/// Fails if allocation fails.
-pub fn run_programs(
-    plant: &Plant,
-    moment: u64,
-    stack: &mut Stack,
-    cells: &mut Cells,
-    faulted: &mut Vec<bool>,
-    room: Vec<(Place, Trap)>,
-) -> Result<Vec<(Place, Trap)>, AllocError>
-    requires flags { length faulted.old.items ≡ length (programs_of plant.now) }
-    requires cells { HasCells plant.now.source cells.old }
-    ensures ran { IfOk result (λ faults. (w : World) → StandFor plant.now.source cells.old w → ProgramsRan plant.now.source (programs_from plant.now.source moment 0 faulted.old.items w) cells.new faulted.new.items faults.items) }
-    ensures within { IfOk result (λ faults. All (λ f. f.0.path < length (paths_of plant.now.source)) faults.items) }
-{
-    let mut faults = room;
-    faults.clear();
-    for program in 0..plant.programs() {
-        let at = program as usize;
-        let fault = run_program(plant, program, moment, stack, cells, faulted[at]);
-        if let Some(fault) = fault {
-            faulted[at] = true;
-            faults.push(fault)?;
-        }
-    }
-    Ok(faults)
 }
 
 /// The alarms before the first scan, one for each row. Fails if allocation fails.

@@ -8,18 +8,21 @@ pub invariant_of-self : goal.invariant_of-self
 invariant_of-self c =
     let fits = rw (← c.self.view_is, ← c.prepared.view_is) at c.requires in
     let k = c.self.inside.state in
-    rw (c.push_scan-2.ensures.events, c.as_slice.ensures.value, c.apply_scan.ensures, c.push_scan.ensures) (record {
-      state_is = scan_state _ _ k fits c.self.invariant.state_is;
-      plant_is = c.self.invariant.plant_is;
-      lawful = lawful_next _ _ _ c.self.invariant.lawful fits.taken;
-      journal = scan_committed _ _ c.self.inside.log fits c.self.invariant.journal;
-      until = scan_until _ _ k c.self.inside.log fits c.self.invariant.state_is c.self.invariant.until;
-    })
+    rw (c.push_scan-2.ensures.events, c.as_slice.ensures.value, c.apply_scan.ensures, c.push_scan.ensures) ((
+      record {
+        state_is = scan_state _ _ k fits c.self.invariant.0.state_is;
+        plant_is = c.self.invariant.0.plant_is;
+        lawful = lawful_next _ _ _ c.self.invariant.0.lawful fits.taken;
+        journal = scan_committed _ _ c.self.inside.log fits c.self.invariant.0.journal;
+        until = scan_until _ _ k c.self.inside.log fits c.self.invariant.0.state_is c.self.invariant.0.until;
+      },
+      c.self.invariant.1,
+    ))
 
 pub push_scan-requires-clause-in_order : goal.push_scan-requires-clause-in_order
 push_scan-requires-clause-in_order c =
     let fits = rw (← c.self.view_is, ← c.prepared.view_is) at c.requires in
-    scan_in_order _ _ c.self.inside.state c.self.inside.log.rows fits c.self.invariant.state_is c.self.invariant.until
+    scan_in_order _ _ c.self.inside.state c.self.inside.log.rows fits c.self.invariant.0.state_is c.self.invariant.0.until
 
 pub push_scan-requires-clause-room : goal.push_scan-requires-clause-room
 push_scan-requires-clause-room c =

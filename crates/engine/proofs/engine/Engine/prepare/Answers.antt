@@ -9,38 +9,20 @@ use Rattle.engine.proofs.Rooms.{room_made}
 use Rattle.engine.proofs.Systems.{scan_event_is, scan_fits}
 use Rattle.engine.proofs.engine.Engine.prepare.Goals as goal
 
-pub prepared_scan-requires-clause-programs : goal.prepared_scan-requires-clause-programs
-prepared_scan-requires-clause-programs c = (ready _ _ _ _ c.self.invariant).programs
-
-pub prepared_scan-requires-clause-alarms : goal.prepared_scan-requires-clause-alarms
-prepared_scan-requires-clause-alarms c = (ready _ _ _ _ c.self.invariant).alarms
+pub prepared_scan-requires-clause-ready : goal.prepared_scan-requires-clause-ready
+prepared_scan-requires-clause-ready g c = ready _ _ _ _ c.self.invariant.0
 
 pub returns-in_err-prepared-clause-err : goal.returns-in_err-prepared-clause-err
-returns-in_err-prepared-clause-err c =
+returns-in_err-prepared-clause-err g c =
     let len : c.len-events.result ≡ length c.self.inside.history.events = search rules in
-    let due = scan_event_is c.self.inside.plant c.self.inside.history.events c.self.inside.state c.len-events.result c.args.pairs.now c.args.moment c.self.invariant.state_is len in
-    rw (← c.self.view_is) (subst (λ (x : Result Event EngineFault). IfErr c.from_residual.result (λ e. IsDue e x)) due (search rules))
+    let due = scan_event_is c.self.inside.plant c.self.inside.history.events c.self.inside.state c.len-events.result c.args.pairs.now c.args.moment c.self.invariant.0.state_is len in
+    rw (← c.self.view_is) (subst (λ (x : Result Event EngineFault). IfErr c.from_residual-in_err-prepared.result (λ e. IsDue e x)) due (search rules))
 
 pub returns-clause-ok : goal.returns-clause-ok
-returns-clause-ok c =
+returns-clause-ok g c =
     let made = c.in_ok-prepared.ensures.ok in
     let len : c.len-events.result ≡ length c.self.inside.history.events = search rules in
-    let due = scan_event_is c.self.inside.plant c.self.inside.history.events c.self.inside.state c.len-events.result c.args.pairs.now c.args.moment c.self.invariant.state_is len in
-    let held : IsState (system c.self.inside.plant c.reserve-2.new.self.events) c.self.inside.state = rw c.in_ok-reserve-2.ensures.events c.self.invariant.state_is in
+    let due = scan_event_is c.self.inside.plant c.self.inside.history.events c.self.inside.state c.len-events.result c.args.pairs.now c.args.moment c.self.invariant.0.state_is len in
+    let held : IsState (system c.self.inside.plant c.reserve-2.new.self.events) c.self.inside.state = rw c.in_ok-reserve-2.ensures.events c.self.invariant.0.state_is in
     let rows : length c.in_ok-prepared.prepared.report.faults + length c.in_ok-prepared.prepared.report.changes ≤ c.reserve.new.self.room = rw (← c.prepared.view_is) (omega (arith, c.row_count.ensures, c.in_ok-reserve.ensures.ok)) in
-    (scan_fits _ c.in_ok-prepared.prepared c.self.inside.state c.len-events.result c.args.pairs.now c.args.moment c.self.invariant.plant_is held made (rw c.in_ok-reserve-2.ensures.events len) (room_made c.self.inside.plant c.reserve-2.new.self c.in_ok-reserve-2.ensures.ok (omega (arith, c.in_ok-reserve-2.ensures.wide, c.widest_image.ensures))) rows, rw (← c.self.view_is) (sym due ∙ made.taken))
-
-pub prepared_scan-requires-clause-watches : goal.prepared_scan-requires-clause-watches
-prepared_scan-requires-clause-watches c = (ready _ _ _ _ c.self.invariant).watches
-
-pub prepared_scan-requires-clause-outputs : goal.prepared_scan-requires-clause-outputs
-prepared_scan-requires-clause-outputs c = (ready _ _ _ _ c.self.invariant).outputs
-
-pub prepared_scan-requires-clause-sound : goal.prepared_scan-requires-clause-sound
-prepared_scan-requires-clause-sound c = c.self.invariant.plant_is.sound
-
-pub prepared_scan-requires-clause-values : goal.prepared_scan-requires-clause-values
-prepared_scan-requires-clause-values c = (ready _ _ _ _ c.self.invariant).values
-
-pub prepared_scan-requires-clause-follow : goal.prepared_scan-requires-clause-follow
-prepared_scan-requires-clause-follow c = (ready _ _ _ _ c.self.invariant).follow
+    (scan_fits _ c.in_ok-prepared.prepared c.self.inside.state c.len-events.result c.args.pairs.now c.args.moment c.self.invariant.0.plant_is held made (rw c.in_ok-reserve-2.ensures.events len) (room_made c.self.inside.plant c.reserve-2.new.self c.in_ok-reserve-2.ensures.ok (omega (arith, c.in_ok-reserve-2.ensures.wide, c.widest_image.ensures))) rows, rw (← c.self.view_is) (sym due ∙ made.taken))
