@@ -23,28 +23,28 @@ check_fits : faults_in (codes "check" ∷ codes "a/plant.toml" ∷ []) ≡ []
 unfolding clap_on_literals
 check_fits = refl
 
--- run PLANT has one worker
+-- run PLANT has one worker where no number is written
 run : choice_of (codes "run" ∷ codes "plant.toml" ∷ []) ≡ Some (choice.Run (codes "plant.toml") 1)
 unfolding clap_on_literals
 run = refl
 
 -- the number of workers stands on either side of PLANT
-run_with_workers : choice_of (codes "run" ∷ codes "--workers=01" ∷ codes "plant.toml" ∷ []) ≡ Some (choice.Run (codes "plant.toml") 1)
+run_with_workers : choice_of (codes "run" ∷ codes "--workers=08" ∷ codes "plant.toml" ∷ []) ≡ Some (choice.Run (codes "plant.toml") 8)
 unfolding clap_on_literals
 run_with_workers = refl
 
-workers_fit : faults_in (codes "run" ∷ codes "plant.toml" ∷ codes "--workers" ∷ codes "1" ∷ []) ≡ []
+workers_fit : faults_in (codes "run" ∷ codes "plant.toml" ∷ codes "--workers" ∷ codes "64" ∷ []) ≡ []
 unfolding clap_on_literals
 workers_fit = refl
 
--- no number of workers is 0 or 2
+-- no number of workers is 0 or 65
 no_workers : faults_in (codes "run" ∷ codes "plant.toml" ∷ codes "--workers" ∷ codes "0" ∷ []) ≡ kind.ValueValidation ∷ []
 unfolding clap_on_literals
 no_workers = refl
 
-two_workers : faults_in (codes "run" ∷ codes "plant.toml" ∷ codes "--workers" ∷ codes "2" ∷ []) ≡ kind.ValueValidation ∷ []
+many_workers : faults_in (codes "run" ∷ codes "plant.toml" ∷ codes "--workers" ∷ codes "65" ∷ []) ≡ kind.ValueValidation ∷ []
 unfolding clap_on_literals
-two_workers = refl
+many_workers = refl
 
 -- PLANT has to be there, and stands alone
 no_plant : faults_in (codes "check" ∷ []) ≡ kind.MissingRequiredArgument ∷ []

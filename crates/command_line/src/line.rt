@@ -7,7 +7,7 @@ use clap::{Arg, Command, value_parser};
 use std::alloc::{AllocError, Global};
 
 /// The greatest number of workers.
-pub const MOST_WORKERS: u32 = 1;
+pub const MOST_WORKERS: u32 = 64;
 
 /// The argument PLANT.
 fn plant<'a>(alloc: Global) -> Arg<'a>
@@ -28,7 +28,7 @@ fn workers<'a>(alloc: Global) -> Arg<'a>
     Arg::new(alloc, "workers")
         .long("workers")
         .value_name("N")
-        .help("Number of workers: 1 is the only one as yet")
+        .help("Number of workers that run the programs, 1 to 64; the answers are the same with any")
         .value_parser(value_parser!(u32).range(1..=i64::from(MOST_WORKERS)))
         .default_value("1")
 }
