@@ -15,4 +15,5 @@ pub told_of : (V : Option PlainPlant → List ℕ → Type 0) (answer : Option P
 told_of V answer line w₀ w₁ (Ok other) v told = (told.0, moved V answer other line told.0 v told.1, told.2)
 told_of V answer line w₀ w₁ (Err fault.Memory) v told = told
 told_of V answer line w₀ w₁ (Err fault.Read) v told = absurd told
+told_of V answer line w₀ w₁ (Err fault.Crew) v told = absurd told
 told_of V answer line w₀ w₁ (Err fault.Write) v told = (told.0, told.1, moved V answer told.0 line told.1 v told.2, told.3)

@@ -180,3 +180,4 @@ module _ (plant : PlainPlant) (input held : List ℕ) (r₀ r₁ r₂ : Option (
   stopped-by fault.Read within unread = stopped-unread (unread refl)
   stopped-by fault.Write within unread = stopped-within within
   stopped-by fault.Memory within unread = stopped-within within
+  stopped-by fault.Crew within unread = stopped-within within

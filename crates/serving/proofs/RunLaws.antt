@@ -23,6 +23,7 @@ stopped-after : (e : ServeFault) (plant : PlainPlant) (remaining : Option (List 
 stopped-after fault.Read plant remaining input history w₀ w w₁ none s = answered-more plant [] (ended_requests input) [] [] history w₀ w w₁ (record { history_is = refl; wrote = none }) s
 stopped-after fault.Write plant remaining input history w₀ w w₁ none s = (s.0, s.1, stopped-more plant [] s.0 [] [] history w₀ w w₁ (record { history_is = refl; wrote = none }) s.2)
 stopped-after fault.Memory plant remaining input history w₀ w w₁ none s = (s.0, s.1, stopped-more plant [] s.0 [] [] history w₀ w w₁ (record { history_is = refl; wrote = none }) s.2)
+stopped-after fault.Crew plant remaining input history w₀ w w₁ none s = (s.0, s.1, stopped-more plant [] s.0 [] [] history w₀ w w₁ (record { history_is = refl; wrote = none }) s.2)
 
 -- a verdict has no line beside a plant
 abbrev pub IsQuiet : (Option PlainPlant → List ℕ → Type 0) → Type 0

@@ -17,6 +17,7 @@ abbrev pub IsTold : (Option PlainPlant → List ℕ → Type 0) → Option (List
 IsTold verdict w₀ w₁ (Ok answer) = (line : List ℕ) × verdict answer line × Appends w₀ w₁ line
 IsTold verdict w₀ w₁ (Err fault.Memory) = Appends w₀ w₁ []
 IsTold verdict w₀ w₁ (Err fault.Read) = ⊥
+IsTold verdict w₀ w₁ (Err fault.Crew) = ⊥
 IsTold verdict w₀ w₁ (Err fault.Write) = (answer : Option PlainPlant) × (line : List ℕ) × verdict answer line × IsBegun w₀ w₁ line
 
 -- the same of the files of a plant where the plant isn't kept: whether there is one

@@ -38,11 +38,12 @@ abbrev pub AreRead : Option (List ℕ) → List ℕ → List Request → Type 0
 AreRead remaining input requests = (requests ≡ ended_requests input) ⊎ (IsAtEnd remaining × (requests ≡ requests_of input))
 
 -- how far a session came by the time of a fault: where a read failed, all requests that had ended took effect, and their answers were written;
--- where a write or an allocation failed, the first of the requests read took effect, and of the last one's answer perhaps only a part was written
+-- where a write, an allocation or the crew failed, the first of the requests read took effect, and of the last one's answer perhaps only a part was written
 abbrev pub StoppedBy : ServeFault → PlainPlant → (remaining : Option (List ℕ)) → (input : List ℕ) → (h₀ h₁ : List Event) → (w₀ w₁ : Option (List ℕ)) → Type 0
 StoppedBy fault.Read plant remaining input h₀ h₁ w₀ w₁ = Answered plant (ended_requests input) h₀ h₁ w₀ w₁
 StoppedBy fault.Write plant remaining input h₀ h₁ w₀ w₁ = (requests : List Request) × AreRead remaining input requests × Stopped plant requests h₀ h₁ w₀ w₁
 StoppedBy fault.Memory plant remaining input h₀ h₁ w₀ w₁ = (requests : List Request) × AreRead remaining input requests × Stopped plant requests h₀ h₁ w₀ w₁
+StoppedBy fault.Crew plant remaining input h₀ h₁ w₀ w₁ = (requests : List Request) × AreRead remaining input requests × Stopped plant requests h₀ h₁ w₀ w₁
 
 -- of the bytes that have begun a request the first 1,048,578 are held: enough to see that a line is too long (over 1,048,576 bytes), even with a CR at its end
 abbrev pub IsHeld : (begun held : List ℕ) → Type 0

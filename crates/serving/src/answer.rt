@@ -6,15 +6,19 @@ ghost use Rattle.plant_walk.specs.Runs.{place_spot};
 ghost use Rattle.engine.specs.Orders.{is_restart};
 ghost use Rattle.engine.specs.System.{system, scan_event, order_event};
 ghost use Rattle.serving.specs.Answers.{spots_of, named_by, target_of, tag_for, order_for, order_answer, fault_lines, alarm_lines, out_lines, report_text, order_text, event_text, scan_text, event_added, after_command, answer_after};
+ghost use Rattle.serving.specs.Faults.{is_read, is_write, crew_faults};
 ghost use Rattle.serving.specs.Listings.{list_text, journal_text};
 ghost use Rattle.command_text.specs.Commands.{command_of};
 
+use crate::fault::ServeFault;
 use alarm_machine::{Change, Verb};
 use command_text::{
     Command, Pool, push_alarm, push_done, push_fault, push_out, push_refused, push_reply,
     read_command,
 };
-use engine::{Engine, EngineFault, Order, Reply, Report, system_keeps_its_plant};
+use engine::{
+    Crew, Done, Engine, EngineFault, Job, Order, Reply, Report, Start, system_keeps_its_plant,
+};
 use itoa::Buffer;
 use plant_config::Plant;
 use plant_types::{Pair, Place, Trap, Value};
@@ -118,28 +122,36 @@ fn push_report(
     push_done(text, moment, lines)
 }
 
-/// Does a scan, and appends its answer. It fails where an allocation failed: before the scan took effect or after it.
-fn answer_scan(
+/// Does a scan, its programs run by the crew, and appends its answer. It fails where the crew failed, before the scan took effect, and where an
+/// allocation failed, before that or after it.
+fn answer_scan<H, C: Crew<Job, Start, Done, H>>(
+    rt: &H,
     alloc: Global,
     engine: &mut Engine,
+    crew: &mut C,
     text: &mut Vec<u8>,
     moment: u64,
     pairs: &[Pair],
-) -> Result<(), AllocError>
+) -> Result<(), ServeFault>
+    requires asked { C.asks }
     ensures plant { engine.new.plant ≡ engine.old.plant }
     ensures history { OnOk result (engine.new.history ≡ engine.old.history ++ event_added (scan_event (state_of engine.old) pairs.now moment)) }
     ensures text { OnOk result (text.new.items ≡ text.old.items ++ event_text (scan_event (state_of engine.old) pairs.now moment) (scan_text (state_of engine.old))) }
     ensures err { OnErr result ((engine.new.history ≡ engine.old.history) ⊎ (engine.new.history ≡ engine.old.history ++ event_added (scan_event (state_of engine.old) pairs.now moment))) }
+    ensures read { is_read result ≡ false }
+    ensures write { is_write result ≡ false }
+    ensures crew { C.faulted crew.new ≡ crew_faults (C.faulted crew.old) result }
 {
     system_keeps_its_plant();
-    match engine.scan(alloc, pairs, moment) {
+    match engine.scan(rt, alloc, crew, pairs, moment) {
         Ok(report) => {
             let told = push_report(alloc, text, engine.plant(), &report);
             engine.reuse(report);
-            told
+            Ok(told?)
         }
-        Err(EngineFault::Memory) => Err(AllocError),
-        Err(fault) => push_refused(text, fault.text()),
+        Err(EngineFault::Memory) => Err(ServeFault::Memory),
+        Err(EngineFault::Crew(_)) => Err(ServeFault::Crew),
+        Err(fault) => Ok(push_refused(text, fault.text())?),
     }
 }
 
@@ -206,7 +218,8 @@ fn answer_order(
     };
     match engine.order(alloc, console, order) {
         Ok(reply) => push_order(text, last, tag_for(engine.plant(), order), reply),
-        Err(EngineFault::Memory) => Err(AllocError),
+        // An order asks no crew.
+        Err(EngineFault::Memory | EngineFault::Crew(_)) => Err(AllocError),
         Err(fault) => push_refused(text, fault.text()),
     }
 }
@@ -223,15 +236,19 @@ pub(crate) enum Said {
 }
 
 /// Does what a line asks for, with the pool as room for its pairs, and appends its answer; the list and the journal are left to the
-/// caller, who writes them as they are made. It fails where an allocation failed: before the line took effect or after it.
+/// caller, who writes them as they are made. It fails where the crew failed, before the line took effect, and where an allocation failed, before
+/// that or after it.
 #[tactic(auto, unfolding(crate::specs::Answers::after_command, crate::specs::Answers::answer_after))]
-pub(crate) fn answer_line(
+pub(crate) fn answer_line<H, C: Crew<Job, Start, Done, H>>(
+    rt: &H,
     alloc: Global,
     engine: &mut Engine,
+    crew: &mut C,
     pool: &mut Pool,
     text: &mut Vec<u8>,
     line: &[u8],
-) -> Result<Said, AllocError>
+) -> Result<Said, ServeFault>
+    requires asked { C.asks }
     ensures plant { engine.new.plant ≡ engine.old.plant }
     ensures history { OnOk result (engine.new.history ≡ after_command engine.old.plant engine.old.history (command_of line.now)) }
     ensures text { IfOk result (λ said. said ≡ Said.Text → text.new.items ≡ text.old.items ++ answer_after engine.old.plant engine.old.history (command_of line.now)) }
@@ -240,11 +257,14 @@ pub(crate) fn answer_line(
     ensures journal { IfOk result (λ said. said ≡ Said.Journal → answer_after engine.old.plant engine.old.history (command_of line.now) ≡ journal_text engine.old.plant engine.old.history) }
     ensures journal_kept { IfOk result (λ said. said ≡ Said.Journal → engine.new.history ≡ engine.old.history) }
     ensures err { OnErr result ((engine.new.history ≡ engine.old.history) ⊎ (engine.new.history ≡ after_command engine.old.plant engine.old.history (command_of line.now))) }
+    ensures read { is_read result ≡ false }
+    ensures write { is_write result ≡ false }
+    ensures crew { C.faulted crew.new ≡ crew_faults (C.faulted crew.old) result }
 {
     match read_command(alloc, pool, line)? {
         Command::Nothing => {}
         Command::Unknown => push_refused(text, "L1")?,
-        Command::Scan(moment, pairs) => answer_scan(alloc, engine, text, moment, pairs)?,
+        Command::Scan(moment, pairs) => answer_scan(rt, alloc, engine, crew, text, moment, pairs)?,
         Command::Order(verb, console, word) => {
             answer_order(alloc, engine, text, verb, console, word)?;
         }

@@ -12,6 +12,8 @@ pub enum ServeFault {
     Read,
     /// A write failed.
     Write,
+    /// The crew that runs the programs failed, for another reason than memory.
+    Crew,
 }
 
 impl ServeFault {
@@ -23,6 +25,7 @@ impl ServeFault {
             ServeFault::Memory => "MEMORY",
             ServeFault::Read => "READ",
             ServeFault::Write => "WRITE",
+            ServeFault::Crew => "CREW",
         }
     }
 }

@@ -1,7 +1,7 @@
 //! The server of a plant: it reads requests, each a line, and answers each before it looks at the next.
 //!
 //! What it writes for an input is a definition on bytes (`out_text`): how they become requests, and what is answered to each. `serve` is
-//! proved to write exactly that, for every feed and every sink; `Session::step` is one read of it. `admit` and `admit_from` read a plant, from its texts and from its files, and write what
+//! proved to write exactly that, for every crew that runs the programs, every feed and every sink; `Session::step` is one read of it. `admit` and `admit_from` read a plant, from its texts and from its files, and write what
 //! there is to say of it. `run` and `run_from` go from there to the end of the input.
 #![tactic(auto)]
 

@@ -2,7 +2,7 @@ ghost use Rattle.std.specs.Prelude.{◌≡◌, ◌≤◌, ◌++◌, [], ◌∷�
 ghost use Rattle.std.specs.Io.KnownBytes.{Appends, Consumes, IsAtEnd};
 ghost use Rattle.command_text.specs.Commands.{command_of};
 ghost use Rattle.serving.specs.Requests.{Request, asked_by, has_lf, without_cr, ended_by, last_request, ended_from, begun_from, requests_of};
-ghost use Rattle.serving.specs.Faults.{is_read, is_write};
+ghost use Rattle.serving.specs.Faults.{crew_faults, is_crew, is_read, is_write};
 ghost use Rattle.serving.specs.Session.{Answered, Stopped, Serves, Continues, IsHeld, HasGone, StoppedBy, Goes, Ends, Stops, out_text};
 
 use crate::answer::{Said, answer_line};
@@ -10,7 +10,7 @@ use crate::fault::ServeFault;
 use crate::spilling::{write_journal, write_list};
 use byte_streams::{Feed, Sink, empty_piece, fill};
 use command_text::Pool;
-use engine::Engine;
+use engine::{Crew, Done, Engine, Job, Start};
 use memchr::memchr;
 use std::alloc::{AllocError, Global};
 use std::marker::Model;
@@ -25,6 +25,7 @@ pub fn put_all<S: Sink>(sink: &mut S, text: &[u8]) -> Result<(), ServeFault>
     ensures err { OnErr result ((part : List ℕ) × (more : List ℕ) × (text.now ≡ part ++ more) × Appends (S.written sink.old) (S.written sink.new) part) }
     ensures fault { IfErr result (λ e. e ≡ ServeFault.Write) }
     ensures read { is_read result ≡ false }
+    ensures crew { is_crew result ≡ false }
     ensures write { S.broken sink.new ≡ (S.broken sink.old || is_write result) }
 {
     let mut rest = text;
@@ -39,20 +40,24 @@ pub fn put_all<S: Sink>(sink: &mut S, text: &[u8]) -> Result<(), ServeFault>
 }
 
 /// Answers one line. Of a line that is too long its first bytes may stand for it.
-fn answer<S: Sink>(
+fn answer<H, C: Crew<Job, Start, Done, H>, S: Sink>(
+    rt: &H,
     alloc: Global,
     engine: &mut Engine,
+    crew: &mut C,
     sink: &mut S,
     pool: &mut Pool,
     text: &mut Vec<u8>,
     line: &[u8],
 ) -> Result<(), ServeFault>
+    requires asked { C.asks }
     ensures continues { Continues result engine.old engine.new (S.broken sink.old) (S.broken sink.new) }
+    ensures crew { C.faulted crew.new ≡ crew_faults (C.faulted crew.old) result }
     ensures serves { (request : Request) → asked_by request ≡ command_of line.now
         → Serves result (request ∷ []) engine.old engine.new (S.written sink.old) (S.written sink.new) }
 {
     text.clear();
-    match answer_line(alloc, engine, pool, text, line)? {
+    match answer_line(rt, alloc, engine, crew, pool, text, line)? {
         Said::Text => put_all(sink, text.as_slice()),
         Said::List => write_list(engine, sink, text),
         Said::Journal => write_journal(alloc, engine, sink, text),
@@ -109,21 +114,27 @@ struct Lines {
 
 impl Lines {
     /// Takes the bytes of the input up to an LF, and answers the request that ends there.
-    fn take_line<S: Sink>(
+    fn take_line<H, C: Crew<Job, Start, Done, H>, S: Sink>(
         &mut self,
+        rt: &H,
         engine: &mut Engine,
+        crew: &mut C,
         sink: &mut S,
         line: &[u8],
     ) -> Result<(), ServeFault>
+        requires asked { C.asks }
         ensures continues { Continues result engine.old engine.new (S.broken sink.old) (S.broken sink.new) }
+        ensures crew { C.faulted crew.new ≡ crew_faults (C.faulted crew.old) result }
         ensures held { OnOk result (self.new.held.items ≡ []) }
         ensures serves { (begun : List ℕ) → IsHeld begun self.old.held.items
             → Serves result (ended_by (begun ++ line.now) ∷ []) engine.old engine.new (S.written sink.old) (S.written sink.new) }
     {
         if self.held.is_empty() {
             return answer(
+                rt,
                 self.alloc,
                 engine,
+                crew,
                 sink,
                 &mut self.pool,
                 &mut self.text,
@@ -133,8 +144,10 @@ impl Lines {
         hold(&mut self.held, line)?;
         let line = without_cr(self.held.as_slice());
         answer(
+            rt,
             self.alloc,
             engine,
+            crew,
             sink,
             &mut self.pool,
             &mut self.text,
@@ -145,13 +158,17 @@ impl Lines {
     }
 
     /// Takes a piece of the input: answers the requests that end in it, and holds what follows the last of them.
-    fn take_piece<S: Sink>(
+    fn take_piece<H, C: Crew<Job, Start, Done, H>, S: Sink>(
         &mut self,
+        rt: &H,
         engine: &mut Engine,
+        crew: &mut C,
         sink: &mut S,
         piece: &[u8],
     ) -> Result<(), ServeFault>
+        requires asked { C.asks }
         ensures continues { Continues result engine.old engine.new (S.broken sink.old) (S.broken sink.new) }
+        ensures crew { C.faulted crew.new ≡ crew_faults (C.faulted crew.old) result }
         ensures ok { OnOk result ((begun : List ℕ) → IsHeld begun self.old.held.items
             → HasGone engine.old.plant begun piece.now self.new.held.items engine.old.history engine.new.history (S.written sink.old) (S.written sink.new)) }
         ensures err { OnErr result ((begun : List ℕ) → IsHeld begun self.old.held.items
@@ -159,7 +176,7 @@ impl Lines {
     {
         let mut rest = piece;
         while let Some((line, after)) = split_at_lf(rest) {
-            self.take_line(engine, sink, line)?;
+            self.take_line(rt, engine, crew, sink, line)?;
             rest = after;
         }
         hold(&mut self.held, rest)?;
@@ -167,8 +184,16 @@ impl Lines {
     }
 
     /// Answers the last request of the input, which has no LF; there is none if nothing is held.
-    fn take_end<S: Sink>(&mut self, engine: &mut Engine, sink: &mut S) -> Result<(), ServeFault>
+    fn take_end<H, C: Crew<Job, Start, Done, H>, S: Sink>(
+        &mut self,
+        rt: &H,
+        engine: &mut Engine,
+        crew: &mut C,
+        sink: &mut S,
+    ) -> Result<(), ServeFault>
+        requires asked { C.asks }
         ensures continues { Continues result engine.old engine.new (S.broken sink.old) (S.broken sink.new) }
+        ensures crew { C.faulted crew.new ≡ crew_faults (C.faulted crew.old) result }
         ensures held { OnOk result (self.new.held.items ≡ []) }
         ensures serves { (begun : List ℕ) → IsHeld begun self.old.held.items
             → Serves result (last_request begun) engine.old engine.new (S.written sink.old) (S.written sink.new) }
@@ -177,8 +202,10 @@ impl Lines {
             return Ok(());
         }
         answer(
+            rt,
             self.alloc,
             engine,
+            crew,
             sink,
             &mut self.pool,
             &mut self.text,
@@ -234,14 +261,18 @@ impl Session {
     /// Reads once, and answers each request that ends in what was read before the next takes effect; at the end of the input it answers
     /// the last one. Whenever a step has returned `Ok`, what was written is exactly the text for all requests that have ended so far.
     ///
-    /// Returns `Memory` only where an allocation failed, and `Read` and `Write` only where the feed or the sink failed in this call. After
-    /// an error a beginning of the requests took effect, and the session is of no more use. It waits where its feed waits.
-    pub fn step<F: Feed, S: Sink>(
+    /// Returns `Memory` only where an allocation failed, and `Read`, `Write` and `Crew` only where the feed, the sink or the crew failed in this
+    /// call. After an error a beginning of the requests took effect, and the session is of no more use. It waits where its feed or its crew
+    /// waits.
+    pub fn step<H, C: Crew<Job, Start, Done, H>, F: Feed, S: Sink>(
         &mut self,
+        rt: &H,
         engine: &mut Engine,
+        crew: &mut C,
         feed: &mut F,
         sink: &mut S,
     ) -> Result<Step, ServeFault>
+        requires asked { C.asks }
         requires feed { F.broken feed.old ≡ false }
         requires sink { S.broken sink.old ≡ false }
         ensures plant { engine.new.plant ≡ engine.old.plant }
@@ -254,16 +285,17 @@ impl Session {
         ensures cut { IsErrOf result ServeFault.Read → Consumes (F.remaining feed.old) (F.remaining feed.new) [] × (engine.new.history ≡ engine.old.history) × (S.written sink.new ≡ S.written sink.old) }
         ensures read { F.broken feed.new ≡ is_read result }
         ensures write { S.broken sink.new ≡ is_write result }
+        ensures crew { C.faulted crew.new ≡ crew_faults (C.faulted crew.old) result }
     {
         let Ok(n) = fill(feed, &mut self.piece) else {
             return Err(ServeFault::Read);
         };
         if n == 0 {
-            self.lines.take_end(engine, sink)?;
+            self.lines.take_end(rt, engine, crew, sink)?;
             return Ok(Step::Ended);
         }
         let (now, _) = self.piece.as_slice().split_at(n);
-        self.lines.take_piece(engine, sink, now)?;
+        self.lines.take_piece(rt, engine, crew, sink, now)?;
         Ok(Step::More)
     }
 }
@@ -271,18 +303,21 @@ impl Session {
 /// Answers the requests of a feed until its end, step by step. Each answer is written before the next request takes effect and before more
 /// is read.
 ///
-/// Returns `Memory` only where an allocation failed, and `Read` and `Write` only where the feed or the sink failed in this call.
+/// Returns `Memory` only where an allocation failed, and `Read`, `Write` and `Crew` only where the feed, the sink or the crew failed in this
+/// call.
 ///
-/// The clauses hold where `serve` returns: it waits where its feed waits, perhaps forever. What they say of bytes holds for a feed and a
+/// The clauses hold where `serve` returns: it waits where its feed or its crew waits, perhaps forever. What they say of bytes holds for a feed and a
 /// sink that tell theirs (`remaining`, `written`), as those in memory do; of standard input and output no contract can say which bytes they
 /// give and take.
-pub fn serve<H: Wait, F: Feed, S: Sink>(
+pub fn serve<H: Wait, C: Crew<Job, Start, Done, H>, F: Feed, S: Sink>(
     rt: &H,
     alloc: Global,
     engine: &mut Engine,
+    crew: &mut C,
     feed: &mut F,
     sink: &mut S,
 ) -> Result<(), ServeFault>
+    requires asked { C.asks }
     requires feed { F.broken feed.old ≡ false }
     requires sink { S.broken sink.old ≡ false }
     ensures plant { engine.new.plant ≡ engine.old.plant }
@@ -294,16 +329,18 @@ pub fn serve<H: Wait, F: Feed, S: Sink>(
     // Before the first event: what was written is the text that belongs to the plant and to the bytes of the feed.
     ensures text { OnOk result (engine.old.history ≡ [] → IfSome (F.remaining feed.old) (λ bytes. Appends (S.written sink.old) (S.written sink.new) (out_text engine.old.plant bytes))) }
 
-    // After an error: how far it came by the time of this fault. Where a read failed, all requests that had ended are answered; where a write
-    // or an allocation failed, a beginning of those that were read took effect, and all their answers were written but for a part of the last one's.
+    // After an error: how far it came by the time of this fault. Where a read failed, all requests that had ended are answered; where a write,
+    // an allocation or the crew failed, a beginning of those that were read took effect, and all their answers were written but for a part of the
+    // last one's.
     ensures err { IfErr result (λ e. (input : List ℕ) × Consumes (F.remaining feed.old) (F.remaining feed.new) input
         × StoppedBy e engine.old.plant (F.remaining feed.new) input engine.old.history engine.new.history (S.written sink.old) (S.written sink.new)) }
     ensures read { F.broken feed.new ≡ is_read result }
     ensures write { S.broken sink.new ≡ is_write result }
+    ensures crew { C.faulted crew.new ≡ crew_faults (C.faulted crew.old) result }
 {
     let mut session = Session::new(alloc)?;
     for _ in rt.forever() {
-        match session.step(engine, feed, sink)? {
+        match session.step(rt, engine, crew, feed, sink)? {
             Step::More => {}
             Step::Ended => return Ok(()),
         }

@@ -6,7 +6,7 @@ ghost use Rattle.command_text.specs.Lines.{end_line};
 ghost use Rattle.engine.specs.Engines.{state_of};
 ghost use Rattle.engine.specs.Journal.{journal_of};
 ghost use Rattle.serving.specs.Admits.{IsBegun};
-ghost use Rattle.serving.specs.Faults.{is_read, is_write};
+ghost use Rattle.serving.specs.Faults.{is_crew, is_read, is_write};
 ghost use Rattle.serving.specs.Listings.{text_of, half_total, half_lines_of, half_lines, list_text, journal_lines, journal_text, HasListed, IsPassed, HasPassed};
 
 use crate::fault::ServeFault;
@@ -27,6 +27,7 @@ fn spill<S: Sink>(sink: &mut S, text: &mut Vec<u8>) -> Result<(), ServeFault>
     ensures held { OnOk result (length text.new.items < 65536) }
     ensures err { OnErr result (IsBegun (S.written sink.old) (S.written sink.new) text.old.items) }
     ensures read { is_read result ≡ false }
+    ensures crew { is_crew result ≡ false }
     ensures write { S.broken sink.new ≡ (S.broken sink.old || is_write result) }
 {
     if text.len() < FULL {
@@ -42,6 +43,7 @@ fn write_end<S: Sink>(sink: &mut S, text: &mut Vec<u8>, lines: u64) -> Result<()
     ensures ok { OnOk result (Appends (S.written sink.old) (S.written sink.new) (text.old.items ++ end_line lines)) }
     ensures err { OnErr result (IsBegun (S.written sink.old) (S.written sink.new) (text.old.items ++ end_line lines)) }
     ensures read { is_read result ≡ false }
+    ensures crew { is_crew result ≡ false }
     ensures write { S.broken sink.new ≡ (S.broken sink.old || is_write result) }
 {
     push_end(text, lines)?;
@@ -93,6 +95,7 @@ fn write_half<S: Sink>(
     ensures held { OnOk result (length text.old.items < 65536 → length text.new.items < 65536) }
     ensures err { OnErr result (IsBegun (S.written sink.old) (S.written sink.new) (text.old.items ++ text_of (half_lines (state_of engine.now) half))) }
     ensures read { is_read result ≡ false }
+    ensures crew { is_crew result ≡ false }
     ensures write { S.broken sink.new ≡ (S.broken sink.old || is_write result) }
 {
     let mut lines: u64 = 0;
@@ -112,6 +115,7 @@ pub(crate) fn write_list<S: Sink>(
     ensures ok { OnOk result (Appends (S.written sink.old) (S.written sink.new) (list_text (state_of engine.now))) }
     ensures err { OnErr result (IsBegun (S.written sink.old) (S.written sink.new) (list_text (state_of engine.now))) }
     ensures read { is_read result ≡ false }
+    ensures crew { is_crew result ≡ false }
     ensures write { S.broken sink.new ≡ (S.broken sink.old || is_write result) }
 {
     text.clear();
@@ -133,6 +137,7 @@ fn write_rows<S: Sink>(
     ensures held { OnOk result (length text.old.items < 65536 → length text.new.items < 65536) }
     ensures err { OnErr result (IsBegun (S.written sink.old) (S.written sink.new) (text.old.items ++ text_of (journal_lines engine.now.plant engine.now.history))) }
     ensures read { is_read result ≡ false }
+    ensures crew { is_crew result ≡ false }
     ensures write { S.broken sink.new ≡ (S.broken sink.old || is_write result) }
 {
     for row in 0..rows {
@@ -152,6 +157,7 @@ pub(crate) fn write_journal<S: Sink>(
     ensures ok { OnOk result (Appends (S.written sink.old) (S.written sink.new) (journal_text engine.now.plant engine.now.history)) }
     ensures err { OnErr result (IsBegun (S.written sink.old) (S.written sink.new) (journal_text engine.now.plant engine.now.history)) }
     ensures read { is_read result ≡ false }
+    ensures crew { is_crew result ≡ false }
     ensures write { S.broken sink.new ≡ (S.broken sink.old || is_write result) }
 {
     text.clear();

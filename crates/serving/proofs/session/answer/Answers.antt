@@ -1,7 +1,18 @@
-use Rattle.std.proofs.Common.{sym, ◌∙◌}
+use Rattle.std.proofs.Common.{◌≡◌, ℕ, false, Result, Ok, Err, refl, sym, ap, ◌∙◌}
 use Rattle.std.proofs.lemmas.Result.{on_ok_weaker, on_err_weaker, err_from_is_err_and}
 use Rattle.serving.proofs.SessionLaws.{stopped-unwritten, stopped-line, answered-line}
+use Rattle.serving.specs.Faults.{crew_faults, is_crew}
+use Rattle.serving.specs.declared.fault.ServeFault.{ServeFault}
+use Rattle.serving.specs.declared.fault.ServeFault.TheVariants as fault
 use Rattle.serving.proofs.session.answer.Goals as goal
+
+-- where the crew did not fail its count of faults stays
+none_counted : {T : Type 0} (n : ℕ) (result : Result T ServeFault) → is_crew result ≡ false → n ≡ crew_faults n result
+none_counted n (Ok done) none = refl
+none_counted n (Err fault.Memory) none = refl
+none_counted n (Err fault.Read) none = refl
+none_counted n (Err fault.Write) none = refl
+none_counted n (Err fault.Crew) none = absurd (cc)
 
 pub returns-in_err-answer_line-clause-serves : goal.returns-in_err-answer_line-clause-serves
 returns-in_err-answer_line-clause-serves g c =
@@ -37,3 +48,9 @@ returns-in-Journal-clause-serves g c =
       on_ok_weaker c.write_journal.result (λ w. answered-line _ request c.args.line.now _ _ _ _ _ same line.history (sym journal) w) ok,
       on_err_weaker c.write_journal.result (λ e. stopped-line _ request c.args.line.now e.0 e.1 _ _ _ _ same line.history (journal ∙ e.2) e.3) err,
     )
+
+pub returns-in-List-clause-crew : goal.returns-in-List-clause-crew
+returns-in-List-clause-crew g c = c.in_ok-answer_line.ensures.crew ∙ none_counted _ c.write_list.result c.write_list.ensures.crew
+
+pub returns-in-Journal-clause-crew : goal.returns-in-Journal-clause-crew
+returns-in-Journal-clause-crew g c = c.in_ok-answer_line.ensures.crew ∙ none_counted _ c.write_journal.result c.write_journal.ensures.crew

@@ -27,4 +27,5 @@ loop-preserved g c =
       plant = c.in_ok-step.ensures.plant ∙ c.loop.invariant.plant;
       feed = c.in_ok-step.ensures.read;
       sink = c.in_ok-step.ensures.write;
+      crew = c.in_ok-step.ensures.crew ∙ c.loop.invariant.crew;
     }

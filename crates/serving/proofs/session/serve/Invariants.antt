@@ -12,4 +12,5 @@ invariant-loop g l = record {
   plant : l.engine.plant ≡ l.fn.engine.plant;
   feed : g.F.Feed.broken l.feed ≡ false;
   sink : g.S.Sink.broken l.sink ≡ false;
+  crew : g.C.Crew.faulted l.crew ≡ g.C.Crew.faulted l.fn.crew;
 }

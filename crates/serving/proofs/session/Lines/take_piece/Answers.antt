@@ -6,7 +6,7 @@ use Rattle.serving.proofs.HeldLaws.{held_short, piece_is, gone-nothing, gone-mor
 use Rattle.serving.proofs.session.Lines.take_piece.Goals as goal
 
 pub loop-line-init : goal.loop-line-init
-loop-line-init g c = record { so_far = ([], refl, λ begun k. gone-nothing _ begun _ _ _ k); plant = refl; sink = refl }
+loop-line-init g c = record { so_far = ([], refl, λ begun k. gone-nothing _ begun _ _ _ k); plant = refl; sink = refl; crew = refl }
 
 pub loop-line-preserved : goal.loop-line-preserved
 loop-line-preserved g c =
@@ -25,6 +25,7 @@ loop-line-preserved g c =
       );
       plant = after.continues.0 ∙ inv.plant;
       sink = after.continues.2 ∙ or-false _ ∙ inv.sink;
+      crew = after.crew ∙ inv.crew;
     }
 
 pub returns-in_err-take_line-clause-err : goal.returns-in_err-take_line-clause-err

@@ -9,6 +9,7 @@ invariant-loop-line g l = record {
       → HasGone l.fn.engine.plant begun front l.self.held.items l.fn.engine.history l.engine.history (g.S.Sink.written l.fn.sink) (g.S.Sink.written l.sink));
   plant : l.engine.plant ≡ l.fn.engine.plant;
   sink : g.S.Sink.broken l.sink ≡ g.S.Sink.broken l.fn.sink;
+  crew : g.C.Crew.faulted l.crew ≡ g.C.Crew.faulted l.fn.crew;
 }
 
 abbrev pub decreases-loop-line : goal.decreases-loop-line
