@@ -1,10 +1,13 @@
 //! The alarm server.
 //!
 //! Without words it serves its example plant: commands from standard input, one on each line, and answers on standard output. `check PLANT` tells
-//! whether a plant is accepted, and `run PLANT` serves it. What is chosen, accepted, refused and answered is proved in the libraries
+//! whether a plant is accepted, and `run PLANT` serves it, with `--workers N` by N workers. What is chosen, accepted, refused and answered is proved in the libraries
 //! `command_line` and `serving`.
 #![tactic(auto)]
 
+ghost use Rattle.command_line.specs.Choices.{HasWorkers};
+
+mod crews;
 mod example;
 mod plants;
 mod prints;
@@ -18,18 +21,24 @@ use serving::ServeFault;
 use std::process::ExitCode;
 use std::rt::Runtime;
 use std::sync::Wait;
+use std::thread::Threads;
 
 /// Does what was chosen.
-fn done<R: Runtime + Wait + AllocGlobal>(rt: &R, choice: &Choice) -> Ended {
+fn done<R: Runtime + Threads + Wait + AllocGlobal + Send + 'static>(
+    rt: &R,
+    choice: &Choice,
+) -> Ended
+    requires { HasWorkers choice.now }
+{
     match choice {
         Choice::Example => serve_example(rt),
         Choice::Check(path) => check(rt, path.as_str()),
-        Choice::Run(path, _) => serve_files(rt, path.as_str()),
+        Choice::Run(path, workers) => serve_files(rt, path.as_str(), *workers),
     }
 }
 
 /// Does what the words ask for.
-fn ended<R: Runtime + Wait + AllocGlobal>(rt: &R) -> Ended {
+fn ended<R: Runtime + Threads + Wait + AllocGlobal + Send + 'static>(rt: &R) -> Ended {
     match choice(rt) {
         Ok(choice) => done(rt, &choice),
         Err(UsageFault::Memory) => stopped(rt, ServeFault::Memory),

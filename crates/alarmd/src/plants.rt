@@ -1,12 +1,17 @@
 //! Plants, checked and served.
 
+ghost use Rattle.std.specs.Prelude.{◌<◌, ◌≤◌};
+
+use crate::crews::workers;
 use crate::example::{ALARMS, PLANT, SOURCE, SOURCE_NAME};
 use crate::prints::stopped;
 use command_line::Ended;
+use engine::{Alone, Crew, Done, Job, Start};
 use serving::{Disk, Reading, RunEnd, ServeFault, Writing, check_from, run, run_from};
 use std::io;
-use std::rt::Files;
+use std::rt::{Files, Runtime};
 use std::sync::Wait;
+use std::thread::Threads;
 
 /// How the program ends after a run.
 fn ended<R: Eprint>(rt: &R, run: Result<RunEnd, ServeFault>) -> Ended {
@@ -27,18 +32,43 @@ pub fn check<R: Files + Print + Eprint + AllocGlobal>(rt: &R, path: &str) -> End
     }
 }
 
-/// Serves the plant of a plant file's path over standard input and output.
-pub fn serve_files<R: Files + Input + Print + Eprint + Wait + AllocGlobal>(
+/// Serves the plant of a plant file's path over standard input and output, its programs run by the crew.
+fn serve_by<R: Files + Input + Print + Eprint + Wait + AllocGlobal, C: Crew<Job, Start, Done, R>>(
     rt: &R,
+    crew: &mut C,
     path: &str,
-) -> Ended {
+) -> Ended
+    requires { C.asks }
+{
     let mut feed = Reading::new(rt.reader());
     let mut sink = Writing::new(io::writer(rt));
     let folder = Disk { files: rt };
     ended(
         rt,
-        run_from(rt, rt.alloc(), &folder, path, &mut feed, &mut sink),
+        run_from(rt, rt.alloc(), crew, &folder, path, &mut feed, &mut sink),
     )
+}
+
+/// Serves the plant of a plant file's path over standard input and output, its programs run by so many workers. One is the caller alone.
+pub fn serve_files<R: Runtime + Threads + Wait + AllocGlobal + Send + 'static>(
+    rt: &R,
+    path: &str,
+    number: u32,
+) -> Ended
+    requires { (0 < number) × (number ≤ 64) }
+{
+    if number == 1 {
+        return serve_by(rt, &mut Alone, path);
+    }
+    match workers(rt, rt.alloc(), number) {
+        Ok(workers) => {
+            let mut crew = workers;
+            let ended = serve_by(rt, &mut crew, path);
+            crew.close(rt);
+            ended
+        }
+        Err(fault) => stopped(rt, fault),
+    }
 }
 
 /// Serves the example plant over standard input and output.
@@ -51,6 +81,7 @@ pub fn serve_example<R: Input + Print + Eprint + Wait + AllocGlobal>(rt: &R) -> 
         run(
             rt,
             rt.alloc(),
+            &mut Alone,
             PLANT,
             &sources,
             ALARMS,

@@ -1,5 +1,8 @@
 //! The words of the command line.
 
+ghost use Rattle.std.specs.Prelude.{IfOk};
+ghost use Rattle.command_line.specs.Choices.{HasWorkers};
+
 use command_line::{Choice, UsageFault, choose};
 use plant_types::Text;
 use std::alloc::{AllocError, Global};
@@ -42,7 +45,9 @@ fn borrowed(alloc: Global, words: &[String]) -> Result<Vec<&str>, AllocError> {
 }
 
 /// What the program is asked for, by its words.
-pub fn choice(rt: &(impl Env + AllocGlobal)) -> Result<Choice, UsageFault> {
+pub fn choice(rt: &(impl Env + AllocGlobal)) -> Result<Choice, UsageFault>
+    ensures { IfOk result HasWorkers }
+{
     let words = words(rt)?;
     let texts = borrowed(rt.alloc(), words.as_slice())?;
     choose(rt.alloc(), texts.as_slice())
