@@ -3,7 +3,8 @@
 //! A line of the table, read from standard input (the file `stdin`), is a seed: a number of up to 18 digits. From it come a hundred sources,
 //! each with two block types and two programs, with bodies of every statement and every operator, nested, with calls and timers. Each
 //! program runs in a few scans, by the walk of its source and by its compiled code, each over cells of its own, and the two have to end alike
-//! and leave the same in their cells. For a seed one line is printed (the file `stdout`): where all hundred ended alike
+//! and leave the same in their cells. Beside the globals no two programs may have a cell in common: only then does a crew run them. For a seed
+//! one line is printed (the file `stdout`): where all hundred ended alike
 //!
 //! `100 sources of seed 7: walk and code ended alike`
 //!
@@ -50,6 +51,7 @@ fn line_of(alloc: Global, seed: u64) -> Result<String, AllocError> {
             Outcome::Alike => continue,
             Outcome::Large => "past a limit",
             Outcome::Differ => "walk and code differ",
+            Outcome::Shared => "two programs share a cell",
             Outcome::Unfit => "not well formed",
         };
         let text = text.as_str();

@@ -6,6 +6,7 @@ use crate::dice::Dice;
 use plant_limits::LimitFault;
 use plant_sources::{SourceFault, units};
 use plant_walk::Framed;
+use scan_logic::Levelled;
 use st_typing::{TypeFault, check};
 use std::alloc::{AllocError, Global};
 use twin_runs::Twin;
@@ -17,6 +18,8 @@ pub enum Outcome {
     Alike,
     /// The two runs of a program differ.
     Differ,
+    /// Beside the globals two of its programs have a cell in common.
+    Shared,
     /// It is past a limit, and wasn't run.
     Large,
     /// It isn't well formed, and wasn't run.
@@ -84,6 +87,9 @@ pub fn run_source(alloc: Global, text: &str, dice: &mut Dice) -> Result<Outcome,
         Err(LimitFault::Memory) => return Err(AllocError),
         Err(_) => return Ok(Outcome::Large),
     };
+    if !Levelled::of(alloc, &framed)?.is_apart() {
+        return Ok(Outcome::Shared);
+    }
     let mut twin = Twin::new(alloc, framed)?;
     if scans_are_alike(&mut twin, dice) {
         Ok(Outcome::Alike)

@@ -1,6 +1,6 @@
 //! What the server answers.
 
-use engine::Engine;
+use engine::{Crew, Done, Engine, Job, Start};
 use plant_config::Plant;
 use serving::{Feed, Reading, ServeFault, Sink, Writing, serve};
 use std::alloc::{AllocError, Global};
@@ -14,15 +14,18 @@ pub fn push_accepted(alloc: Global, text: &mut Vec<u8>, plant: &Plant) -> Result
 }
 
 /// What an input is answered. Neither the feed nor the sink has failed then.
-fn served<H: Wait>(
+fn served<H: Wait, C: Crew<Job, Start, Done, H>>(
     rt: &H,
     alloc: Global,
     engine: &mut Engine,
+    crew: &mut C,
     input: &[u8],
-) -> Result<Vec<u8>, ServeFault> {
+) -> Result<Vec<u8>, ServeFault>
+    requires { C.asks }
+{
     let mut feed = Reading::new(input);
     let mut sink = Writing::new(Vec::new(alloc));
-    serve(rt, alloc, engine, &mut feed, &mut sink)?;
+    serve(rt, alloc, engine, crew, &mut feed, &mut sink)?;
     if feed.failed() || sink.failed() {
         return Err(ServeFault::Read);
     }
@@ -30,13 +33,16 @@ fn served<H: Wait>(
 }
 
 /// What an input is answered. Over memory a session stops only where memory was refused.
-pub fn answers<H: Wait>(
+pub fn answers<H: Wait, C: Crew<Job, Start, Done, H>>(
     rt: &H,
     alloc: Global,
     engine: &mut Engine,
+    crew: &mut C,
     input: &[u8],
-) -> Result<Vec<u8>, AllocError> {
-    served(rt, alloc, engine, input).map_err(|_| AllocError)
+) -> Result<Vec<u8>, AllocError>
+    requires { C.asks }
+{
+    served(rt, alloc, engine, crew, input).map_err(|_| AllocError)
 }
 
 /// Adds how many events an engine has taken, its last moment and the state of its first alarm.

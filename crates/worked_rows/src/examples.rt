@@ -1,14 +1,17 @@
 //! The rows before the first plant: the plants of the folder `examples`, checked and served from their files; the texts of refusals; and the
 //! laws, which do nothing when they are called.
 
+use crate::crews::Crews;
 use crate::laws::call_laws;
 use crate::shown::push_texts;
+use engine::{Alone, Crew, Done, Job, Start};
 use row_text::push_line;
 use serving::{Disk, Reading, ServeFault, Writing, check_from, run_from};
 use std::alloc::{AllocError, Global};
 use std::fs;
 use std::rt::Files;
 use std::sync::Wait;
+use std::thread::Threads;
 
 /// What there is to say of the plant of a plant file's path.
 fn checked<R: Files>(rt: &R, alloc: Global, path: &str) -> Result<Vec<u8>, ServeFault> {
@@ -18,34 +21,40 @@ fn checked<R: Files>(rt: &R, alloc: Global, path: &str) -> Result<Vec<u8>, Serve
 }
 
 /// What the plant of a plant file's path is answered on the commands of a file.
-fn served<R: Files + Wait>(
+fn served<R: Files + Wait, C: Crew<Job, Start, Done, R>>(
     rt: &R,
     alloc: Global,
+    crew: &mut C,
     path: &str,
     commands: &str,
-) -> Result<Vec<u8>, ServeFault> {
+) -> Result<Vec<u8>, ServeFault>
+    requires { C.asks }
+{
     let Ok(file) = fs::open(rt, commands) else {
         return Err(ServeFault::Read);
     };
     let mut feed = Reading::new(file);
     let mut sink = Writing::new(Vec::new(alloc));
     let disk = Disk { files: rt };
-    run_from(rt, alloc, &disk, path, &mut feed, &mut sink)?;
+    run_from(rt, alloc, crew, &disk, path, &mut feed, &mut sink)?;
     Ok(sink.to)
 }
 
 /// Adds what an example is answered: `check PLANT`, or `run PLANT COMMANDS`. A session whose commands can't be read has no answers but
 /// `RUN READ`; the answers are kept in memory, so that a write fails only where memory was refused.
-fn push_example<R: Files + Wait>(
+fn push_example<R: Files + Wait, C: Crew<Job, Start, Done, R>>(
     rt: &R,
     alloc: Global,
+    crew: &mut C,
     text: &mut Vec<u8>,
     words: &str,
-) -> Result<(), AllocError> {
+) -> Result<(), AllocError>
+    requires { C.asks }
+{
     push_line(text, words)?;
     let (word, rest) = words.split_once(" ").unwrap_or((words, ""));
     let answers = match rest.split_once(" ") {
-        Some((path, commands)) if word == "run" => served(rt, alloc, path, commands),
+        Some((path, commands)) if word == "run" => served(rt, alloc, crew, path, commands),
         _ => checked(rt, alloc, rest),
     };
     match answers {
@@ -56,14 +65,17 @@ fn push_example<R: Files + Wait>(
 }
 
 /// Adds the answer to a line `example ..`, `texts` or `laws`; no other line has one.
-fn push_row<R: Files + Wait>(
+fn push_row<R: Files + Wait, C: Crew<Job, Start, Done, R>>(
     rt: &R,
     alloc: Global,
+    crew: &mut C,
     text: &mut Vec<u8>,
     line: &str,
-) -> Result<(), AllocError> {
+) -> Result<(), AllocError>
+    requires { C.asks }
+{
     if let Some(words) = line.strip_prefix("example ") {
-        return push_example(rt, alloc, text, words);
+        return push_example(rt, alloc, crew, text, words);
     }
     if line == "laws" {
         call_laws();
@@ -75,18 +87,40 @@ fn push_row<R: Files + Wait>(
 }
 
 /// Adds the answers to the lines `example ..`, `texts` and `laws` of a table. Where memory is refused a line is answered once more.
-pub fn push_examples<R: Files + Wait>(
+fn push_examples<R: Files + Wait, C: Crew<Job, Start, Done, R>>(
     rt: &R,
     alloc: Global,
+    crew: &mut C,
     text: &mut Vec<u8>,
     table: &str,
-) -> Result<(), AllocError> {
+) -> Result<(), AllocError>
+    requires { C.asks }
+{
     for line in table.lines() {
         let start = text.len();
-        if push_row(rt, alloc, text, line).is_err() {
+        if push_row(rt, alloc, crew, text, line).is_err() {
             text.truncate(start);
-            push_row(rt, alloc, text, line)?;
+            push_row(rt, alloc, crew, text, line)?;
         }
     }
     Ok(())
+}
+
+/// Adds the answers to the lines `example ..`, `texts` and `laws` of a table, which each crew of workers answers once more.
+pub fn push_examples_by_all<R: Files + Threads + Wait>(
+    rt: &R,
+    alloc: Global,
+    crews: &mut Crews,
+    text: &mut Vec<u8>,
+    table: &str,
+) -> Result<(), AllocError> {
+    let mut alone = Vec::new(alloc);
+    push_examples(rt, alloc, &mut Alone, &mut alone, table)?;
+    text.extend_from_slice(alone.as_slice())?;
+    let mut answer = Vec::new(alloc);
+    push_examples(rt, alloc, &mut crews.two, &mut answer, table)?;
+    crews.hold(text, alone.as_slice(), "2", answer.as_slice())?;
+    answer.clear();
+    push_examples(rt, alloc, &mut crews.eight, &mut answer, table)?;
+    crews.hold(text, alone.as_slice(), "8", answer.as_slice())
 }

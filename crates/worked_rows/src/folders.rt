@@ -3,6 +3,7 @@
 ghost use Rattle.std.specs.Prelude.{◌≡◌, false};
 
 use crate::plants::{File, Plan, text_of, texts_of};
+use engine::{Crew, Done, Job, Start};
 use row_text::push_line;
 use serving::{FileFault, Folder, Reading, RunEnd, ServeFault, Writing, check_from, run, run_from};
 use std::alloc::{AllocError, Global};
@@ -50,34 +51,48 @@ pub fn push_checked(alloc: Global, text: &mut Vec<u8>, plan: &Plan<'_>) -> Resul
 }
 
 /// Runs the plant of a folder to the end of a feed: from its files, or from the texts of its plant file, of `p.st` and of its alarms.
-fn ran<H: Wait>(
+fn ran<H: Wait, C: Crew<Job, Start, Done, H>>(
     rt: &H,
     alloc: Global,
+    crew: &mut C,
     shelf: &Shelf<'_>,
     is_of_texts: bool,
     feed: &mut Reading<&[u8]>,
     sink: &mut Writing<Vec<u8>>,
 ) -> Result<RunEnd, ServeFault>
+    requires asked { C.asks }
     requires feed { feed.old.broken ≡ false }
     requires sink { sink.old.broken ≡ false }
 {
     if !is_of_texts {
-        return run_from(rt, alloc, shelf, PATH, feed, sink);
+        return run_from(rt, alloc, crew, shelf, PATH, feed, sink);
     }
     let plant = text_of(shelf.files, shelf.texts, "plant.toml").unwrap_or(&[]);
     let source = text_of(shelf.files, shelf.texts, "p.st").unwrap_or(&[]);
     let alarms = text_of(shelf.files, shelf.texts, "alarms.csv").unwrap_or(&[]);
-    run(rt, alloc, plant, &[("p.st", source)], alarms, feed, sink)
+    run(
+        rt,
+        alloc,
+        crew,
+        plant,
+        &[("p.st", source)],
+        alarms,
+        feed,
+        sink,
+    )
 }
 
 /// Adds what the run of a plant writes, how it ends, and how many bytes of the input it leaves.
-pub fn push_ran<H: Wait>(
+pub fn push_ran<H: Wait, C: Crew<Job, Start, Done, H>>(
     rt: &H,
     alloc: Global,
+    crew: &mut C,
     text: &mut Vec<u8>,
     plan: &Plan<'_>,
     is_of_texts: bool,
-) -> Result<(), AllocError> {
+) -> Result<(), AllocError>
+    requires { C.asks }
+{
     let texts = texts_of(alloc, plan.files, plan.given)?;
     let shelf = Shelf {
         files: plan.files,
@@ -85,7 +100,7 @@ pub fn push_ran<H: Wait>(
     };
     let mut feed = Reading::new(plan.lines.as_bytes());
     let mut sink = Writing::new(Vec::new(alloc));
-    let end = match ran(rt, alloc, &shelf, is_of_texts, &mut feed, &mut sink) {
+    let end = match ran(rt, alloc, crew, &shelf, is_of_texts, &mut feed, &mut sink) {
         Ok(RunEnd::Served) => "SERVED",
         Ok(RunEnd::Refused) => "REFUSED",
         Err(_) => return Err(AllocError),

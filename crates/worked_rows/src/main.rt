@@ -16,7 +16,9 @@
 //! - `check p.st q.st` likewise, with these sources handed in, in place of those that `plant.toml` lists;
 //! - `list files` prints the names of the files that `plant.toml` names;
 //! - `check files` and `run files` check and run the plant from a folder in memory, `run texts` from its texts; a run prints how it ends,
-//!   and how many bytes of the lines below it haven't been read.
+//!   and how many bytes of the lines below it haven't been read;
+//! - `run gone` runs it by workers that are gone: an engine is given each command by its own call, as by `step` below, and then another is
+//!   served all commands, of which is printed what it writes, how it ends and after how many events.
 //!
 //! These words among the commands are the table's own:
 //!
@@ -37,14 +39,19 @@
 //! has another number of events, another moment or another output than they have prints `WALK AND SERVER DIFFER`. The file `stdout` has no
 //! such line.
 //!
+//! Each run is by the caller alone, and then once more by two workers and by eight, unless it repeats a command. Where these answer otherwise,
+//! a line such as `2 WORKERS DIFFER` and their answer follow. The last line of the file `stdout` says that they never do.
+//!
 //! Texts are spelled as the crate row_text says. Each run of commands, up to a word of the table, is an input of its own: where its
 //! last line ends in a backslash, the input ends without a line feed. Where memory is refused a row is answered once more.
 #![tactic(auto)]
 
 mod answers;
 mod beside;
+mod crews;
 mod examples;
 mod folders;
+mod gone;
 mod laws;
 mod plants;
 mod scripts;
@@ -53,17 +60,49 @@ mod shown;
 mod steps;
 mod table;
 
-use examples::push_examples;
+use crews::Crews;
+use examples::push_examples_by_all;
+use row_text::push_line;
+use std::alloc::{AllocError, Global};
 use std::io;
 use std::io::Write;
+use std::rt::Files;
+use std::sync::Wait;
+use std::thread::Threads;
 use table::answers_to;
+
+/// Adds what a table is answered.
+fn push_answers<R: Files + Threads + Wait>(
+    rt: &R,
+    alloc: Global,
+    crews: &mut Crews,
+    text: &mut Vec<u8>,
+    table: &str,
+) -> Result<(), AllocError> {
+    push_examples_by_all(rt, alloc, crews, text, table)?;
+    let answers = answers_to(rt, alloc, crews, table)?;
+    text.extend_from_slice(answers.as_slice())
+}
+
+/// Adds what a table is answered, and a last line where all crews answer alike. The crews are let go here alone.
+fn push_all<R: Files + Threads + Wait + Clone + Send + Drop + 'static>(
+    rt: &R,
+    alloc: Global,
+    text: &mut Vec<u8>,
+    table: &str,
+) -> Result<(), AllocError> {
+    let mut crews = Crews::new_again(rt, alloc)?;
+    let answered = push_answers(rt, alloc, &mut crews, text, table);
+    if crews.end(rt) {
+        push_line(text, "ALIKE WITH 1, 2 AND 8 WORKERS")?;
+    }
+    answered
+}
 
 fn main(rt: HostRuntime) -> io::Result<()> {
     let table = io::read_to_string(rt.alloc(), rt.reader())?;
     let mut text = Vec::new(rt.alloc());
-    push_examples(&rt, rt.alloc(), &mut text, table.as_str())?;
-    let answers = answers_to(&rt, rt.alloc(), table.as_str())?;
+    push_all(&rt, rt.alloc(), &mut text, table.as_str())?;
     io::writer(&rt).write_all(text.as_slice())?;
-    io::writer(&rt).write_all(answers.as_slice())?;
     Ok(())
 }

@@ -54,6 +54,8 @@ impl File {
 pub enum Asked {
     /// To read it, and run it beside the server.
     Run,
+    /// To read it, and run it by workers that are gone.
+    RunGone,
     /// To read it.
     Check,
     /// To list the files that its plant file names.
@@ -77,6 +79,14 @@ pub struct Plan<'a> {
     pub asked: Asked,
     /// The lines of its run.
     pub lines: &'a str,
+}
+
+impl Plan<'_> {
+    /// Whether it serves a plant, and doesn't repeat a command so often that once is enough.
+    pub fn is_for_crews(&self) -> bool {
+        let is_run = matches!(self.asked, Asked::Run | Asked::RunFiles | Asked::RunTexts);
+        is_run && !self.lines.contains("repeat ")
+    }
 }
 
 /// The files of a plant for which the table has given none: the last of them is `p.st`, and empty.

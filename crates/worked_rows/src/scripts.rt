@@ -2,27 +2,33 @@
 
 use crate::answers::{answers, push_accepted, push_seen};
 use crate::beside::Beside;
+use crate::crews::Crews;
 use crate::folders::{push_checked, push_ran};
+use crate::gone::run_gone;
 use crate::plants::{Asked, Plan, plant_of};
 use crate::sessions::{asks_for_sessions, push_sessions};
 use crate::shown::push_shown;
 use crate::steps::push_step;
-use engine::Engine;
+use engine::{Alone, Crew, Done, Engine, Job, Start};
 use plant_config::Plant;
 use row_text::push_line;
 use std::alloc::{AllocError, Global};
 use std::sync::Wait;
+use std::thread::Threads;
 
 /// Gives an engine its commands, and adds its answers. The programs beside it take the same commands.
-fn give<H: Wait>(
+fn give<H: Wait, C: Crew<Job, Start, Done, H>>(
     rt: &H,
     alloc: Global,
     engine: &mut Engine,
+    crew: &mut C,
     beside: &mut Beside,
     commands: &mut Vec<u8>,
     text: &mut Vec<u8>,
-) -> Result<(), AllocError> {
-    let answers = answers(rt, alloc, engine, commands.as_slice())?;
+) -> Result<(), AllocError>
+    requires { C.asks }
+{
+    let answers = answers(rt, alloc, engine, crew, commands.as_slice())?;
     text.extend_from_slice(answers.as_slice())?;
     beside.take(alloc, engine, text, commands.as_slice())?;
     commands.clear();
@@ -30,14 +36,17 @@ fn give<H: Wait>(
 }
 
 /// Gives a command so many times, and adds the answer to the last.
-fn repeat<H: Wait>(
+fn repeat<H: Wait, C: Crew<Job, Start, Done, H>>(
     rt: &H,
     alloc: Global,
     engine: &mut Engine,
+    crew: &mut C,
     beside: &mut Beside,
     text: &mut Vec<u8>,
     words: &str,
-) -> Result<(), AllocError> {
+) -> Result<(), AllocError>
+    requires { C.asks }
+{
     let Some((times, command)) = words.split_once(" ") else {
         return Ok(());
     };
@@ -47,22 +56,26 @@ fn repeat<H: Wait>(
     for _ in 1..times {
         push_line(&mut commands, command)?;
     }
-    give(rt, alloc, engine, beside, &mut commands, text)?;
+    give(rt, alloc, engine, crew, beside, &mut commands, text)?;
     text.truncate(printed);
     push_line(&mut commands, command)?;
-    give(rt, alloc, engine, beside, &mut commands, text)
+    give(rt, alloc, engine, crew, beside, &mut commands, text)
 }
 
 /// Gives an engine the command of a line by its own calls. The programs beside it take the same command.
-fn step(
+fn step<H, C: Crew<Job, Start, Done, H>>(
+    rt: &H,
     alloc: Global,
     engine: &mut Engine,
+    crew: &mut C,
     beside: &mut Beside,
     text: &mut Vec<u8>,
     is_ready: bool,
     line: &str,
-) -> Result<(), AllocError> {
-    push_step(alloc, text, engine, is_ready, line)?;
+) -> Result<(), AllocError>
+    requires { C.asks }
+{
+    push_step(rt, alloc, text, engine, crew, is_ready, line)?;
     beside.take(alloc, engine, text, line.as_bytes())
 }
 
@@ -73,102 +86,131 @@ fn is_own(line: &str) -> bool {
 }
 
 /// Takes a line of the table's own.
-fn take_own<H: Wait>(
+fn take_own<H: Wait, C: Crew<Job, Start, Done, H>>(
     rt: &H,
     alloc: Global,
     engine: &mut Engine,
+    crew: &mut C,
     beside: &mut Beside,
     text: &mut Vec<u8>,
     line: &str,
-) -> Result<(), AllocError> {
+) -> Result<(), AllocError>
+    requires { C.asks }
+{
     let (word, words) = line.split_once(" ").unwrap_or((line, ""));
     match word {
-        "repeat" => repeat(rt, alloc, engine, beside, text, words),
+        "repeat" => repeat(rt, alloc, engine, crew, beside, text, words),
         "show" => push_shown(alloc, text, engine.plant(), words),
-        "ready" => step(alloc, engine, beside, text, true, words),
-        "step" => step(alloc, engine, beside, text, false, words),
+        "ready" => step(rt, alloc, engine, crew, beside, text, true, words),
+        "step" => step(rt, alloc, engine, crew, beside, text, false, words),
         _ => push_seen(alloc, text, engine),
     }
 }
 
 /// Takes a line of a run.
-fn take<H: Wait>(
+fn take<H: Wait, C: Crew<Job, Start, Done, H>>(
     rt: &H,
     alloc: Global,
     engine: &mut Engine,
+    crew: &mut C,
     beside: &mut Beside,
     commands: &mut Vec<u8>,
     text: &mut Vec<u8>,
     line: &str,
-) -> Result<(), AllocError> {
+) -> Result<(), AllocError>
+    requires { C.asks }
+{
     if line.is_empty() {
         return Ok(());
     }
     if asks_for_sessions(line) {
-        return push_sessions(rt, alloc, text, engine.plant(), commands.as_slice(), line);
+        return push_sessions(
+            rt,
+            alloc,
+            crew,
+            text,
+            engine.plant(),
+            commands.as_slice(),
+            line,
+        );
     }
     if !is_own(line) {
         return push_line(commands, line);
     }
-    give(rt, alloc, engine, beside, commands, text)?;
-    take_own(rt, alloc, engine, beside, text, line)
+    give(rt, alloc, engine, crew, beside, commands, text)?;
+    take_own(rt, alloc, engine, crew, beside, text, line)
 }
 
 /// Takes the lines of a run.
-fn take_all<H: Wait>(
+fn take_all<H: Wait, C: Crew<Job, Start, Done, H>>(
     rt: &H,
     alloc: Global,
     engine: &mut Engine,
+    crew: &mut C,
     beside: &mut Beside,
     text: &mut Vec<u8>,
     lines: &str,
-) -> Result<(), AllocError> {
+) -> Result<(), AllocError>
+    requires { C.asks }
+{
     let mut commands = Vec::new(alloc);
     for line in lines.lines() {
-        take(rt, alloc, engine, beside, &mut commands, text, line)?;
+        take(rt, alloc, engine, crew, beside, &mut commands, text, line)?;
     }
-    give(rt, alloc, engine, beside, &mut commands, text)
+    give(rt, alloc, engine, crew, beside, &mut commands, text)
 }
 
 /// Runs an engine's plant on the lines of a run. The programs beside it are let go here alone.
-fn run_beside<H: Wait>(
+fn run_beside<H: Wait, C: Crew<Job, Start, Done, H>>(
     rt: &H,
     alloc: Global,
     engine: &mut Engine,
+    crew: &mut C,
     text: &mut Vec<u8>,
     lines: &str,
-) -> Result<(), AllocError> {
+) -> Result<(), AllocError>
+    requires { C.asks }
+{
     let mut beside = Beside::new(alloc, engine.plant())?;
-    let ran = take_all(rt, alloc, engine, &mut beside, text, lines);
+    let ran = take_all(rt, alloc, engine, crew, &mut beside, text, lines);
     drop(beside);
     ran
 }
 
 /// Runs a plant on the lines of a run. An engine is let go here alone.
-fn run_plant<H: Wait>(
+fn run_plant<H: Wait, C: Crew<Job, Start, Done, H>>(
     rt: &H,
     alloc: Global,
+    crew: &mut C,
     text: &mut Vec<u8>,
     plant: Plant,
     lines: &str,
-) -> Result<(), AllocError> {
+) -> Result<(), AllocError>
+    requires { C.asks }
+{
     let mut engine = Engine::new(alloc, plant)?;
-    let ran = run_beside(rt, alloc, &mut engine, text, lines);
+    let ran = run_beside(rt, alloc, &mut engine, crew, text, lines);
     drop(engine);
     ran
 }
 
 /// Adds what there is of the plant of a plan: why there is no such plant, what it has if it is only checked, or its answers.
-fn push_read<H: Wait>(
+fn push_read<H: Wait, C: Crew<Job, Start, Done, H>>(
     rt: &H,
     alloc: Global,
+    crew: &mut C,
     text: &mut Vec<u8>,
     plan: &Plan<'_>,
-) -> Result<(), AllocError> {
+) -> Result<(), AllocError>
+    requires { C.asks }
+{
     match plant_of(alloc, text, plan)? {
         None => Ok(()),
         Some(plant) if matches!(plan.asked, Asked::Run) => {
-            run_plant(rt, alloc, text, plant, plan.lines)
+            run_plant(rt, alloc, crew, text, plant, plan.lines)
+        }
+        Some(plant) if matches!(plan.asked, Asked::RunGone) => {
+            run_gone(rt, alloc, crew, text, plant, plan.lines)
         }
         Some(plant) => {
             let accepted = push_accepted(alloc, text, &plant);
@@ -179,31 +221,61 @@ fn push_read<H: Wait>(
 }
 
 /// Adds what a plan asks for.
-fn push_plan<H: Wait>(
+fn push_plan<H: Wait, C: Crew<Job, Start, Done, H>>(
     rt: &H,
     alloc: Global,
+    crew: &mut C,
     text: &mut Vec<u8>,
     plan: &Plan<'_>,
-) -> Result<(), AllocError> {
+) -> Result<(), AllocError>
+    requires { C.asks }
+{
     match plan.asked {
-        Asked::Run | Asked::Check | Asked::List => push_read(rt, alloc, text, plan),
+        Asked::Run | Asked::RunGone | Asked::Check | Asked::List => push_read(
+            rt, alloc, crew, text, plan,
+        ),
         Asked::CheckFiles => push_checked(alloc, text, plan),
-        Asked::RunFiles => push_ran(rt, alloc, text, plan, false),
-        Asked::RunTexts => push_ran(rt, alloc, text, plan, true),
+        Asked::RunFiles => push_ran(rt, alloc, crew, text, plan, false),
+        Asked::RunTexts => push_ran(rt, alloc, crew, text, plan, true),
     }
 }
 
 /// Adds what a plan asks for. Where memory is refused it is asked for once more.
-pub fn push_plan_again<H: Wait>(
+pub fn push_plan_again<H: Wait, C: Crew<Job, Start, Done, H>>(
     rt: &H,
     alloc: Global,
+    crew: &mut C,
     text: &mut Vec<u8>,
     plan: &Plan<'_>,
-) -> Result<(), AllocError> {
+) -> Result<(), AllocError>
+    requires { C.asks }
+{
     let start = text.len();
-    if push_plan(rt, alloc, text, plan).is_ok() {
+    if push_plan(rt, alloc, crew, text, plan).is_ok() {
         return Ok(());
     }
     text.truncate(start);
-    push_plan(rt, alloc, text, plan)
+    push_plan(rt, alloc, crew, text, plan)
+}
+
+/// Adds what a plan asks for. Where it serves a plant, it is asked for once more by each crew of workers.
+pub fn push_plan_by_all<H: Threads + Wait>(
+    rt: &H,
+    alloc: Global,
+    crews: &mut Crews,
+    text: &mut Vec<u8>,
+    plan: &Plan<'_>,
+) -> Result<(), AllocError> {
+    let mut alone = Vec::new(alloc);
+    push_plan_again(rt, alloc, &mut Alone, &mut alone, plan)?;
+    text.extend_from_slice(alone.as_slice())?;
+    if !plan.is_for_crews() {
+        return Ok(());
+    }
+    let mut answer = Vec::new(alloc);
+    push_plan_again(rt, alloc, &mut crews.two, &mut answer, plan)?;
+    crews.hold(text, alone.as_slice(), "2", answer.as_slice())?;
+    answer.clear();
+    push_plan_again(rt, alloc, &mut crews.eight, &mut answer, plan)?;
+    crews.hold(text, alone.as_slice(), "8", answer.as_slice())
 }

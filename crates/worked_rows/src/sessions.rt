@@ -2,7 +2,7 @@
 
 ghost use Rattle.std.specs.Prelude.{◌≡◌, false};
 
-use engine::Engine;
+use engine::{Crew, Done, Engine, Job, Start};
 use plant_config::Plant;
 use row_text::push_line;
 use serving::{Failed, Feed, ServeFault, Sink, serve};
@@ -98,13 +98,16 @@ struct Ended {
 }
 
 /// Serves an input to an engine that is lent. Fails where memory was refused.
-fn served<H: Wait>(
+fn served<H: Wait, C: Crew<Job, Start, Done, H>>(
     rt: &H,
     alloc: Global,
     engine: &mut Engine,
+    crew: &mut C,
     input: &[u8],
     ends: Ends,
-) -> Result<Ended, AllocError> {
+) -> Result<Ended, AllocError>
+    requires { C.asks }
+{
     // Room for all answers: a growth that is refused would look like a write that failed.
     let bytes = Vec::with_capacity(alloc, 1000)?;
     let mut feed = Pieces {
@@ -119,7 +122,7 @@ fn served<H: Wait>(
         writes: ends.writes,
         broken: false,
     };
-    let outcome = match serve(rt, alloc, engine, &mut feed, &mut sink) {
+    let outcome = match serve(rt, alloc, engine, crew, &mut feed, &mut sink) {
         Ok(()) => "DONE",
         Err(ServeFault::Memory) => return Err(AllocError),
         Err(fault) => fault.text(),
@@ -132,15 +135,18 @@ fn served<H: Wait>(
 }
 
 /// Serves an input to a new engine of a plant, which is let go here alone.
-fn session<H: Wait>(
+fn session<H: Wait, C: Crew<Job, Start, Done, H>>(
     rt: &H,
     alloc: Global,
+    crew: &mut C,
     plant: &Plant,
     input: &[u8],
     ends: Ends,
-) -> Result<Ended, AllocError> {
+) -> Result<Ended, AllocError>
+    requires { C.asks }
+{
     let mut engine = Engine::new(alloc, plant.copy(alloc)?)?;
-    let ended = served(rt, alloc, &mut engine, input, ends);
+    let ended = served(rt, alloc, &mut engine, crew, input, ends);
     drop(engine);
     ended
 }
@@ -181,17 +187,20 @@ fn ends_of(word: &str, calls: usize) -> Ends {
 }
 
 /// Adds the sessions of a plant in which the first call of a feed or sink fails, the second one, the third, and so on until none does.
-fn push_failing<H: Wait>(
+fn push_failing<H: Wait, C: Crew<Job, Start, Done, H>>(
     rt: &H,
     alloc: Global,
+    crew: &mut C,
     text: &mut Vec<u8>,
     plant: &Plant,
     input: &[u8],
     word: &str,
     whole: &[u8],
-) -> Result<(), AllocError> {
+) -> Result<(), AllocError>
+    requires { C.asks }
+{
     for calls in 0..1_000_000usize {
-        let ended = session(rt, alloc, plant, input, ends_of(word, calls))?;
+        let ended = session(rt, alloc, crew, plant, input, ends_of(word, calls))?;
         push_ended(
             alloc,
             text,
@@ -207,15 +216,18 @@ fn push_failing<H: Wait>(
 }
 
 /// Adds the session of a plant whose feed and sink take little: `little 5 7` gives at most 5 bytes a read, and takes at most 7 a write.
-fn push_little<H: Wait>(
+fn push_little<H: Wait, C: Crew<Job, Start, Done, H>>(
     rt: &H,
     alloc: Global,
+    crew: &mut C,
     text: &mut Vec<u8>,
     plant: &Plant,
     input: &[u8],
     words: &str,
     whole: &[u8],
-) -> Result<(), AllocError> {
+) -> Result<(), AllocError>
+    requires { C.asks }
+{
     let (read, write) = words.split_once(" ").unwrap_or((words, ""));
     let ends = Ends {
         read: read.parse::<usize>().unwrap_or(NO_LIMIT),
@@ -223,8 +235,25 @@ fn push_little<H: Wait>(
         write: write.parse::<usize>().unwrap_or(NO_LIMIT),
         writes: NO_LIMIT,
     };
-    let ended = session(rt, alloc, plant, input, ends)?;
+    let ended = session(rt, alloc, crew, plant, input, ends)?;
     push_ended(alloc, text, words, &ended, whole)
+}
+
+/// Adds what a session of a plant writes, how it ends, and after how many events.
+pub fn push_session<H: Wait, C: Crew<Job, Start, Done, H>>(
+    rt: &H,
+    alloc: Global,
+    crew: &mut C,
+    text: &mut Vec<u8>,
+    plant: &Plant,
+    input: &[u8],
+) -> Result<(), AllocError>
+    requires { C.asks }
+{
+    let ended = session(rt, alloc, crew, plant, input, ends_of("sink", NO_LIMIT))?;
+    text.extend_from_slice(ended.bytes.as_slice())?;
+    let (outcome, events) = (ended.outcome, ended.events);
+    push_line(text, format!(in alloc; "{outcome} {events}")?.as_str())
 }
 
 /// Whether a line of a run asks for sessions.
@@ -233,19 +262,22 @@ pub fn asks_for_sessions(line: &str) -> bool {
 }
 
 /// Adds the sessions of a line: each of a new engine of the plant, on the commands so far.
-pub fn push_sessions<H: Wait>(
+pub fn push_sessions<H: Wait, C: Crew<Job, Start, Done, H>>(
     rt: &H,
     alloc: Global,
+    crew: &mut C,
     text: &mut Vec<u8>,
     plant: &Plant,
     input: &[u8],
     line: &str,
-) -> Result<(), AllocError> {
+) -> Result<(), AllocError>
+    requires { C.asks }
+{
     push_line(text, line)?;
-    let whole = session(rt, alloc, plant, input, ends_of("sink", NO_LIMIT))?;
+    let whole = session(rt, alloc, crew, plant, input, ends_of("sink", NO_LIMIT))?;
     let answers = whole.bytes.as_slice();
     match line.strip_prefix("little ") {
-        Some(words) => push_little(rt, alloc, text, plant, input, words, answers),
-        None => push_failing(rt, alloc, text, plant, input, line, answers),
+        Some(words) => push_little(rt, alloc, crew, text, plant, input, words, answers),
+        None => push_failing(rt, alloc, crew, text, plant, input, line, answers),
     }
 }

@@ -1,6 +1,6 @@
 //! What a plant and its copy show by each of their calls (`plant_config`), and the texts of refusals.
 
-use engine::EngineFault;
+use engine::{CrewFault, EngineFault};
 use plant_config::{AlarmRow, ConfigFault, Limit, Plant};
 use plant_types::{Kind, Region};
 use plant_walk::{Framed, Walked, walk};
@@ -169,7 +169,12 @@ pub fn push_shown(
 
 /// Adds the texts of the server's and the engine's refusals, and the lines of the limits that no small plant passes.
 pub fn push_texts(alloc: Global, text: &mut Vec<u8>) -> Result<(), AllocError> {
-    for fault in [ServeFault::Memory, ServeFault::Read, ServeFault::Write] {
+    for fault in [
+        ServeFault::Memory,
+        ServeFault::Read,
+        ServeFault::Write,
+        ServeFault::Crew,
+    ] {
         push_line(text, fault.text())?;
     }
     for fault in [
@@ -177,6 +182,7 @@ pub fn push_texts(alloc: Global, text: &mut Vec<u8>) -> Result<(), AllocError> {
         EngineFault::MomentRange,
         EngineFault::ImageName,
         EngineFault::ImageKind,
+        EngineFault::Crew(CrewFault::Lost),
         EngineFault::HistoryFull,
     ] {
         push_line(text, fault.text())?;

@@ -3,7 +3,7 @@
 use crate::answers::push_seen;
 use alarm_machine::{Code, Verb};
 use command_text::{Command, Pool, read_command};
-use engine::{Engine, EngineFault, Order, Report};
+use engine::{Crew, Done, Engine, EngineFault, Job, Order, Report, Start};
 use plant_config::Plant;
 use row_text::push_line;
 use std::alloc::{AllocError, Global};
@@ -27,24 +27,29 @@ fn push_report(alloc: Global, text: &mut Vec<u8>, report: &Report) -> Result<(),
     )
 }
 
-/// Adds that an event was refused; fails where memory was.
+/// Adds why an event was refused; fails where memory was.
 fn push_refused(text: &mut Vec<u8>, fault: EngineFault) -> Result<(), AllocError> {
-    match fault {
-        EngineFault::Memory => Err(AllocError),
-        _ => push_line(text, "REFUSED"),
+    if let EngineFault::Memory = fault {
+        return Err(AllocError);
     }
+    text.extend_from_slice(b"REFUSED ")?;
+    push_line(text, fault.text())
 }
 
 /// Makes a command ready, adds what the engine shows then, and commits it.
-fn push_ready(
+fn push_ready<H, C: Crew<Job, Start, Done, H>>(
+    rt: &H,
     alloc: Global,
     text: &mut Vec<u8>,
     engine: &mut Engine,
+    crew: &mut C,
     command: Command<'_>,
-) -> Result<(), AllocError> {
+) -> Result<(), AllocError>
+    requires { C.asks }
+{
     match command {
         Command::Scan(moment, pairs) => {
-            let prepared = match engine.prepare(alloc, pairs, moment) {
+            let prepared = match engine.prepare(rt, alloc, crew, pairs, moment) {
                 Ok(prepared) => prepared,
                 Err(fault) => return push_refused(text, fault),
             };
@@ -87,14 +92,18 @@ fn push_ordered(
 }
 
 /// Gives a command by the engine's call for it.
-fn push_done(
+fn push_done<H, C: Crew<Job, Start, Done, H>>(
+    rt: &H,
     alloc: Global,
     text: &mut Vec<u8>,
     engine: &mut Engine,
+    crew: &mut C,
     command: Command<'_>,
-) -> Result<(), AllocError> {
+) -> Result<(), AllocError>
+    requires { C.asks }
+{
     match command {
-        Command::Scan(moment, pairs) => match engine.scan(alloc, pairs, moment) {
+        Command::Scan(moment, pairs) => match engine.scan(rt, alloc, crew, pairs, moment) {
             Ok(report) => push_report(alloc, text, &report),
             Err(fault) => push_refused(text, fault),
         },
@@ -136,19 +145,23 @@ fn push_counts(alloc: Global, text: &mut Vec<u8>, engine: &Engine) -> Result<(),
 }
 
 /// Gives an engine the command of a line by its own calls, `ready` it and then commit it, or `step` at once; then adds what it shows.
-pub fn push_step(
+pub fn push_step<H, C: Crew<Job, Start, Done, H>>(
+    rt: &H,
     alloc: Global,
     text: &mut Vec<u8>,
     engine: &mut Engine,
+    crew: &mut C,
     is_ready: bool,
     line: &str,
-) -> Result<(), AllocError> {
+) -> Result<(), AllocError>
+    requires { C.asks }
+{
     let mut pool = Pool::new(alloc);
     let command = read_command(alloc, &mut pool, line.as_bytes())?;
     if is_ready {
-        push_ready(alloc, text, engine, command)?;
+        push_ready(rt, alloc, text, engine, crew, command)?;
     } else {
-        push_done(alloc, text, engine, command)?;
+        push_done(rt, alloc, text, engine, crew, command)?;
     }
     push_seen(alloc, text, engine)?;
     push_counts(alloc, text, engine)

@@ -1,9 +1,11 @@
 //! The lines of the table.
 
+use crate::crews::Crews;
 use crate::plants::{Asked, File, Plan, first_files, push_file};
-use crate::scripts::push_plan_again;
+use crate::scripts::{push_plan_again, push_plan_by_all};
 use std::alloc::{AllocError, Global};
 use std::sync::Wait;
+use std::thread::Threads;
 
 /// What the table has said so far.
 #[derive(Drop)]
@@ -30,6 +32,7 @@ struct Table {
 fn asked_by(line: &str) -> Option<Asked> {
     match line {
         "run" => Some(Asked::Run),
+        "run gone" => Some(Asked::RunGone),
         "list files" => Some(Asked::List),
         "check files" => Some(Asked::CheckFiles),
         "run files" => Some(Asked::RunFiles),
@@ -60,7 +63,12 @@ impl Table {
     }
 
     /// Runs the plant, if it is to be run, on the lines of its run.
-    fn flush<H: Wait>(&mut self, rt: &H, alloc: Global) -> Result<(), AllocError> {
+    fn flush<H: Threads + Wait>(
+        &mut self,
+        rt: &H,
+        alloc: Global,
+        crews: &mut Crews,
+    ) -> Result<(), AllocError> {
         if self.is_run {
             let plan = Plan {
                 files: &self.files,
@@ -69,7 +77,11 @@ impl Table {
                 asked: self.asked,
                 lines: self.script.as_str(),
             };
-            push_plan_again(rt, alloc, &mut self.text, &plan)?;
+            let text = &mut self.text;
+            match plan.asked {
+                Asked::RunGone => push_plan_again(rt, alloc, &mut crews.gone, text, &plan)?,
+                _ => push_plan_by_all(rt, alloc, crews, text, &plan)?,
+            }
         }
         self.is_run = false;
         self.script.clear();
@@ -129,16 +141,22 @@ impl Table {
     }
 
     /// Takes a line.
-    fn take<H: Wait>(&mut self, rt: &H, alloc: Global, line: &str) -> Result<(), AllocError> {
+    fn take<H: Threads + Wait>(
+        &mut self,
+        rt: &H,
+        alloc: Global,
+        crews: &mut Crews,
+        line: &str,
+    ) -> Result<(), AllocError> {
         if self.is_open {
             return self.file_line(alloc, line);
         }
         if line.starts_with("plant ") {
-            self.flush(rt, alloc)?;
+            self.flush(rt, alloc, crews)?;
             return self.plant(alloc, line);
         }
         if let Some(given) = line.strip_prefix("with ") {
-            self.flush(rt, alloc)?;
+            self.flush(rt, alloc, crews)?;
             self.print(line)?;
             return self.begin(given);
         }
@@ -146,17 +164,28 @@ impl Table {
     }
 
     /// Takes lines.
-    fn take_all<H: Wait>(&mut self, rt: &H, alloc: Global, lines: &str) -> Result<(), AllocError> {
+    fn take_all<H: Threads + Wait>(
+        &mut self,
+        rt: &H,
+        alloc: Global,
+        crews: &mut Crews,
+        lines: &str,
+    ) -> Result<(), AllocError> {
         for line in lines.lines() {
-            self.take(rt, alloc, line)?;
+            self.take(rt, alloc, crews, line)?;
         }
-        self.flush(rt, alloc)
+        self.flush(rt, alloc, crews)
     }
 }
 
 /// What a table is answered.
-pub fn answers_to<H: Wait>(rt: &H, alloc: Global, lines: &str) -> Result<Vec<u8>, AllocError> {
+pub fn answers_to<H: Threads + Wait>(
+    rt: &H,
+    alloc: Global,
+    crews: &mut Crews,
+    lines: &str,
+) -> Result<Vec<u8>, AllocError> {
     let mut table = Table::new(alloc);
-    table.take_all(rt, alloc, lines)?;
+    table.take_all(rt, alloc, crews, lines)?;
     Ok(table.text)
 }
