@@ -1,13 +1,15 @@
 #!/usr/bin/env python3
 """Compares the server with a second reading of its rules, on random plants and commands.
 
-    python3 tools/reference/compare.py PROGRAM [FIRST_SEED [COUNT]]
+    python3 tools/reference/compare.py PROGRAM [FIRST_SEED [COUNT]] [--workers N ..]
 
 PROGRAM is the built server (crates/alarmd/out/alarmd). For each seed a plant and commands are made; the server answers them, and so does
-server.py, which was written from the rules of the language and the protocol, and not from the server's code or its definitions. The
-first line in which the answers differ is printed with the seed. The exit status is 0 where all agree.
+server.py, which was written from the rules of the language and the protocol, and not from the server's code or its definitions. With
+`--workers 1 2 4 8` the server answers them once with each of these numbers of workers; else with one. The first line in which the answers
+differ is printed with the seed and the number of workers. The exit status is 0 where all agree.
 """
 
+import argparse
 import os
 import random
 import subprocess
@@ -87,8 +89,24 @@ class Commands:
         self.take(line, self.server.order(verb, console, target, time))
 
 
-def difference(program, seed, folder):
+def answered(program, folder, lines, workers):
+    """How the server ends on these lines, and what it writes, with so many workers."""
+    words = [program, "run", os.path.join(folder, "plant.toml"), "--workers", str(workers)]
+    return subprocess.run(words, input="".join(f"{line}\n" for line in lines).encode(), capture_output=True)
+
+
+def difference(ran, wanted):
     """Where the server's answers differ from those wanted, or None."""
+    got = ran.stdout.decode().split("\n")[:-1]
+    for at in range(max(len(got), len(wanted))):
+        one, other = (lines[at] if at < len(lines) else "nothing" for lines in (wanted, got))
+        if one != other:
+            return f"line {at + 1}: wanted {one}, got {other}"
+    return None if ran.returncode == 0 else f"status {ran.returncode}: {ran.stderr.decode().strip()}"
+
+
+def differences(program, seed, folder, numbers):
+    """The numbers of workers with which the answers differ, and where."""
     some = random.Random(seed)
     plant = Maker(some).made()
     for name, text in Writer(some).files(plant).items():
@@ -97,31 +115,30 @@ def difference(program, seed, folder):
     commands = Commands(some, plant)
     for _ in range(some.choice([20, 60, 150])):
         commands.add()
-    words = [program, "run", os.path.join(folder, "plant.toml")]
-    ran = subprocess.run(words, input="".join(f"{line}\n" for line in commands.lines).encode(), capture_output=True)
-    got, wanted = ran.stdout.decode().split("\n")[:-1], commands.answers
-    for at in range(max(len(got), len(wanted))):
-        one, other = (lines[at] if at < len(lines) else "nothing" for lines in (wanted, got))
-        if one != other:
-            return f"line {at + 1}: wanted {one}, got {other}"
-    return None if ran.returncode == 0 else f"status {ran.returncode}: {ran.stderr.decode().strip()}"
+    found = ((workers, difference(answered(program, folder, commands.lines, workers), commands.answers)) for workers in numbers)
+    return [(workers, where) for workers, where in found if where]
 
 
-def main(words):
-    program = os.path.abspath(words[0])
-    first, count = (int(word) for word in (words[1:] + ["1", "1000"][len(words) - 1 :])[:2])
-    differ = 0
+def asked():
+    reader = argparse.ArgumentParser(usage=__doc__)
+    reader.add_argument("program")
+    reader.add_argument("first", type=int, nargs="?", default=1)
+    reader.add_argument("count", type=int, nargs="?", default=1000)
+    reader.add_argument("--workers", type=int, nargs="+", default=[1])
+    return reader.parse_intermixed_args()
+
+
+def main():
+    words, differ = asked(), 0
     with tempfile.TemporaryDirectory() as folder:
-        for seed in range(first, first + count):
-            found = difference(program, seed, folder)
-            if found:
-                differ += 1
-                print(f"seed {seed}: {found}", flush=True)
-    print(f"{count - differ} plants alike, {differ} not")
+        for seed in range(words.first, words.first + words.count):
+            found = differences(os.path.abspath(words.program), seed, folder, words.workers)
+            differ += 1 if found else 0
+            for workers, where in found:
+                print(f"seed {seed}, {workers} workers: {where}", flush=True)
+    print(f"{words.count - differ} plants alike, {differ} not")
     return 1 if differ else 0
 
 
 if __name__ == "__main__":
-    if len(sys.argv) < 2 or len(sys.argv) > 4:
-        sys.exit(__doc__)
-    sys.exit(main(sys.argv[1:]))
+    sys.exit(main())

@@ -36,6 +36,9 @@ class Plant:
 class Maker:
     """Makes one plant from a source of random numbers."""
 
+    # How many there may be.
+    GLOBALS, BLOCKS, PROGRAMS, ALARMS = range(6, 18), [0, 1, 2, 3], [0, 1, 2, 3, 3], [0, 1, 3, 5, 9]
+
     def __init__(self, random):
         self.random, self.names = random, 0
         self.plant = Plant(random.choice(EPOCHS))
@@ -229,20 +232,20 @@ class Maker:
 
     def made(self):
         some, plant = self.random, self.plant
-        for _ in range(some.randrange(6, 18)):
+        for _ in range(some.choice(self.GLOBALS)):
             kind = some.choice([BOOL, BOOL, BOOL, DINT, DINT, TIME])
             region = some.choice(["I", "I", "I", "Q", "Q", "Q", "Q", "M", None])
             plant.globals.append((self.name("g"), kind, region, self.constant(kind) if some.random() < 0.3 else None))
         plant.globals.append((self.name("g"), BOOL, "I", None))
-        for _ in range(some.choice([0, 1, 2, 3])):
+        for _ in range(some.choice(self.BLOCKS)):
             name = self.name("F")
             plant.blocks[name] = self.routine(name, True)
-        plant.programs = [self.routine(self.name("p"), False) for _ in range(some.choice([0, 1, 2, 3, 3]))]
+        plant.programs = [self.routine(self.name("p"), False) for _ in range(some.choice(self.PROGRAMS))]
         plant.areas = ["north", "south", f"a.{some.randrange(9)}"][: some.choice([1, 2, 3])]
         for console in some.sample(range(1, 4), some.choice([0, 1, 2, 2, 3, 3])):
             plant.consoles.append((console, [it for it in plant.areas if some.random() < 0.85]))
         watched = [name for name, kind, _, _ in plant.globals if kind == BOOL]
-        for at in range(some.choice([0, 1, 3, 5, 9])):
+        for at in range(some.choice(self.ALARMS)):
             suppress = some.choice(watched) if some.random() < 0.5 else None
             longest = some.choice([0, 1, 50, 100, 2_592_000_000])
             row = AlarmRow(f"T-{at}.x", some.choice(plant.areas), some.randrange(1, 5), some.choice(watched), suppress, some.random() < 0.4, longest)

@@ -1,35 +1,49 @@
 """What the server answers: a plant's state, scans, orders, `list` and `journal`, by the rules of docs/LANGUAGE.md and docs/PROTOCOL.md."""
 
+import copy
 import datetime
 
 from language import BOOL, RANGES, STANDARD, Assign, Call, Case, For, If, Trap, numbers, value
 
 CODES = ["NORM", "UNACK", "ACKED", "RTNUN", "LATUN", "LATAK", "SHELVED", "SUPPR", "OOS"]
 LAST_MOMENT = 4_000_000_000_000
+MOST_EVENTS = 1_000_000
+
+
+class Calls(list):
+    """All calls of a standard block: (block type, IN or CLK, PT, moment). `first` is the place of the first call of the unbroken run of calls with
+    the same IN that ends the list."""
+
+    first = 0
+
+    def add(self, block, on, preset, moment):
+        if self and self[-1][1] != on:
+            self.first = len(self)
+        self.append((block, on, preset, moment))
+
+    def copy(self):
+        made = Calls(self)
+        made.first = self.first
+        return made
 
 
 def shown(calls, name):
-    """An output of a standard block, by the list of all its calls: (block type, IN or CLK, PT, moment)."""
+    """An output of a standard block, by the list of all its calls."""
     if not calls:
         return 0
     block, on, preset, moment = calls[-1]
     preset = max(preset, 0)
     if block == "R_TRIG":
         return int(on and not (len(calls) > 1 and calls[-2][1]))
+    elapsed = moment - calls[calls.first][3]
     if block == "TON":
         if not on:
             return 0
-        first = len(calls) - 1
-        while first > 0 and calls[first - 1][1]:
-            first -= 1
-        elapsed = moment - calls[first][3]
         return int(elapsed >= preset) if name == "q" else min(elapsed, preset)
     if on:
         return int(name == "q")
-    times_on = [at for at, call in enumerate(calls) if call[1]]
-    if not times_on:
+    if calls.first == 0:
         return 0
-    elapsed = moment - calls[times_on[-1] + 1][3]
     return int(elapsed < preset) if name == "q" else min(elapsed, preset)
 
 
@@ -85,7 +99,8 @@ class Server:
     """A plant that is served: what it holds after the commands so far."""
 
     def __init__(self, plant):
-        self.plant, self.moment, self.rows = plant, 0, []
+        self.plant, self.moment, self.events, self.rows = plant, 0, 0, []
+        self.begun = datetime.datetime.strptime(plant.epoch, "%Y-%m-%dT%H:%M:%SZ")
         self.values, self.calls, self.numbers = {}, {}, {}
         self.globals = {name.lower(): (name, kind, region) for name, kind, region, _ in plant.globals}
         for name, _, _, initial in plant.globals:
@@ -95,6 +110,14 @@ class Server:
         self.faulted = [False] * len(plant.programs)
         self.alarms = [Alarm(row) for row in plant.alarms]
 
+    def copy(self):
+        """A server that goes on from here by itself."""
+        made = copy.copy(self)
+        made.values, made.rows, made.faulted = dict(self.values), list(self.rows), list(self.faulted)
+        made.calls = {path: calls.copy() for path, calls in self.calls.items()}
+        made.alarms = [copy.copy(alarm) for alarm in self.alarms]
+        return made
+
     def open(self, routine, path):
         """Gives the variables of a routine and of its instances their initial values."""
         for name, _, _, initial in routine.variables:
@@ -102,7 +125,7 @@ class Server:
         for name, block in routine.instances:
             below = path + (name.lower(),)
             if block in STANDARD:
-                self.calls[below] = []
+                self.calls[below] = Calls()
                 for given, _ in STANDARD[block][0]:
                     self.values[below + (given.lower(),)] = 0
             else:
@@ -165,7 +188,7 @@ class Server:
         if statement.block in STANDARD:
             on = "clk" if statement.block == "R_TRIG" else "in"
             preset = self.values.get(below + ("pt",), 0)
-            self.calls[below].append((statement.block, bool(self.values[below + (on,)]), preset, moment))
+            self.calls[below].add(statement.block, bool(self.values[below + (on,)]), preset, moment)
         else:
             self.run(self.plant.blocks[statement.block], below, f"{printed}.{statement.instance}", moment)
         for name, taken in statement.arguments:
@@ -193,8 +216,11 @@ class Server:
 
     def scan(self, moment, pairs):
         image = "E2" if moment > LAST_MOMENT else "E1" if moment < self.moment else self.image(pairs)
+        if not isinstance(image, str) and self.events == MOST_EVENTS:
+            image = "E6"
         if isinstance(image, str):
             return [f"REFUSED {image}"]
+        self.events += 1
         before = {name: self.values["global", name] for name in self.globals}
         for name, number in image:
             self.values["global", name] = number
@@ -240,6 +266,9 @@ class Server:
     # ---- orders and listings
 
     def order(self, verb, console, target, time=None):
+        if self.events == MOST_EVENTS:
+            return ["REFUSED E6"]
+        self.events += 1
         areas = dict(self.plant.consoles).get(console)
         name, reply, lines = "?", "O1", []
         if verb == "restart":
@@ -266,8 +295,7 @@ class Server:
         return [f"REPLY {reply}"]
 
     def note(self, moment, text):
-        begun = datetime.datetime.strptime(self.plant.epoch, "%Y-%m-%dT%H:%M:%SZ")
-        stamp = (begun + datetime.timedelta(milliseconds=moment)).isoformat(timespec="milliseconds")
+        stamp = (self.begun + datetime.timedelta(milliseconds=moment)).isoformat(timespec="milliseconds")
         self.rows.append(f"{len(self.rows) + 1} {stamp}Z {text}")
 
     def note_order(self, console, verb, name, time, reply):
