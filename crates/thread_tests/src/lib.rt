@@ -3,7 +3,8 @@
 //! reply); that the jobs of a crew are under way at the same time, that what is handed out comes back, and which fault comes when the workers are
 //! gone (`crew`, `standing_crew`; the jobs are toys).
 //!
-//! Each call that may answer that memory was refused is made again then, so the tests pass with ample memory and where one allocation fails.
+//! Each call of levels and rings that may answer that memory was refused is made again then, so those tests pass with ample memory and where one
+//! allocation fails. Those of crews want ample memory.
 #![tactic(auto)]
 
 /// Makes a call, and makes it again where memory was refused.
