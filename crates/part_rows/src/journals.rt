@@ -10,7 +10,7 @@ use std::alloc::{AllocError, Global};
 /// The stamp of a moment after an epoch; `-` where the text is no epoch.
 pub fn push_stamp(alloc: Global, text: &mut String, words: &str) -> Result<(), AllocError> {
     let (epoch, moment) = parts_of(words, " ");
-    match Epoch::parse(epoch) {
+    match Epoch::read(epoch) {
         Some(epoch) => {
             let stamp = epoch.stamp(alloc, moment_of(moment))?;
             text.push_str(stamp.as_str())
@@ -55,7 +55,7 @@ pub fn push_row(alloc: Global, text: &mut String, words: &str) -> Result<(), All
     let Some((entry, name)) = entry_of(number) else {
         return Ok(());
     };
-    let Some(epoch) = Epoch::parse("2024-01-01T00:00:00Z") else {
+    let Some(epoch) = Epoch::read("2024-01-01T00:00:00Z") else {
         return Ok(());
     };
     let row = Row {

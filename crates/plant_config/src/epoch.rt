@@ -15,7 +15,7 @@ pub fn epoch_of(handed: &Handed<'_>, file: &PlantFile) -> Result<Epoch, ConfigFa
     requires { HasFile handed.now file.now }
     ensures { MatchResult result (λ epoch. HasEpoch handed.now file.now epoch) (IsRefused handed.now) }
 {
-    match Epoch::parse(file.epoch()) {
+    match Epoch::read(file.epoch()) {
         Some(epoch) => Ok(epoch),
         None => Err(ConfigFault::Epoch),
     }

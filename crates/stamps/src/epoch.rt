@@ -31,7 +31,7 @@ impl Model for Epoch {
 impl Epoch {
     /// Parses an epoch: exactly `YYYY-MM-DDTHH:MM:SSZ` (ISO 8601), a date of the Gregorian calendar of the years 1970 to 2399, hours to
     /// 23, minutes and seconds to 59. `None` for any other text.
-    pub fn parse(text: &str) -> Option<Epoch>
+    pub fn read(text: &str) -> Option<Epoch>
         ensures some { IfSome result (λ epoch. text.now ≡ epoch_text epoch) }
         ensures none { IsNone result → (seconds : ℕ) → seconds < epoch_bound → text.now ≢ epoch_text seconds }
     {

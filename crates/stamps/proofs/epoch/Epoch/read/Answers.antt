@@ -1,6 +1,6 @@
 use Rattle.std.proofs.Common.{◌∙◌, refl}
 use Rattle.stamps.proofs.Texts.{epoch_shown, epoch_instant, same_instant}
-use Rattle.stamps.proofs.epoch.Epoch.parse.Goals as goal
+use Rattle.stamps.proofs.epoch.Epoch.read.Goals as goal
 
 pub returns-in_err-instant-clause-none : goal.returns-in_err-instant-clause-none
 returns-in_err-instant-clause-none c none s within h =
