@@ -9,6 +9,7 @@ ghost use Rattle.plant_config.specs.declared.fault.ConfigFault.TheVariants as fa
 use alarm_db::Column;
 use plant_types::Text;
 use std::alloc::{AllocError, Global};
+use thiserror::Error;
 
 /// What a plant has too much of (C10).
 #[derive(Clone, Copy, Debug, PartialEq, Eq, Drop)]
@@ -38,25 +39,34 @@ pub enum Limit {
 }
 
 /// Why a plant isn't accepted. Lines of a source and bytes of a line count from 1, and so do the rows of the alarm database after its header.
-#[derive(Drop)]
+///
+/// As an `Error` it says which rule isn't kept; `line` says where, too.
+#[derive(Debug, Drop, Error)]
 pub enum ConfigFault {
     /// Allocation failed.
+    #[error("memory was refused")]
     Memory,
     /// C1: the plant file is no TOML document in UTF-8.
+    #[error("C1: the plant file is no TOML document")]
     NotToml,
     /// C2: a key of the plant file is unknown, missing or wrong, or the sources handed in aren't those that it lists.
+    #[error("C2: a key of the plant file is unknown, missing or wrong, or the sources are not those that it lists")]
     PlantFile,
     /// C3: the epoch isn't `YYYY-MM-DDTHH:MM:SSZ` of a second of the years 1970 to 2399.
+    #[error("C3: the epoch is not a second of the years 1970 to 2399, as YYYY-MM-DDTHH:MM:SSZ")]
     Epoch,
     /// C10: a limit isn't kept.
+    #[error("C10: a limit is not kept")]
     Limit(Limit),
     /// C4: a byte that begins no token, a literal that isn't allowed, or an open comment, in a source.
+    #[error("C4: a byte begins no token, a literal is not allowed, or a comment is open")]
     Spelling {
         file: Text,
         line: usize,
         column: usize,
     },
     /// C5: a token with which no unit can go on, or the text's end, in a source.
+    #[error("C5: a token with which no unit can go on")]
     Grammar {
         file: Text,
         line: usize,
@@ -64,38 +74,46 @@ pub enum ConfigFault {
     },
     /// C6: a name that isn't declared, is declared twice (the later unit) or is a standard block's; an input of a call given twice, or an output
     /// taken twice. A unit is a block or program by its name as declared, or `VAR_GLOBAL`.
+    #[error("C6: a name is not declared, or is declared twice")]
     Name {
         file: Text,
         unit: Text,
     },
     /// C7: something of another kind than it must have, or an assigned input; an instance where a variable has to be, or among globals, inputs or
     /// outputs; a call of what is no instance; an initial value of an instance or of a VAR_EXTERNAL.
+    #[error("C7: something is of another kind than it must have")]
     Kind {
         file: Text,
         unit: Text,
     },
     /// C8: a function block that holds itself, directly or through others.
+    #[error("C8: a function block holds itself")]
     HoldsItself {
         file: Text,
         unit: Text,
     },
     /// C9: an initial value, or a bound or step of a FOR, that reads a variable or traps, a step 0, or a control variable that isn't allowed.
+    #[error("C9: a constant, step or control variable is not allowed")]
     Constant {
         file: Text,
         unit: Text,
     },
     /// C11: the alarm database has no header or another one, or a row with another number of fields.
+    #[error("C11: the alarm database has another header, or a row another number of fields")]
     Header,
     /// C12: a field of the alarm database doesn't have its column's form.
+    #[error("C12: a field of the alarm database does not have its column's form")]
     Field {
         row: u32,
         column: Column,
     },
     /// C13: a tag that an earlier row has.
+    #[error("C13: a tag stands twice")]
     Twice {
         row: u32,
     },
     /// C14: an area that the plant file doesn't list, or a name that is no BOOL global's.
+    #[error("C14: an area or a variable of the alarm database is not in the plant")]
     Unknown {
         row: u32,
         column: Column,

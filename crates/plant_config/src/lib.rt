@@ -16,4 +16,5 @@ pub use fault::{ConfigFault, Limit};
 pub use files::Files;
 pub use laws::{accepted_or_refused, one_plant, one_refusal};
 pub use plant::Plant;
+pub use plant_logic::Variable;
 pub use rows::AlarmRow;

@@ -26,7 +26,7 @@ use crate::running::{database_of, known_alarms, logic_of};
 use crate::spelling::{mistyped, units_of};
 use alarm_db::Tags;
 use plant_file::{Console, PlantFile};
-use plant_logic::Routine;
+use plant_logic::{Routine, Variable};
 use plant_types::same_word;
 use plant_walk::Framed;
 use st_parser::Unit;
@@ -305,6 +305,14 @@ impl Plant {
         ensures { result.now ≡ self.now.epoch }
     {
         &self.epoch
+    }
+
+    /// The globals, in order of declaration: of each its name, its kind and, if it has an address, its region.
+    pub fn globals(&self) -> &[Variable]
+        ensures globals { result.now ≡ globals_of self.now }
+        ensures plant { IsPlant self.now }
+    {
+        self.logic.globals()
     }
 
     /// The consoles, in the order in which the plant lists them.
