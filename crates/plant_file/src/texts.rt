@@ -13,7 +13,7 @@ use std::alloc::{AllocError, Global};
 use std::marker::Model;
 use toml::Value;
 
-/// TextSet, numbered from 0 in the order in which they were added. Contracts see a list of texts.
+/// Texts, each once, numbered from 0 in the order in which they were added. Contracts see a list of texts.
 #[derive(Drop)]
 pub struct TextSet {
     index: IndexSet<String>,

@@ -58,8 +58,8 @@ fn count_types(alloc: Global, blocks: &[Routine], order: &[usize]) -> Result<Vec
     Ok(counts)
 }
 
-/// A number that is so far behind another one. Fails where the count has stopped: no source that keeps the limits has so many values.
-fn behind(at: usize, count: usize) -> Result<usize, AllocError>
+/// The end of a row of values that begins at a number. Fails where the count has stopped: no source that keeps the limits has so many values.
+fn end_after(at: usize, count: usize) -> Result<usize, AllocError>
     ensures { IfOk result (λ n. (n ≡ at + count) × (count < 65537)) }
 {
     if count >= LAST {
@@ -84,7 +84,7 @@ pub fn value_bases(alloc: Global, logic: &Logic, order: &[usize]) -> Result<Vec<
     let mut at = logic.globals.len();
     row.push(at)?;
     for program in &logic.programs {
-        at = behind(at, value_count(&counts, program))?;
+        at = end_after(at, value_count(&counts, program))?;
         row.push(at)?;
     }
     Ok(row)
