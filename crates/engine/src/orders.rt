@@ -34,7 +34,7 @@ impl Model for PreparedOrder {
 }
 
 /// Whether an area is among these.
-fn is_among(areas: &[u32], area: u32) -> bool
+fn is_among(areas: &[usize], area: usize) -> bool
     ensures { result ≡ list_any (λ a. a == area) areas.now }
 {
     areas.contains(&area)
@@ -44,7 +44,7 @@ fn is_among(areas: &[u32], area: u32) -> bool
 fn has_area(console: &Console, number: u32, area: u32) -> bool
     ensures { result ≡ has_area number area console.now }
 {
-    console.number == number && is_among(console.areas.as_slice(), area)
+    console.number == number && is_among(console.areas.as_slice(), area as usize)
 }
 
 /// Whether a console may order the alarms of an area.

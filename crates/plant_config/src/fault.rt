@@ -9,6 +9,7 @@ ghost use Rattle.plant_config.specs.declared.fault.ConfigFault.TheVariants as fa
 use alarm_db::Column;
 use plant_types::Text;
 use std::alloc::{AllocError, Global};
+use std::fmt;
 use thiserror::Error;
 
 /// What a plant has too much of (C10).
@@ -41,7 +42,7 @@ pub enum Limit {
 /// Why a plant isn't accepted. Lines of a source and bytes of a line count from 1, and so do the rows of the alarm database after its header.
 ///
 /// As an `Error` it says which rule isn't kept; `line` says where, too.
-#[derive(Debug, Drop, Error)]
+#[derive(Drop, Error)]
 pub enum ConfigFault {
     /// Allocation failed.
     #[error("memory was refused")]
@@ -118,6 +119,13 @@ pub enum ConfigFault {
         row: u32,
         column: Column,
     },
+}
+
+impl fmt::Debug for ConfigFault {
+    /// Writes what `Display` writes: the rule that isn't kept.
+    fn fmt<W: fmt::Write>(&self, f: &mut fmt::Formatter<W>) -> Result<(), fmt::Error> {
+        fmt::Display::fmt(self, f)
+    }
 }
 
 impl From<AllocError> for ConfigFault {

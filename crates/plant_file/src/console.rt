@@ -17,7 +17,7 @@ pub struct Console {
     /// Its number in the plant file, 1 to 999999999.
     pub number: u32,
     /// The areas whose alarms it may order, each by its number, from 0, in the list of the plant's areas.
-    pub areas: Items<u32>,
+    pub areas: Items<usize>,
 }
 
 impl Console {
@@ -56,12 +56,12 @@ fn number_in(table: &Table) -> Option<u32>
     }
 }
 
-/// The numbers of names in a list of areas; `None` if one isn't there. Fails if allocation fails, or if a number is 2^32 or more.
+/// The numbers of names in a list of areas; `None` if one isn't there. Fails if allocation fails.
 fn numbers_of(
     alloc: Global,
     areas: &TextSet,
     names: &[String],
-) -> Result<Option<Items<u32>>, AllocError>
+) -> Result<Option<Items<usize>>, AllocError>
     ensures { IfOk result (λ numbers. numbers ≡ numbers_of areas.now (map string_bytes names.now)) }
 {
     let mut numbers = Vec::new(alloc);
@@ -69,15 +69,12 @@ fn numbers_of(
         let Some(number) = areas.number(name.as_str()) else {
             return Ok(None);
         };
-        let Ok(number) = u32::try_from(number) else {
-            return Err(AllocError);
-        };
         numbers.push(number)?;
     }
     Ok(Some(Items::from_vec(numbers)))
 }
 
-/// The console of a table; `None` if it is none. Fails if allocation fails, or if an area's number is 2^32 or more.
+/// The console of a table; `None` if it is none. Fails if allocation fails.
 fn console_of(alloc: Global, areas: &TextSet, table: &Table) -> Result<Option<Console>, AllocError>
     ensures { IfOk result (λ console. console ≡ console_of areas.now (table_view table.now)) }
 {
@@ -96,7 +93,7 @@ fn console_of(alloc: Global, areas: &TextSet, table: &Table) -> Result<Option<Co
     Ok(Some(Console { number, areas }))
 }
 
-/// The consoles of a list; `None` if an item is no console. Fails if allocation fails, or if an area's number is 2^32 or more.
+/// The consoles of a list; `None` if an item is no console. Fails if allocation fails.
 fn consoles_of(
     alloc: Global,
     areas: &TextSet,
@@ -131,7 +128,7 @@ fn numbers_clash(alloc: Global, consoles: &[Console]) -> Result<bool, AllocError
 }
 
 /// The consoles under the key `console`, of which there are none without the key; `None` if what stands there is wrong. Fails if
-/// allocation fails, or if an area's number is 2^32 or more.
+/// allocation fails.
 pub fn consoles_in(
     alloc: Global,
     areas: &TextSet,

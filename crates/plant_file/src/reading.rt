@@ -138,7 +138,7 @@ fn file_with(
     })
 }
 
-/// The plant file that a document is; `None` if it is none. Fails if allocation fails, or if an area's number is 2^32 or more.
+/// The plant file that a document is; `None` if it is none. Fails if allocation fails.
 fn plant_file(alloc: Global, table: &Table) -> Result<Option<PlantFile>, AllocError>
     ensures { IfOk result (λ file. file ≡ plant_file (table_view table.now)) }
 {
@@ -170,8 +170,8 @@ fn plant_file(alloc: Global, table: &Table) -> Result<Option<PlantFile>, AllocEr
     Ok(Some(file))
 }
 
-/// Reads a plant file: a TOML document in UTF-8, whose byte order mark is skipped. Fails if allocation fails, if an area's number is
-/// 2^32 or more, if there is no document, or if the document isn't that of a plant file.
+/// Reads a plant file: a TOML document in UTF-8, whose byte order mark is skipped. Fails if allocation fails, if there is no document, or
+/// if the document isn't that of a plant file.
 pub fn read(alloc: Global, bytes: &[u8]) -> Result<PlantFile, PlantFileFault>
     ensures file { IfOk result (λ file. plant_file_in bytes.now ≡ Some file) }
     ensures refused { IfErr result (IsRefused bytes.now) }

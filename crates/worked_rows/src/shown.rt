@@ -114,7 +114,10 @@ fn push_rows(alloc: Global, text: &mut String, plant: &Plant) -> Result<(), Allo
     for console in plant.consoles() {
         text.push_str(",")?;
         push_number(alloc, text, u64::from(console.number))?;
-        push_found(alloc, text, console.areas.as_slice().first().copied())?;
+        match console.areas.as_slice().first() {
+            Some(area) => push_number(alloc, text, *area as u64)?,
+            None => text.push_str(" -")?,
+        }
     }
     for row in plant.alarm_rows() {
         text.push_str(",")?;
