@@ -25,8 +25,8 @@ use plant_types::Text;
 use st_tree::Stmt;
 use std::alloc::{AllocError, Global};
 
-/// The extent of a block type that no program uses.
-const EMPTY_EXTENT: Extent = Extent {
+/// Nothing.
+const NOTHING: Extent = Extent {
     values: 0,
     clocks: 0,
     paths: 0,
@@ -161,7 +161,7 @@ fn frame_of_block(
         has_starts: false,
         clocks: 0,
     };
-    Ok((frame, EMPTY_EXTENT))
+    Ok((frame, NOTHING))
 }
 
 /// Room for what is known of so many block types. Fails if allocation fails.
@@ -169,7 +169,7 @@ fn make_table(alloc: Global, count: usize) -> Result<Vec<Callee>, AllocError>
     ensures { IfOk result (λ table. length table.items ≡ count) }
 {
     let none = Callee {
-        extent: EMPTY_EXTENT,
+        extent: NOTHING,
         place: 0,
         has_starts: false,
     };

@@ -48,7 +48,7 @@ fn sum_of_paths(a: u32, b: u32) -> Result<u32, AllocError>
     }
 }
 
-/// The sum of two extents. Fails if no memory has room for so many.
+/// Both together. Fails if no memory has room for so many.
 fn plus(a: Extent, b: Extent) -> Result<Extent, AllocError>
     ensures { IfOk result (λ e. e ≡ plus a b) }
 {
