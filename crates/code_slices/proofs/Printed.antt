@@ -1,5 +1,5 @@
 -- Prints tell instructions apart.
-use Rattle.std.proofs.Common.{◌≡◌, refl, ap, sym, ◌∙◌}
+use Rattle.std.proofs.Common.{◌≡◌, List, [], ◌∷◌, map, refl, ap, sym, ◌∙◌}
 use Rattle.st_tree.specs.declared.tree.Unary.{Unary}
 use Rattle.st_tree.specs.declared.tree.Unary.TheVariants as unary
 use Rattle.st_tree.specs.declared.tree.Binary.{Binary}
@@ -40,9 +40,14 @@ back (instr.LoadBinaryLiteralJump op one x two) = ap (λ o. instr.LoadBinaryLite
 back (instr.BinaryLiteralTwice op x other y) = λ i. instr.BinaryLiteralTwice (binary_back op i) x (binary_back other i) y
 back i = refl
 
--- instructions of one print are the same
-pub same_print : (i j : Instr) → print_of i ≡ print_of j → i ≡ j
-same_print i j e = sym (back i) ∙ ap instr_of e ∙ back j
+-- the same of lists
+backs : (xs : List Instr) → map instr_of (map print_of xs) ≡ xs
+backs [] = refl
+backs (x ∷ xs) = λ i. back x i ∷ backs xs i
+
+-- lists of instructions of one list of prints are the same
+pub same_instrs : (xs ys : List Instr) → map print_of xs ≡ map print_of ys → xs ≡ ys
+same_instrs xs ys e = sym (backs xs) ∙ ap (map instr_of) e ∙ backs ys
 
 -- codes of one kind in all parts are the same
 pub same_parts : (a b : PlainCode) → counts_of a ≡ counts_of b → a.places ≡ b.places → a.instrs ≡ b.instrs → a ≡ b

@@ -9,6 +9,7 @@ mod laws;
 mod named;
 mod noting;
 mod part;
+mod printed_code;
 mod prints;
 mod puts;
 mod renaming;

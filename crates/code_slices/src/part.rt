@@ -8,7 +8,7 @@ ghost use Rattle.acc_vm.specs.Codes.{values_past, clocks_past};
 ghost use Rattle.code_slices.specs.Parts.{IsPart, IsPartOf, HasPart, AreSlots, AreClocks, loaded};
 
 use crate::noting::{note_clocks, note_read, note_written};
-use crate::prints::same_code;
+use crate::printed_code::PrintedCode;
 use crate::renaming::renamed_all;
 use acc_vm::{Code, Instr};
 use plant_cells::{Cells, Clock, Standard};
@@ -18,7 +18,7 @@ use std::marker::Model;
 /// The code of a program by the numbers of its part: from 0 on the slots that it names, those that it writes in front, and the clocks.
 #[derive(Drop)]
 pub struct Part {
-    code: Code,
+    code: PrintedCode,
     slots: Vec<u32>,
     written: usize,
     clocks: Vec<u32>,
@@ -90,8 +90,9 @@ pub fn relocate(
         code.stack(),
         code.cost(),
     );
+    let printed = PrintedCode::new(alloc, moved)?;
     Ok(Part {
-        code: moved,
+        code: printed,
         slots,
         written,
         clocks,
@@ -137,7 +138,7 @@ impl Part {
         ensures is { result.now ≡ self.now.code }
         ensures part { IsPart self.now }
     {
-        &self.code
+        self.code.code()
     }
 
     /// The slots that the code names, those that it writes in front.
@@ -178,6 +179,6 @@ impl Part {
         self.written == other.written
             && self.slots.as_slice() == other.slots.as_slice()
             && self.clocks.as_slice() == other.clocks.as_slice()
-            && same_code(&self.code, &other.code)
+            && self.code.same(&other.code)
     }
 }

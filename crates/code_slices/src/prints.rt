@@ -1,11 +1,12 @@
 //! Prints of instructions, by which code is compared.
 
-ghost use Rattle.std.specs.Prelude.{◌≡◌, ◌↔◌, pos, IsTrue};
+ghost use Rattle.std.specs.Prelude.{◌≡◌, ◌↔◌, pos, map, IfOk, IsTrue};
 ghost use Rattle.code_slices.specs.Prints.{unary_number, binary_number, print_of, counts_of};
 
 use acc_vm::{Code, Instr};
 use plant_types::Place;
 use st_tree::{Binary, Unary};
+use std::alloc::{AllocError, Global};
 
 /// An instruction as numbers in fixed places: its own number, those of its operators, of slots, clocks and targets, and literals.
 #[derive(Clone, Copy, PartialEq, Eq, Drop)]
@@ -200,29 +201,33 @@ fn printed(i: &Instr) -> Print
     }
 }
 
-/// Whether two prints are the same.
-fn same_prints(a: Print, b: Print) -> bool
-    ensures { IsTrue result ↔ (a ≡ b) }
+/// The prints of instructions. Fails if memory was refused.
+pub(crate) fn prints_of(alloc: Global, instrs: &[Instr]) -> Result<Vec<Print>, AllocError>
+    ensures { IfOk result (λ prints. prints.items ≡ map print_of instrs.now) }
 {
-    a == b
+    let mut prints = Vec::with_capacity(alloc, instrs.len())?;
+    for instr in instrs {
+        prints.push(printed(instr))?;
+    }
+    Ok(prints)
 }
 
-/// Whether two instructions are the same.
-fn same_instr(a: &Instr, b: &Instr) -> bool
+/// Whether two prints are the same.
+fn same_print(a: &Print, b: &Print) -> bool
     ensures { IsTrue result ↔ (a.now ≡ b.now) }
 {
-    same_prints(printed(a), printed(b))
+    *a == *b
 }
 
-/// Whether two lists of instructions are the same.
-fn same_instrs(a: &[Instr], b: &[Instr]) -> bool
+/// Whether two lists of prints are the same.
+pub(crate) fn same_prints(a: &[Print], b: &[Print]) -> bool
     ensures { IsTrue result ↔ (a.now ≡ b.now) }
 {
     if a.len() != b.len() {
         return false;
     }
-    for (i, instr) in a.iter().enumerate() {
-        if !same_instr(instr, &b[i]) {
+    for (i, print) in a.iter().enumerate() {
+        if !same_print(print, &b[i]) {
             return false;
         }
     }
@@ -237,7 +242,7 @@ fn same_place(a: &Place, b: &Place) -> bool
 }
 
 /// Whether two lists of places are the same.
-fn same_places(a: &[Place], b: &[Place]) -> bool
+pub(crate) fn same_places(a: &[Place], b: &[Place]) -> bool
     ensures { IsTrue result ↔ (a.now ≡ b.now) }
 {
     if a.len() != b.len() {
@@ -253,7 +258,7 @@ fn same_places(a: &[Place], b: &[Place]) -> bool
 
 /// The numbers that are kept of a code.
 #[derive(Clone, Copy, PartialEq, Eq, Drop)]
-struct Counts {
+pub(crate) struct Counts {
     paths: usize,
     values: usize,
     clocks: usize,
@@ -262,7 +267,7 @@ struct Counts {
 }
 
 /// The numbers of a code.
-fn counted(code: &Code) -> Counts
+pub(crate) fn counted(code: &Code) -> Counts
     ensures { result ≡ counts_of code.now }
 {
     Counts {
@@ -275,22 +280,8 @@ fn counted(code: &Code) -> Counts
 }
 
 /// Whether the numbers of two codes are the same.
-fn same_counts(a: Counts, b: Counts) -> bool
+pub(crate) fn same_counts(a: Counts, b: Counts) -> bool
     ensures { IsTrue result ↔ (a ≡ b) }
 {
     a == b
-}
-
-/// Whether two codes have the same instructions with the same places.
-fn same_lists(a: &Code, b: &Code) -> bool
-    ensures { IsTrue result ↔ ((a.now.places ≡ b.now.places) × (a.now.instrs ≡ b.now.instrs)) }
-{
-    same_places(a.places(), b.places()) && same_instrs(a.instrs(), b.instrs())
-}
-
-/// Whether two codes are the same.
-pub(crate) fn same_code(a: &Code, b: &Code) -> bool
-    ensures { IsTrue result ↔ (a.now ≡ b.now) }
-{
-    same_counts(counted(a), counted(b)) && same_lists(a, b)
 }

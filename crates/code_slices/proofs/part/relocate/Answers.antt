@@ -44,11 +44,11 @@ invariant_of-result c =
     let moved : c.in_ok-instrs.instrs.items ≡ map by code.instrs = c.in_ok-instrs.ensures ∙ ap (map by) c.instrs-program.ensures.is in
     let slots : c.len.result ≡ length c.in_ok-slots.slots.items = let h = c.len.ensures in let ok = c.in_ok-slots.slots.ok.0 in omega (arith, h, ok) in
     let clocks : c.len-2.result ≡ length c.in_ok-clocks.clocks.items = let h = c.len-2.ensures in let ok = c.in_ok-clocks.clocks.ok.0 in omega (arith, h, ok) in
-    let is : IsPartOf code (record { code = c.new-moved.result; slots = c.in_ok-slots.slots.items; written = c.in_ok-slots.written; clocks = c.in_ok-clocks.clocks.items })
-    = is_part_of code c.named_slots.new.places c.named_clocks.new.places c.in_ok-slots.slots.items c.in_ok-clocks.clocks.items c.in_ok-slots.written are clock_are c.new-moved.result
-    (c.new-moved.ensures ∙ (same_code code c.named_slots.new.places c.named_clocks.new.places c.in_ok-slots.slots.items c.in_ok-clocks.clocks.items c.in_ok-slots.written are clock_are _ _ _ _ _ _ _
+    let is : IsPartOf code (record { code = c.in_ok-printed.printed; slots = c.in_ok-slots.slots.items; written = c.in_ok-slots.written; clocks = c.in_ok-clocks.clocks.items })
+    = is_part_of code c.named_slots.new.places c.named_clocks.new.places c.in_ok-slots.slots.items c.in_ok-clocks.clocks.items c.in_ok-slots.written are clock_are c.in_ok-printed.printed
+    (c.in_ok-printed.ensures ∙ c.new-moved.ensures ∙ (same_code code c.named_slots.new.places c.named_clocks.new.places c.in_ok-slots.slots.items c.in_ok-clocks.clocks.items c.in_ok-slots.written are clock_are _ _ _ _ _ _ _
     moved (c.in_ok-places.ensures.items ∙ c.places.ensures) c.paths.ensures slots clocks c.stack.ensures c.cost.ensures)) in
-    part_is code (record { code = c.new-moved.result; slots = c.in_ok-slots.slots.items; written = c.in_ok-slots.written; clocks = c.in_ok-clocks.clocks.items }) is
+    part_is code (record { code = c.in_ok-printed.printed; slots = c.in_ok-slots.slots.items; written = c.in_ok-slots.written; clocks = c.in_ok-clocks.clocks.items }) is
 
 pub returns : goal.returns
 returns c =
@@ -61,8 +61,8 @@ returns c =
     let moved : c.in_ok-instrs.instrs.items ≡ map by code.instrs = c.in_ok-instrs.ensures ∙ ap (map by) c.instrs-program.ensures.is in
     let slots : c.len.result ≡ length c.in_ok-slots.slots.items = let h = c.len.ensures in let ok = c.in_ok-slots.slots.ok.0 in omega (arith, h, ok) in
     let clocks : c.len-2.result ≡ length c.in_ok-clocks.clocks.items = let h = c.len-2.ensures in let ok = c.in_ok-clocks.clocks.ok.0 in omega (arith, h, ok) in
-    let is : IsPartOf code (record { code = c.new-moved.result; slots = c.in_ok-slots.slots.items; written = c.in_ok-slots.written; clocks = c.in_ok-clocks.clocks.items })
-    = is_part_of code c.named_slots.new.places c.named_clocks.new.places c.in_ok-slots.slots.items c.in_ok-clocks.clocks.items c.in_ok-slots.written are clock_are c.new-moved.result
-    (c.new-moved.ensures ∙ (same_code code c.named_slots.new.places c.named_clocks.new.places c.in_ok-slots.slots.items c.in_ok-clocks.clocks.items c.in_ok-slots.written are clock_are _ _ _ _ _ _ _
+    let is : IsPartOf code (record { code = c.in_ok-printed.printed; slots = c.in_ok-slots.slots.items; written = c.in_ok-slots.written; clocks = c.in_ok-clocks.clocks.items })
+    = is_part_of code c.named_slots.new.places c.named_clocks.new.places c.in_ok-slots.slots.items c.in_ok-clocks.clocks.items c.in_ok-slots.written are clock_are c.in_ok-printed.printed
+    (c.in_ok-printed.ensures ∙ c.new-moved.ensures ∙ (same_code code c.named_slots.new.places c.named_clocks.new.places c.in_ok-slots.slots.items c.in_ok-clocks.clocks.items c.in_ok-slots.written are clock_are _ _ _ _ _ _ _
     moved (c.in_ok-places.ensures.items ∙ c.places.ensures) c.paths.ensures slots clocks c.stack.ensures c.cost.ensures)) in
     is
