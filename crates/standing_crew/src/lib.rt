@@ -9,6 +9,7 @@ mod message;
 mod share;
 mod standing;
 mod starts;
+mod waiting;
 
 pub use assembly::assemble;
 pub use standing::Standing;

@@ -1,7 +1,9 @@
 //! What a crew and its workers tell each other, and how a worker runs what it is handed.
 
+ghost use Rattle.std.specs.Prelude.{◌≡◌, IfOk, map};
+
 use crew::{Gate, Work};
-use std::alloc::Global;
+use std::alloc::{AllocError, Global};
 
 /// Jobs that are handed to a worker in one message, and where it takes memory for their runs.
 #[derive(Drop)]
@@ -36,4 +38,20 @@ pub(crate) fn run_all<J: Work<S, D>, S, D: Drop, G: Gate>(
         }
     }
     whole
+}
+
+/// Runs jobs one after another, each once the gate is passed. Fails if memory was refused.
+pub(crate) fn run_in_turn<J: Work<S, D>, S, D: Drop, G: Gate>(
+    alloc: Global,
+    gate: &G,
+    jobs: Vec<J>,
+) -> Result<Vec<D>, AllocError>
+    ensures { IfOk result (λ runs. map J.ended_from runs.items ≡ map J.start_of jobs.items) }
+{
+    let mut runs = Vec::with_capacity(alloc, jobs.len())?;
+    for job in jobs {
+        gate.pass(job.number());
+        runs.push(job.run())?;
+    }
+    Ok(runs)
 }

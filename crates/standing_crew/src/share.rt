@@ -6,6 +6,15 @@ use crew::Work;
 /// What a message is to carry at least, in steps of some nanoseconds: about what it takes to send one and to hear of it.
 const LEAST_SHARE: u64 = 2_000;
 
+/// What jobs cost together at least that are shared out, in the same steps: below, to hand them out and to hear of them takes about as long as
+/// to run them.
+pub(crate) const LEAST_ROUND: u64 = 20_000;
+
+/// Whether jobs cost so much together.
+pub(crate) fn costs_at_least<J: Work<S, D>, S, D>(jobs: &[J], least: u64) -> bool {
+    cost_of::<J, S, D>(jobs) >= least
+}
+
 /// The cost that a message is to carry, where jobs are shared out among so many hands: a fraction of the whole, so that nobody waits long for
 /// the last one, but no less than a message costs, and never so much that two jobs would go to one of two hands.
 pub(crate) fn share_of<J: Work<S, D>, S, D>(jobs: &[J], hands: u32) -> u64 {

@@ -5,9 +5,10 @@ ghost use Rattle.crew.specs.Runs.{AreNumbered, IsEachOnce};
 ghost use Rattle.standing_crew.specs.Assembled.{IsLost};
 
 use crate::assembly::assemble;
-use crate::message::{Answer, Parcel, run_all};
-use crate::share::{cut, share_of};
+use crate::message::{Answer, Parcel, run_all, run_in_turn};
+use crate::share::{LEAST_ROUND, costs_at_least, cut, share_of};
 use crate::starts::{Begun, starts_of};
+use crate::waiting::next_of;
 use crew::{Crew, CrewFault, Gate, Work};
 use crossbeam_channel::{Receiver, SendError, Sender};
 use std::alloc::Global;
@@ -28,6 +29,7 @@ pub struct Standing<J, S, D, G> {
     threads: Vec<JoinHandle<()>>,
     hands: u32,
     gate: Arc<G>,
+    least: u64,
     starts: Vec<Begun<S>>,
     round: u64,
     lost: bool,
@@ -75,6 +77,19 @@ impl<
     ) -> Result<Standing<J, S, D, G>, CrewFault>
         requires { (0 < workers) × (workers ≤ 64) }
     {
+        Standing::with_least(rt, alloc, workers, gate, LEAST_ROUND)
+    }
+
+    /// The same, where the caller says what jobs cost at least that are shared out: at 0 all are.
+    pub fn with_least<H: Threads + Wait + Clone + Send + Drop + 'static>(
+        rt: &H,
+        alloc: Global,
+        workers: u32,
+        gate: Arc<G>,
+        least: u64,
+    ) -> Result<Standing<J, S, D, G>, CrewFault>
+        requires { (0 < workers) × (workers ≤ 64) }
+    {
         let Ok((parcels, waiting)) = crossbeam_channel::unbounded(alloc) else {
             return Err(CrewFault::Memory);
         };
@@ -88,6 +103,7 @@ impl<
             threads: Vec::new(alloc),
             hands: workers,
             gate,
+            least,
             starts: Vec::new(alloc),
             round: 0,
             lost: false,
@@ -159,7 +175,7 @@ fn stand<J: Work<S, D>, S, D: Drop, G: Gate, H: Wait>(
     done: &Sender<Answer<D>>,
 ) {
     for _ in rt.forever() {
-        let Ok(parcel) = waiting.recv(rt) else {
+        let Some(parcel) = next_of(rt, waiting) else {
             break;
         };
         let Parcel { round, jobs, alloc } = parcel;
@@ -200,7 +216,18 @@ impl<J: Drop, S: Drop, D: Drop, G: Drop> Standing<J, S, D, G> {
 }
 
 impl<J: Work<S, D>, S: Drop, D: Drop, G: Gate> Standing<J, S, D, G> {
-    /// A round: the jobs are handed out, and a run of each comes back.
+    /// Runs all jobs in the caller's thread. Nothing is compared, since nothing comes back.
+    fn run_alone(&self, alloc: Global, jobs: Vec<J>) -> Result<Vec<D>, CrewFault>
+        requires { AreNumbered J.number_of (map J.start_of jobs.items) }
+        ensures { IfOk result (λ runs. IsEachOnce (map J.start_of jobs.items) (map J.ended_from runs.items)) }
+    {
+        match run_in_turn::<J, S, D, G>(alloc, &*self.gate, jobs) {
+            Ok(runs) => Ok(runs),
+            Err(_) => Err(CrewFault::Memory),
+        }
+    }
+
+    /// A round: the jobs are handed out, and a run of each comes back. The caller runs alone what isn't worth a message.
     fn round<H: Wait>(&mut self, rt: &H, alloc: Global, jobs: Vec<J>) -> Result<Vec<D>, CrewFault>
         requires { AreNumbered J.number_of (map J.start_of jobs.items) }
         ensures each { IfOk result (λ runs. IsEachOnce (map J.start_of jobs.items) (map J.ended_from runs.items)) }
@@ -209,6 +236,9 @@ impl<J: Work<S, D>, S: Drop, D: Drop, G: Gate> Standing<J, S, D, G> {
     {
         if self.lost || self.round == u64::MAX {
             return Err(CrewFault::Lost);
+        }
+        if self.hands < 2 || !costs_at_least::<J, S, D>(jobs.as_slice(), self.least) {
+            return self.run_alone(alloc, jobs);
         }
         self.round += 1;
         let Ok(starts) = starts_of::<J, S, D>(alloc, jobs.as_slice()) else {
@@ -325,7 +355,7 @@ impl<J: Work<S, D>, S: Drop, D: Drop, G: Gate> Standing<J, S, D, G> {
             if gathered.away == 0 {
                 break;
             }
-            let Ok(answer) = self.answers.recv(rt) else {
+            let Some(answer) = next_of(rt, &self.answers) else {
                 gathered.fault = Some(CrewFault::Lost);
                 break;
             };

@@ -13,7 +13,7 @@ use std::thread::Threads;
 /// Workers that run the programs of a plant.
 pub type Workers = Standing<Job, Start, Done, Ungated>;
 
-/// So many workers, of which the caller is one. Fails where memory is refused, or a thread.
+/// So many workers, of which the caller is one, who share all jobs, however little these cost. Fails where memory is refused, or a thread.
 fn workers<H: Threads + Wait + Clone + Send + Drop + 'static>(
     rt: &H,
     alloc: Global,
@@ -24,7 +24,7 @@ fn workers<H: Threads + Wait + Clone + Send + Drop + 'static>(
     let Ok(gate) = Arc::new(alloc, Ungated) else {
         return Err(AllocError);
     };
-    match Standing::new(rt, alloc, number, gate) {
+    match Standing::with_least(rt, alloc, number, gate, 0) {
         Ok(workers) => Ok(workers),
         Err(_) => Err(AllocError),
     }
