@@ -1,9 +1,10 @@
 -- Code names what its frame names.
 use Rattle.std.proofs.Common.{◌≡◌, ◌∙◌, ℕ, zero, suc, ◌+◌, ◌<◌, ◌≤◌, Bool, true, false, List, [], ◌∷◌, ◌++◌, length, Option, Some, None, refl, sym, ap, subst, arith, inl, inr, if◌then◌else◌}
-use Rattle.std.specs.Prelude.{slice_get, nat_lt, max, ◌&&◌}
+use Rattle.std.specs.Prelude.{slice_get, ◌&&◌}
 use Rattle.std.specs.List.{AllByRecursion, list_all}
 use Rattle.std.proofs.lemmas.Bool.{cases_lt, and_parts}
-use Rattle.std.proofs.lemmas.Bool.Decides.{nat_tests}
+use Rattle.std.proofs.lemmas.List.Elements.{All-from_recursion, All-contains}
+use Rattle.std.proofs.lemmas.Option.{none-some, same_Some}
 use Rattle.plant_types.specs.declared.values.Place.{Place}
 use Rattle.st_tree.specs.declared.tree.Binary.{Binary}
 use Rattle.st_tree.specs.declared.tree.Label.{Label}
@@ -23,7 +24,8 @@ use Rattle.block_walk.specs.Walks.{slot_of, member_slot, base_of}
 use Rattle.block_walk.proofs.Firsts.{first_is}
 use Rattle.acc_vm.specs.declared.instr.Instr.{Instr}
 use Rattle.acc_vm.specs.declared.instr.Instr.TheVariants as instr
-use Rattle.acc_vm.specs.Codes.{values_past, clocks_past, values_named, clocks_named, IsWithin}
+use Rattle.acc_vm.specs.Codes.{values_past, clocks_past, values_named, clocks_named}
+use Rattle.code_slices.specs.Slots.{slots_read, slots_written, clocks_of, SomeHas, Names, NamesClock}
 use Rattle.code_sizes.specs.Sizes.{constant_span, expr_lines, inputs_lines, stmt_lines, body_lines, branches_lines, choices_lines}
 use Rattle.codegen.specs.Pairs.{both as both_in_one, paired, is_same_place, joined, joined_of}
 use Rattle.std.specs.Option.{option_or, unwrap_or}
@@ -32,38 +34,42 @@ use Rattle.codegen.specs.Within.{has_input, has_shown, has_output, has_pt, has_c
 use Rattle.codegen.proofs.Parts.{none, part_is, part_past}
 use Rattle.codegen.proofs.Frames.{part_none}
 
-module _ (values clocks : ℕ) where
-  -- what each line names is there
+module _ (has_value has_clock : ℕ → Bool) where
+  -- what an instruction names is there
+  abbrev IsIn : Instr → Type 0
+  IsIn i = AllByRecursion (λ s. has_value s ≡ true) (slots_read i ++ slots_written i) × AllByRecursion (λ k. has_clock k ≡ true) (clocks_of i)
+
+  -- what each line names is
   abbrev pub Within : List Line → Type 0
-  Within ls = AllByRecursion (λ (l : Line). IsWithin values clocks l.0) ls
+  Within ls = AllByRecursion (λ (l : Line). IsIn l.0) ls
 
   both : (c d : List Line) → Within c → Within d → Within (c ++ d)
   both [] d h g = g
   both (l ∷ c) d h g = (h.0, both c d h.1 g)
 
-  nothing : (0 ≤ values) × (0 ≤ clocks)
-  nothing = (omega arith, omega arith)
+  nothing : Unit {0} × Unit {0}
+  nothing = (tt, tt)
 
-  slot : (n : ℕ) → nat_lt n values ≡ true → (n + 1 ≤ values) × (0 ≤ clocks)
-  slot n h = let less : n < values = grind (arith, nat_tests) in (omega (arith, less), omega arith)
+  slot : (n : ℕ) → has_value n ≡ true → ((has_value n ≡ true) × Unit {0}) × Unit {0}
+  slot n h = ((h, tt), tt)
 
-  clock : (n : ℕ) → nat_lt n clocks ≡ true → (0 ≤ values) × (n + 1 ≤ clocks)
-  clock n h = let less : n < clocks = grind (arith, nat_tests) in (omega arith, omega (arith, less))
+  clock : (n : ℕ) → has_clock n ≡ true → Unit {0} × ((has_clock n ≡ true) × Unit {0})
+  clock n h = (tt, (h, tt))
 
-  clock_and_slot : (n m : ℕ) → nat_lt n clocks ≡ true → nat_lt m values ≡ true → (m + 1 ≤ values) × (n + 1 ≤ clocks)
-  clock_and_slot n m h g = ((slot m g).0, (clock n h).1)
+  clock_and_slot : (n m : ℕ) → has_clock n ≡ true → has_value m ≡ true → ((has_value m ≡ true) × Unit {0}) × ((has_clock n ≡ true) × Unit {0})
+  clock_and_slot n m h g = ((g, tt), (h, tt))
 
-  pt_in : (of : Standard) (base : Base) (seat : Seat) → has_pt values clocks of base seat ≡ true → IsWithin values clocks (pt_instr of base seat)
+  pt_in : (of : Standard) (base : Base) (seat : Seat) → has_pt has_value has_clock of base seat ≡ true → IsIn (pt_instr of base seat)
   pt_in standard.Ton base seat h = slot _ h
   pt_in standard.Tof base seat h = slot _ h
   pt_in standard.RTrig base seat h = nothing
 
-  shown_in : (of : SeatOf) (base : Base) (seat : Seat) (name : ℕ) → has_shown values clocks of base seat name ≡ true → IsWithin values clocks (output_by of base seat name)
+  shown_in : (of : SeatOf) (base : Base) (seat : Seat) (name : ℕ) → has_shown has_value has_clock of base seat name ≡ true → IsIn (output_by of base seat name)
   shown_in (seat_of.Standard of) base seat zero h = clock _ h
   shown_in (seat_of.Standard of) base seat (suc n) h = clock _ h
   shown_in (seat_of.Frame k) base seat name h = slot _ h
 
-  output_in : (seat : Option Seat) (base : Base) (name : ℕ) → has_output values clocks seat base name ≡ true → IsWithin values clocks (output_instr seat base name)
+  output_in : (seat : Option Seat) (base : Base) (name : ℕ) → has_output has_value has_clock seat base name ≡ true → IsIn (output_instr seat base name)
   output_in None base name h = nothing
   output_in (Some seat) base name h = shown_in seat.of base seat name h
 
@@ -72,7 +78,7 @@ module _ (values clocks : ℕ) where
     labels_in [] to = tt
     labels_in (label ∷ labels) to = (nothing, labels_in labels to)
 
-    put_in : (seat : Option Seat) (base : Base) (name : ℕ) → has_input values clocks seat base name ≡ true → Within (put_code seat base place name)
+    put_in : (seat : Option Seat) (base : Base) (name : ℕ) → has_input has_value has_clock seat base name ≡ true → Within (put_code seat base place name)
     put_in None base name h = tt
     put_in (Some seat) base name h = (slot _ h, tt)
 
@@ -85,18 +91,18 @@ module _ (values clocks : ℕ) where
         let p = pc + length (label ∷ labels) + 1 in
         both (labels_code place (label ∷ labels) p) _ (labels_in (label ∷ labels) p) (nothing, both (body p) _ (y p) (nothing, z (p + b + 1)))
 
-    loop_in : (n : ℕ) (span : Span) (turns : ℕ) (body : ℕ → List Line) (pc : ℕ) → nat_lt n values ≡ true → ((p : ℕ) → Within (body p)) → Within (loop_code place n span turns body pc)
+    loop_in : (n : ℕ) (span : Span) (turns : ℕ) (body : ℕ → List Line) (pc : ℕ) → has_value n ≡ true → ((p : ℕ) → Within (body p)) → Within (loop_code place n span turns body pc)
     loop_in n span zero body pc h y = tt
     loop_in n span (suc m) body pc h y = (slot n h, both (body (pc + 1)) _ (y (pc + 1)) (slot n h, tt))
 
-    for_in : (n : ℕ) (span : Option Span) (body : ℕ → List Line) (pc : ℕ) → nat_lt n values ≡ true → ((p : ℕ) → Within (body p)) → Within (for_code place n span body pc)
+    for_in : (n : ℕ) (span : Option Span) (body : ℕ → List Line) (pc : ℕ) → has_value n ≡ true → ((p : ℕ) → Within (body p)) → Within (for_code place n span body pc)
     for_in n None body pc h y = tt
     for_in n (Some span) body pc h y = loop_in n span (length (control_values span)) body pc h y
 
   -- in a routine, where what the frames before it name is there
   module _ (globals : ℕ) (seats : List Seat) (lines : ℕ → ℕ) (inner : ℕ → Coder) (base : Base) (path : ℕ) (reach : ℕ → Base → Bool) (under : (k : ℕ) (at : Base) (way pc : ℕ) → reach k at ≡ true → Within (inner k at way pc)) where
     abbrev known : Known ℕ
-    known = there values clocks globals reach seats base
+    known = there has_value has_clock globals reach seats base
 
     binary_in : (place : Place) (op : Binary) (b : PlainExpr ℕ) (c d : List Line) → expr_known known b ≡ true → Within c → Within d → Within (binary_code globals base place op b c d)
     binary_in place op (literal n) c d h x y = both c _ x (nothing, tt)
@@ -137,14 +143,14 @@ module _ (values clocks : ℕ) where
     called_in true reached c h g = g h
     called_in false reached c h g = tt
 
-    entered_in : (place : Place) (of : SeatOf) (seat : Seat) (pc : ℕ) → has_called values clocks reach of base seat ≡ true → Within (enter_by globals seats lines inner base path place of seat pc)
+    entered_in : (place : Place) (of : SeatOf) (seat : Seat) (pc : ℕ) → has_called has_value has_clock reach of base seat ≡ true → Within (enter_by globals seats lines inner base path place of seat pc)
     entered_in place (seat_of.Standard of) seat pc h =
-        let p = and_parts (nat_lt (base.clocks + seat.clocks) clocks) (nat_lt (member_slot base seat 0) values && has_pt values clocks of base seat) h in
-        let q = and_parts (nat_lt (member_slot base seat 0) values) (has_pt values clocks of base seat) p.1 in
+        let p = and_parts (has_clock (base.clocks + seat.clocks)) (has_value (member_slot base seat 0) && has_pt has_value has_clock of base seat) h in
+        let q = and_parts (has_value (member_slot base seat 0)) (has_pt has_value has_clock of base seat) p.1 in
         (pt_in of base seat q.1, (clock_and_slot _ _ p.0 q.0, tt))
     entered_in place (seat_of.Frame k) seat pc h = called_in seat.is_called (reach k (base_of base seat)) _ h (under k (base_of base seat) (path + seat.paths) pc)
 
-    enter_in : (place : Place) (seat : Option Seat) (pc : ℕ) → has_instance values clocks reach seat base ≡ true → Within (enter_code globals seats lines inner base path place seat pc)
+    enter_in : (place : Place) (seat : Option Seat) (pc : ℕ) → has_instance has_value has_clock reach seat base ≡ true → Within (enter_code globals seats lines inner base path place seat pc)
     enter_in place None pc h = tt
     enter_in place (Some seat) pc h = entered_in place seat.of seat pc h
 
@@ -199,7 +205,7 @@ module _ (values clocks : ℕ) where
 
   module _ (globals : ℕ) (frames : List Frame) where
     abbrev reached : (limit k : ℕ) → Base → Bool
-    reached limit k = frame_there values clocks globals frames limit k
+    reached limit k = frame_there has_value has_clock globals frames limit k
 
     abbrev FrameIn : (limit k : ℕ) → Type 0
     FrameIn limit k = (base : Base) (path pc : ℕ) → reached limit k base ≡ true → Within ((frame_part globals frames limit k).code base path pc)
@@ -207,8 +213,8 @@ module _ (values clocks : ℕ) where
     nothing_in : (limit k : ℕ) → frame_part globals frames limit k ≡ none → FrameIn limit k
     nothing_in limit k e base path pc h = subst (λ (p : Part). Within (p.code base path pc)) (sym e) tt
 
-    reached_is : (limit k : ℕ) (frame : Frame) → k < limit → slice_get frames k ≡ Some frame → reached limit k ≡ routine_there values clocks globals (reached k) frame
-    reached_is limit k frame less at = first_is (λ base. true) (routine_there values clocks globals) frames limit k frame less at
+    reached_is : (limit k : ℕ) (frame : Frame) → k < limit → slice_get frames k ≡ Some frame → reached limit k ≡ routine_there has_value has_clock globals (reached k) frame
+    reached_is limit k frame less at = first_is (λ base. true) (routine_there has_value has_clock globals) frames limit k frame less at
 
     frame_by : (limit k : ℕ) (at : Option Frame) → slice_get frames k ≡ at → k < limit → ((j : ℕ) → FrameIn k j) → FrameIn limit k
     frame_by limit k None at less inner = nothing_in limit k (part_none globals frames limit k at)
@@ -228,50 +234,111 @@ module _ (values clocks : ℕ) where
     pub frame_in : (limit k : ℕ) → FrameIn limit k
     frame_in limit k = frame_up limit limit k (omega arith)
 
-    pub program_in : (first : ℕ) (base : Base) → IsThere values clocks globals frames first base → Within (program_lines globals frames first base)
+    pub program_in : (first : ℕ) (base : Base) → IsThere has_value has_clock globals frames first base → Within (program_lines globals frames first base)
     program_in first base h = both ((frame_part globals frames (length frames) first).code base 0 0) _ (frame_in (length frames) first base 0 0 h) (nothing, tt)
 
--- an instruction that does what two do names what they name
-both_values : (i j : Instr) → values_past (unwrap_or (both_in_one i j) i) ≤ max (values_past i) (values_past j)
-both_values i j = grind arith
+  -- an instruction that does what two do names what they name
+  both_in : (i j : Instr) → IsIn i → IsIn j → IsIn (unwrap_or (both_in_one i j) i)
+  both_in (instr.Load one) (instr.BinarySlot op other) h g = ((h.0.0, g.0), tt)
+  both_in (instr.Load one) (instr.BinaryLiteral op y) h g = h
+  both_in (instr.Load one) (instr.Unary op) h g = h
+  both_in (instr.Load one) (instr.BinarySlotStore op other to) h g = ((h.0.0, g.0), tt)
+  both_in (instr.Load one) (instr.BinaryLiteralStore op y to) h g = ((h.0.0, g.0), tt)
+  both_in (instr.Load one) (instr.BinarySlotJump op other to) h g = ((h.0.0, g.0), tt)
+  both_in (instr.Load one) (instr.BinaryLiteralJump op y to) h g = h
+  both_in instr.Push (instr.Load one) h g = g
+  both_in instr.Push (instr.LoadUnary op one) h g = g
+  both_in (instr.BinarySlot op other) (instr.Store to) h g = ((h.0.0, g.0), tt)
+  both_in (instr.BinarySlot op other) (instr.JumpUnless to) h g = h
+  both_in (instr.BinaryLiteral op y) (instr.Store to) h g = g
+  both_in (instr.Binary op) (instr.JumpUnless to) h g = h
+  both_in i j h g = h
 
-both_clocks : (i j : Instr) → clocks_past (unwrap_or (both_in_one i j) i) ≤ max (clocks_past i) (clocks_past j)
-both_clocks i j = grind arith
-
-module _ (values clocks : ℕ) where
-  both_in : (i j : Instr) → IsWithin values clocks i → IsWithin values clocks j → IsWithin values clocks (unwrap_or (both_in_one i j) i)
-  both_in i j h g =
-      let x = both_values i j in
-      let y = both_clocks i j in
-      let a = h.0 in
-      let b = h.1 in
-      let c = g.0 in
-      let d = g.1 in
-      (omega (arith, x, a, c), omega (arith, y, b, d))
-
-  chosen_in : (one other : Option Instr) (i : Instr) → IsWithin values clocks (unwrap_or one i) → IsWithin values clocks (unwrap_or other i) → IsWithin values clocks (unwrap_or (option_or one other) i)
+  chosen_in : (one other : Option Instr) (i : Instr) → IsIn (unwrap_or one i) → IsIn (unwrap_or other i) → IsIn (unwrap_or (option_or one other) i)
   chosen_in None other i h g = g
   chosen_in (Some r) other i h g = h
 
-  pair_in : (b : Bool) (i behind later : Instr) → IsWithin values clocks i → IsWithin values clocks behind → IsWithin values clocks later
-      → IsWithin values clocks (if b then paired i behind later else i)
+  pair_in : (b : Bool) (i behind later : Instr) → IsIn i → IsIn behind → IsIn later → IsIn (if b then paired i behind later else i)
   pair_in false i behind later h g k = h
   pair_in true i behind later h g k = chosen_in (both_in_one i later) (both_in_one i behind) i (both_in i later h k) (both_in i behind h g)
 
-  named_in : (ls : List Line) → Within values clocks ls → (values_named (joined_of ls) ≤ values) × (clocks_named (joined_of ls) ≤ clocks)
-  named_in [] h = nothing values clocks
-  named_in (l ∷ []) h = let a = h.0.0 in let b = h.0.1 in (omega (arith, a), omega (arith, b))
-  named_in (l ∷ (m ∷ ls)) h =
-      let rest = named_in (m ∷ ls) h.1 in
-      let c = rest.0 in
-      let d = rest.1 in
-      let later : Instr = joined m (slice_get ls 0) (slice_get (joined_of ls) 0) in
-      let there : IsWithin values clocks later = (omega (arith, c), omega (arith, d)) in
-      let own = pair_in (is_same_place l.1 m.1) l.0 m.0 later h.0 h.1.0 there in
-      let a = own.0 in
-      let b = own.1 in
-      (omega (arith, a, c), omega (arith, b, d))
+  -- what each instruction of joined lines names is there
+  joined_in : (ls : List Line) → Within ls → AllByRecursion IsIn (joined_of ls)
+  joined_in [] h = tt
+  joined_in (l ∷ []) h = (h.0, tt)
+  joined_in (l ∷ (m ∷ ls)) h =
+      let rest = joined_in (m ∷ ls) h.1 in
+      (pair_in (is_same_place l.1 m.1) l.0 m.0 (joined m (slice_get ls 0) (slice_get (joined_of ls) 0)) h.0 h.1.0 rest.0, rest)
+
+-- an item of a list whose items all have a property has it
+at_each : {A : Type 0} (P : A → Type 0) (xs : List A) (n : ℕ) (x : A) → AllByRecursion P xs → slice_get xs n ≡ Some x → P x
+at_each P [] n x h at = absurd (none-some x at)
+at_each P (y ∷ xs) zero x h at = subst P (same_Some y x at) h.0
+at_each P (y ∷ xs) (suc n) x h at = at_each P xs n x h.1 at
+
+-- the items of the two halves of a list have it
+halves : (P : ℕ → Type 0) (xs ys : List ℕ) → AllByRecursion P (xs ++ ys) → AllByRecursion P xs × AllByRecursion P ys
+halves P [] ys h = (tt, h)
+halves P (x ∷ xs) ys h = let rest = halves P xs ys h.1 in ((h.0, rest.0), rest.1)
+
+-- they have a weaker one
+weaker : (P Q : ℕ → Type 0) → ((n : ℕ) → P n → Q n) → (xs : List ℕ) → AllByRecursion P xs → AllByRecursion Q xs
+weaker P Q so [] h = tt
+weaker P Q so (x ∷ xs) h = (so x h.0, weaker P Q so xs h.1)
+
+-- a number that an instruction of a code has has the property that all numbers of its instructions have
+some_in : (P : ℕ → Type 0) (numbers : Instr → List ℕ) (code : List Instr) → ((pc : ℕ) (i : Instr) → slice_get code pc ≡ Some i → AllByRecursion P (numbers i)) → (n : ℕ) → SomeHas numbers code n → P n
+some_in P numbers code h n some = All-contains P (numbers some.1) n (All-from_recursion P (numbers some.1) (h some.0 some.1 some.2)) some.3
+
+-- the number after the last slot that an instruction names
+slots_end : (i : Instr) (n : ℕ) → AllByRecursion (λ s. s < n) (slots_read i ++ slots_written i) → values_past i ≤ n
+slots_end instr.End n h = omega arith
+slots_end i n h = omega arith
+
+clocks_end : (i : Instr) (n : ℕ) → AllByRecursion (λ k. k < n) (clocks_of i) → clocks_past i ≤ n
+clocks_end instr.End n h = omega arith
+clocks_end i n h = omega arith
+
+module _ (has_value has_clock : ℕ → Bool) where
+  -- where all values that are there are before a number, so are those that code names
+  values_before : (n : ℕ) → ((s : ℕ) → has_value s ≡ true → s < n) → (code : List Instr) → AllByRecursion (IsIn has_value has_clock) code → values_named code ≤ n
+  values_before n before [] h = omega arith
+  values_before n before (i ∷ code) h =
+      let first = slots_end i n (weaker (λ s. has_value s ≡ true) (λ s. s < n) before (slots_read i ++ slots_written i) h.0.0) in
+      let rest = values_before n before code h.1 in
+      omega (arith, first, rest)
+
+  clocks_before : (n : ℕ) → ((k : ℕ) → has_clock k ≡ true → k < n) → (code : List Instr) → AllByRecursion (IsIn has_value has_clock) code → clocks_named code ≤ n
+  clocks_before n before [] h = omega arith
+  clocks_before n before (i ∷ code) h =
+      let first = clocks_end i n (weaker (λ k. has_clock k ≡ true) (λ k. k < n) before (clocks_of i) h.0.1) in
+      let rest = clocks_before n before code h.1 in
+      omega (arith, first, rest)
+
+  module _ (code : List Instr) (all : AllByRecursion (IsIn has_value has_clock) code) where
+    abbrev IsThereValue : ℕ → Type 0
+    IsThereValue s = has_value s ≡ true
+
+    own : (pc : ℕ) (i : Instr) → slice_get code pc ≡ Some i → AllByRecursion IsThereValue (slots_read i) × AllByRecursion IsThereValue (slots_written i)
+    own pc i at = halves IsThereValue (slots_read i) (slots_written i) (at_each (IsIn has_value has_clock) code pc i all at).0
+
+    named_there : (s : ℕ) → Names code s → has_value s ≡ true
+    named_there s named = elim named.some [
+      | inl some ↦ some_in IsThereValue slots_read code (λ pc i at. (own pc i at).0) s some
+      | inr some ↦ some_in IsThereValue slots_written code (λ pc i at. (own pc i at).1) s some
+    ]
+
+    clock_there : (k : ℕ) → NamesClock code k → has_clock k ≡ true
+    clock_there k named = some_in (λ k. has_clock k ≡ true) clocks_of code (λ pc i at. (at_each (IsIn has_value has_clock) code pc i all at).1) k named.some
 
 -- the code of a program names what its frame names
 pub code_names_as_frame : (frames : List Frame) (globals first : ℕ) (base : Base) → NamesAsFrame frames globals first base (code_of globals frames first base)
-code_names_as_frame frames globals first base values clocks h = named_in values clocks (program_lines globals frames first base) (program_in values clocks globals frames first base h)
+code_names_as_frame frames globals first base has_value has_clock h =
+    let code = joined_of (program_lines globals frames first base) in
+    let all = joined_in has_value has_clock (program_lines globals frames first base) (program_in has_value has_clock globals frames first base h) in
+    record {
+      values = named_there has_value has_clock code all;
+      clocks = clock_there has_value has_clock code all;
+      values_end = λ n before. values_before has_value has_clock n before code all;
+      clocks_end = λ n before. clocks_before has_value has_clock n before code all;
+    }

@@ -1,5 +1,5 @@
--- Whether cells have what a frame names.
-use Rattle.std.specs.Prelude.{◌≡◌, ◌≤◌, ℕ, ◌+◌, Bool, true, ◌&&◌, nat_lt, if◌then◌else◌, List, length, Option, Some, None, slice_get}
+-- Whether what a frame names, and what its code names, is among given values and clocks.
+use Rattle.std.specs.Prelude.{◌≡◌, ◌<◌, ◌≤◌, ℕ, ◌+◌, Bool, true, ◌&&◌, if◌then◌else◌, List, length, Option, Some, None, slice_get}
 use Rattle.st_tree.specs.View.{view_body}
 use Rattle.st_tree.specs.Mapping.{Known, body_known}
 use Rattle.plant_cells.specs.declared.clock.Standard.{Standard}
@@ -12,18 +12,19 @@ use Rattle.block_walk.specs.declared.frame.Frame.{Frame}
 use Rattle.block_walk.specs.Frames.{of_first}
 use Rattle.block_walk.specs.Walks.{slot_of, member_slot, base_of}
 use Rattle.acc_vm.specs.Codes.{PlainCode}
+use Rattle.code_slices.specs.Slots.{Names, NamesClock}
 
--- in cells of so many values and clocks
-module _ (values clocks : ℕ) where
+-- by tests that tell which values and which clocks there are
+module _ (has_value has_clock : ℕ → Bool) where
   -- an input of an instance is there
   abbrev pub has_input : Option Seat → Base → ℕ → Bool
   has_input None base name = true
-  has_input (Some seat) base name = nat_lt (member_slot base seat name) values
+  has_input (Some seat) base name = has_value (member_slot base seat name)
 
   -- an output is: the clock of a standard block, or a value of a frame's instance
   abbrev pub has_shown : SeatOf → Base → Seat → ℕ → Bool
-  has_shown (seat_of.Standard of) base seat name = nat_lt (base.clocks + seat.clocks) clocks
-  has_shown (seat_of.Frame k) base seat name = nat_lt (member_slot base seat name) values
+  has_shown (seat_of.Standard of) base seat name = has_clock (base.clocks + seat.clocks)
+  has_shown (seat_of.Frame k) base seat name = has_value (member_slot base seat name)
 
   abbrev pub has_output : Option Seat → Base → ℕ → Bool
   has_output None base name = true
@@ -31,13 +32,13 @@ module _ (values clocks : ℕ) where
 
   -- PT of a standard block is; R_TRIG has none
   abbrev pub has_pt : Standard → Base → Seat → Bool
-  has_pt standard.Ton base seat = nat_lt (member_slot base seat 1) values
-  has_pt standard.Tof base seat = nat_lt (member_slot base seat 1) values
+  has_pt standard.Ton base seat = has_value (member_slot base seat 1)
+  has_pt standard.Tof base seat = has_value (member_slot base seat 1)
   has_pt standard.RTrig base seat = true
 
   -- what a call of an instance names is, where whether what each frame names is there is given
   abbrev pub has_called : (ℕ → Base → Bool) → SeatOf → Base → Seat → Bool
-  has_called inner (seat_of.Standard of) base seat = nat_lt (base.clocks + seat.clocks) clocks && (nat_lt (member_slot base seat 0) values && has_pt of base seat)
+  has_called inner (seat_of.Standard of) base seat = has_clock (base.clocks + seat.clocks) && (has_value (member_slot base seat 0) && has_pt of base seat)
   has_called inner (seat_of.Frame k) base seat = if seat.is_called then inner k (base_of base seat) else true
 
   abbrev pub has_instance : (ℕ → Base → Bool) → Option Seat → Base → Bool
@@ -48,7 +49,7 @@ module _ (values clocks : ℕ) where
     -- which names of a routine at a base stand for what is there
     abbrev pub there : (ℕ → Base → Bool) → List Seat → Base → Known ℕ
     there inner seats base = record {
-      has_variable = λ v. nat_lt (slot_of globals base v) values;
+      has_variable = λ v. has_value (slot_of globals base v);
       has_instance = λ instance. has_instance inner (slice_get seats instance) base;
       has_input = λ instance name. has_input (slice_get seats instance) base name;
       has_output = λ instance name. has_output (slice_get seats instance) base name;
@@ -61,10 +62,17 @@ module _ (values clocks : ℕ) where
     abbrev pub frame_there : List Frame → (limit k : ℕ) → Base → Bool
     frame_there frames = of_first (λ base. true) routine_there frames
 
--- cells of so many values and clocks have what the frame of a number names as a program at a base
-abbrev pub IsThere : (values clocks globals : ℕ) → List Frame → (first : ℕ) → Base → Type 0
-IsThere values clocks globals frames first base = frame_there values clocks globals frames (length frames) first base ≡ true
+-- what the frame of a number names as a program at a base is there, by the tests
+abbrev pub IsThere : (has_value has_clock : ℕ → Bool) → (globals : ℕ) → List Frame → (first : ℕ) → Base → Type 0
+IsThere has_value has_clock globals frames first base = frame_there has_value has_clock globals frames (length frames) first base ≡ true
 
--- cells that have what a frame names as a program have what code names
+-- code names values and clocks alone that are there, by the tests, and needs no more cells than up to the last of them
+pub record NamesOnly (has_value has_clock : ℕ → Bool) (code : PlainCode) : Type 0 where
+  pub values : (s : ℕ) → Names code.instrs s → has_value s ≡ true
+  pub clocks : (k : ℕ) → NamesClock code.instrs k → has_clock k ≡ true
+  pub values_end : (n : ℕ) → ((s : ℕ) → has_value s ≡ true → s < n) → code.values ≤ n
+  pub clocks_end : (n : ℕ) → ((k : ℕ) → has_clock k ≡ true → k < n) → code.clocks ≤ n
+
+-- whatever the tests, where what a frame names as a program is there, code names what is there alone
 abbrev pub NamesAsFrame : List Frame → (globals first : ℕ) → Base → PlainCode → Type 0
-NamesAsFrame frames globals first base code = (values clocks : ℕ) → IsThere values clocks globals frames first base → (code.values ≤ values) × (code.clocks ≤ clocks)
+NamesAsFrame frames globals first base code = (has_value has_clock : ℕ → Bool) → IsThere has_value has_clock globals frames first base → NamesOnly has_value has_clock code

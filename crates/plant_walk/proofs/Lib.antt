@@ -15,5 +15,6 @@ mod Weighed
 mod Costs
 mod Known
 mod Within
+mod OwnCells
 pub mod Steady
 mod Copied

@@ -1,5 +1,5 @@
--- The cells of a source have what its frames name.
-use Rattle.std.proofs.Common.{◌≡◌, ◌∙◌, ap, sym, subst, refl, ℕ, zero, suc, ◌+◌, ◌-◌, ◌<◌, ◌≤◌, Bool, true, false, List, [], ◌∷◌, length, length-append, Option, Some, None, slice_get, if◌then◌else◌, inl, inr, arith}
+-- What a frame of a source names is there where the values and the standard blocks of its routine are.
+use Rattle.std.proofs.Common.{◌≡◌, ◌∙◌, ap, sym, subst, refl, ℕ, zero, suc, ◌+◌, ◌-◌, ◌<◌, ◌≤◌, Bool, true, false, List, [], ◌∷◌, length, Option, Some, None, slice_get, if◌then◌else◌, inl, inr, arith}
 use Rattle.std.specs.Prelude.{◌&&◌, nat_lt, is_some, unwrap_or, option_map, option_and_then}
 use Rattle.std.specs.Str.{bytes_eq}
 use Rattle.std.proofs.lemmas.Bool.{cases_lt, cases_Bool, lt-ltb}
@@ -20,13 +20,13 @@ use Rattle.plant_logic.specs.Source.{PlainRoutine, Source}
 use Rattle.plant_logic.specs.Names.{find_word, own_words, global_words, instance_words, kind_named, output_kind_named, meant_in}
 use Rattle.plant_logic.specs.Blocks.{AreBelow, HasItsTypes, DeclaresThere}
 use Rattle.plant_logic.specs.Worlds.{Path, in_word, pt_word, clk_word}
-use Rattle.plant_logic.specs.Layout.{ClockAt, own_values, block_values, instance_values, values_rule, routine_values, block_clocks, instance_clocks, clocks_rule, routine_clocks, global_values, program_values, cell_paths, all_clocks}
-use Rattle.plant_logic.specs.Seats.{StandsFrom, program_values_base, program_clocks_base, value_count, clock_count, own_or_global, member_number, is_of_standard}
+use Rattle.plant_logic.specs.Layout.{ClockAt, own_values, block_values, instance_values, values_rule, routine_values, block_clocks, instance_clocks, clocks_rule, routine_clocks}
+use Rattle.plant_logic.specs.Seats.{StandsFrom, value_count, clock_count, own_or_global, member_number, is_of_standard}
 use Rattle.plant_logic.proofs.Agreeing.{among_at, values_ask, clocks_ask}
 use Rattle.plant_logic.proofs.Layouts.{all_at}
 use Rattle.plant_logic.proofs.Levels.{by_its_rule}
 use Rattle.plant_logic.proofs.Members.{member_at, clock_at, instance_of_number}
-use Rattle.plant_logic.proofs.Seats.{at_front, stands_left, stands_right, stands_moved, own_count, own_at, block_length, routine_length, block_clocks_length, routine_clocks_length, program_stands, program_clocks_stand}
+use Rattle.plant_logic.proofs.Seats.{at_front, stands_left, stands_right, stands_moved, own_count, own_at, block_length, routine_length, block_clocks_length, routine_clocks_length}
 use Rattle.block_walk.specs.declared.frame.Seat.{Seat}
 use Rattle.block_walk.specs.declared.frame.Base.{Base}
 use Rattle.block_walk.specs.declared.frame.Frame.{Frame}
@@ -34,11 +34,8 @@ use Rattle.block_walk.specs.Walks.{slot_of, member_slot, base_of}
 use Rattle.block_walk.proofs.Firsts.{first_is, first_past}
 use Rattle.block_frames.specs.Numbers.{variable_number, shown_number, numbers, numbered_in, HasItsNames, HasAllNames}
 use Rattle.block_frames.specs.Reached.{flagged}
-use Rattle.block_frames.specs.Frames.{place_in, seated, AreSeats, IsFrame, framed, IsFrames, program_base}
-use Rattle.acc_vm.specs.Codes.{PlainCode}
-use Rattle.codegen.specs.Within.{has_input, has_shown, has_output, has_called, has_instance, there, routine_there, frame_there, IsThere}
-use Rattle.program_codes.specs.Codes.{IsCodeOf, base_in}
-use Rattle.plant_walk.specs.Bases.{AreBases}
+use Rattle.block_frames.specs.Frames.{place_in, seated, AreSeats, IsFrame, framed, IsFrames}
+use Rattle.codegen.specs.Within.{has_input, has_shown, has_output, has_called, has_instance, there, routine_there, frame_there}
 use Rattle.plant_walk.proofs.Known.{both, meant_goes}
 use Rattle.plant_walk.proofs.Costs.{element, place_at, place_within}
 
@@ -50,25 +47,11 @@ where_called : (b x : Bool) → x ≡ true → (if b then x else true) ≡ true
 where_called true x h = h
 where_called false x h = refl
 
-module _ (source : Source) (order : List ℕ) (below : AreBelow source.blocks order) where
-  abbrev paths : List Path
-  paths = cell_paths source
-
-  abbrev clocks : List ClockAt
-  clocks = all_clocks source
-
-  abbrev many : ℕ
-  many = length (cell_paths source)
-
-  abbrev clocks_many : ℕ
-  clocks_many = length (all_clocks source)
-
-  value_there : (n : ℕ) (p : Path) → slice_get paths n ≡ Some p → nat_lt n many ≡ true
-  value_there n p at = lt-ltb n many (slice_get_within paths n p at)
-
-  clock_there : (n : ℕ) (c : ClockAt) → slice_get clocks n ≡ Some c → nat_lt n clocks_many ≡ true
-  clock_there n c at = lt-ltb n clocks_many (slice_get_within clocks n c at)
-
+-- where tests have the numbers that values and standard blocks have in two lists, and those of the globals
+module _ (source : Source) (order : List ℕ) (below : AreBelow source.blocks order) (paths : List Path) (clocks : List ClockAt) (has_value has_clock : ℕ → Bool)
+    (value_there : (n : ℕ) (word : List ℕ) (p : Path) → slice_get paths n ≡ Some (word ∷ p) → has_value n ≡ true)
+    (clock_there : (n : ℕ) (b : BlockRef) (p : Path) → is_of_standard b ≡ true → slice_get clocks n ≡ Some (record { of = b; path = p }) → has_clock n ≡ true)
+    (global_there : (j : ℕ) → j < length source.globals → has_value j ≡ true) where
   -- a seat at which the values and the standard blocks of an instance stand, by its path in small letters
   record Sits (base : Base) (seat : Seat) (b : BlockRef) (p : Path) : Type 0 where
     of_is : seat.of ≡ seated order b
@@ -103,13 +86,13 @@ module _ (source : Source) (order : List ℕ) (below : AreBelow source.blocks or
 
   module _ (base : Base) (seat : Seat) (p : Path) where
     -- an input of an instance, and an output of it
-    input_there : (b : BlockRef) → Sits base seat b p → (name : List ℕ) (m : ℕ) → member_number source.blocks b name ≡ Some m → nat_lt (member_slot base seat m) many ≡ true
-    input_there b sits name m is = value_there (member_slot base seat m) (folded name ∷ p) (member_at paths (base.values + seat.values) p name m source.blocks order below b sits.values_stand is)
+    input_there : (b : BlockRef) → Sits base seat b p → (name : List ℕ) (m : ℕ) → member_number source.blocks b name ≡ Some m → has_value (member_slot base seat m) ≡ true
+    input_there b sits name m is = value_there (member_slot base seat m) (folded name) p (member_at paths (base.values + seat.values) p name m source.blocks order below b sits.values_stand is)
 
-    clock_sits : (b : BlockRef) → is_of_standard b ≡ true → Sits base seat b p → nat_lt (base.clocks + seat.clocks) clocks_many ≡ true
-    clock_sits b is sits = clock_there (base.clocks + seat.clocks) (record { of = b; path = p }) (clock_at source.blocks clocks (base.clocks + seat.clocks) p b is sits.clocks_stand)
+    clock_sits : (b : BlockRef) → is_of_standard b ≡ true → Sits base seat b p → has_clock (base.clocks + seat.clocks) ≡ true
+    clock_sits b is sits = clock_there (base.clocks + seat.clocks) b p is (clock_at source.blocks clocks (base.clocks + seat.clocks) p b is sits.clocks_stand)
 
-    output_there : (b : BlockRef) → Sits base seat b p → (name : List ℕ) (m : ℕ) → shown_number source b name ≡ Some m → has_shown many clocks_many (seated order b) base seat m ≡ true
+    output_there : (b : BlockRef) → Sits base seat b p → (name : List ℕ) (m : ℕ) → shown_number source b name ≡ Some m → has_shown has_value has_clock (seated order b) base seat m ≡ true
     output_there Ton sits name m is = clock_sits Ton refl sits
     output_there Tof sits name m is = clock_sits Tof refl sits
     output_there RTrig sits name m is = clock_sits RTrig refl sits
@@ -118,44 +101,42 @@ module _ (source : Source) (order : List ℕ) (below : AreBelow source.blocks or
     -- what a call of it names
     called_there : (reach : ℕ → Base → Bool) (b : BlockRef) → Sits base seat b p
         → ((m : ℕ) → b ≡ Declared m → StandsFrom paths (base.values + seat.values) (routine_values source.blocks m p) → StandsFrom clocks (base.clocks + seat.clocks) (routine_clocks source.blocks m p) → reach (place_in order m) (base_of base seat) ≡ true)
-        → has_called many clocks_many reach (seated order b) base seat ≡ true
+        → has_called has_value has_clock reach (seated order b) base seat ≡ true
     called_there reach Ton sits callee =
-        both (nat_lt (base.clocks + seat.clocks) clocks_many) (nat_lt (member_slot base seat 0) many && nat_lt (member_slot base seat 1) many) (clock_sits Ton refl sits)
-        (both (nat_lt (member_slot base seat 0) many) (nat_lt (member_slot base seat 1) many) (value_there _ (in_word ∷ p) (sits.values_stand 0 (in_word ∷ p) refl)) (value_there _ (pt_word ∷ p) (sits.values_stand 1 (pt_word ∷ p) refl)))
+        both (has_clock (base.clocks + seat.clocks)) (has_value (member_slot base seat 0) && has_value (member_slot base seat 1)) (clock_sits Ton refl sits)
+        (both (has_value (member_slot base seat 0)) (has_value (member_slot base seat 1)) (value_there _ in_word p (sits.values_stand 0 (in_word ∷ p) refl)) (value_there _ pt_word p (sits.values_stand 1 (pt_word ∷ p) refl)))
     called_there reach Tof sits callee =
-        both (nat_lt (base.clocks + seat.clocks) clocks_many) (nat_lt (member_slot base seat 0) many && nat_lt (member_slot base seat 1) many) (clock_sits Tof refl sits)
-        (both (nat_lt (member_slot base seat 0) many) (nat_lt (member_slot base seat 1) many) (value_there _ (in_word ∷ p) (sits.values_stand 0 (in_word ∷ p) refl)) (value_there _ (pt_word ∷ p) (sits.values_stand 1 (pt_word ∷ p) refl)))
+        both (has_clock (base.clocks + seat.clocks)) (has_value (member_slot base seat 0) && has_value (member_slot base seat 1)) (clock_sits Tof refl sits)
+        (both (has_value (member_slot base seat 0)) (has_value (member_slot base seat 1)) (value_there _ in_word p (sits.values_stand 0 (in_word ∷ p) refl)) (value_there _ pt_word p (sits.values_stand 1 (pt_word ∷ p) refl)))
     called_there reach RTrig sits callee =
-        both (nat_lt (base.clocks + seat.clocks) clocks_many) (nat_lt (member_slot base seat 0) many && true) (clock_sits RTrig refl sits)
-        (both (nat_lt (member_slot base seat 0) many) true (value_there _ (clk_word ∷ p) (sits.values_stand 0 (clk_word ∷ p) refl)) refl)
+        both (has_clock (base.clocks + seat.clocks)) (has_value (member_slot base seat 0) && true) (clock_sits RTrig refl sits)
+        (both (has_value (member_slot base seat 0)) true (value_there _ clk_word p (sits.values_stand 0 (clk_word ∷ p) refl)) refl)
     called_there reach (Declared m) sits callee = where_called seat.is_called (reach (place_in order m) (base_of base seat)) (callee m refl sits.values_stand sits.clocks_stand)
 
-  global_there : (name : List ℕ) (j : ℕ) → find_word (global_words source.globals) name ≡ Some j → (j < length source.globals) × (j < many)
-  global_there name j is =
+  global_within : (name : List ℕ) (j : ℕ) → find_word (global_words source.globals) name ≡ Some j → j < length source.globals
+  global_within name j is =
       let less = (position-Some (bytes_eq (folded name)) (global_words source.globals) j name is).0 in
       let words = length-map source.globals (λ (global : Variable). folded global.name) in
-      let values = length-map (global_words source.globals) (λ word. word ∷ []) in
-      let all = length-append (global_values source.globals) (program_values source.blocks source.programs) in
-      (omega (arith, less, words), omega (arith, less, words, values, all))
+      omega (arith, less, words)
 
   -- a routine's frame at a base, where what the frames that it calls name is there
   module _ (r : PlainRoutine) (seats : List Seat) (are : AreSeats source.blocks r order (length r.locals) 0 r.instances seats) (path : Path) (base : Base)
       (values : StandsFrom paths base.values (values_rule (routine_values source.blocks) r path)) (stood : StandsFrom clocks base.clocks (clocks_rule (routine_clocks source.blocks) r path)) (reach : ℕ → Base → Bool)
       (callees : (i : Instance) (m : ℕ) → Among r.instances i → i.of ≡ Declared m → (p : Path) (at : Base) → StandsFrom paths at.values (routine_values source.blocks m p) → StandsFrom clocks at.clocks (routine_clocks source.blocks m p) → reach (place_in order m) at ≡ true) where
     variable_by : (name : List ℕ) (own other : Option ℕ) → find_word (own_words r.locals) name ≡ own → find_word (global_words source.globals) name ≡ other → is_some (own_or_global (length source.globals) own other) ≡ true
-        → nat_lt (slot_of (length source.globals) base (unwrap_or (own_or_global (length source.globals) own other) 0)) many ≡ true
+        → has_value (slot_of (length source.globals) base (unwrap_or (own_or_global (length source.globals) own other) 0)) ≡ true
     variable_by name (Some i) other found_own found_global h =
         let n = length source.globals in
         let past : nat_lt (n + i) n ≡ false = grind (arith, nat_tests) in
         let same : n + i - n ≡ i = omega arith in
         let at = values i (folded name ∷ path) (at_front (own_values r.locals path) (instance_values (routine_values source.blocks) r.instances path) i (folded name ∷ path) (own_at r.locals path name i found_own)) in
-        rw past (subst (λ k. nat_lt (base.values + k) many ≡ true) (sym same) (value_there (base.values + i) (folded name ∷ path) at))
+        rw past (subst (λ k. has_value (base.values + k) ≡ true) (sym same) (value_there (base.values + i) (folded name) path at))
     variable_by name None (Some j) found_own found_global h =
-        let less = global_there name j found_global in
-        rw (lt-ltb j (length source.globals) less.0) (lt-ltb j many less.1)
+        let less = global_within name j found_global in
+        rw (lt-ltb j (length source.globals) less) (global_there j less)
     variable_by name None None found_own found_global h = absurd (cc)
 
-    variable_goes : (name : List ℕ) → is_some (variable_number source r name) ≡ true → nat_lt (slot_of (length source.globals) base (unwrap_or (variable_number source r name) 0)) many ≡ true
+    variable_goes : (name : List ℕ) → is_some (variable_number source r name) ≡ true → has_value (slot_of (length source.globals) base (unwrap_or (variable_number source r name) 0)) ≡ true
     variable_goes name h = variable_by name (find_word (own_words r.locals) name) (find_word (global_words source.globals) name) refl refl h
 
     -- the seat of an instance
@@ -168,7 +149,7 @@ module _ (source : Source) (order : List ℕ) (below : AreBelow source.blocks or
         seats_sit r base path r.instances seats (length r.locals) 0 k i are (stands_right paths base.values (base.values + length r.locals) own rest (omega (arith, long)) values)
         (stands_moved clocks base.clocks (base.clocks + 0) none (omega arith) stood) at
 
-    instance_by : (name : List ℕ) (o : Option ℕ) → find_word (instance_words r.instances) name ≡ o → is_some o ≡ true → has_instance many clocks_many reach (slice_get seats (unwrap_or o 0)) base ≡ true
+    instance_by : (name : List ℕ) (o : Option ℕ) → find_word (instance_words r.instances) name ≡ o → is_some o ≡ true → has_instance has_value has_clock reach (slice_get seats (unwrap_or o 0)) base ≡ true
     instance_by name None found h = absurd (cc)
     instance_by name (Some k) found h =
         let it = instance_of_number r name k found in
@@ -176,7 +157,7 @@ module _ (source : Source) (order : List ℕ) (below : AreBelow source.blocks or
         let s = seat_at k i it.1 in
         let seat = s.0 in
         let called = called_there base seat (folded i.name ∷ path) reach i.of s.2 (λ m of_is vs cs. callees i m (among_at r.instances k i it.1) of_is (folded i.name ∷ path) (base_of base seat) vs cs) in
-        subst (λ (o : Option Seat). has_instance many clocks_many reach o base ≡ true) (sym s.1) (subst (λ of. has_called many clocks_many reach of base seat ≡ true) (sym s.2.of_is) called)
+        subst (λ (o : Option Seat). has_instance has_value has_clock reach o base ≡ true) (sym s.1) (subst (λ of. has_called has_value has_clock reach of base seat ≡ true) (sym s.2.of_is) called)
 
     abbrev member : {A : Type 0} → (BlockRef → Option A) → Option ℕ → Option A
     member f o = option_and_then f (option_map (λ (i : Instance). i.of) (option_and_then (slice_get r.instances) o))
@@ -185,7 +166,7 @@ module _ (source : Source) (order : List ℕ) (below : AreBelow source.blocks or
     member_is f k i at = ap (λ o. option_and_then f (option_map (λ (x : Instance). x.of) o)) at
 
     input_by : (instance name : List ℕ) (o : Option ℕ) → find_word (instance_words r.instances) instance ≡ o → is_some (member (λ (b : BlockRef). member_number source.blocks b name) o) ≡ true
-        → has_input many clocks_many (slice_get seats (unwrap_or o 0)) base (unwrap_or (member (λ (b : BlockRef). member_number source.blocks b name) o) 0) ≡ true
+        → has_input has_value has_clock (slice_get seats (unwrap_or o 0)) base (unwrap_or (member (λ (b : BlockRef). member_number source.blocks b name) o) 0) ≡ true
     input_by instance name None found h = absurd (cc)
     input_by instance name (Some k) found h =
         let it = instance_of_number r instance k found in
@@ -193,10 +174,10 @@ module _ (source : Source) (order : List ℕ) (below : AreBelow source.blocks or
         let s = seat_at k i it.1 in
         let f = λ (b : BlockRef). member_number source.blocks b name in
         let numbered = sym (member_is f k i it.1) ∙ there_is (member f (Some k)) h in
-        subst (λ (o : Option Seat). has_input many clocks_many o base (unwrap_or (member f (Some k)) 0) ≡ true) (sym s.1) (input_there base s.0 (folded i.name ∷ path) i.of s.2 name (unwrap_or (member f (Some k)) 0) numbered)
+        subst (λ (o : Option Seat). has_input has_value has_clock o base (unwrap_or (member f (Some k)) 0) ≡ true) (sym s.1) (input_there base s.0 (folded i.name ∷ path) i.of s.2 name (unwrap_or (member f (Some k)) 0) numbered)
 
     output_by : (instance name : List ℕ) (o : Option ℕ) → find_word (instance_words r.instances) instance ≡ o → is_some (member (λ (b : BlockRef). shown_number source b name) o) ≡ true
-        → has_output many clocks_many (slice_get seats (unwrap_or o 0)) base (unwrap_or (member (λ (b : BlockRef). shown_number source b name) o) 0) ≡ true
+        → has_output has_value has_clock (slice_get seats (unwrap_or o 0)) base (unwrap_or (member (λ (b : BlockRef). shown_number source b name) o) 0) ≡ true
     output_by instance name None found h = absurd (cc)
     output_by instance name (Some k) found h =
         let it = instance_of_number r instance k found in
@@ -205,12 +186,12 @@ module _ (source : Source) (order : List ℕ) (below : AreBelow source.blocks or
         let f = λ (b : BlockRef). shown_number source b name in
         let m = unwrap_or (member f (Some k)) 0 in
         let numbered = sym (member_is f k i it.1) ∙ there_is (member f (Some k)) h in
-        subst (λ (o : Option Seat). has_output many clocks_many o base m ≡ true) (sym s.1)
-        (subst (λ of. has_shown many clocks_many of base s.0 m ≡ true) (sym s.2.of_is) (output_there base s.0 (folded i.name ∷ path) i.of s.2 name m numbered))
+        subst (λ (o : Option Seat). has_output has_value has_clock o base m ≡ true) (sym s.1)
+        (subst (λ of. has_shown has_value has_clock of base s.0 m ≡ true) (sym s.2.of_is) (output_there base s.0 (folded i.name ∷ path) i.of s.2 name m numbered))
 
-    pub body_there : HasItsNames source r → body_known (there many clocks_many (length source.globals) reach seats base) (mapped_body (numbers source r) (meant_in source r r.body)) ≡ true
+    pub body_there : HasItsNames source r → body_known (there has_value has_clock (length source.globals) reach seats base) (mapped_body (numbers source r) (meant_in source r r.body)) ≡ true
     body_there names =
-        meant_goes (numbers source r) (numbered_in source r) (there many clocks_many (length source.globals) reach seats base) (λ e h. h)
+        meant_goes (numbers source r) (numbered_in source r) (there has_value has_clock (length source.globals) reach seats base) (λ e h. h)
         variable_goes (λ name h. instance_by name (find_word (instance_words r.instances) name) refl h)
         (λ instance name h. input_by instance name (find_word (instance_words r.instances) instance) refl h)
         (λ instance name h. output_by instance name (find_word (instance_words r.instances) instance) refl h)
@@ -218,7 +199,7 @@ module _ (source : Source) (order : List ℕ) (below : AreBelow source.blocks or
 
   module _ (frames : List Frame) (are : IsFrames source order frames) (types : HasItsTypes source) (names : HasAllNames source) where
     abbrev reached : (limit k : ℕ) → Base → Bool
-    reached limit k = frame_there many clocks_many (length source.globals) frames limit k
+    reached limit k = frame_there has_value has_clock (length source.globals) frames limit k
 
     -- where the values and the standard blocks of a routine stand from a base on, there what a frame names is there
     abbrev There : (Base → Bool) → (Path → List Path) → (Path → List ClockAt) → Type 0
@@ -227,28 +208,28 @@ module _ (source : Source) (order : List ℕ) (below : AreBelow source.blocks or
     abbrev BlockThere : (limit k n : ℕ) → Type 0
     BlockThere limit k n = There (reached limit k) (routine_values source.blocks n) (routine_clocks source.blocks n)
 
-    empty_there : (reach : ℕ → Base → Bool) (frame : Frame) (base : Base) → view_body frame.body.items ≡ done → routine_there many clocks_many (length source.globals) reach frame base ≡ true
-    empty_there reach frame base is = ap (λ (body : PlainBody ℕ). body_known (there many clocks_many (length source.globals) reach frame.seats.items base) body) is
+    empty_there : (reach : ℕ → Base → Bool) (frame : Frame) (base : Base) → view_body frame.body.items ≡ done → routine_there has_value has_clock (length source.globals) reach frame base ≡ true
+    empty_there reach frame base is = ap (λ (body : PlainBody ℕ). body_known (there has_value has_clock (length source.globals) reach frame.seats.items base) body) is
 
     routine_is : (r : PlainRoutine) (frame : Frame) (k : ℕ) → IsFrame source order r frame → HasItsNames source r → ((i : Instance) (m : ℕ) → Among r.instances i → i.of ≡ Declared m → BlockThere k (place_in order m) m)
-        → There (routine_there many clocks_many (length source.globals) (reached k) frame) (values_rule (routine_values source.blocks) r) (clocks_rule (routine_clocks source.blocks) r)
+        → There (routine_there has_value has_clock (length source.globals) (reached k) frame) (values_rule (routine_values source.blocks) r) (clocks_rule (routine_clocks source.blocks) r)
     routine_is r frame k is known callees path base values stood =
-        ap (λ (body : PlainBody ℕ). body_known (there many clocks_many (length source.globals) (reached k) frame.seats.items base) body) is.body_is
+        ap (λ (body : PlainBody ℕ). body_known (there has_value has_clock (length source.globals) (reached k) frame.seats.items base) body) is.body_is
         ∙ body_there r frame.seats.items is.seats_are path base values stood (reached k) (λ i m here of_is p at. callees i m here of_is p at) known
 
     run_is : (b : Bool) (r : PlainRoutine) (frame : Frame) (k : ℕ) → IsFrame source order (framed b r) frame → HasItsNames source r → ((i : Instance) (m : ℕ) → Among r.instances i → i.of ≡ Declared m → BlockThere k (place_in order m) m)
-        → There (routine_there many clocks_many (length source.globals) (reached k) frame) (values_rule (routine_values source.blocks) r) (clocks_rule (routine_clocks source.blocks) r)
+        → There (routine_there has_value has_clock (length source.globals) (reached k) frame) (values_rule (routine_values source.blocks) r) (clocks_rule (routine_clocks source.blocks) r)
     run_is true r frame k is known callees path base values stood = routine_is r frame k is known callees path base values stood
     run_is false r frame k is known callees path base values stood = empty_there (reached k) frame base is.body_is
 
     frame_at : (k : ℕ) → k < length order + length source.programs → (frame : Frame) × (slice_get frames k ≡ Some frame)
     frame_at k less = let whole = are.whole in element frames k (omega (arith, less, whole))
 
-    reached_is : (limit k : ℕ) (frame : Frame) (base : Base) → k < limit → slice_get frames k ≡ Some frame → reached limit k base ≡ routine_there many clocks_many (length source.globals) (reached k) frame base
-    reached_is limit k frame base less at = ap (λ (f : Base → Bool). f base) (first_is (λ base. true) (routine_there many clocks_many (length source.globals)) frames limit k frame less at)
+    reached_is : (limit k : ℕ) (frame : Frame) (base : Base) → k < limit → slice_get frames k ≡ Some frame → reached limit k base ≡ routine_there has_value has_clock (length source.globals) (reached k) frame base
+    reached_is limit k frame base less at = ap (λ (f : Base → Bool). f base) (first_is (λ base. true) (routine_there has_value has_clock (length source.globals)) frames limit k frame less at)
 
     reached_past : (limit k : ℕ) (base : Base) → limit ≤ k → reached limit k base ≡ true
-    reached_past limit k base past = ap (λ (f : Base → Bool). f base) (first_past (λ base. true) (routine_there many clocks_many (length source.globals)) frames limit k past)
+    reached_past limit k base past = ap (λ (f : Base → Bool). f base) (first_past (λ base. true) (routine_there has_value has_clock (length source.globals)) frames limit k past)
 
     -- the frame at a block type's place, if those before a number do
     place_there : (k m : ℕ) → k ≤ length order → ((j : ℕ) → j < k → slice_get order j ≡ Some m → BlockThere k j m) → BlockThere k (place_in order m) m
@@ -272,7 +253,7 @@ module _ (source : Source) (order : List ℕ) (below : AreBelow source.blocks or
               let clocks_are = by_its_rule (λ path. []) clocks_rule source.blocks order below clocks_ask n r.0 r.1 in
               let values' : StandsFrom paths base.values (values_rule (routine_values source.blocks) r.0 path) = subst (λ (f : Path → List Path). StandsFrom paths base.values (f path)) values_are values in
               let stood' : StandsFrom clocks base.clocks (clocks_rule (routine_clocks source.blocks) r.0 path) = subst (λ (f : Path → List ClockAt). StandsFrom clocks base.clocks (f path)) clocks_are stood in
-              let inside : routine_there many clocks_many (length source.globals) (reached k) frame.0 base ≡ true =
+              let inside : routine_there has_value has_clock (length source.globals) (reached k) frame.0 base ≡ true =
               elim (cases_Bool (flagged are.used n)) [
                 | inl used ↦ run_is (flagged are.run n) r.0 frame.0 k (are.of_blocks k n r.0 frame.0 at r.1 frame.1 used) known
                     (λ i m here of_is. place_there k m (omega (arith, within)) (λ j before there. block_there d k j m (omega (arith, deep, before)) there)) path base values' stood'
@@ -286,25 +267,14 @@ module _ (source : Source) (order : List ℕ) (below : AreBelow source.blocks or
     listed_there : (k m : ℕ) → Among order m → BlockThere k (place_in order m) m
     listed_there k m here = let within = place_within order m here in block_there (suc (place_in order m)) k (place_in order m) m (omega arith) (place_at order m within)
 
-    -- the cells have what a program's frame names
-    pub program_there : (n : ℕ) (p : PlainRoutine) → slice_get source.programs n ≡ Some p → IsThere many clocks_many (length source.globals) frames (length order + n) (program_base source n)
-    program_there n p at =
+    -- what a program's frame names is there
+    pub program_there : (n : ℕ) (p : PlainRoutine) → slice_get source.programs n ≡ Some p → There (λ base. frame_there has_value has_clock (length source.globals) frames (length frames) (length order + n) base) (values_rule (routine_values source.blocks) p) (clocks_rule (routine_clocks source.blocks) p)
+    program_there n p at path base values stood =
         let within = slice_get_within source.programs n p at in
         let k = length order + n in
         let frame = frame_at k (omega (arith, within)) in
         let less = slice_get_within frames k frame.0 frame.1 in
         let known = all_at (HasItsNames source) source.programs n p names.in_programs at in
         let declared = all_at (DeclaresThere source.blocks) source.programs n p types.in_programs at in
-        reached_is (length frames) k frame.0 (program_base source n) less frame.1
-        ∙ routine_is p frame.0 k (are.of_programs n p frame.0 at frame.1) known (λ i m here of_is. listed_there k m (below.whole m (declared m (i, here, of_is)))) (folded p.name ∷ []) (program_base source n)
-        (program_stands source n p at) (program_clocks_stand source n p at)
-
-    -- they have what its code names
-    pub code_there : (values stood : List ℕ) → AreBases (program_values_base source) (length source.programs) values → AreBases (program_clocks_base source) (length source.programs) stood
-        → (n : ℕ) → n < length source.programs → (code : PlainCode) → IsCodeOf frames (length source.globals) (length order + n) (base_in values stood n) code → (code.values ≤ many) × (code.clocks ≤ clocks_many)
-    code_there values stood values_begin clocks_begin n less code is =
-        let p = element source.programs n less in
-        let values_are = values_begin.each n (omega (arith, less)) in
-        let clocks_are = clocks_begin.each n (omega (arith, less)) in
-        is.within many clocks_many
-        (subst (λ (base : Base). IsThere many clocks_many (length source.globals) frames (length order + n) base) (λ i. record { values = sym values_are i; clocks = sym clocks_are i }) (program_there n p.0 p.1))
+        reached_is (length frames) k frame.0 base less frame.1
+        ∙ routine_is p frame.0 k (are.of_programs n p frame.0 at frame.1) known (λ i m here of_is. listed_there k m (below.whole m (declared m (i, here, of_is)))) path base values stood

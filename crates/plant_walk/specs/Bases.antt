@@ -1,5 +1,5 @@
 -- Where the values, the standard blocks and the paths of each program begin.
-use Rattle.std.specs.Prelude.{◌≡◌, ◌≤◌, ◌+◌, ℕ, zero, suc, min, if◌then◌else◌, List, [], ◌∷◌, length, get_or}
+use Rattle.std.specs.Prelude.{◌≡◌, ◌<◌, ◌≤◌, ◌+◌, ℕ, zero, suc, min, if◌then◌else◌, List, [], ◌∷◌, length, get_or}
 use Rattle.std.specs.List.{sum_by}
 use Rattle.plant_logic.specs.declared.logic.Instance.{Instance}
 use Rattle.plant_logic.specs.declared.logic.BlockRef.{BlockRef}
@@ -7,6 +7,7 @@ use Rattle.plant_logic.specs.declared.logic.BlockRef.TheVariants.{Ton, Tof, RTri
 use Rattle.plant_logic.specs.Source.{PlainRoutine, Source}
 use Rattle.plant_logic.specs.Layout.{cells_per_type}
 use Rattle.plant_logic.specs.Paths.{paths_rule, type_paths}
+use Rattle.plant_logic.specs.Seats.{program_values_base, program_clocks_base}
 use Rattle.block_walk.specs.declared.frame.SeatOf.{SeatOf}
 use Rattle.block_walk.specs.declared.frame.SeatOf.TheVariants as seat_of
 use Rattle.block_walk.specs.declared.frame.Seat.{Seat}
@@ -22,6 +23,14 @@ program_paths_before blocks (p ∷ ps) (suc k) = length (paths_rule (type_paths 
 -- the number of the first path of a program
 abbrev pub program_paths_base : Source → ℕ → ℕ
 program_paths_base source k = program_paths_before source.blocks source.programs k
+
+-- a value of a number is the program's own, or one of an instance below it: it lies from where the program's values begin to where those of the next one do
+abbrev pub IsOwnValue : Source → (program : ℕ) → ℕ → Type 0
+IsOwnValue source program s = (program_values_base source program ≤ s) × (s < program_values_base source (program + 1))
+
+-- the same of a standard block's clock
+abbrev pub IsOwnClock : Source → (program : ℕ) → ℕ → Type 0
+IsOwnClock source program k = (program_clocks_base source program ≤ k) × (k < program_clocks_base source (program + 1))
 
 -- a row has a base for each program, and behind them the number at which the last one ends
 pub record AreBases (base : ℕ → ℕ) (programs : ℕ) (row : List ℕ) : Type 0 where

@@ -12,9 +12,12 @@ use Rattle.plant_cells.specs.Runs.{Path, spot_of}
 use Rattle.block_walk.specs.declared.frame.Frame.{Frame}
 use Rattle.block_frames.specs.Frames.{IsFrames, program_base}
 use Rattle.block_frames.specs.Stands.{StandFor}
+use Rattle.acc_vm.specs.declared.instr.Instr.{Instr}
 use Rattle.acc_vm.specs.Machine.{Over}
 use Rattle.acc_vm.specs.Codes.{PlainCode, IsSound, fuel_of, run_of}
+use Rattle.code_slices.specs.Slots.{Names, NamesClock}
 use Rattle.program_codes.specs.Codes.{IsMade}
+use Rattle.plant_walk.specs.Bases.{IsOwnValue, IsOwnClock}
 use Rattle.plant_walk.specs.declared.walking.Walked.{Walked}
 use Rattle.plant_walk.specs.declared.walking.Walked.TheVariants as walked
 
@@ -81,10 +84,16 @@ pub record EndsAsProgram (source : Source) (n t : ℕ) (code : PlainCode) (cells
   pub runs : run_of t (paths_in source n) code cells ≡ Over result left
   pub agrees : Agree source (run_program source n t w) result
 
--- code is that of the program of a number: it is sound, cells of the source have what it names, its paths are the program's, and from cells that stand for a world it ends as the program does there
+-- beside the globals, which come first, instructions name only values and clocks of the program of a number
+pub record NamesOwn (source : Source) (n : ℕ) (code : List Instr) : Type 0 where
+  pub values : (s : ℕ) → Names code s → length source.globals ≤ s → IsOwnValue source n s
+  pub clocks : (k : ℕ) → NamesClock code k → IsOwnClock source n k
+
+-- code is that of the program of a number: it is sound, cells of the source have what it names, which beside the globals is the program's own, its paths are the program's, and from cells that stand for a world it ends as the program does there
 pub record IsProgramCode (source : Source) (n : ℕ) (code : PlainCode) : Type 0 where
   pub sound : IsSound code
   pub values : (cells : PlainCells) → HasCells source cells → code.values ≤ length cells.values
   pub clocks : (cells : PlainCells) → HasCells source cells → code.clocks ≤ length cells.clocks
+  pub own : NamesOwn source n code.instrs
   pub paths : code.paths ≡ length (paths_in source n)
   pub ends : (t : ℕ) (cells : PlainCells) (w : World) → StandFor source cells w → EndsAsProgram source n t code cells w

@@ -319,8 +319,8 @@ impl Framed {
         (walked(self.paths[program], ended), count)
     }
 
-    /// The code of the program of a number, from 0. Its paths are those of the program, the program's own first: `path_base` tells which number
-    /// that one has among all paths.
+    /// The code of the program of a number, from 0. Beside the globals it names only values and clocks of the program. Its paths are those of the
+    /// program, the program's own first: `path_base` tells which number that one has among all paths.
     pub fn code(&self, program: usize) -> &Code
         requires { program < length self.now.programs }
         ensures { IsProgramCode self.now program result.now }

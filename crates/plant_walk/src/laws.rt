@@ -14,9 +14,11 @@ ghost use Rattle.plant_logic.specs.Ranges.{AllInRange};
 ghost use Rattle.plant_cells.specs.Cells.{PlainCells, value_at, assigned};
 ghost use Rattle.plant_cells.specs.Runs.{spot_of};
 ghost use Rattle.block_frames.specs.Stands.{StandFor};
+ghost use Rattle.acc_vm.specs.Codes.{PlainCode};
+ghost use Rattle.code_slices.specs.Slots.{Names, NamesClock};
 ghost use Rattle.plant_walk.specs.Sound.{IsSound};
 ghost use Rattle.plant_walk.specs.Bases.{program_paths_base};
-ghost use Rattle.plant_walk.specs.Runs.{HasCells, paths_in, place_spot, placed_from};
+ghost use Rattle.plant_walk.specs.Runs.{HasCells, IsProgramCode, paths_in, place_spot, placed_from};
 
 /// There are as many cells with values as values of the source: the globals are the first of these.
 pub fn as_many_cells()
@@ -78,4 +80,11 @@ pub fn global_is_in_range()
 pub fn place_is_in_source()
     ensures spot { (source : Source) (n : ℕ) (place : Place) → place.path < length (paths_in source n) → spot_of (paths_in source n) place ≡ place_spot source (placed_from (program_paths_base source n) place) }
     ensures within { (source : Source) (n path : ℕ) → path < length (paths_in source n) → program_paths_base source n + path < length (paths_of source) }
+{}
+
+/// No two programs share a cell of their own: beside the globals, which come first, their codes name no value of the same number, and no clock
+/// of the same number.
+pub fn programs_share_no_cell()
+    ensures values { (source : Source) (p q s : ℕ) (a b : PlainCode) → IsProgramCode source p a → IsProgramCode source q b → length source.globals ≤ s → Names a.instrs s → Names b.instrs s → p ≡ q }
+    ensures clocks { (source : Source) (p q k : ℕ) (a b : PlainCode) → IsProgramCode source p a → IsProgramCode source q b → NamesClock a.instrs k → NamesClock b.instrs k → p ≡ q }
 {}

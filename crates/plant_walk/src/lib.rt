@@ -22,7 +22,7 @@ pub use framed::Framed;
 pub use laws::{
     as_many_cells, assigned_global_stays_in_range, cell_of_global, each_found, found_global,
     global_is_in_range, opening_world_is_in_range, place_is_in_source, program_stays_in_range,
-    sound_source_is_small, standing_cells_are_there, written_cell,
+    programs_share_no_cell, sound_source_is_small, standing_cells_are_there, written_cell,
 };
 pub use program_codes::Stack;
 pub use walking::{Walked, run, run_counted, walk};

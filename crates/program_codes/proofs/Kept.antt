@@ -1,5 +1,5 @@
 -- Frames that are seen as others, whose bodies do the same, run as these do, are numbered as they are, and have their codes.
-use Rattle.std.proofs.Common.{◌≡◌, ◌∙◌, ap, sym, subst, true, ℕ, ◌≤◌, ◌++◌, List, [], length, map, arith}
+use Rattle.std.proofs.Common.{◌≡◌, ◌∙◌, ap, sym, subst, Bool, true, ℕ, ◌≤◌, ◌++◌, List, [], length, map, arith}
 use Rattle.st_tree.specs.View.{view_body}
 use Rattle.st_tree.specs.Costs.{body_cost}
 use Rattle.st_tree.specs.Mapping.{Known, body_known}
@@ -67,15 +67,15 @@ module _ (view : Frame → PlainFrame) (kept : IsKept view) (fs gs : List Frame)
       let names : paths_at fs first path ≡ paths_at gs first path = λ i. map (λ way. way ++ path) (sym (all_paths first) i) in
       (run.0, ap (λ (l : List Path). run_of t l code cells) names ∙ run.1 ∙ (λ i. Over (all_runs t globals first i base path cells) run.0))
 
-  module _ (values clocks globals : ℕ) where
-    there_same : (limit k : ℕ) → frame_there values clocks globals gs limit k ≡ frame_there values clocks globals fs limit k
+  module _ (has_value has_clock : ℕ → Bool) (globals : ℕ) where
+    there_same : (limit k : ℕ) → frame_there has_value has_clock globals gs limit k ≡ frame_there has_value has_clock globals fs limit k
     there_same =
-        first_alike view (λ base. true) (routine_there values clocks globals)
-        (λ inner f g e i base. ((λ j. body_known (there values clocks globals inner (same_seats f g e j) base) (e j).body) ∙ kept.names (there values clocks globals inner f.seats.items base) f) i)
+        first_alike view (λ base. true) (routine_there has_value has_clock globals)
+        (λ inner f g e i base. ((λ j. body_known (there has_value has_clock globals inner (same_seats f g e j) base) (e j).body) ∙ kept.names (there has_value has_clock globals inner f.seats.items base) f) i)
         fs gs (at_place view fs gs seen)
 
-    there_kept : (first : ℕ) (base : Base) → IsThere values clocks globals fs first base → IsThere values clocks globals gs first base
-    there_kept first base h = ap (λ n. frame_there values clocks globals gs n first base) (same_length view fs gs seen) ∙ (λ i. there_same (length fs) first i base) ∙ h
+    there_kept : (first : ℕ) (base : Base) → IsThere has_value has_clock globals fs first base → IsThere has_value has_clock globals gs first base
+    there_kept first base h = ap (λ n. frame_there has_value has_clock globals gs n first base) (same_length view fs gs seen) ∙ (λ i. there_same (length fs) first i base) ∙ h
 
   routine_less : (inner outer : ℕ → ℕ) → ((k : ℕ) → inner k ≤ outer k) → (f g : Frame) → view_frame g ≡ view f → routine_cost inner g ≤ routine_cost outer f
   routine_less inner outer before f g e =
@@ -98,7 +98,7 @@ module _ (view : Frame → PlainFrame) (kept : IsKept view) (fs gs : List Frame)
   code_kept globals first base code is = record {
     runs = runs_kept globals first base code is.runs;
     paths = is.paths ∙ ap (λ (l : List Path). length l) (all_paths first);
-    within = λ values clocks h. is.within values clocks (there_kept values clocks globals first base h);
+    within = λ has_value has_clock h. is.within has_value has_clock (there_kept has_value has_clock globals first base h);
     stack = is.stack;
     cost = let most = all_costs first in let own = is.cost in omega arith;
   }

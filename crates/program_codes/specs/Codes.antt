@@ -13,7 +13,7 @@ use Rattle.program_codes.specs.Folded.{AreFolded}
 abbrev pub stack_words : ℕ
 stack_words = 8192
 
--- code is that of the frame of a number as a program, at a base: it runs as the frame does, has the frame's paths, names nothing that cells don't have which have what the frame names, finds room on the stack, and costs no more than the frame
+-- code is that of the frame of a number as a program, at a base: it runs as the frame does, has the frame's paths, names only what is there wherever what the frame names is there, finds room on the stack, and costs no more than the frame
 pub record IsCodeOf (frames : List Frame) (globals first : ℕ) (base : Base) (code : PlainCode) : Type 0 where
   pub runs : RunsFrame frames globals first base code
   pub paths : code.paths ≡ length (frame_paths frames (length frames) first)

@@ -8,7 +8,7 @@ use Rattle.program_codes.specs.Codes.{base_in, IsCodeOf}
 use Rattle.plant_walk.specs.Runs.{IsProgramCode}
 use Rattle.plant_walk.proofs.Small.{sound_named, sound_types}
 use Rattle.plant_walk.proofs.Walks.{the_program, is_there}
-use Rattle.plant_walk.proofs.Within.{code_there}
+use Rattle.plant_walk.proofs.OwnCells.{code_within, names_own}
 use Rattle.plant_walk.proofs.OwnCodes.{as_many_paths, ends_as_program}
 use Rattle.plant_walk.proofs.framed.Framed.code.Goals as goal
 
@@ -35,11 +35,12 @@ returns c =
     let types = sound_types source are.sound in
     let names : HasAllNames source = subst HasAllNames (sym are.sound.are_theirs) (c.typed_names_are_known.ensures are.sound.units are.sound.typed) in
     let have_paths = c.frames_have_paths.ensures source order frames are.are_frames are.below types n p found in
-    let own = code_there source order are.below frames are.are_frames types names inside.values.items inside.clocks.items are.values_begin are.clocks_begin n there code made in
+    let within = code_within source order are.below frames are.are_frames types names n p found code is in
     let whole : IsProgramCode source n code = record {
       sound = c.instrs-instrs.ensures.sound;
-      values = λ cells has. let all = has.values in let enough = own.0 in omega (arith, enough, all);
-      clocks = λ cells has. let all = has.clocks in let enough = own.1 in omega (arith, enough, all);
+      values = λ cells has. let all = has.values in let enough = within.0 in omega (arith, enough, all);
+      clocks = λ cells has. let all = has.clocks in let enough = within.1 in omega (arith, enough, all);
+      own = names_own source order are.below frames are.are_frames types names n p found code is;
       paths = as_many_paths source order frames n p found have_paths code is;
       ends = λ t cells w stands. ends_as_program source order frames n p found have_paths code is t cells w (c.frames_agree.ensures source order frames are.are_frames are.below types (sound_named source are.sound) names t n p found w cells stands);
     } in

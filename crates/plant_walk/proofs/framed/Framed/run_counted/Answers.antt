@@ -17,7 +17,7 @@ use Rattle.plant_walk.proofs.Walks.{the_program, is_there, fits_in, within_is, r
 use Rattle.plant_limits.specs.Counts.{program_costs}
 use Rattle.plant_walk.proofs.Costs.{cost_listed}
 use Rattle.plant_walk.proofs.Coded.{path_inside, ends_as_frame, shape_kept}
-use Rattle.plant_walk.proofs.Within.{code_there}
+use Rattle.plant_walk.proofs.OwnCells.{code_there}
 use Rattle.plant_walk.proofs.framed.Framed.run_counted.Goals as goal
 
 pub run_code_counted-ended-requires-clause-values : goal.run_code_counted-ended-requires-clause-values

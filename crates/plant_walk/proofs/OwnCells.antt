@@ -1,0 +1,209 @@
+-- A program's code names, beside the globals, only the program's own values and clocks, and no two programs have one of these in common.
+use Rattle.std.proofs.Common.{◌≡◌, ◌∙◌, ap, subst, ℕ, zero, suc, ◌+◌, ◌-◌, ◌<◌, ◌≤◌, Bool, true, false, List, [], ◌∷◌, length, length-append, ◌⊎◌, inl, inr, Some, slice_get, arith}
+use Rattle.std.specs.Prelude.{◌&&◌, ◌||◌, nat_lt}
+use borrow.Author.Tests.{ltb-true}
+use Rattle.std.proofs.lemmas.Bool.{cases_lt, lt-ltb, and_parts, or_cases, or_left, or_right}
+use Rattle.std.proofs.lemmas.List.{length-map}
+use Rattle.std.proofs.lemmas.Option.{slice_get_within, same_Some}
+use Rattle.plant_types.specs.Words.{folded}
+use Rattle.plant_logic.specs.declared.logic.Variable.{Variable}
+use Rattle.plant_logic.specs.declared.logic.BlockRef.{BlockRef}
+use Rattle.plant_logic.specs.declared.logic.BlockRef.TheVariants.{Declared}
+use Rattle.plant_logic.specs.Source.{PlainRoutine, Source}
+use Rattle.plant_logic.specs.Names.{global_words}
+use Rattle.plant_logic.specs.Blocks.{AreBelow, HasItsTypes}
+use Rattle.plant_logic.specs.Worlds.{Path}
+use Rattle.plant_logic.specs.Layout.{ClockAt, values_rule, routine_values, clocks_rule, routine_clocks, global_values, program_values, cell_paths, all_clocks}
+use Rattle.plant_logic.specs.Seats.{StandsFrom, program_values_before, program_clocks_before, program_values_base, program_clocks_base, is_of_standard}
+use Rattle.plant_logic.proofs.Seats.{values_length, routine_length, clocks_length, routine_clocks_length, program_stands, program_clocks_stand}
+use Rattle.block_walk.specs.declared.frame.Base.{Base}
+use Rattle.block_walk.specs.declared.frame.Frame.{Frame}
+use Rattle.block_frames.specs.Numbers.{HasAllNames}
+use Rattle.block_frames.specs.Frames.{IsFrames, program_base}
+use Rattle.acc_vm.specs.Codes.{PlainCode}
+use Rattle.code_slices.specs.Slots.{Names, NamesClock}
+use Rattle.codegen.specs.Within.{IsThere, NamesOnly}
+use Rattle.program_codes.specs.Codes.{IsCodeOf, base_in}
+use Rattle.plant_walk.specs.Bases.{AreBases, IsOwnValue, IsOwnClock}
+use Rattle.plant_walk.specs.Runs.{NamesOwn, IsProgramCode}
+use Rattle.plant_walk.proofs.Bases.{values_next, clocks_next}
+use Rattle.plant_walk.proofs.Costs.{element}
+use Rattle.plant_walk.proofs.Known.{both}
+use Rattle.plant_walk.proofs.Within.{program_there}
+
+-- a list behind so many other items
+abbrev behind : {A : Type 0} → A → ℕ → List A → List A
+behind d zero xs = xs
+behind d (suc n) xs = d ∷ behind d n xs
+
+behind_stands : {A : Type 0} (d : A) (n : ℕ) (xs : List A) → StandsFrom (behind d n xs) n xs
+behind_stands d zero xs i a at = let same : 0 + i ≡ i = omega arith in ap (slice_get xs) same ∙ at
+behind_stands d (suc n) xs i a at = let same : suc n + i ≡ suc (n + i) = omega arith in ap (slice_get (d ∷ behind d n xs)) same ∙ behind_stands d n xs i a at
+
+-- what isn't one of the others is one of the list
+behind_at : {A : Type 0} (d : A) (n : ℕ) (xs : List A) (k : ℕ) (a : A) → (d ≡ a → ⊥) → slice_get (behind d n xs) k ≡ Some a → (n ≤ k) × (k < n + length xs)
+behind_at d zero xs k a ne at = let within = slice_get_within xs k a at in (omega arith, omega (arith, within))
+behind_at d (suc n) xs zero a ne at = absurd (ne (same_Some d a at))
+behind_at d (suc n) xs (suc k) a ne at = let rest = behind_at d n xs k a ne at in (omega (arith, rest.0), omega (arith, rest.1))
+
+-- whether a number is below one, or from a second one on below a third
+abbrev has_own : (below from to s : ℕ) → Bool
+has_own below from to s = nat_lt s below || (nat_lt from (suc s) && nat_lt s to)
+
+own_has : (below from to s : ℕ) → (from ≤ s) × (s < to) → has_own below from to s ≡ true
+own_has below from to s h =
+    or_right (nat_lt s below) (nat_lt from (suc s) && nat_lt s to) (both (nat_lt from (suc s)) (nat_lt s to) (lt-ltb from (suc s) (omega (arith, h.0))) (lt-ltb s to h.1))
+
+has_parts : (below from to s : ℕ) → has_own below from to s ≡ true → (s < below) ⊎ ((from ≤ s) × (s < to))
+has_parts below from to s h =
+    elim (or_cases (nat_lt s below) (nat_lt from (suc s) && nat_lt s to) h) [
+      | inl low ↦ inl (ltb-true s below low)
+      | inr own ↦ (
+          let p = and_parts (nat_lt from (suc s)) (nat_lt s to) own in
+          let from_on = ltb-true from (suc s) p.0 in
+          inr (omega (arith, from_on), ltb-true s to p.1))
+    ]
+
+-- no value is at the empty path, and none of the standard blocks is of a declared block type
+no_word : (word : List ℕ) (p : Path) → ◌≡◌ {A = Path} [] (word ∷ p) → ⊥
+no_word word p e = absurd (cc)
+
+abbrev no_clock : ClockAt
+no_clock = record { of = Declared 0; path = [] }
+
+not_standard : (b : BlockRef) (p : Path) → is_of_standard b ≡ true → ◌≡◌ {A = ClockAt} no_clock (record { of = b; path = p }) → ⊥
+not_standard b p standard e = let is : false ≡ true = ap (λ (c : ClockAt). is_of_standard c.of) e ∙ standard in absurd (cc)
+
+-- each number of a list that stands in another is a number of this one
+stands_within : {A : Type 0} (all : List A) (base : ℕ) (xs : List A) (s : ℕ) → StandsFrom all base xs → (base ≤ s) × (s < base + length xs) → s < length all
+stands_within all base xs s stands h =
+    let it = element xs (s - base) (omega (arith, h.0, h.1)) in
+    let within = slice_get_within all (base + (s - base)) it.0 (stands (s - base) it.0 it.1) in
+    omega (arith, within, h.0)
+
+globals_within : (source : Source) (j : ℕ) → j < length source.globals → j < length (cell_paths source)
+globals_within source j less =
+    let words = length-map source.globals (λ (global : Variable). folded global.name) in
+    let values = length-map (global_words source.globals) (λ word. word ∷ []) in
+    let all = length-append (global_values source.globals) (program_values source.blocks source.programs) in
+    omega (arith, less, words, values, all)
+
+module _ (source : Source) (order : List ℕ) (below : AreBelow source.blocks order) (frames : List Frame) (are : IsFrames source order frames) (types : HasItsTypes source) (names : HasAllNames source)
+    (n : ℕ) (p : PlainRoutine) (at : slice_get source.programs n ≡ Some p) where
+  abbrev own_values : List Path
+  own_values = values_rule (routine_values source.blocks) p (folded p.name ∷ [])
+
+  abbrev own_clocks : List ClockAt
+  own_clocks = clocks_rule (routine_clocks source.blocks) p (folded p.name ∷ [])
+
+  abbrev has_value : ℕ → Bool
+  has_value = has_own (length source.globals) (program_values_base source n) (program_values_base source (n + 1))
+
+  abbrev has_clock : ℕ → Bool
+  has_clock = has_own 0 (program_clocks_base source n) (program_clocks_base source (n + 1))
+
+  many_values : program_values_base source (n + 1) ≡ program_values_base source n + length own_values
+  many_values = values_next source n p at ∙ ap (λ m. program_values_base source n + m) (values_length (routine_values source.blocks) (routine_length source.blocks) p [] (folded p.name ∷ []))
+
+  many_clocks : program_clocks_base source (n + 1) ≡ program_clocks_base source n + length own_clocks
+  many_clocks = clocks_next source n p at ∙ ap (λ m. program_clocks_base source n + m) (clocks_length (routine_clocks source.blocks) (routine_clocks_length source.blocks) p.instances [] (folded p.name ∷ []))
+
+  value_there : (k : ℕ) (word : List ℕ) (q : Path) → slice_get (behind [] (program_values_base source n) own_values) k ≡ Some (word ∷ q) → has_value k ≡ true
+  value_there k word q here =
+      let within = behind_at [] (program_values_base source n) own_values k (word ∷ q) (no_word word q) here in
+      own_has (length source.globals) (program_values_base source n) (program_values_base source (n + 1)) k (within.0, omega (arith, within.1, many_values))
+
+  clock_there : (k : ℕ) (b : BlockRef) (q : Path) → is_of_standard b ≡ true → slice_get (behind no_clock (program_clocks_base source n) own_clocks) k ≡ Some (record { of = b; path = q }) → has_clock k ≡ true
+  clock_there k b q standard here =
+      let within = behind_at no_clock (program_clocks_base source n) own_clocks k (record { of = b; path = q }) (not_standard b q standard) here in
+      own_has 0 (program_clocks_base source n) (program_clocks_base source (n + 1)) k (within.0, omega (arith, within.1, many_clocks))
+
+  global_there : (j : ℕ) → j < length source.globals → has_value j ≡ true
+  global_there j less = or_left (nat_lt j (length source.globals)) (nat_lt (program_values_base source n) (suc j) && nat_lt j (program_values_base source (n + 1))) (lt-ltb j (length source.globals) less)
+
+  -- what the program's frame names is there, where the globals are, and its own values and clocks
+  own_there : IsThere has_value has_clock (length source.globals) frames (length order + n) (program_base source n)
+  own_there =
+      program_there source order below (behind [] (program_values_base source n) own_values) (behind no_clock (program_clocks_base source n) own_clocks) has_value has_clock value_there clock_there global_there
+      frames are types names n p at (folded p.name ∷ []) (program_base source n) (behind_stands [] (program_values_base source n) own_values) (behind_stands no_clock (program_clocks_base source n) own_clocks)
+
+  module _ (code : PlainCode) (is : IsCodeOf frames (length source.globals) (length order + n) (program_base source n) code) where
+    names_only : NamesOnly has_value has_clock code
+    names_only = is.within has_value has_clock own_there
+
+    -- beside the globals the program's code names only what is the program's own
+    pub names_own : NamesOwn source n code.instrs
+    names_own = record {
+      values = λ s named above. elim (has_parts (length source.globals) (program_values_base source n) (program_values_base source (n + 1)) s (names_only.values s named)) [
+        | inl low ↦ absurd (omega (arith, low, above))
+        | inr own ↦ own
+      ];
+      clocks = λ k named. elim (has_parts 0 (program_clocks_base source n) (program_clocks_base source (n + 1)) k (names_only.clocks k named)) [
+        | inl low ↦ absurd (omega (arith, low))
+        | inr own ↦ own
+      ];
+    }
+
+    -- cells of the source have what it names
+    pub code_within : (code.values ≤ length (cell_paths source)) × (code.clocks ≤ length (all_clocks source))
+    code_within = (
+      names_only.values_end (length (cell_paths source)) (λ s has. elim (has_parts (length source.globals) (program_values_base source n) (program_values_base source (n + 1)) s has) [
+        | inl low ↦ globals_within source s low
+        | inr own ↦ stands_within (cell_paths source) (program_values_base source n) own_values s (program_stands source n p at) (own.0, omega (arith, own.1, many_values))
+      ]),
+      names_only.clocks_end (length (all_clocks source)) (λ k has. elim (has_parts 0 (program_clocks_base source n) (program_clocks_base source (n + 1)) k has) [
+        | inl low ↦ absurd (omega (arith, low))
+        | inr own ↦ stands_within (all_clocks source) (program_clocks_base source n) own_clocks k (program_clocks_stand source n p at) (own.0, omega (arith, own.1, many_clocks))
+      ]),
+    )
+
+-- by the rows of where programs begin, cells of the source have what a program's code names
+pub code_there : (source : Source) (order : List ℕ) → AreBelow source.blocks order → (frames : List Frame) → IsFrames source order frames → HasItsTypes source → HasAllNames source
+    → (values stood : List ℕ) → AreBases (program_values_base source) (length source.programs) values → AreBases (program_clocks_base source) (length source.programs) stood
+    → (n : ℕ) → n < length source.programs → (code : PlainCode) → IsCodeOf frames (length source.globals) (length order + n) (base_in values stood n) code
+    → (code.values ≤ length (cell_paths source)) × (code.clocks ≤ length (all_clocks source))
+code_there source order below frames are types names values stood values_begin clocks_begin n less code is =
+    let p = element source.programs n less in
+    let values_are = values_begin.each n (omega (arith, less)) in
+    let clocks_are = clocks_begin.each n (omega (arith, less)) in
+    code_within source order below frames are types names n p.0 p.1 code
+    (subst (λ (base : Base). IsCodeOf frames (length source.globals) (length order + n) base code) (λ i. record { values = values_are i; clocks = clocks_are i }) is)
+
+-- programs lie one behind another
+values_rise : (blocks ps : List PlainRoutine) (j k : ℕ) → j ≤ k → program_values_before blocks ps j ≤ program_values_before blocks ps k
+values_rise blocks [] j k h = omega arith
+values_rise blocks (p ∷ ps) zero k h = omega arith
+values_rise blocks (p ∷ ps) (suc j) zero h = absurd (omega arith)
+values_rise blocks (p ∷ ps) (suc j) (suc k) h = let rest = values_rise blocks ps j k (omega (arith, h)) in omega (arith, rest)
+
+clocks_rise : (blocks ps : List PlainRoutine) (j k : ℕ) → j ≤ k → program_clocks_before blocks ps j ≤ program_clocks_before blocks ps k
+clocks_rise blocks [] j k h = omega arith
+clocks_rise blocks (p ∷ ps) zero k h = omega arith
+clocks_rise blocks (p ∷ ps) (suc j) zero h = absurd (omega arith)
+clocks_rise blocks (p ∷ ps) (suc j) (suc k) h = let rest = clocks_rise blocks ps j k (omega (arith, h)) in omega (arith, rest)
+
+-- where stretches lie one behind another, a number lies in one alone
+one_stretch : (base : ℕ → ℕ) → ((j k : ℕ) → j ≤ k → base j ≤ base k) → (p q s : ℕ) → (base p ≤ s) × (s < base (p + 1)) → (base q ≤ s) × (s < base (q + 1)) → p ≡ q
+one_stretch base rise p q s one other =
+    elim (cases_lt p q) [
+      | inl before ↦ (let far = rise (p + 1) q (omega (arith, before)) in absurd (omega (arith, far, one.1, other.0)))
+      | inr from ↦ (
+          elim (cases_lt q p) [
+            | inl after ↦ (let far = rise (q + 1) p (omega (arith, after)) in absurd (omega (arith, far, other.1, one.0)))
+            | inr to ↦ omega (arith, from, to)
+          ])
+    ]
+
+one_owner : (source : Source) (p q s : ℕ) → IsOwnValue source p s → IsOwnValue source q s → p ≡ q
+one_owner source p q s one other =
+    one_stretch (program_values_base source) (λ j k h. let rest = values_rise source.blocks source.programs j k h in omega (arith, rest)) p q s one other
+
+one_clock_owner : (source : Source) (p q k : ℕ) → IsOwnClock source p k → IsOwnClock source q k → p ≡ q
+one_clock_owner source p q k one other = one_stretch (program_clocks_base source) (λ i j h. clocks_rise source.blocks source.programs i j h) p q k one other
+
+-- no two programs name the same value beside the globals, and no two the same clock
+pub no_shared_value : (source : Source) (p q s : ℕ) (a b : PlainCode) → IsProgramCode source p a → IsProgramCode source q b → length source.globals ≤ s → Names a.instrs s → Names b.instrs s → p ≡ q
+no_shared_value source p q s a b one other above named also = one_owner source p q s (one.own.values s named above) (other.own.values s also above)
+
+pub no_shared_clock : (source : Source) (p q k : ℕ) (a b : PlainCode) → IsProgramCode source p a → IsProgramCode source q b → NamesClock a.instrs k → NamesClock b.instrs k → p ≡ q
+no_shared_clock source p q k a b one other named also = one_clock_owner source p q k (one.own.clocks k named) (other.own.clocks k also)
