@@ -1,4 +1,3 @@
 pub mod Accesses
-pub mod Owners
 pub mod Plans
 pub mod Programs

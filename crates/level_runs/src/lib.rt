@@ -5,9 +5,7 @@
 #![tactic(auto)]
 
 mod laws;
-mod owners;
 mod planning;
 
 pub use laws::{codes_are_local, plan_gives_levels, planned_levels_run_as_in_order};
-pub use owners::own_cells;
 pub use planning::plan_of;

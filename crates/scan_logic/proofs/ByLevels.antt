@@ -1,5 +1,5 @@
 -- The programs of a plant in levels: they can be split, and what the levels leave is what the programs leave in the world that the cells stand for.
-use Rattle.std.proofs.Common.{◌≡◌, ◌∙◌, ℕ, ◌<◌, ◌≤◌, Bool, true, List, [], length, map, Some, All, sym, ap, subst, arith}
+use Rattle.std.proofs.Common.{◌≡◌, ◌∙◌, ℕ, ◌<◌, ◌≤◌, Bool, List, [], length, map, Some, All, sym, ap, subst, arith}
 use Rattle.std.specs.Prelude.{slice_get}
 use Rattle.std.proofs.lemmas.List.Elements.{All-weaker}
 use Rattle.std.proofs.lemmas.Option.{slice_get_within, get_or_from_slice_get}
@@ -12,10 +12,11 @@ use Rattle.plant_cells.specs.Runs.{Path}
 use Rattle.block_frames.specs.Stands.{StandFor}
 use Rattle.acc_vm.specs.Codes.{PlainCode}
 use Rattle.code_slices.specs.Parts.{PlainPart}
+use Rattle.code_slices.specs.Slots.{Names, NamesClock}
 use Rattle.level_order.specs.Programs.{in_order}
 use Rattle.level_runs.specs.Accesses.{HaveOwnCells}
 use Rattle.level_runs.specs.Plans.{IsPlanOf}
-use Rattle.level_runs.specs.Programs.{no_code, programs_at}
+use Rattle.level_runs.specs.Programs.{no_code, code_at, programs_at}
 use Rattle.slice_store.specs.Level.{Stored}
 use Rattle.slice_store.specs.Splits.{ArePartsOf, CanSplit}
 use Rattle.level_jobs.specs.declared.fault.ProgramFault.{ProgramFault}
@@ -44,6 +45,20 @@ fit source codes are cells has = record {
   clocks = λ p a at. (code_is source codes are p a at).clocks cells has;
 }
 
+-- no two programs of a source share a cell of their own
+pub record ShareNoCell (source : Source) : Type 0 where
+  pub values : (p q s : ℕ) (a b : PlainCode) → IsProgramCode source p a → IsProgramCode source q b → length source.globals ≤ s → Names a.instrs s → Names b.instrs s → p ≡ q
+  pub clocks : (p q k : ℕ) (a b : PlainCode) → IsProgramCode source p a → IsProgramCode source q b → NamesClock a.instrs k → NamesClock b.instrs k → p ≡ q
+
+-- so neither do their codes
+own_cells : (source : Source) → ShareNoCell source → (codes : List PlainCode) → AreProgramCodes source codes → HaveOwnCells (length source.globals) codes
+own_cells source none codes are =
+    let one_each = are.one_each in
+    record {
+      values = λ p q s lp lq above one other. none.values p q s (code_at codes p) (code_at codes q) (are.each p (omega (arith, lp, one_each))) (are.each q (omega (arith, lq, one_each))) above one other;
+      clocks = λ p q k lp lq one other. none.clocks p q k (code_at codes p) (code_at codes q) (are.each p (omega (arith, lp, one_each))) (are.each q (omega (arith, lq, one_each))) one other;
+    }
+
 -- a store of the cells and the flags, before a scan at a moment
 abbrev pub stored : PlainCells → List Bool → ℕ → Stored
 stored cells flags t = record { cells = cells; faulted = flags; moment = t; out = [] }
@@ -52,13 +67,13 @@ pub begins : (store : Stored) (cells : PlainCells) (slice flags : List Bool) (t 
 begins store cells slice flags t is same = is ∙ ap (λ f. stored cells f t) same
 
 -- each level can be split
-pub can_split : (source : Source) (l : PlainLevelled) → AreLevelsOf source l → l.apart ≡ true → (cells : PlainCells) (flags : List Bool) (t : ℕ) → HasCells source cells → length flags ≡ length source.programs → length source.programs ≤ 512
+pub can_split : (source : Source) → ShareNoCell source → (l : PlainLevelled) → AreLevelsOf source l → (cells : PlainCells) (flags : List Bool) (t : ℕ) → HasCells source cells → length flags ≡ length source.programs → length source.programs ≤ 512
     → (parts : List PlainPart) (levels : List ℕ) (start : Stored) → parts ≡ l.parts → levels ≡ l.levels → start ≡ stored cells flags t → (level : ℕ) → CanSplit parts levels level start.cells (length start.faulted)
-can_split source l is apart cells flags t has flagged few parts levels start parts_is levels_is start_is level =
+can_split source none l is cells flags t has flagged few parts levels start parts_is levels_is start_is level =
     let one_code = is.are.one_each in
     let one_part = is.parts.one_each in
     let split : CanSplit l.parts l.levels level cells (length flags)
-    = planned_can_split (length source.globals) is.codes l.levels is.plan (is.own.0 apart) l.parts cells (length flags) (parts_are is.codes l.parts is.parts) (fit source is.codes is.are cells has)
+    = planned_can_split (length source.globals) is.codes l.levels is.plan (own_cells source none is.codes is.are) l.parts cells (length flags) (parts_are is.codes l.parts is.parts) (fit source is.codes is.are cells has)
     (is.plan.plan.one_each ∙ is.plan.are.one_each ∙ sym one_part) (omega (arith, flagged, one_code, one_part)) (omega (arith, few, one_code, one_part)) level in
     subst (λ (s : Stored). CanSplit parts levels level s.cells (length s.faulted)) (sym start_is)
     (subst (λ (p : List PlainPart). CanSplit p levels level cells (length flags)) (sym parts_is) (subst (λ (n : List ℕ). CanSplit l.parts n level cells (length flags)) (sym levels_is) split))
@@ -79,14 +94,14 @@ RunsInOrder parts levels start end faults = (paths : ℕ → List Path) (globals
     → EndsInOrder (in_order (programs_at start.moment paths codes levels).run 0 start.faulted start.cells) end (spotted paths faults)
 
 -- what the levels leave
-pub levels_ran : (source : Source) (t : ℕ) (l : PlainLevelled) → AreLevelsOf source l → l.apart ≡ true → SameSpots source → (cells : PlainCells) (flags : List Bool) → length flags ≡ length source.programs
+pub levels_ran : (source : Source) → ShareNoCell source → (t : ℕ) (l : PlainLevelled) → AreLevelsOf source l → SameSpots source → (cells : PlainCells) (flags : List Bool) → length flags ≡ length source.programs
     → (parts : List PlainPart) (levels : List ℕ) (start end : Stored) (faults : List ProgramFault) → parts ≡ l.parts → levels ≡ l.levels → start ≡ stored cells flags t
     → RunsInOrder parts levels start end faults → All (λ f. IsOfProgram source f) faults
     → (w : World) → StandFor source cells w → ProgramsRan source (programs_from source t 0 flags w) end.cells end.faulted (map (placed_fault source) faults)
-levels_ran source t l is apart same cells flags flagged parts levels start end faults parts_is levels_is start_is runs of w stands =
+levels_ran source none t l is same cells flags flagged parts levels start end faults parts_is levels_is start_is runs of w stands =
     let by : RunsInOrder l.parts l.levels (stored cells flags t) end faults
     = subst (λ (p : List PlainPart). RunsInOrder p l.levels (stored cells flags t) end faults) parts_is (subst (λ (n : List ℕ). RunsInOrder parts n (stored cells flags t) end faults) levels_is (subst (λ (s : Stored). RunsInOrder parts levels s end faults) start_is runs)) in
-    let ends = by (paths_in source) (length source.globals) is.codes (parts_are is.codes l.parts is.parts) is.plan (is.own.0 apart) (flagged ∙ sym is.are.one_each) in
+    let ends = by (paths_in source) (length source.globals) is.codes (parts_are is.codes l.parts is.parts) is.plan (own_cells source none is.codes is.are) (flagged ∙ sym is.are.one_each) in
     let alike = codes_run_alike source t is.codes l.levels is.are 0 flags cells w (omega (arith, flagged)) stands in
     record {
       world_stands = subst (λ (c : PlainCells). StandFor source c (programs_from source t 0 flags w).world) (sym ends.cells) alike.stands;

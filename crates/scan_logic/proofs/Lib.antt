@@ -1,5 +1,5 @@
 mod CodeRuns
 mod PlacedFaults
-mod ByLevels
+pub mod ByLevels
 mod FirstParts
 pub mod ProgramRuns

@@ -1,18 +1,17 @@
 -- The programs of a source in levels.
-use Rattle.std.specs.Prelude.{◌≡◌, ◌↔◌, ℕ, ◌<◌, Bool, IsTrue, List, length}
+use Rattle.std.specs.Prelude.{◌≡◌, ℕ, ◌<◌, List, length}
 use Rattle.plant_logic.specs.Source.{Source}
 use Rattle.acc_vm.specs.Codes.{PlainCode}
 use Rattle.code_slices.specs.Parts.{PlainPart}
-use Rattle.level_runs.specs.Accesses.{ArePartsOf, HaveOwnCells}
+use Rattle.level_runs.specs.Accesses.{ArePartsOf}
 use Rattle.level_runs.specs.Plans.{IsPlanOf}
 use Rattle.level_runs.specs.Programs.{code_at}
 use Rattle.plant_walk.specs.Runs.{IsProgramCode}
 
--- the programs' parts of the cells, their levels, and whether beside the globals no two programs have a cell in common
+-- the programs' parts of the cells, and their levels
 pub record PlainLevelled : Type 0 where
   pub parts : List PlainPart
   pub levels : List ℕ
-  pub apart : Bool
 
 -- codes are those of the programs of a source, one for each
 pub record AreProgramCodes (source : Source) (codes : List PlainCode) : Type 0 where
@@ -25,10 +24,9 @@ pub record AreProgramParts (source : Source) (parts : List PlainPart) : Type 0 w
   pub are : AreProgramCodes source codes
   pub of_codes : ArePartsOf codes parts
 
--- parts and levels are those of the programs' codes, and it is known whether these have cells of their own
+-- parts and levels are those of the programs' codes
 pub record AreLevelsOf (source : Source) (l : PlainLevelled) : Type 0 where
   pub codes : List PlainCode
   pub are : AreProgramCodes source codes
   pub parts : ArePartsOf codes l.parts
   pub plan : IsPlanOf (length source.globals) codes l.levels
-  pub own : IsTrue l.apart ↔ HaveOwnCells (length source.globals) codes

@@ -1,6 +1,6 @@
 //! The programs of a scan, level by level, run by a crew.
 
-ghost use Rattle.std.specs.Prelude.{◌≡◌, ◌<◌, true, length, map, IfOk, All};
+ghost use Rattle.std.specs.Prelude.{◌≡◌, ◌<◌, length, map, IfOk, All};
 ghost use Rattle.plant_logic.specs.Worlds.{World};
 ghost use Rattle.plant_logic.specs.Paths.{paths_of};
 ghost use Rattle.crew.specs.Faults.{faults_after};
@@ -11,36 +11,18 @@ ghost use Rattle.scan_logic.specs.Runs.{ProgramsRan};
 ghost use Rattle.scan_logic.specs.Levels.{AreLevelsOf};
 ghost use Rattle.scan_logic.specs.Faults.{IsOfProgram, placed_fault};
 
-use crate::in_order::run_in_order;
 use crate::levels::Levelled;
 use crate::placing::all_placed;
 use crew::{Crew, CrewFault};
 use level_jobs::{ProgramFault, run_levels};
 use plant_cells::Cells;
 use plant_types::{Place, Trap};
-use plant_walk::{Framed, Stack, place_is_in_source, sound_source_is_small};
+use plant_walk::{Framed, place_is_in_source, programs_share_no_cell, sound_source_is_small};
 use slice_store::{Done, Job, Start, Store};
 use std::alloc::{AllocError, Global};
 
-/// Runs the programs one after another, with a stack for this call. Fails if memory was refused.
-fn run_alone(
-    alloc: Global,
-    framed: &Framed,
-    moment: u64,
-    cells: &mut Cells,
-    faulted: &mut Vec<bool>,
-) -> Result<Vec<(Place, Trap)>, AllocError>
-    requires flags { length faulted.old.items ≡ length framed.now.programs }
-    requires cells { HasCells framed.now cells.old }
-    ensures ran { IfOk result (λ faults. (w : World) → StandFor framed.now cells.old w → ProgramsRan framed.now (programs_from framed.now moment 0 faulted.old.items w) cells.new faulted.new.items faults.items) }
-    ensures within { IfOk result (λ faults. All (λ f. f.0.path < length (paths_of framed.now)) faults.items) }
-{
-    let mut stack = Stack::new(alloc)?;
-    run_in_order(framed, moment, &mut stack, cells, faulted, Vec::new(alloc))
-}
-
-/// Runs the programs, which have cells of their own, level by level by a crew, and tells the faults by their programs' own paths.
-fn run_apart<C: Crew<Job, Start, Done, H>, H>(
+/// Runs the programs level by level by a crew, and tells the faults by their programs' own paths.
+fn run_in_levels<C: Crew<Job, Start, Done, H>, H>(
     rt: &H,
     alloc: Global,
     crew: &mut C,
@@ -52,7 +34,6 @@ fn run_apart<C: Crew<Job, Start, Done, H>, H>(
 ) -> Result<Vec<ProgramFault>, CrewFault>
     requires asked { C.asks }
     requires levels { AreLevelsOf framed.now levelled.now }
-    requires apart { levelled.now.apart ≡ true }
     requires flags { length faulted.old.items ≡ length framed.now.programs }
     requires cells { HasCells framed.now cells.old }
     ensures ran { IfOk result (λ faults. (w : World) → StandFor framed.now cells.old w → ProgramsRan framed.now (programs_from framed.now moment 0 faulted.old.items w) cells.new faulted.new.items (map (placed_fault framed.now) faults.items)) }
@@ -60,6 +41,7 @@ fn run_apart<C: Crew<Job, Start, Done, H>, H>(
     ensures faults { C.faulted crew.new ≡ faults_after (C.faulted crew.old) result }
 {
     sound_source_is_small();
+    programs_share_no_cell();
     place_is_in_source();
     let _programs = framed.programs();
     let Ok(mut store) = Store::new(alloc, cells, faulted.as_slice(), moment) else {
@@ -97,14 +79,7 @@ pub fn run_by_crew<C: Crew<Job, Start, Done, H>, H>(
     ensures faults { C.faulted crew.new ≡ faults_after (C.faulted crew.old) result }
 {
     place_is_in_source();
-    // Each program of a plant has cells of its own, but this was found and not proved; where it isn't so, program order needs no proof of it.
-    if !levelled.is_apart() {
-        let Ok(faults) = run_alone(alloc, framed, moment, cells, faulted) else {
-            return Err(CrewFault::Memory);
-        };
-        return Ok(faults);
-    }
-    let told = run_apart(rt, alloc, crew, framed, levelled, moment, cells, faulted)?;
+    let told = run_in_levels(rt, alloc, crew, framed, levelled, moment, cells, faulted)?;
     let Ok(faults) = all_placed(alloc, framed, told.as_slice()) else {
         return Err(CrewFault::Memory);
     };

@@ -7,19 +7,17 @@ ghost use Rattle.scan_logic.specs.Levels.{AreLevelsOf};
 use crate::parts::{parts_of, shared};
 use code_slices::Part;
 use level_plan::Levels;
-use level_runs::{own_cells, plan_of};
+use level_runs::plan_of;
 use plant_walk::{Framed, sound_source_is_small};
 use std::alloc::{AllocError, Global};
 use std::marker::Model;
 use std::sync::Arc;
 
-/// The programs of a plant, each in its part of the cells, the levels in which they may run together, and whether beside the globals no two
-/// have a cell in common. Contracts see these.
+/// The programs of a plant, each in its part of the cells, and the levels in which they may run together. Contracts see these.
 #[derive(Drop)]
 pub struct Levelled {
     parts: Vec<Arc<Part>>,
     levels: Levels,
-    apart: bool,
 }
 
 impl Model for Levelled {
@@ -29,7 +27,7 @@ impl Model for Levelled {
 
     ghost Value = { PlainLevelled };
 
-    ghost view = { λ l. record { parts = map arc_value l.parts.items; levels = l.levels; apart = l.apart } };
+    ghost view = { λ l. record { parts = map arc_value l.parts.items; levels = l.levels } };
 }
 
 impl Levelled {
@@ -42,33 +40,21 @@ impl Levelled {
         let globals = framed.globals().len();
         let parts = parts_of(alloc, framed)?;
         let levels = plan_of(alloc, parts.as_slice(), globals)?;
-        let apart = own_cells(alloc, parts.as_slice(), globals)?;
         let parts = shared(alloc, parts)?;
-        Ok(Levelled {
-            parts,
-            levels,
-            apart,
-        })
+        Ok(Levelled { parts, levels })
     }
 
     /// The programs' parts of the cells.
-    pub(crate) fn parts(&self) -> &[Arc<Part>]
+    pub fn parts(&self) -> &[Arc<Part>]
         ensures { map arc_value result.now ≡ self.now.parts }
     {
         self.parts.as_slice()
     }
 
     /// The programs' levels.
-    pub(crate) fn levels(&self) -> &Levels
+    pub fn levels(&self) -> &Levels
         ensures { result.now ≡ self.now.levels }
     {
         &self.levels
-    }
-
-    /// Whether beside the globals no two programs have a cell in common. Where two have, a crew isn't asked to run them.
-    pub fn is_apart(&self) -> bool
-        ensures { result ≡ self.now.apart }
-    {
-        self.apart
     }
 }

@@ -4,14 +4,14 @@ use Rattle.code_slices.specs.Parts.{PlainPart}
 use Rattle.slice_store.specs.Splits.{ArePartsOf}
 use Rattle.level_jobs.proofs.Planned.{parts_are}
 use Rattle.scan_logic.proofs.ByLevels.{begins, can_split, of_programs, levels_ran}
-use Rattle.scan_logic.proofs.by_crew.run_apart.Goals as goal
+use Rattle.scan_logic.proofs.by_crew.run_in_levels.Goals as goal
 
 pub run_levels-requires-clause-programs : goal.run_levels-requires-clause-programs
 run_levels-requires-clause-programs g c = λ level.
     let source = c.args.framed.now in
     let cells = c.args.cells.now in
     let start_is = begins c.in-Ok.store cells c.as_slice.result.now c.args.faulted.now.items c.args.moment c.in-Ok.ensures c.as_slice.ensures.value in
-    can_split source c.args.levelled.now c.requires.levels c.requires.apart cells c.args.faulted.now.items c.args.moment c.requires.cells c.requires.flags
+    can_split source (record { values = c.programs_share_no_cell.ensures.values source; clocks = c.programs_share_no_cell.ensures.clocks source }) c.args.levelled.now c.requires.levels cells c.args.faulted.now.items c.args.moment c.requires.cells c.requires.flags
     (c.sound_source_is_small.ensures.programs source c.programs-programs.ensures.sound) (map arc_value c.parts-parts.result.now) c.levels.result.now c.in-Ok.store c.parts-parts.ensures c.levels.ensures start_is level
 
 pub returns-clause-ran : goal.returns-clause-ran
@@ -26,7 +26,7 @@ returns-clause-ran g c = λ w stands.
     let there : ArePartsOf is.codes parts = subst (λ (p : List PlainPart). ArePartsOf is.codes p) (sym c.parts-parts.ensures) (parts_are is.codes l.parts is.parts) in
     let of = of_programs source is.codes is.are faults (c.in_ok-faults.ensures.paths is.codes there) in
     rw (c.into_parts-left.ensures.cells, c.into_parts-left.ensures.faulted)
-    (levels_ran source c.args.moment l is c.requires.apart (c.place_is_in_source.ensures.spot source) cells c.args.faulted.now.items c.requires.flags parts c.levels.result.now c.in-Ok.store c.run_levels.new.store faults
+    (levels_ran source (record { values = c.programs_share_no_cell.ensures.values source; clocks = c.programs_share_no_cell.ensures.clocks source }) c.args.moment l is (c.place_is_in_source.ensures.spot source) cells c.args.faulted.now.items c.requires.flags parts c.levels.result.now c.in-Ok.store c.run_levels.new.store faults
     c.parts-parts.ensures c.levels.ensures start_is c.in_ok-faults.ensures.in_order of w stands)
 
 pub returns-clause-told : goal.returns-clause-told
