@@ -10,19 +10,20 @@ use Rattle.plant_config.specs.Names.{globals_of}
 use Rattle.event_history.specs.declared.event.Event.{Event}
 use Rattle.event_history.specs.declared.event.Event.TheVariants as event
 use Rattle.event_history.specs.declared.event.Order.{Order}
-use Rattle.engine.specs.declared.state.Effect.{Effect}
+use Rattle.plant_system.specs.declared.state.Effect.{Effect}
 use Rattle.alarm_machine.specs.Codes.{PlainChange}
 use Rattle.alarm_bank.specs.Moves.{changes_from}
 use Rattle.journal_core.specs.Rows.{change_entry}
-use Rattle.engine.specs.System.{System, system, after_event, ordered}
+use Rattle.plant_system.specs.System.{System, system, after_event, ordered}
 use Rattle.engine.specs.Lawful.{IsTaken}
-use Rattle.engine.specs.Reports.{PlainReport}
+use Rattle.plant_system.specs.Reports.{PlainReport}
 use Rattle.engine.specs.Journal.{IsJournal, OrderBy, ChangeOf, refusal_of, one_or_none, change_entries, added_entries, scan_entries, order_entries}
-use Rattle.engine.specs.Orders.{alarms_by, changed_by}
+use Rattle.plant_system.specs.Orders.{alarms_by, changed_by}
 use Rattle.engine.proofs.OrderRows.{order_changes}
-use Rattle.engine.specs.Engines.{PlainEngine, PlainState, PlainPrepared, PlainPreparedOrder, after_effect, Fits, FitsOrder, IsState, IsReport, state_of}
-use Rattle.engine.proofs.Images.{taken_when}
-use Rattle.engine.proofs.Systems.{system_next}
+use Rattle.engine.specs.Engines.{PlainEngine, Fits, FitsOrder, state_of}
+use Rattle.plant_system.specs.States.{PlainState, PlainPrepared, PlainPreparedOrder, after_effect, IsState, IsReport}
+use Rattle.plant_system.proofs.Images.{taken_when}
+use Rattle.plant_system.proofs.Systems.{system_next}
 use Rattle.engine.proofs.Journals.{scan_journal, order_journal, until_after, last_below, room_after, length-scan_entries, few_order_entries}
 
 -- a scan leaves the state of the history with it

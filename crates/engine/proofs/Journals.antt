@@ -11,7 +11,7 @@ use Rattle.plant_types.specs.declared.values.Trap.{Trap}
 use Rattle.plant_types.specs.declared.values.Value.{Value}
 use Rattle.alarm_machine.specs.declared.states.OrderFault.{OrderFault}
 use Rattle.alarm_machine.specs.Alarms.{PlainAlarm}
-use Rattle.engine.specs.declared.state.Effect.{Effect}
+use Rattle.plant_system.specs.declared.state.Effect.{Effect}
 use Rattle.alarm_machine.specs.Codes.{PlainChange}
 use Rattle.plant_logic.specs.Source.{Source}
 use Rattle.plant_walk.specs.Runs.{place_spot}
@@ -23,12 +23,12 @@ use Rattle.plant_config.specs.Plants.{PlainPlant}
 use Rattle.event_history.specs.declared.event.Event.{Event}
 use Rattle.event_history.specs.declared.event.Event.TheVariants as event
 use Rattle.event_history.specs.declared.event.Order.{Order}
-use Rattle.engine.specs.Orders.{changed_by}
-use Rattle.engine.specs.Reports.{PlainReport}
-use Rattle.engine.specs.Engines.{IsReport}
+use Rattle.plant_system.specs.Orders.{changed_by}
+use Rattle.plant_system.specs.Reports.{PlainReport}
+use Rattle.plant_system.specs.States.{IsReport}
 use Rattle.alarm_bank.specs.Moves.{changes_from}
-use Rattle.engine.specs.System.{System, system, opening_system, after_event, ordered}
-use Rattle.engine.proofs.Systems.{system_keeps_its_plant, system_alarms, system_faulted, changes_within, numbers_more}
+use Rattle.plant_system.specs.System.{System, system, opening_system, after_event, ordered}
+use Rattle.plant_system.proofs.Systems.{system_keeps_its_plant, system_alarms, system_faulted, changes_within, numbers_more}
 use Rattle.engine.proofs.OrderRows.{order_changes, order_named}
 use Rattle.engine.specs.Journal.{NamedEntry, FaultAt, ChangeOf, named_entry, named_row, fault_entries, change_entries, added_entries, OrderBy, refusal_of, one_or_none, scan_entries, order_entries, rows_from, added_rows, journal_from, journal_of, IsNamed, IsJournal}
 

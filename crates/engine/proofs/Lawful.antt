@@ -5,16 +5,16 @@ use Rattle.std.proofs.lemmas.Bool.Decides.{nat_tests}
 use Rattle.alarm_machine.specs.declared.limits.TheConstants.{LAST_MOMENT}
 use Rattle.plant_config.specs.Plants.{PlainPlant}
 use Rattle.plant_config.specs.Names.{globals_of}
-use Rattle.engine.specs.declared.event.TheConstants.{MOST_EVENTS}
+use Rattle.plant_system.specs.declared.event.TheConstants.{MOST_EVENTS}
 use Rattle.event_history.specs.declared.event.Event.{Event}
 use Rattle.event_history.specs.declared.event.Event.TheVariants as event
 use Rattle.event_history.specs.declared.event.Order.{Order}
-use Rattle.engine.specs.declared.event.EngineFault.{EngineFault}
-use Rattle.engine.specs.declared.event.EngineFault.TheVariants as refusal
-use Rattle.engine.specs.System.{System, system, opening_system, after_event, order_event}
+use Rattle.plant_system.specs.declared.event.EngineFault.{EngineFault}
+use Rattle.plant_system.specs.declared.event.EngineFault.TheVariants as refusal
+use Rattle.plant_system.specs.System.{System, system, opening_system, after_event, order_event}
 use Rattle.engine.specs.Lawful.{IsTaken, AreTaken, IsLawfulHistory}
-use Rattle.engine.proofs.Images.{taken_when}
-use Rattle.engine.proofs.Systems.{system_events}
+use Rattle.plant_system.proofs.Images.{taken_when}
+use Rattle.plant_system.proofs.Systems.{system_events}
 
 taken_next : (s : System) (history : List Event) (e : Event) → AreTaken s history → IsTaken (fold after_event s history) e → AreTaken s (history ++ e ∷ [])
 taken_next s [] e lawful taken = (taken, tt)

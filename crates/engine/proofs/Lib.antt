@@ -1,10 +1,3 @@
-mod AlarmExamples
-pub mod CellWorlds
-pub mod Images
-pub mod OrderLaws
-pub mod Outs
-pub mod Systems
-pub mod Twins
 mod Lawful
 mod InRange
 mod Ready
@@ -12,7 +5,5 @@ mod Shown
 mod Journals
 mod OrderRows
 mod Commits
-mod FewValues
+mod Fitting
 mod Rooms
-mod Watches
-mod Follows

@@ -3,11 +3,12 @@ use Rattle.std.proofs.Common.{List, subst}
 use Rattle.journal_core.specs.declared.row.Row.{Row}
 use Rattle.plant_config.specs.Plants.{PlainPlant}
 use Rattle.event_history.specs.declared.event.Event.{Event}
-use Rattle.engine.specs.System.{system}
-use Rattle.engine.specs.Engines.{PlainState, IsEngine}
-use Rattle.engine.specs.Steps.{IsReady}
+use Rattle.plant_system.specs.System.{system}
+use Rattle.engine.specs.Engines.{IsEngine}
+use Rattle.plant_system.specs.States.{PlainState}
+use Rattle.plant_system.specs.Steps.{IsReady}
 use Rattle.engine.proofs.InRange.{lawful_in_range}
-use Rattle.engine.proofs.Systems.{system_keeps_its_plant, kept_alarms, kept_faulted, kept_outputs}
+use Rattle.plant_system.proofs.Systems.{system_keeps_its_plant, kept_alarms, kept_faulted, kept_outputs}
 
 -- an engine has what the parts of an event ask
 pub ready : (plant : PlainPlant) (history : List Event) (rows : List Row) (k : PlainState) → IsEngine plant history rows k → IsReady plant k

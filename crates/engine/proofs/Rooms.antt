@@ -8,9 +8,10 @@ use Rattle.plant_config.specs.Names.{globals_of}
 use Rattle.event_history.specs.Histories.{PlainHistory}
 use Rattle.event_history.specs.declared.event.Event.TheVariants as event
 use Rattle.engine.specs.Lawful.{IsTaken}
-use Rattle.engine.specs.Engines.{PlainEngine, PlainPrepared, Fits, room_for, state_of}
-use Rattle.engine.proofs.FewValues.{few_values}
-use Rattle.engine.proofs.Systems.{system_keeps_its_plant}
+use Rattle.engine.specs.Engines.{PlainEngine, Fits, room_for, state_of}
+use Rattle.plant_system.specs.States.{PlainPrepared}
+use Rattle.plant_system.proofs.FewValues.{few_values}
+use Rattle.plant_system.proofs.Systems.{system_keeps_its_plant}
 
 there_by : (b : Bool) (g w r : ℕ) → nat_le g w ≡ b → 0 < (if b then r else 0) → (0 < r) × (g ≤ w)
 there_by true g w r is h = (h, grind (arith, nat_tests))

@@ -19,10 +19,10 @@ use Rattle.plant_config.specs.Names.{programs_of, body_paths, tag_of, program_at
 use Rattle.event_history.specs.declared.event.Event.{Event}
 use Rattle.event_history.specs.declared.event.Event.TheVariants as event
 use Rattle.event_history.specs.declared.event.Order.{Order}
-use Rattle.engine.specs.declared.state.Effect.{Effect}
-use Rattle.engine.specs.Reports.{PlainReport}
-use Rattle.engine.specs.Orders.{is_restart, changed_by}
-use Rattle.engine.specs.System.{System, opening_system, after_event, ordered, faults_of, changes_of}
+use Rattle.plant_system.specs.declared.state.Effect.{Effect}
+use Rattle.plant_system.specs.Reports.{PlainReport}
+use Rattle.plant_system.specs.Orders.{is_restart, changed_by}
+use Rattle.plant_system.specs.System.{System, opening_system, after_event, ordered, faults_of, changes_of}
 
 -- what a row tells, by names: a program's fault at a spot, the change of an alarm's code, or an order of a console and why it was refused, if it was
 pub data NamedEntry : Type 0 where

@@ -10,7 +10,7 @@ use Rattle.plant_config.specs.Plants.{PlainPlant}
 use Rattle.plant_config.specs.Names.{globals_of}
 use Rattle.event_history.specs.declared.event.Event.{Event}
 use Rattle.event_history.specs.declared.event.Event.TheVariants as event
-use Rattle.engine.specs.System.{System, opening_system, after_event, scan_event, order_event, is_output}
+use Rattle.plant_system.specs.System.{System, opening_system, after_event, scan_event, order_event, is_output}
 
 -- an event was taken in a state: a scan is the one that some pairs give at its moment, an order is one that isn't refused there
 abbrev pub IsTaken : System → Event → Type 0

@@ -1,11 +1,3 @@
-pub mod Programs
-pub mod Image
-pub mod Orders
-pub mod System
-pub mod Watches
 pub mod Lawful
 pub mod Journal
-pub mod Reports
-pub mod Faults
 pub mod Engines
-pub mod Steps

@@ -2,26 +2,26 @@
 
 ghost use Rattle.std.specs.Prelude.{◌≡◌, ◌+◌, ◌<◌, ◌≤◌, ◌++◌, [], ◌∷◌, length, slice_get, string_bytes, Some, Ok, IfOk, OnOk, OnErr, IfErr};
 ghost use Rattle.std.specs.Option.{option_map};
-ghost use Rattle.engine.specs.Faults.{faults_by, IsNoCrews};
-ghost use Rattle.engine.specs.Image.{IsDue};
-ghost use Rattle.engine.specs.Orders.{restart_of};
-ghost use Rattle.engine.specs.System.{scan_event, order_event, reply_to, outputs_of, summary_of};
+ghost use Rattle.plant_system.specs.Faults.{faults_by, IsNoCrews};
+ghost use Rattle.plant_system.specs.Image.{IsDue};
+ghost use Rattle.plant_system.specs.Orders.{restart_of};
+ghost use Rattle.plant_system.specs.System.{scan_event, order_event, reply_to, outputs_of, summary_of};
 ghost use Rattle.engine.specs.Lawful.{IsLawfulHistory};
 ghost use Rattle.engine.specs.Journal.{IsJournal, IsLine, added_entries, journal_of};
-ghost use Rattle.engine.specs.Engines.{state_of, Fits, FitsOrder, IsEngine, IsReport, TakesScan};
+ghost use Rattle.engine.specs.Engines.{state_of, Fits, FitsOrder, IsEngine, TakesScan};
+ghost use Rattle.plant_system.specs.States.{IsReport};
 
-use crate::event::{EngineFault, MOST_EVENTS, Reply, Report};
-use crate::image::widest_image;
 use crate::journal::{line_text, push_order, push_scan, row_count};
-use crate::orders::{PreparedOrder, prepared_order};
-use crate::scan::{Before, Prepared, Room, RunRoom, prepared_scan};
-use crate::state::{State, alarm_state, apply, apply_scan, opening_state};
 use alarm_bank::Summary;
 use alarm_machine::{AlarmState, Verb};
 use crew::Crew;
 use event_history::{Event, History, Order};
 use journal_core::Log;
 use plant_config::Plant;
+use plant_system::{
+    Before, EngineFault, MOST_EVENTS, Prepared, PreparedOrder, Reply, Report, Room, RunRoom, State,
+    alarm_state, apply, apply_scan, opening_state, prepared_order, prepared_scan, widest_image,
+};
 use plant_types::{Pair, Value};
 use plant_walk::Stack;
 use scan_logic::{Levelled, plan_levels};

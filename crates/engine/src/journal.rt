@@ -5,15 +5,14 @@ ghost use Rattle.alarm_machine.specs.declared.limits.TheConstants.{LAST_MOMENT};
 ghost use Rattle.journal_core.specs.Bodies.{row_text};
 ghost use Rattle.journal_core.specs.declared.row.Entry.TheVariants as entry;
 ghost use Rattle.journal_core.specs.Rows.{after_entries, last_moment};
-ghost use Rattle.engine.specs.Orders.{changed_by};
+ghost use Rattle.plant_system.specs.Orders.{changed_by};
 ghost use Rattle.engine.specs.Journal.{refusal_of, scan_entries, order_entries, IsNamed, HasTarget, target_name, name_of};
 
-use crate::event::Report;
-use crate::state::{Effect, State};
 use alarm_machine::{Alarm, Change, OrderFault, Verb};
 use event_history::Order;
 use journal_core::{Entry, Log, Row, row_text};
 use plant_config::Plant;
+use plant_system::{Effect, Report, State};
 use std::alloc::{AllocError, Global};
 
 /// Why an order is refused, if it is.

@@ -3,7 +3,7 @@
 ghost use Rattle.std.specs.Prelude.{◌≡◌, ◌≤◌, List, length, All};
 ghost use Rattle.plant_config.specs.Plants.{PlainPlant, IsPlant};
 ghost use Rattle.event_history.specs.declared.event.Event.{Event};
-ghost use Rattle.engine.specs.System.{system, outputs_of};
+ghost use Rattle.plant_system.specs.System.{system, outputs_of};
 ghost use Rattle.engine.specs.Lawful.{IsLawfulHistory, HasValuesInRange, IsOutputValue};
 
 /// The system holds its plant, and no event changes it: after each history it is the plant with which the system began.

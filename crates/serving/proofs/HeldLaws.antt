@@ -10,8 +10,8 @@ use Rattle.event_history.specs.declared.event.Event.{Event}
 use Rattle.plant_config.specs.Plants.{PlainPlant}
 use Rattle.command_text.specs.Commands.{command_of}
 use Rattle.command_text.proofs.ShortLaws.{command_of-short}
-use Rattle.serving.specs.declared.fault.ServeFault.{ServeFault}
-use Rattle.serving.specs.declared.fault.ServeFault.TheVariants as fault
+use Rattle.serve_faults.specs.declared.fault.ServeFault.{ServeFault}
+use Rattle.serve_faults.specs.declared.fault.ServeFault.TheVariants as fault
 use Rattle.serving.specs.Requests.{Request, has_lf, without_cr, ended_by, last_request, ended_from, begun_from, begun_request, ended_requests, requests_of}
 use Rattle.serving.specs.Session.{Answered, Stopped, AreRead, StoppedBy, IsHeld, HasGone, HasTaken, Stops}
 use Rattle.serving.proofs.RequestLaws.{ended_from-more, begun_from-more, ended_from-none, begun_from-none, ended_from-lf, begun_from-lf}

@@ -2,8 +2,4 @@ pub mod RequestLaws
 pub mod LfLaws
 pub mod SessionLaws
 pub mod HeldLaws
-pub mod AnswerLaws
-pub mod AdmitLaws
 pub mod RunLaws
-pub mod ListingLaws
-pub mod PassingLaws

@@ -8,12 +8,12 @@ use Rattle.plant_config.specs.Plants.{PlainPlant}
 use Rattle.plant_config.specs.Files.{Texts}
 use Rattle.plant_folder.specs.Fetches.{Finds}
 use Rattle.plant_folder.specs.Verdicts.{IsVerdict, IsFilesVerdict}
-use Rattle.serving.specs.declared.fault.ServeFault.{ServeFault}
-use Rattle.serving.specs.declared.fault.ServeFault.TheVariants as fault
+use Rattle.serve_faults.specs.declared.fault.ServeFault.{ServeFault}
+use Rattle.serve_faults.specs.declared.fault.ServeFault.TheVariants as fault
 use Rattle.serving.specs.declared.runs.RunEnd.TheVariants as run_end
 use Rattle.serving.specs.Requests.{ended_requests}
 use Rattle.serving.specs.Session.{StoppedBy}
-use Rattle.serving.specs.Admits.{IsTold}
+use Rattle.plant_verdict.specs.Admits.{IsTold}
 use Rattle.serving.specs.Runs.{IsServed, IsStopped, IsRun}
 use Rattle.serving.proofs.SessionLaws.{answered-more, stopped-more}
 

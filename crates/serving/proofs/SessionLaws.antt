@@ -6,7 +6,8 @@ use Rattle.std.proofs.KnownBytes.{Appends-nil, Appends-trans, Consumes-trans}
 use Rattle.event_history.specs.declared.event.Event.{Event}
 use Rattle.plant_config.specs.Plants.{PlainPlant}
 use Rattle.command_text.specs.Commands.{command_of}
-use Rattle.serving.specs.Answers.{after_command, answer_after, after_requests, answers}
+use Rattle.command_answers.specs.Answers.{after_command, answer_after}
+use Rattle.serving.specs.Answers.{after_requests, answers}
 use Rattle.serving.specs.Requests.{Request, asked_by, requests_of}
 use Rattle.serving.specs.Session.{Answered, Stopped, out_text}
 

@@ -4,11 +4,11 @@ use Rattle.std.specs.declared.result.Result.{Result}
 use Rattle.std.specs.Io.KnownBytes.{Appends, Consumes, IsAtEnd}
 use Rattle.event_history.specs.declared.event.Event.{Event}
 use Rattle.plant_config.specs.Plants.{PlainPlant}
-use Rattle.serving.specs.declared.fault.ServeFault.{ServeFault}
+use Rattle.serve_faults.specs.declared.fault.ServeFault.{ServeFault}
 use Rattle.serving.specs.declared.runs.RunEnd.{RunEnd}
 use Rattle.serving.specs.declared.runs.RunEnd.TheVariants as run_end
 use Rattle.serving.specs.Session.{StoppedBy, out_text}
-use Rattle.serving.specs.Admits.{IsTold}
+use Rattle.plant_verdict.specs.Admits.{IsTold}
 
 -- all of the input was read, and what was written is the text that belongs to the plant and to its bytes
 pub record IsServed (plant : PlainPlant) (r₀ r₁ w₀ w₁ : Option (List ℕ)) : Type 0 where

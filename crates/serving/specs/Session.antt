@@ -5,9 +5,9 @@ use Rattle.std.specs.Io.KnownBytes.{Appends, IsAtEnd}
 use Rattle.event_history.specs.declared.event.Event.{Event}
 use Rattle.engine.specs.Engines.{PlainEngine}
 use Rattle.plant_config.specs.Plants.{PlainPlant}
-use Rattle.serving.specs.declared.fault.ServeFault.{ServeFault}
-use Rattle.serving.specs.declared.fault.ServeFault.TheVariants as fault
-use Rattle.serving.specs.Faults.{is_read, is_write}
+use Rattle.serve_faults.specs.declared.fault.ServeFault.{ServeFault}
+use Rattle.serve_faults.specs.declared.fault.ServeFault.TheVariants as fault
+use Rattle.serve_faults.specs.Faults.{is_read, is_write}
 use Rattle.serving.specs.Requests.{Request, ended_from, begun_from, ended_requests, requests_of}
 use Rattle.serving.specs.Answers.{after_requests, answers}
 

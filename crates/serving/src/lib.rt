@@ -5,19 +5,14 @@
 //! there is to say of it. `run` and `run_from` go from there to the end of the input.
 #![tactic(auto)]
 
-mod answer;
-mod fault;
 mod laws;
-mod listings;
 mod runs;
 mod session;
-mod spilling;
-mod verdict;
 
 pub use byte_streams::{Failed, Feed, Reading, Sink, Writing};
-pub use fault::ServeFault;
 pub use laws::requests_end_in_lf;
 pub use plant_folder::{Disk, FetchFault, Fetched, FileFault, Folder, SourceText, fetch};
+pub use plant_verdict::{admit, admit_from, check_from};
 pub use runs::{RunEnd, run, run_from};
-pub use session::{Session, Step, put_all, serve};
-pub use verdict::{admit, admit_from, check_from};
+pub use serve_faults::{ServeFault, put_all};
+pub use session::{Session, Step, serve};

@@ -3,16 +3,16 @@
 ghost use Rattle.std.specs.Prelude.{◌≡◌, ◌||◌, map, false, OnOk, IfErr};
 ghost use Rattle.plant_config.specs.Files.{texts_of};
 ghost use Rattle.plant_folder.specs.Verdicts.{IsVerdict, IsFilesVerdict};
-ghost use Rattle.serving.specs.Faults.{is_read, is_write, crew_faults};
+ghost use Rattle.serve_faults.specs.Faults.{is_read, is_write, crew_faults};
 ghost use Rattle.serving.specs.Runs.{IsServed, IsStopped, IsRun};
 
-use crate::fault::ServeFault;
 use crate::session::serve;
-use crate::verdict::{admit, admit_from};
 use byte_streams::{Feed, Sink};
 use engine::{Crew, Done, Engine, Job, Start};
 use plant_config::Plant;
 use plant_folder::Folder;
+use plant_verdict::{admit, admit_from};
+use serve_faults::ServeFault;
 use std::alloc::Global;
 use std::sync::Wait;
 

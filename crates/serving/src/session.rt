@@ -1,43 +1,22 @@
-ghost use Rattle.std.specs.Prelude.{◌≡◌, ◌≤◌, ◌++◌, [], ◌∷◌, ◌||◌, IfOk, IfErr, OnOk, OnErr, IsErrOf, MatchOption, IfSome, List, ℕ, length, take, false, ◌<◌};
+ghost use Rattle.std.specs.Prelude.{◌≡◌, ◌≤◌, ◌++◌, [], ◌∷◌, IfOk, IfErr, OnOk, OnErr, IsErrOf, MatchOption, IfSome, List, ℕ, length, take, false, ◌<◌};
 ghost use Rattle.std.specs.Io.KnownBytes.{Appends, Consumes, IsAtEnd};
 ghost use Rattle.command_text.specs.Commands.{command_of};
 ghost use Rattle.serving.specs.Requests.{Request, asked_by, has_lf, without_cr, ended_by, last_request, ended_from, begun_from, requests_of};
-ghost use Rattle.serving.specs.Faults.{crew_faults, is_crew, is_read, is_write};
+ghost use Rattle.serve_faults.specs.Faults.{crew_faults, is_read, is_write};
 ghost use Rattle.serving.specs.Session.{Answered, Stopped, Serves, Continues, IsHeld, HasGone, StoppedBy, Goes, Ends, Stops, out_text};
 
-use crate::answer::{Said, answer_line};
-use crate::fault::ServeFault;
-use crate::spilling::{write_journal, write_list};
 use byte_streams::{Feed, Sink, empty_piece, fill};
+use command_answers::{Said, answer_line, write_journal, write_list};
 use command_text::Pool;
 use engine::{Crew, Done, Engine, Job, Start};
 use memchr::memchr;
+use serve_faults::{ServeFault, put_all};
 use std::alloc::{AllocError, Global};
 use std::marker::Model;
 use std::sync::Wait;
 
 /// How many bytes of a request are held at most: those of the longest line, one that shows that it is too long, and a CR.
 const HELD: usize = 1_048_578;
-
-/// Writes all of a text. Fails only if a write fails.
-pub fn put_all<S: Sink>(sink: &mut S, text: &[u8]) -> Result<(), ServeFault>
-    ensures ok { OnOk result (Appends (S.written sink.old) (S.written sink.new) text.now) }
-    ensures err { OnErr result ((part : List ℕ) × (more : List ℕ) × (text.now ≡ part ++ more) × Appends (S.written sink.old) (S.written sink.new) part) }
-    ensures fault { IfErr result (λ e. e ≡ ServeFault.Write) }
-    ensures read { is_read result ≡ false }
-    ensures crew { is_crew result ≡ false }
-    ensures write { S.broken sink.new ≡ (S.broken sink.old || is_write result) }
-{
-    let mut rest = text;
-    while !rest.is_empty() {
-        let Ok(n) = sink.write(rest) else {
-            return Err(ServeFault::Write);
-        };
-        let (_, after) = rest.split_at(n);
-        rest = after;
-    }
-    Ok(())
-}
 
 /// Answers one line. Of a line that is too long its first bytes may stand for it.
 fn answer<H, C: Crew<Job, Start, Done, H>, S: Sink>(

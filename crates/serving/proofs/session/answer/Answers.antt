@@ -1,9 +1,9 @@
 use Rattle.std.proofs.Common.{◌≡◌, ℕ, false, Result, Ok, Err, refl, sym, ap, ◌∙◌}
 use Rattle.std.proofs.lemmas.Result.{on_ok_weaker, on_err_weaker, err_from_is_err_and}
 use Rattle.serving.proofs.SessionLaws.{stopped-unwritten, stopped-line, answered-line}
-use Rattle.serving.specs.Faults.{crew_faults, is_crew}
-use Rattle.serving.specs.declared.fault.ServeFault.{ServeFault}
-use Rattle.serving.specs.declared.fault.ServeFault.TheVariants as fault
+use Rattle.serve_faults.specs.Faults.{crew_faults, is_crew}
+use Rattle.serve_faults.specs.declared.fault.ServeFault.{ServeFault}
+use Rattle.serve_faults.specs.declared.fault.ServeFault.TheVariants as fault
 use Rattle.serving.proofs.session.answer.Goals as goal
 
 -- where the crew did not fail its count of faults stays

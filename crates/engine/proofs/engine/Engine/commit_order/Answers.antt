@@ -1,14 +1,15 @@
 use Rattle.std.proofs.Common.{◌≡◌, ◌+◌, ℕ, ap, subst, length, arith}
 use Rattle.journal_core.specs.Rows.{PlainLog}
 use Rattle.event_history.specs.declared.event.Event.TheVariants as event
-use Rattle.engine.specs.System.{system}
+use Rattle.plant_system.specs.System.{system}
 use Rattle.engine.specs.Journal.{added_entries}
-use Rattle.engine.specs.Engines.{PlainEngine, PlainPreparedOrder, state_of}
+use Rattle.engine.specs.Engines.{PlainEngine, state_of}
+use Rattle.plant_system.specs.States.{PlainPreparedOrder}
 use Rattle.engine.proofs.Commits.{order_committed, order_until, order_room}
+use Rattle.engine.proofs.Fitting.{order_agrees}
 use Rattle.engine.proofs.Journals.{last_below}
 use Rattle.engine.proofs.Lawful.{lawful_next}
 use Rattle.engine.proofs.Rooms.{room_there}
-use Rattle.engine.proofs.Systems.{order_agrees}
 use Rattle.engine.proofs.engine.Engine.commit_order.Goals as goal
 
 pub invariant_of-self : goal.invariant_of-self

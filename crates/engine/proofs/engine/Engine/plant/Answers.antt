@@ -1,5 +1,5 @@
 use Rattle.std.proofs.Common.{sym}
-use Rattle.engine.proofs.Systems.{system_keeps_its_plant}
+use Rattle.plant_system.proofs.Systems.{system_keeps_its_plant}
 use Rattle.engine.proofs.engine.Engine.plant.Goals as goal
 
 pub returns : goal.returns

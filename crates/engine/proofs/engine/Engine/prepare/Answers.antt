@@ -1,12 +1,13 @@
 use Rattle.std.proofs.Common.{◌≡◌, ◌+◌, ◌≤◌, length, Result, IfErr, rules, subst, sym, ◌∙◌, arith}
 use Rattle.event_history.specs.declared.event.Event.{Event}
-use Rattle.engine.specs.declared.event.EngineFault.{EngineFault}
-use Rattle.engine.specs.Image.{IsDue}
-use Rattle.engine.specs.System.{system}
-use Rattle.engine.specs.Engines.{IsState}
+use Rattle.plant_system.specs.declared.event.EngineFault.{EngineFault}
+use Rattle.plant_system.specs.Image.{IsDue}
+use Rattle.plant_system.specs.System.{system}
+use Rattle.plant_system.specs.States.{IsState}
 use Rattle.engine.proofs.Ready.{ready}
 use Rattle.engine.proofs.Rooms.{room_made}
-use Rattle.engine.proofs.Systems.{scan_event_is, scan_fits}
+use Rattle.plant_system.proofs.Systems.{scan_event_is}
+use Rattle.engine.proofs.Fitting.{scan_fits}
 use Rattle.engine.proofs.engine.Engine.prepare.Goals as goal
 
 pub prepared_scan-requires-clause-ready : goal.prepared_scan-requires-clause-ready

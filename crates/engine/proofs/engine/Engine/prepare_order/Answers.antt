@@ -1,9 +1,10 @@
 use Rattle.std.proofs.Common.{◌≡◌, length, rules, arith}
-use Rattle.engine.specs.System.{system}
-use Rattle.engine.specs.Engines.{IsState}
+use Rattle.plant_system.specs.System.{system}
+use Rattle.plant_system.specs.States.{IsState}
 use Rattle.engine.proofs.Ready.{ready}
 use Rattle.engine.proofs.Rooms.{room_made}
-use Rattle.engine.proofs.Systems.{order_fits, order_event_ready, order_event_full}
+use Rattle.plant_system.proofs.Systems.{order_event_ready, order_event_full}
+use Rattle.engine.proofs.Fitting.{order_fits}
 use Rattle.engine.proofs.engine.Engine.prepare_order.Goals as goal
 
 pub returns-then-len-ge-MOST_EVENTS-clause-err : goal.returns-then-len-ge-MOST_EVENTS-clause-err

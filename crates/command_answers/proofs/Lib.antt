@@ -1,0 +1,3 @@
+pub mod AnswerLaws
+pub mod ListingLaws
+pub mod PassingLaws

@@ -1,0 +1,275 @@
+ghost use Rattle.std.specs.Prelude.{◌≡◌, ◌++◌, ◌⊎◌, ◌<◌, ◌^◌, ◌+◌, ℕ, OnOk, OnErr, IfOk, IfSome, All, length, false, string_bytes, decimal};
+ghost use Rattle.engine.specs.Engines.{state_of};
+ghost use Rattle.plant_config.specs.Names.{tag_of, globals_of, global_of, body_paths};
+ghost use Rattle.plant_logic.specs.Paths.{path_text};
+ghost use Rattle.plant_walk.specs.Runs.{place_spot};
+ghost use Rattle.plant_system.specs.Orders.{is_restart};
+ghost use Rattle.plant_system.specs.System.{system, scan_event, order_event};
+ghost use Rattle.command_answers.specs.Answers.{spots_of, named_by, target_of, tag_for, order_for, order_answer, fault_lines, alarm_lines, out_lines, report_text, order_text, event_text, scan_text, event_added, after_command, answer_after};
+ghost use Rattle.serve_faults.specs.Faults.{is_read, is_write, crew_faults};
+ghost use Rattle.command_answers.specs.Listings.{list_text, journal_text};
+ghost use Rattle.command_text.specs.Commands.{command_of};
+
+use alarm_machine::{Change, Verb};
+use command_text::{
+    Command, Pool, push_alarm, push_done, push_fault, push_out, push_refused, push_reply,
+    read_command,
+};
+use engine::{
+    Crew, Done, Engine, EngineFault, Job, Order, Reply, Report, Start, system_keeps_its_plant,
+};
+use itoa::Buffer;
+use plant_config::Plant;
+use plant_types::{Pair, Place, Trap, Value};
+use serve_faults::ServeFault;
+use std::alloc::{AllocError, Global};
+use std::str;
+
+/// Returns the tag of the alarm that an order is for; `""` for a restart, and for an order that names no alarm.
+fn tag_for(plant: &Plant, order: Order) -> &str
+    requires { is_restart order.verb ≡ false → IfSome order.target (λ alarm. alarm < length plant.now.alarms) }
+    ensures { result.now ≡ tag_for plant.now order }
+{
+    match (order.verb, order.target) {
+        (Verb::Restart, _) => "",
+        (_, Some(alarm)) => plant.tag(alarm),
+        (_, None) => "",
+    }
+}
+
+/// Appends an ALARM line for each change. The moment is given by its digits.
+fn push_alarms(
+    text: &mut Vec<u8>,
+    plant: &Plant,
+    moment: &str,
+    changes: &[(u32, Change)],
+) -> Result<(), AllocError>
+    requires { All (λ c. c.0 < length plant.now.alarms) changes.now }
+    ensures { (t : ℕ) → moment.now ≡ decimal t → OnOk result (text.new.items ≡ text.old.items ++ alarm_lines plant.now t changes.now) }
+{
+    for (alarm, change) in changes {
+        push_alarm(text, moment, plant.tag(*alarm), *change)?;
+    }
+    Ok(())
+}
+
+/// The path of a place: the names that lead to it, with points between them. Fails if allocation fails.
+#[tactic(auto, using(crate::proofs::AnswerLaws::path_is))]
+fn path_text(alloc: Global, plant: &Plant, place: &Place) -> Result<String, AllocError>
+    requires { place.now.path < length (body_paths plant.now) }
+    ensures { IfOk result (λ path. string_bytes path ≡ path_text (place_spot plant.now.source place.now).path) }
+{
+    plant.body_path(alloc, place.path)
+}
+
+/// Appends a FAULT line for each program that stopped. The moment is given by its digits.
+fn push_faults(
+    alloc: Global,
+    text: &mut Vec<u8>,
+    plant: &Plant,
+    moment: &str,
+    faults: &[(Place, Trap)],
+) -> Result<(), AllocError>
+    requires { All (λ f. f.0.path < length (body_paths plant.now)) faults.now }
+    ensures { (t : ℕ) → moment.now ≡ decimal t → OnOk result (text.new.items ≡ text.old.items ++ fault_lines t (spots_of plant.now.source faults.now)) }
+{
+    for (place, trap) in faults {
+        let path = path_text(alloc, plant, place)?;
+        push_fault(text, moment, path.as_str(), place.statement, *trap)?;
+    }
+    Ok(())
+}
+
+/// Appends an OUT line for each output that changed. The moment is given by its digits.
+fn push_outs(
+    text: &mut Vec<u8>,
+    plant: &Plant,
+    moment: &str,
+    outs: &[(u32, Value)],
+) -> Result<(), AllocError>
+    requires { All (λ o. o.0 < length (globals_of plant.now)) outs.now }
+    ensures { (t : ℕ) → moment.now ≡ decimal t → OnOk result (text.new.items ≡ text.old.items ++ out_lines plant.now t outs.now) }
+{
+    for (output, value) in outs {
+        push_out(text, moment, plant.global(*output), *value)?;
+    }
+    Ok(())
+}
+
+/// Appends the answer to a scan that was taken: its faults, its alarms, its outputs, and how many lines these are. The moment's digits are made once
+/// for all of them.
+#[tactic(auto, using(crate::proofs::AnswerLaws::spots_length), unfolding(crate::specs::Answers::report_text))]
+fn push_report(
+    alloc: Global,
+    text: &mut Vec<u8>,
+    plant: &Plant,
+    report: &Report,
+) -> Result<(), AllocError>
+    requires faults { All (λ f. f.0.path < length (body_paths plant.now)) report.now.faults }
+    requires changes { All (λ c. c.0 < length plant.now.alarms) report.now.changes }
+    requires outs { All (λ o. o.0 < length (globals_of plant.now)) report.now.outs }
+    ensures { OnOk result (text.new.items ≡ text.old.items ++ report_text plant.now report.now.moment (spots_of plant.now.source report.now.faults) report.now.changes report.now.outs) }
+{
+    let faults = report.faults.as_slice();
+    let changes = report.changes.as_slice();
+    let outs = report.outs.as_slice();
+    let mut digits = Buffer::new();
+    let moment = digits.format(report.moment);
+    push_faults(alloc, text, plant, moment, faults)?;
+    push_alarms(text, plant, moment, changes)?;
+    push_outs(text, plant, moment, outs)?;
+    let lines = faults.len() as u64 + changes.len() as u64 + outs.len() as u64;
+    push_done(text, moment, lines)
+}
+
+/// Does a scan, its programs run by the crew, and appends its answer. It fails where the crew failed, before the scan took effect, and where an
+/// allocation failed, before that or after it.
+fn answer_scan<H, C: Crew<Job, Start, Done, H>>(
+    rt: &H,
+    alloc: Global,
+    engine: &mut Engine,
+    crew: &mut C,
+    text: &mut Vec<u8>,
+    moment: u64,
+    pairs: &[Pair],
+) -> Result<(), ServeFault>
+    requires asked { C.asks }
+    ensures plant { engine.new.plant ≡ engine.old.plant }
+    ensures history { OnOk result (engine.new.history ≡ engine.old.history ++ event_added (scan_event (state_of engine.old) pairs.now moment)) }
+    ensures text { OnOk result (text.new.items ≡ text.old.items ++ event_text (scan_event (state_of engine.old) pairs.now moment) (scan_text (state_of engine.old))) }
+    ensures err { OnErr result ((engine.new.history ≡ engine.old.history) ⊎ (engine.new.history ≡ engine.old.history ++ event_added (scan_event (state_of engine.old) pairs.now moment))) }
+    ensures read { is_read result ≡ false }
+    ensures write { is_write result ≡ false }
+    ensures crew { C.faulted crew.new ≡ crew_faults (C.faulted crew.old) result }
+{
+    system_keeps_its_plant();
+    match engine.scan(rt, alloc, crew, pairs, moment) {
+        Ok(report) => {
+            let told = push_report(alloc, text, engine.plant(), &report);
+            engine.reuse(report);
+            Ok(told?)
+        }
+        Err(EngineFault::Memory) => Err(ServeFault::Memory),
+        Err(EngineFault::Crew(_)) => Err(ServeFault::Crew),
+        Err(fault) => Ok(push_refused(text, fault.text())?),
+    }
+}
+
+/// Returns the number of the program that a text names for a restart, and of the alarm that it names for every other order.
+fn named_by(plant: &Plant, verb: Verb, name: &str) -> Option<u32>
+    ensures number { result ≡ named_by plant.now verb name.now }
+    ensures within { is_restart verb ≡ false → IfSome result (λ alarm. alarm < length plant.now.alarms) }
+{
+    match verb {
+        Verb::Restart => plant.program_number(name),
+        _ => plant.alarm_number(name),
+    }
+}
+
+/// Returns the number of what a word names as an order's target; `None` where there is no such program or alarm, and where the word
+/// isn't UTF-8.
+fn target_of(plant: &Plant, verb: Verb, word: &[u8]) -> Option<u32>
+    ensures number { result ≡ target_of plant.now verb word.now }
+    ensures within { is_restart verb ≡ false → IfSome result (λ alarm. alarm < length plant.now.alarms) }
+{
+    match str::from_utf8(word) {
+        Ok(name) => named_by(plant, verb, name),
+        Err(_) => None,
+    }
+}
+
+/// Appends the REPLY to an order, and the ALARM line of its change if there is one.
+#[tactic(auto, unfolding(crate::specs::Answers::order_text))]
+fn push_order(text: &mut Vec<u8>, moment: u64, tag: &str, reply: Reply) -> Result<(), AllocError>
+    ensures { OnOk result (text.new.items ≡ text.old.items ++ order_text moment tag.now reply) }
+{
+    match reply {
+        Reply::Done(None) => push_reply(text, None),
+        Reply::Done(Some(change)) => {
+            push_reply(text, None)?;
+            let mut digits = Buffer::new();
+            push_alarm(text, digits.format(moment), tag, change)
+        }
+        Reply::Refused(fault) => push_reply(text, Some(fault)),
+    }
+}
+
+/// Does an order for what a word names, and appends its answer. It fails where an allocation failed: before the order took effect or
+/// after it.
+fn answer_order(
+    alloc: Global,
+    engine: &mut Engine,
+    text: &mut Vec<u8>,
+    verb: Verb,
+    console: u32,
+    word: &[u8],
+) -> Result<(), AllocError>
+    ensures plant { engine.new.plant ≡ engine.old.plant }
+    ensures history { OnOk result (engine.new.history ≡ engine.old.history ++ event_added (order_event (state_of engine.old) console (order_for (state_of engine.old).plant verb word.now))) }
+    ensures text { OnOk result (text.new.items ≡ text.old.items ++ order_answer (state_of engine.old) console (order_for (state_of engine.old).plant verb word.now)) }
+    ensures err { OnErr result ((engine.new.history ≡ engine.old.history)
+        ⊎ (engine.new.history ≡ engine.old.history ++ event_added (order_event (state_of engine.old) console (order_for (state_of engine.old).plant verb word.now)))) }
+{
+    system_keeps_its_plant();
+    let last = engine.moment();
+    let order = Order {
+        verb,
+        target: target_of(engine.plant(), verb, word),
+    };
+    match engine.order(alloc, console, order) {
+        Ok(reply) => push_order(text, last, tag_for(engine.plant(), order), reply),
+        // An order asks no crew.
+        Err(EngineFault::Memory | EngineFault::Crew(_)) => Err(AllocError),
+        Err(fault) => push_refused(text, fault.text()),
+    }
+}
+
+/// Where the answer to a line is.
+#[derive(Clone, Copy, Debug, PartialEq, Eq, Drop)]
+pub enum Said {
+    /// All of it stands in the text.
+    Text,
+    /// It is the list of alarms, and isn't in the text.
+    List,
+    /// It is the journal, and isn't in the text.
+    Journal,
+}
+
+/// Does what a line asks for, with the pool as room for its pairs, and appends its answer; the list and the journal are left to the
+/// caller, who writes them as they are made. It fails where the crew failed, before the line took effect, and where an allocation failed, before
+/// that or after it.
+#[tactic(auto, unfolding(crate::specs::Answers::after_command, crate::specs::Answers::answer_after))]
+pub fn answer_line<H, C: Crew<Job, Start, Done, H>>(
+    rt: &H,
+    alloc: Global,
+    engine: &mut Engine,
+    crew: &mut C,
+    pool: &mut Pool,
+    text: &mut Vec<u8>,
+    line: &[u8],
+) -> Result<Said, ServeFault>
+    requires asked { C.asks }
+    ensures plant { engine.new.plant ≡ engine.old.plant }
+    ensures history { OnOk result (engine.new.history ≡ after_command engine.old.plant engine.old.history (command_of line.now)) }
+    ensures text { IfOk result (λ said. said ≡ Said.Text → text.new.items ≡ text.old.items ++ answer_after engine.old.plant engine.old.history (command_of line.now)) }
+    ensures list { IfOk result (λ said. said ≡ Said.List → answer_after engine.old.plant engine.old.history (command_of line.now) ≡ list_text (state_of engine.old)) }
+    ensures list_kept { IfOk result (λ said. said ≡ Said.List → engine.new.history ≡ engine.old.history) }
+    ensures journal { IfOk result (λ said. said ≡ Said.Journal → answer_after engine.old.plant engine.old.history (command_of line.now) ≡ journal_text engine.old.plant engine.old.history) }
+    ensures journal_kept { IfOk result (λ said. said ≡ Said.Journal → engine.new.history ≡ engine.old.history) }
+    ensures err { OnErr result ((engine.new.history ≡ engine.old.history) ⊎ (engine.new.history ≡ after_command engine.old.plant engine.old.history (command_of line.now))) }
+    ensures read { is_read result ≡ false }
+    ensures write { is_write result ≡ false }
+    ensures crew { C.faulted crew.new ≡ crew_faults (C.faulted crew.old) result }
+{
+    match read_command(alloc, pool, line)? {
+        Command::Nothing => {}
+        Command::Unknown => push_refused(text, "L1")?,
+        Command::Scan(moment, pairs) => answer_scan(rt, alloc, engine, crew, text, moment, pairs)?,
+        Command::Order(verb, console, word) => {
+            answer_order(alloc, engine, text, verb, console, word)?;
+        }
+        Command::List => return Ok(Said::List),
+        Command::Journal => return Ok(Said::Journal),
+    }
+    Ok(Said::Text)
+}

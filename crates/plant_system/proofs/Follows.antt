@@ -1,0 +1,76 @@
+-- An order keeps the condition and the suppression of each alarm's last scan, so the alarms go on following the cells.
+use Rattle.std.proofs.Common.{◌≡◌, ℕ, ℤ, Bool, true, false, if◌then◌else◌, List, map, Option, Some, None, Ok, Err, refl, ap, sym, ◌∙◌}
+use Rattle.std.specs.Prelude.{slice_get}
+use Rattle.std.specs.List.{list_any}
+use Rattle.std.specs.declared.result.Result.{Result}
+use Rattle.std.proofs.Math.Seq.{map-set_same}
+use Rattle.std.proofs.lemmas.Option.{get_or_from_slice_get}
+use Rattle.alarm_machine.specs.declared.states.AlarmState.{AlarmState}
+use Rattle.alarm_machine.specs.declared.states.Verb.{Verb}
+use Rattle.alarm_machine.specs.declared.states.OrderFault.{OrderFault}
+use Rattle.alarm_machine.specs.declared.states.OrderFault.TheVariants as fault
+use Rattle.alarm_machine.specs.Alarms.{PlainAlarm, on_order}
+use Rattle.alarm_watch.specs.declared.watched.Watch.{Watch}
+use Rattle.alarm_watch.specs.Watched.{Follow}
+use Rattle.plant_config.specs.declared.rows.AlarmRow.{AlarmRow}
+use Rattle.plant_config.specs.Plants.{PlainPlant}
+use Rattle.event_history.specs.declared.event.Order.{Order}
+use Rattle.plant_system.specs.declared.state.Effect.{Effect}
+use Rattle.plant_system.specs.declared.state.Effect.TheVariants as effect
+use Rattle.plant_system.specs.Orders.{is_restart, has_area, is_console, alarm_effect, order_at, alarm_order, program_order, order_outcome, alarms_by}
+
+-- what is told of an alarm by its last condition or suppression is told again after an order
+abbrev Keeps : (PlainAlarm → Bool) → List PlainAlarm → Result Effect OrderFault → Type 0
+Keeps f alarms done = map f (alarms_by done alarms) ≡ map f alarms
+
+abbrev IgnoresState : (PlainAlarm → Bool) → Type 0
+IgnoresState f = (a : PlainAlarm) (s : AlarmState) → f (record a { state = s }) ≡ f a
+
+by_table : (f : PlainAlarm → Bool) → IgnoresState f → (alarms : List PlainAlarm) (n : ℕ) (a : PlainAlarm) → slice_get alarms n ≡ Some a → (r : Result AlarmState OrderFault)
+    → Keeps f alarms (alarm_effect n (elim r [ Ok new ↦ Ok (record a { state = new }) | Err e ↦ Err e ]))
+by_table f ignores alarms n a at (Err e) = refl
+by_table f ignores alarms n a at (Ok new) = map-set_same f alarms n (record a { state = new }) a (ignores a new ∙ ap f (sym (get_or_from_slice_get alarms n a a at)))
+
+by_alarm : (f : PlainAlarm → Bool) → IgnoresState f → (alarms : List PlainAlarm) (n : ℕ) (verb : Verb) (last : ℕ) (o : Option PlainAlarm) → slice_get alarms n ≡ o → Keeps f alarms (order_at n verb last o)
+by_alarm f ignores alarms n verb last None at = refl
+by_alarm f ignores alarms n verb last (Some a) at = by_table f ignores alarms n a at (on_order verb last a)
+
+by_area : (f : PlainAlarm → Bool) → IgnoresState f → (alarms : List PlainAlarm) (n : ℕ) (verb : Verb) (last : ℕ) (b : Bool) → Keeps f alarms (if b then order_at n verb last (slice_get alarms n) else Err fault.NotYourArea)
+by_area f ignores alarms n verb last true = by_alarm f ignores alarms n verb last (slice_get alarms n) refl
+by_area f ignores alarms n verb last false = refl
+
+by_row : (f : PlainAlarm → Bool) → IgnoresState f → (plant : PlainPlant) (alarms : List PlainAlarm) (last console : ℕ) (verb : Verb) (n : ℕ) (o : Option AlarmRow)
+    → Keeps f alarms (elim o [ None ↦ Err fault.UnknownTarget | Some row ↦ if list_any (has_area console row.area) plant.consoles then order_at n verb last (slice_get alarms n) else Err fault.NotYourArea ])
+by_row f ignores plant alarms last console verb n None = refl
+by_row f ignores plant alarms last console verb n (Some row) = by_area f ignores alarms n verb last (list_any (has_area console row.area) plant.consoles)
+
+restarted : (f : PlainAlarm → Bool) (alarms : List PlainAlarm) (n : ℕ) (b flag : Bool) → Keeps f alarms (if b then (if flag then Ok (effect.Restarted n) else Err fault.NotFaulted) else Err fault.NotYourArea)
+restarted f alarms n true true = refl
+restarted f alarms n true false = refl
+restarted f alarms n false flag = refl
+
+by_flag : (f : PlainAlarm → Bool) (plant : PlainPlant) (alarms : List PlainAlarm) (console n : ℕ) (o : Option Bool)
+    → Keeps f alarms (elim o [ None ↦ Err fault.UnknownTarget | Some flag ↦ if list_any (is_console console) plant.consoles then (if flag then Ok (effect.Restarted n) else Err fault.NotFaulted) else Err fault.NotYourArea ])
+by_flag f plant alarms console n None = refl
+by_flag f plant alarms console n (Some flag) = restarted f alarms n (list_any (is_console console) plant.consoles) flag
+
+by_verb : (f : PlainAlarm → Bool) → IgnoresState f → (plant : PlainPlant) (alarms : List PlainAlarm) (faulted : List Bool) (last console : ℕ) (verb : Verb) (n : ℕ) (b : Bool)
+    → Keeps f alarms (if b then program_order plant faulted console n else alarm_order plant alarms last console verb n)
+by_verb f ignores plant alarms faulted last console verb n true = by_flag f plant alarms console n (slice_get faulted n)
+by_verb f ignores plant alarms faulted last console verb n false = by_row f ignores plant alarms last console verb n (slice_get plant.alarms n)
+
+by_target : (f : PlainAlarm → Bool) → IgnoresState f → (plant : PlainPlant) (alarms : List PlainAlarm) (faulted : List Bool) (last console : ℕ) (verb : Verb) (target : Option ℕ)
+    → Keeps f alarms (order_outcome plant alarms faulted last console (record { verb = verb; target = target }))
+by_target f ignores plant alarms faulted last console verb None = refl
+by_target f ignores plant alarms faulted last console verb (Some n) = by_verb f ignores plant alarms faulted last console verb n (is_restart verb)
+
+order_keeps : (f : PlainAlarm → Bool) → IgnoresState f → (plant : PlainPlant) (alarms : List PlainAlarm) (faulted : List Bool) (last console : ℕ) (order : Order) → Keeps f alarms (order_outcome plant alarms faulted last console order)
+order_keeps f ignores plant alarms faulted last console order = by_target f ignores plant alarms faulted last console order.verb order.target
+
+-- the alarms that followed follow after an order
+pub follow_order : (now : ℕ → ℤ) (watches : List Watch) (plant : PlainPlant) (alarms : List PlainAlarm) (faulted : List Bool) (last console : ℕ) (order : Order) (done : Result Effect OrderFault)
+    → done ≡ order_outcome plant alarms faulted last console order → Follow now watches alarms → Follow now watches (alarms_by done alarms)
+follow_order now watches plant alarms faulted last console order done is follow = record {
+  conditions = ap (λ d. map (λ (a : PlainAlarm). a.condition) (alarms_by d alarms)) is ∙ order_keeps (λ a. a.condition) (λ a s. refl) plant alarms faulted last console order ∙ follow.conditions;
+  suppressions = ap (λ d. map (λ (a : PlainAlarm). a.suppressed) (alarms_by d alarms)) is ∙ order_keeps (λ a. a.suppressed) (λ a s. refl) plant alarms faulted last console order ∙ follow.suppressions;
+}

@@ -1,0 +1,12 @@
+mod AlarmExamples
+pub mod CellWorlds
+pub mod Images
+pub mod OrderLaws
+pub mod Outs
+pub mod Systems
+pub mod Twins
+pub mod InRange
+pub mod Shown
+pub mod FewValues
+mod Watches
+mod Follows

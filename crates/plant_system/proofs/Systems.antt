@@ -1,0 +1,318 @@
+-- How the system goes on by one event, and what each step keeps.
+use Rattle.std.proofs.Common.{◌≡◌, ℕ, ◌+◌, ◌<◌, ◌≤◌, ℤ, Bool, true, false, List, [], ◌∷◌, ◌++◌, length, map, All, fold, ap, refl, sym, ◌∙◌, subst, zero-add, arith, Option, Some, None, Ok, Err, suc, zero, replicate}
+use Rattle.std.specs.declared.result.Result.{Result}
+use Rattle.std.proofs.lemmas.List.{length-map, length-set}
+use Rattle.std.proofs.lemmas.List.Elements.{All-nil, All-cons, All-map, All-weaker}
+use Rattle.std.proofs.lemmas.List.Sums.{fold-append}
+use Rattle.std.proofs.lemmas.Bool.Decides.{nat_tests}
+use Rattle.plant_types.specs.Pairs.{PlainPair}
+use Rattle.plant_types.specs.declared.values.Value.{Value}
+use Rattle.alarm_machine.specs.declared.states.OrderFault.{OrderFault}
+use Rattle.alarm_machine.specs.Codes.{PlainChange, code_of, change_between}
+use Rattle.alarm_machine.specs.Alarms.{PlainAlarm}
+use Rattle.alarm_bank.specs.declared.rows.Site.{Site}
+use Rattle.alarm_bank.specs.Banks.{IsSite}
+use Rattle.alarm_bank.specs.Moves.{put_all, changes_from}
+use Rattle.alarm_bank.proofs.BankLaws.{scan_each_length}
+use Rattle.st_tree.specs.Meaning.{Ran, Done, Trapped}
+use Rattle.plant_logic.specs.declared.logic.Variable.{Variable}
+use Rattle.plant_logic.specs.Source.{Source}
+use Rattle.plant_logic.specs.Worlds.{World, opening, run_program}
+use Rattle.plant_logic.specs.Paths.{paths_of, path_text}
+use Rattle.plant_cells.specs.Cells.{value_at}
+use Rattle.block_frames.specs.Stands.{StandFor}
+use Rattle.plant_walk.specs.Sound.{IsSound}
+use Rattle.plant_config.specs.declared.rows.AlarmRow.{AlarmRow}
+use Rattle.plant_config.specs.Plants.{PlainPlant, IsPlant, IsAlarmRow}
+use Rattle.plant_system.specs.declared.event.TheConstants.{MOST_EVENTS}
+use Rattle.event_history.specs.declared.event.Event.{Event}
+use Rattle.event_history.specs.declared.event.Event.TheVariants as event
+use Rattle.event_history.specs.declared.event.Order.{Order}
+use Rattle.plant_system.specs.declared.event.EngineFault.{EngineFault}
+use Rattle.plant_system.specs.declared.event.EngineFault.TheVariants as refusal
+use Rattle.plant_system.specs.declared.state.Effect.{Effect}
+use Rattle.plant_system.specs.declared.state.Effect.TheVariants as effect
+use Rattle.plant_config.specs.Names.{globals_of, programs_of, body_paths}
+use Rattle.scan_logic.specs.Scans.{Scanned, after_run, programs_from}
+use Rattle.plant_system.specs.Programs.{opening_faulted, with_inputs, global_in, world_after}
+use Rattle.plant_system.specs.Orders.{order_outcome, alarms_by, faulted_by}
+use Rattle.plant_system.specs.System.{System, system, after_event, taken_scan, scan_event, order_event, opening_system, opening_alarm, scanned_by, after_scan_event, after_order_event, ordered, conditions, suppressions, alarms_after, sites_of, outputs_from, out_at, outs_from}
+use Rattle.alarm_watch.specs.declared.watched.Watch.{Watch}
+use Rattle.alarm_watch.specs.Watched.{Follow}
+use Rattle.plant_system.specs.Watches.{watches_of}
+use Rattle.plant_system.specs.Reports.{PlainReport}
+use Rattle.plant_system.specs.States.{PlainState, PlainScanEffect, PlainPreparedOrder, after_effect, IsState, IsReport}
+use Rattle.scan_logic.specs.Runs.{ProgramsRan}
+use Rattle.plant_system.specs.Steps.{ScanRan}
+use Rattle.plant_system.proofs.CellWorlds.{inputs_stand, values_stand, alarms_same, outputs_stand, outs_stand}
+use Rattle.plant_system.proofs.Follows.{follow_order}
+use Rattle.plant_system.proofs.Images.{has_number}
+
+event_holds : (s : System) (e : Event) → (after_event s e).plant ≡ s.plant
+event_holds s (event.Scan image t) = refl
+event_holds s (event.Order console order) = refl
+
+plant_from : (s : System) (history : List Event) → (fold after_event s history).plant ≡ s.plant
+plant_from s [] = refl
+plant_from s (e ∷ history) = plant_from (after_event s e) history ∙ event_holds s e
+
+-- a system keeps the plant that it began with
+pub system_keeps_its_plant : (plant : PlainPlant) (history : List Event) → (system plant history).plant ≡ plant
+unfolding system
+system_keeps_its_plant plant history = plant_from (opening_system plant) history
+
+pub system_next : (plant : PlainPlant) (history : List Event) (e : Event) → system plant (history ++ e ∷ []) ≡ after_event (system plant history) e
+unfolding system
+system_next plant history e = fold-append after_event (opening_system plant) history (e ∷ [])
+
+pub system_none : (plant : PlainPlant) → system plant [] ≡ opening_system plant
+unfolding system
+system_none plant = refl
+
+-- what the opening system has and each step keeps, every system has
+module _ (P : System → Type 0) (keeps : (s : System) (e : Event) → P s → P (after_event s e)) where
+  kept_from : (s : System) (history : List Event) → P s → P (fold after_event s history)
+  kept_from s [] p = p
+  kept_from s (e ∷ history) p = kept_from (after_event s e) history (keeps s e p)
+
+  pub system_keeps : (plant : PlainPlant) (history : List Event) → P (opening_system plant) → P (system plant history)
+  unfolding system
+  system_keeps plant history p = kept_from (opening_system plant) history p
+
+length-alarms_after : (now : ℕ → ℤ) (t : ℕ) (rows : List AlarmRow) (alarms : List PlainAlarm) → length alarms ≡ length rows → length (alarms_after now t rows alarms) ≡ length rows
+length-alarms_after now t rows alarms h =
+    scan_each_length (conditions now rows) (suppressions now rows) t alarms (length-map rows _ ∙ sym h) (length-map rows _ ∙ sym h) ∙ h
+
+length-alarms_by : (done : Result Effect OrderFault) (alarms : List PlainAlarm) → length (alarms_by done alarms) ≡ length alarms
+length-alarms_by (Ok (effect.Changed n alarm)) alarms = length-set alarms n alarm
+length-alarms_by (Ok (effect.Restarted n)) alarms = refl
+length-alarms_by (Err e) alarms = refl
+
+length-faulted_by : (done : Result Effect OrderFault) (faulted : List Bool) → length (faulted_by done faulted) ≡ length faulted
+length-faulted_by (Ok (effect.Changed n alarm)) faulted = refl
+length-faulted_by (Ok (effect.Restarted n)) faulted = length-set faulted n false
+length-faulted_by (Err e) faulted = refl
+
+length-after_run : (ran : Ran World) (others : World → Scanned) (n : ℕ) → ((w : World) → length ((others w).faulted) ≡ n) → length ((after_run ran others).faulted) ≡ suc n
+length-after_run (Done w) others n h = ap suc (h w)
+length-after_run (Trapped w spot trap) others n h = ap suc (h w)
+
+length-programs_from : (source : Source) (t n : ℕ) (flags : List Bool) (w : World) → length ((programs_from source t n flags w).faulted) ≡ length flags
+length-programs_from source t n [] w = refl
+length-programs_from source t n (true ∷ flags) w = ap suc (length-programs_from source t (n + 1) flags w)
+length-programs_from source t n (false ∷ flags) w = length-after_run (run_program source n t w) (programs_from source t (n + 1) flags) (length flags) (length-programs_from source t (n + 1) flags)
+
+length-world_after : (plant : PlainPlant) (image : List (ℕ × Value)) (t : ℕ) (flags : List Bool) (w : World) → length ((world_after plant image t flags w).faulted) ≡ length flags
+unfolding world_after
+length-world_after plant image t flags w = length-programs_from plant.source t 0 flags (with_inputs (globals_of plant) image w)
+
+-- an alarm for each row of the database
+pub system_alarms : (plant : PlainPlant) (history : List Event) → length ((system plant history).alarms) ≡ length ((system plant history).plant.alarms)
+system_alarms plant history =
+    system_keeps (λ s. length s.alarms ≡ length s.plant.alarms)
+    (λ s. elim [
+      | event.Scan image t ↦ λ h. length-alarms_after (global_in (globals_of s.plant) (scanned_by s image t).world) t s.plant.alarms s.alarms h
+      | event.Order console order ↦ λ h. length-alarms_by (ordered s console order) s.alarms ∙ h
+    ])
+    plant history (length-map plant.alarms opening_alarm)
+
+-- a flag for each program
+pub system_faulted : (plant : PlainPlant) (history : List Event) → length ((system plant history).faulted) ≡ length (programs_of (system plant history).plant)
+system_faulted plant history =
+    system_keeps (λ s. length s.faulted ≡ length (programs_of s.plant))
+    (λ s. elim [
+      | event.Scan image t ↦ λ h. length-world_after s.plant image t s.faulted s.world ∙ h
+      | event.Order console order ↦ λ h. length-faulted_by (ordered s console order) s.faulted ∙ h
+    ])
+    plant history (length-map (programs_of plant) (λ (program : List ℕ). false))
+
+events_from : (s : System) (history : List Event) → (fold after_event s history).events ≡ s.events + length history
+events_from s [] = omega arith
+events_from s (event.Scan image t ∷ history) = let h = events_from (after_event s (event.Scan image t)) history in omega (arith, h)
+events_from s (event.Order console order ∷ history) = let h = events_from (after_event s (event.Order console order)) history in omega (arith, h)
+
+-- as many events as the history has
+pub system_events : (plant : PlainPlant) (history : List Event) → (system plant history).events ≡ length history
+unfolding system
+system_events plant history = events_from (opening_system plant) history ∙ zero-add (length history)
+
+-- an engine has an alarm for each row of the database
+pub kept_alarms : (plant : PlainPlant) (history : List Event) (k : PlainState) → IsState (system plant history) k → length k.alarms ≡ length ((system plant history).plant.alarms)
+kept_alarms plant history k held = ap length held.alarms_are ∙ system_alarms plant history
+
+-- and a flag for each program
+pub kept_faulted : (plant : PlainPlant) (history : List Event) (k : PlainState) → IsState (system plant history) k → length k.faulted ≡ length (programs_of (system plant history).plant)
+kept_faulted plant history k held = ap length held.faulted_is ∙ system_faulted plant history
+
+-- and its outputs are those of its cells
+pub kept_outputs : (sys : System) (k : PlainState) → IsState sys k → k.outputs ≡ outputs_from 0 (globals_of sys.plant) (value_at k.cells)
+kept_outputs sys k held =
+    let source = sys.plant.source in
+    held.outputs_are ∙ sym (outputs_stand source (value_at k.cells) (global_in source.globals sys.world) (values_stand source k.cells sys.world held.world_stands))
+
+-- what the programs leave in cells is what they leave in the system's world
+runs_world : (sys : System) (old new : PlainState) (image : List (ℕ × Value)) (t : ℕ) (r : PlainReport) → IsSound sys.plant.source → All (has_number (length sys.plant.source.globals)) image → IsState sys old → ScanRan sys.plant old image t new r
+    → ProgramsRan sys.plant.source (scanned_by sys image t) new.cells new.faulted r.faults
+unfolding world_after
+runs_world sys old new image t r sound within held made =
+    let source = sys.plant.source in
+    let w = with_inputs source.globals image sys.world in
+    subst (λ (flags : List Bool). ProgramsRan source (programs_from source t 0 flags w) new.cells new.faulted r.faults) held.faulted_is
+    (made.programs w (inputs_stand source image old.cells sys.world sound within held.world_stands))
+
+-- what a scan leaves is the next system
+pub scan_agrees : (sys : System) (old new : PlainState) (image : List (ℕ × Value)) (t : ℕ) (r : PlainReport) → IsPlant sys.plant → All (has_number (length sys.plant.source.globals)) image → IsState sys old → ScanRan sys.plant old image t new r
+    → IsState (after_scan_event sys image t) new
+scan_agrees sys old new image t r is within held made =
+    let plant = sys.plant in
+    let runs = runs_world sys old new image t r is.sound within held made in
+    let look = global_in (globals_of plant) (scanned_by sys image t).world in
+    let now = values_stand plant.source new.cells (scanned_by sys image t).world runs.world_stands in
+    record {
+      world_stands = runs.world_stands;
+      faulted_is = runs.faulted_is;
+      sites_are = made.sites_are ∙ held.sites_are;
+      watches_are = made.watches_are ∙ held.watches_are;
+      follow = λ _. made.follow;
+      alarms_are = made.alarms_are ∙ alarms_same plant (value_at new.cells) look t plant.alarms old.alarms now is.alarms ∙ ap (alarms_after look t plant.alarms) held.alarms_are;
+      outputs_are = made.outputs_are ∙ outputs_stand plant.source (value_at new.cells) look now;
+      moment_is = made.moment_is;
+      in_range = rw made.moment_is made.in_range;
+    }
+
+-- the numbers that are reported are there
+pub numbers_more : {A : Type 0} (xs : List (ℕ × A)) (n m : ℕ) → n ≤ m → All (λ x. x.0 < n) xs → All (λ x. x.0 < m) xs
+numbers_more {A} xs n m h all = All-weaker (λ (x : ℕ × A). x.0 < n) (λ (x : ℕ × A). x.0 < m) (λ x below. omega arith) xs all
+
+pub changes_within : (n : ℕ) (old new : List PlainAlarm) → All (λ c. c.0 < n + length old) (changes_from n old new)
+changes_within n [] new = All-nil (λ (x : ℕ × PlainChange). x.0 < n + 0)
+changes_within n (a ∷ old) [] = All-nil (λ (x : ℕ × PlainChange). x.0 < n + suc (length old))
+changes_within n (a ∷ old) (b ∷ new) =
+    let rest = numbers_more (changes_from (n + 1) old new) (n + 1 + length old) (n + suc (length old)) (omega arith) (changes_within (n + 1) old new) in
+    one_more (change_between (code_of a.state) (code_of b.state)) rest
+  where
+    one_more : (o : Option PlainChange) → All (λ c. c.0 < n + suc (length old)) (changes_from (n + 1) old new) → All (λ c. c.0 < n + suc (length old)) (elim o [ None ↦ changes_from (n + 1) old new | Some change ↦ (n, change) ∷ changes_from (n + 1) old new ])
+    one_more None rest = rest
+    one_more (Some change) rest = All-cons (λ (x : ℕ × PlainChange). x.0 < n + suc (length old)) (n, change) (changes_from (n + 1) old new) (omega arith) rest
+
+outs_within : (n : ℕ) (globals : List Variable) (before now : ℕ → ℤ) → All (λ o. o.0 < n + length globals) (outs_from n globals before now)
+outs_within n [] before now = All-nil (λ (x : ℕ × Value). x.0 < n + 0)
+outs_within n (global ∷ globals) before now =
+    let rest = numbers_more (outs_from (n + 1) globals before now) (n + 1 + length globals) (n + suc (length globals)) (omega arith) (outs_within (n + 1) globals before now) in
+    one_more (out_at n global before now) rest
+  where
+    one_more : (o : Option Value) → All (λ o. o.0 < n + suc (length globals)) (outs_from (n + 1) globals before now) → All (λ o. o.0 < n + suc (length globals)) (elim o [ None ↦ outs_from (n + 1) globals before now | Some v ↦ (n, v) ∷ outs_from (n + 1) globals before now ])
+    one_more None rest = rest
+    one_more (Some v) rest = All-cons (λ (x : ℕ × Value). x.0 < n + suc (length globals)) (n, v) (outs_from (n + 1) globals before now) (omega arith) rest
+
+-- a path for each body
+as_many_paths : (plant : PlainPlant) → length (paths_of plant.source) ≡ length (body_paths plant)
+as_many_paths plant = sym (length-map (paths_of plant.source) path_text)
+
+-- what a scan reports is what its event did
+pub scan_reports : (sys : System) (old new : PlainState) (image : List (ℕ × Value)) (t : ℕ) (r : PlainReport) → IsPlant sys.plant → All (has_number (length sys.plant.source.globals)) image → length old.alarms ≡ length sys.plant.alarms → IsState sys old → ScanRan sys.plant old image t new r
+    → IsReport sys (event.Scan image t) r
+scan_reports sys old new image t r is within each held made =
+    let plant = sys.plant in
+    let runs = runs_world sys old new image t r is.sound within held made in
+    let after = scan_agrees sys old new image t r is within held made in
+    let look = global_in (globals_of plant) (scanned_by sys image t).world in
+    let before = values_stand plant.source old.cells sys.world held.world_stands in
+    let now = values_stand plant.source new.cells (scanned_by sys image t).world runs.world_stands in
+    record {
+      moment_is = made.reported_at;
+      faults_are = runs.faults_are;
+      faults_within = subst (λ n. All (λ f. f.0.path < n) r.faults) (as_many_paths plant) made.faults_within;
+      changes_are = made.changes_are ∙ ap (λ a. changes_from 0 a new.alarms) held.alarms_are ∙ ap (changes_from 0 sys.alarms) after.alarms_are;
+      changes_within = subst (λ (l : List (ℕ × PlainChange)). All (λ c. c.0 < length plant.alarms) l) (sym made.changes_are) (numbers_more (changes_from 0 old.alarms new.alarms) (0 + length old.alarms) (length plant.alarms) (omega arith) (changes_within 0 old.alarms new.alarms));
+      outs_within = subst (λ (l : List (ℕ × Value)). All (λ o. o.0 < length plant.source.globals) l) (sym made.outs_are) (numbers_more (outs_from 0 plant.source.globals (value_at old.cells) (value_at new.cells)) (0 + length plant.source.globals) (length plant.source.globals) (omega arith) (outs_within 0 plant.source.globals (value_at old.cells) (value_at new.cells)));
+      outs_are = made.outs_are ∙ outs_stand plant.source (value_at old.cells) (global_in (globals_of plant) sys.world) (value_at new.cells) look before now;
+    }
+
+-- the event of a scan, by what an engine keeps and how many events there were
+pub scan_event_is : (plant : PlainPlant) (history : List Event) (k : PlainState) (n : ℕ) (pairs : List PlainPair) (t : ℕ) → IsState (system plant history) k → n ≡ length history → taken_scan (globals_of plant) k.moment n pairs t ≡ scan_event (system plant history) pairs t
+scan_event_is plant history k n pairs t held is =
+    let own = system_keeps_its_plant plant history in
+    let events = is ∙ sym (system_events plant history) in
+    λ i. taken_scan (globals_of (sym own i)) (held.moment_is i) (events i) pairs t
+
+-- what an effect makes of one state that is kept for a system, it makes of each
+pub effect_anywhere : (sys next : System) (old k : PlainState) (effect : PlainScanEffect) → IsState sys old → IsState sys k → IsState next (after_effect effect old) → IsState next (after_effect effect k)
+effect_anywhere sys next old k effect held keeps after = record {
+  world_stands = after.world_stands;
+  faulted_is = after.faulted_is;
+  sites_are = keeps.sites_are ∙ sym held.sites_are ∙ after.sites_are;
+  watches_are = keeps.watches_are ∙ sym held.watches_are ∙ after.watches_are;
+  follow = λ _.
+      subst (λ (watches : List Watch). Follow (value_at effect.cells) watches (put_all k.alarms effect.moved)) (held.watches_are ∙ sym keeps.watches_are)
+      (subst (λ (alarms : List PlainAlarm). Follow (value_at effect.cells) old.watches (put_all alarms effect.moved)) (held.alarms_are ∙ sym keeps.alarms_are) (after.follow refl));
+  alarms_are = ap (λ l. put_all l effect.moved) (keeps.alarms_are ∙ sym held.alarms_are) ∙ after.alarms_are;
+  outputs_are = after.outputs_are;
+  moment_is = after.moment_is;
+  in_range = after.in_range;
+}
+
+-- what an order leaves is the next system
+pub order_steps : (sys : System) (old : PlainState) (console : ℕ) (order : Order) (done : Result Effect OrderFault) → done ≡ ordered sys console order → IsState sys old
+    → IsState (after_order_event sys console order) (record old { faulted = faulted_by done old.faulted; alarms = alarms_by done old.alarms })
+order_steps sys old console order done is held = record {
+  world_stands = held.world_stands;
+  faulted_is = ap (λ d. faulted_by d old.faulted) is ∙ ap (faulted_by (ordered sys console order)) held.faulted_is;
+  sites_are = held.sites_are;
+  watches_are = held.watches_are;
+  follow = λ followed. follow_order (value_at old.cells) old.watches sys.plant old.alarms sys.faulted sys.moment console order done (is ∙ ap (λ l. order_outcome sys.plant l sys.faulted sys.moment console order) (sym held.alarms_are)) (held.follow followed);
+  alarms_are = ap (λ d. alarms_by d old.alarms) is ∙ ap (alarms_by (ordered sys console order)) held.alarms_are;
+  outputs_are = held.outputs_are;
+  moment_is = held.moment_is;
+  in_range = held.in_range;
+}
+
+-- no program is faulted at first
+pub opening_flags : (programs : List (List ℕ)) (n : ℕ) (flags : List Bool) → n ≡ length programs → flags ≡ replicate n false → flags ≡ opening_faulted programs
+opening_flags programs n flags many are = are ∙ unset n programs many
+  where
+    unset : (n : ℕ) (xs : List (List ℕ)) → n ≡ length xs → replicate n false ≡ map (λ (program : List ℕ). false) xs
+    unset n [] same = rw same refl
+    unset zero (x ∷ xs) same = absurd (omega (arith, same))
+    unset (suc n) (x ∷ xs) same = ap (λ l. false ∷ l) (unset n xs (omega (arith, same)))
+
+-- the area of each alarm is there, and its priority is one of four
+pub sites_there : (plant : PlainPlant) → IsPlant plant → All (IsSite (length plant.areas)) (sites_of plant.alarms)
+sites_there plant is =
+    let site : AlarmRow → Site = λ row. record { area = row.area; priority = row.priority } in
+    All-map (IsSite (length plant.areas)) site plant.alarms
+    (All-weaker (IsAlarmRow plant) (λ row. IsSite (length plant.areas) (site row)) (λ row there. record { area = there.area; lowest = there.lowest; highest = there.highest }) plant.alarms is.alarms)
+
+-- before the first event
+pub opening_agrees : (plant : PlainPlant) (k : PlainState) → StandFor plant.source k.cells (opening plant.source) → k.faulted ≡ opening_faulted (programs_of plant) → k.sites ≡ sites_of plant.alarms → k.watches ≡ watches_of plant.alarms → k.follows ≡ false → k.alarms ≡ map opening_alarm plant.alarms → k.outputs ≡ outputs_from 0 plant.source.globals (value_at k.cells) → k.moment ≡ 0 → IsState (opening_system plant) k
+opening_agrees plant k stands faulted sites watches never alarms outputs moment = record {
+  world_stands = stands;
+  faulted_is = faulted;
+  sites_are = sites;
+  watches_are = watches;
+  follow = λ is. absurd (let both : true ≡ false = sym is ∙ never in cc);
+  alarms_are = alarms;
+  outputs_are = outputs ∙ outputs_stand plant.source (value_at k.cells) (global_in (globals_of plant) (opening plant.source)) (values_stand plant.source k.cells (opening plant.source) stands);
+  moment_is = moment;
+  in_range = rw moment (omega arith);
+}
+
+-- an order where the history has room
+pub order_event_room : (plant : PlainPlant) (history : List Event) (console : ℕ) (order : Order) → length history < MOST_EVENTS → order_event (system plant history) console order ≡ Ok (event.Order console order)
+unfolding order_event
+order_event_room plant history console order few =
+    let events = system_events plant history in
+    grind (arith, nat_tests)
+
+-- the event of an order that was made ready
+pub order_event_ready : (plant : PlainPlant) (history : List Event) (console : ℕ) (order : Order) (p : PlainPreparedOrder) → length history < MOST_EVENTS → p.console ≡ console → p.order ≡ order → order_event (system plant history) console order ≡ Ok (event.Order p.console p.order)
+order_event_ready plant history console order p few console_is order_is =
+    let made : ℕ → Order → Result Event EngineFault = λ n o. Ok (event.Order n o) in
+    order_event_room plant history console order few ∙ ap (λ n. made n order) (sym console_is) ∙ ap (made p.console) (sym order_is)
+
+-- and where it is full
+pub order_event_full : (plant : PlainPlant) (history : List Event) (console : ℕ) (order : Order) → MOST_EVENTS ≤ length history → order_event (system plant history) console order ≡ Err refusal.HistoryFull
+unfolding order_event
+order_event_full plant history console order full =
+    let events = system_events plant history in
+    grind (arith, nat_tests)

@@ -1,0 +1,6 @@
+use Rattle.plant_system.proofs.InRange.{taken_fits}
+use Rattle.plant_system.proofs.scan.prepared_scan.Goals as goal
+
+pub run_scan-requires-clause-image : goal.run_scan-requires-clause-image
+run_scan-requires-clause-image g c =
+    rw c.as_slice-image.ensures.value (taken_fits _ _ _ _ _ _ _ c.in_ok-taken_image.ensures.ok)

@@ -1,0 +1,60 @@
+use Rattle.std.proofs.Common.{◌≡◌, ◌∙◌, ap, sym, subst, fold, map, rules}
+use Rattle.plant_cells.specs.Cells.{value_at}
+use Rattle.plant_system.specs.System.{outputs_from, outs_from}
+use Rattle.plant_system.specs.States.{PlainState}
+use Rattle.plant_walk.specs.Runs.{HasCells}
+use Rattle.plant_system.specs.Steps.{with_cell, output_in}
+use Rattle.plant_system.proofs.InRange.{inputs_have_cells, scan_stands}
+use Rattle.plant_system.proofs.Shown.{cells_showable, outputs_showable}
+use Rattle.plant_system.proofs.Outs.{outputs_renewed, outs_differ}
+use Rattle.alarm_watch.proofs.WatchLaws.{follow_after}
+use Rattle.plant_system.proofs.Watches.{step_watched, each_watched}
+use Rattle.plant_system.proofs.scan.run_scan.Goals as goal
+
+pub returns-clause-ok : goal.returns-clause-ok
+returns-clause-ok g c =
+    let plant = c.args.before.now.plant.now in
+    let old = c.args.before.now.state.now in
+    let before = value_at old.cells in
+    let now = value_at c.run_programs.new.cells in
+    let made = c.in_ok-outputs.ensures ∙ ap (map (output_in now)) (c.as_slice-2.ensures.value ∙ ap (λ (k : PlainState). k.outputs) c.old.view_is) in
+    let stepped = step_watched now c.args.moment plant.alarms old.watches old.alarms c.requires.ready.watches in
+    let each = each_watched plant.alarms old.watches old.alarms c.requires.ready.watches c.requires.ready.alarms in
+    let outputs : c.in_ok-outputs.outputs.items ≡ outputs_from 0 plant.source.globals now = outputs_renewed plant.source.globals before now old.outputs c.in_ok-outputs.outputs.items c.requires.ready.outputs made in
+    let outs : c.in_ok-outs.outs.items ≡ outs_from 0 plant.source.globals before now = outs_differ plant.source.globals before now c.in_ok-outputs.outputs.items c.in_ok-outs.outs.items outputs (search rules) in
+    record {
+      programs = search rules;
+      faults_within = search rules;
+      sites_are = search rules;
+      watches_are = search rules;
+      follow = rw (c.in_ok-moved.ensures.alarms) (follow_after now c.args.moment old.watches old.alarms each);
+      alarms_are = search rules ∙ stepped;
+      changes_are = search rules;
+      outputs_are = outputs;
+      outs_are = outs;
+      moment_is = search rules;
+      reported_at = search rules;
+      in_range = search rules;
+    }
+
+pub renewed-requires : goal.renewed-requires
+renewed-requires g c =
+    let plant = c.args.before.now.plant.now in
+    let old = c.args.before.now.state.now in
+    let now = value_at c.run_programs.new.cells in
+    let held = scan_stands plant.source old.cells c.run_programs.new.cells c.args.image.now c.args.moment old.faulted c.run_programs.new.faulted.items c.in_ok-faults.faults.items c.requires.ready.sound c.requires.image c.requires.ready.values (search rules) in
+    let showable = outputs_showable plant.source.globals (value_at old.cells) now old.outputs (cells_showable plant.source c.run_programs.new.cells held) c.requires.ready.outputs in
+    rw c.as_slice-2.ensures.value (rw (← c.old.view_is) at showable)
+
+pub run_programs-requires-clause-cells : goal.run_programs-requires-clause-cells
+run_programs-requires-clause-cells g c =
+    let plant = c.args.before.now.plant.now in
+    let old = c.args.before.now.state.now in
+    let set : c.set_inputs.new.cells ≡ fold with_cell old.cells c.args.image.now = search rules in
+    rw c.logic-framed.ensures.source (subst (HasCells plant.source) (sym set) (inputs_have_cells plant.source old.cells c.args.image.now c.requires.ready.sound c.requires.image c.requires.ready.values))
+
+pub step_alarms-requires-clause-each : goal.step_alarms-requires-clause-each
+step_alarms-requires-clause-each g c =
+    let plant = c.args.before.now.plant.now in
+    let old = c.args.before.now.state.now in
+    each_watched plant.alarms old.watches old.alarms c.requires.ready.watches c.requires.ready.alarms

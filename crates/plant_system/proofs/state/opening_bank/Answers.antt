@@ -1,0 +1,9 @@
+use Rattle.std.proofs.Common.{◌≡◌, ◌∙◌, ap}
+use Rattle.plant_system.specs.System.{sites_of}
+use Rattle.plant_system.proofs.Systems.{sites_there}
+use Rattle.plant_system.proofs.state.opening_bank.Goals as goal
+
+pub new-requires-clause-sites : goal.new-requires-clause-sites
+new-requires-clause-sites c =
+    let sites : c.in_ok-sites.sites.items ≡ sites_of c.args.plant.now.alarms = c.in_ok-sites.ensures ∙ ap sites_of c.alarm_rows-rows.ensures.rows in
+    rw (sites, c.areas.ensures) (sites_there c.args.plant.now c.alarm_rows-rows.ensures.plant)

@@ -1,0 +1,9 @@
+pub mod Programs
+pub mod Image
+pub mod Orders
+pub mod System
+pub mod Watches
+pub mod Reports
+pub mod Faults
+pub mod States
+pub mod Steps

@@ -1,0 +1,80 @@
+-- What is kept of a system, what a scan and an order that were made ready do to it, and what a scan reports.
+use Rattle.std.specs.Prelude.{◌≡◌, ℕ, ◌<◌, ◌≤◌, Bool, true, List, length, map, All, Result}
+use Rattle.plant_types.specs.declared.values.Value.{Value}
+use Rattle.plant_cells.specs.Cells.{PlainCells, value_at}
+use Rattle.block_frames.specs.Stands.{StandFor}
+use Rattle.plant_walk.specs.Runs.{place_spot}
+use Rattle.alarm_machine.specs.Alarms.{PlainAlarm}
+use Rattle.alarm_machine.specs.declared.states.OrderFault.{OrderFault}
+use Rattle.alarm_machine.specs.declared.limits.TheConstants.{LAST_MOMENT}
+use Rattle.alarm_bank.specs.declared.rows.Site.{Site}
+use Rattle.alarm_bank.specs.Moves.{put_all}
+use Rattle.alarm_watch.specs.declared.watched.Watch.{Watch}
+use Rattle.alarm_watch.specs.Watched.{Follow}
+use Rattle.plant_config.specs.Names.{globals_of, body_paths}
+use Rattle.event_history.specs.declared.event.Event.{Event}
+use Rattle.event_history.specs.declared.event.Order.{Order}
+use Rattle.plant_system.specs.declared.event.Reply.{Reply}
+use Rattle.plant_system.specs.declared.state.Effect.{Effect}
+use Rattle.plant_system.specs.Reports.{PlainReport}
+use Rattle.plant_system.specs.System.{System, after_event, faults_of, changes_of, outs_of, outputs_of, sites_of}
+use Rattle.plant_system.specs.Watches.{watches_of}
+
+-- what is kept of a system beside its plant: the cells of the variables and clocks, the faulted programs, the area and priority of each alarm and what it watches, whether there was a scan, so that the alarms follow the cells, the alarms, the outputs and the last moment
+pub record PlainState : Type 0 where
+  pub cells : PlainCells
+  pub faulted : List Bool
+  pub sites : List Site
+  pub watches : List Watch
+  pub follows : Bool
+  pub alarms : List PlainAlarm
+  pub outputs : List (ℕ × Value)
+  pub moment : ℕ
+
+-- what is kept is what the system has
+pub record IsState (sys : System) (k : PlainState) : Type 0 where
+  pub world_stands : StandFor sys.plant.source k.cells sys.world
+  pub faulted_is : k.faulted ≡ sys.faulted
+  pub sites_are : k.sites ≡ sites_of sys.plant.alarms
+  pub watches_are : k.watches ≡ watches_of sys.plant.alarms
+  pub follow : k.follows ≡ true → Follow (value_at k.cells) k.watches k.alarms
+  pub alarms_are : k.alarms ≡ sys.alarms
+  pub outputs_are : k.outputs ≡ outputs_of sys
+  pub moment_is : k.moment ≡ sys.moment
+  pub in_range : k.moment ≤ LAST_MOMENT
+
+-- a report is what an event did: its moment, the faults in program order, the changes in the order of the database, and the outputs that it changed in order of declaration; the plant has each path, each alarm and each global that it names by number
+pub record IsReport (sys : System) (e : Event) (r : PlainReport) : Type 0 where
+  pub moment_is : r.moment ≡ (after_event sys e).moment
+  pub faults_are : map (λ f. (place_spot sys.plant.source f.0, f.1)) r.faults ≡ faults_of sys e
+  pub faults_within : All (λ f. f.0.path < length (body_paths sys.plant)) r.faults
+  pub changes_are : r.changes ≡ changes_of sys e
+  pub changes_within : All (λ c. c.0 < length sys.plant.alarms) r.changes
+  pub outs_are : r.outs ≡ outs_of sys e
+  pub outs_within : All (λ o. o.0 < length (globals_of sys.plant)) r.outs
+
+-- what a scan does to a state: the cells, the faulted programs and the outputs that it leaves, the alarms that it moves, and its moment
+pub record PlainScanEffect : Type 0 where
+  pub cells : PlainCells
+  pub faulted : List Bool
+  pub outputs : List (ℕ × Value)
+  pub moved : List (ℕ × PlainAlarm)
+  pub moment : ℕ
+
+-- a state after that: the alarms that moved are put in their places, the others rest
+abbrev pub after_effect : PlainScanEffect → PlainState → PlainState
+after_effect effect k =
+    record k { cells = effect.cells; faulted = effect.faulted; follows = true; alarms = put_all k.alarms effect.moved; outputs = effect.outputs; moment = effect.moment }
+
+-- a scan that was made ready: its event, what it does and what it reports
+pub record PlainPrepared : Type 0 where
+  pub event : Event
+  pub effect : PlainScanEffect
+  pub report : PlainReport
+
+-- an order that was made ready: what it does, and its reply
+pub record PlainPreparedOrder : Type 0 where
+  pub console : ℕ
+  pub order : Order
+  pub done : Result Effect OrderFault
+  pub reply : Reply

@@ -1,0 +1,95 @@
+-- The parts of a scan over cells.
+use Rattle.std.specs.Prelude.{◌≡◌, ℕ, ◌<◌, ◌≤◌, ℤ, Bool, true, false, not, List, length, map, fold, slice_get, All, Option, Some, None, Ok}
+use Rattle.std.specs.Ordering.{int_eq}
+use Rattle.plant_types.specs.declared.values.Value.{Value}
+use Rattle.plant_types.specs.declared.values.Trap.{Trap}
+use Rattle.plant_types.specs.Pairs.{PlainPair}
+use Rattle.plant_types.specs.Values.{kind_of, worth, value_of_kind, is_in_range}
+use Rattle.plant_types.specs.declared.values.Place.{Place}
+use Rattle.plant_logic.specs.declared.logic.Variable.{Variable}
+use Rattle.plant_logic.specs.Source.{Source}
+use Rattle.plant_logic.specs.Worlds.{World}
+use Rattle.plant_logic.specs.Ranges.{AllInRange}
+use Rattle.plant_logic.specs.Paths.{paths_of}
+use Rattle.plant_cells.specs.Cells.{PlainCells, value_at, assigned}
+use Rattle.block_frames.specs.Stands.{StandFor}
+use Rattle.plant_config.specs.Plants.{PlainPlant}
+use Rattle.plant_config.specs.Names.{globals_of, programs_of}
+use Rattle.plant_walk.specs.Sound.{IsSound}
+use Rattle.alarm_bank.specs.Moves.{changes_from}
+use Rattle.alarm_machine.specs.declared.limits.TheConstants.{LAST_MOMENT}
+use Rattle.event_history.specs.declared.event.Event.TheVariants as event
+use Rattle.plant_system.specs.Reports.{PlainReport}
+use Rattle.scan_logic.specs.Scans.{programs_from}
+use Rattle.scan_logic.specs.Runs.{ProgramsRan}
+use Rattle.plant_system.specs.System.{taken_scan, alarms_after, outputs_from, outs_from}
+use Rattle.plant_system.specs.Watches.{watches_of}
+use Rattle.plant_system.specs.States.{PlainState, PlainPrepared, PlainPreparedOrder, after_effect}
+use Rattle.event_history.specs.declared.event.Order.{Order}
+use Rattle.alarm_watch.specs.Watched.{Follow}
+use Rattle.plant_system.specs.Orders.{order_outcome, reply_by}
+
+-- an output, with the value that it has now
+abbrev pub output_in : (ℕ → ℤ) → ℕ × Value → ℕ × Value
+output_in now output = (output.0, value_of_kind (kind_of output.1) (now output.0))
+
+-- the number that an output has now is in the range of its kind
+abbrev pub IsShowable : (ℕ → ℤ) → ℕ × Value → Type 0
+IsShowable now output = is_in_range (kind_of output.1) (now output.0) ≡ true
+
+-- the number that each global has now is in the range of its kind
+abbrev pub AreShowable : List Variable → (ℕ → ℤ) → Type 0
+AreShowable globals now = (n : ℕ) (global : Variable) → slice_get globals n ≡ Some global → is_in_range global.kind (now n) ≡ true
+
+-- cells stand for a world in which each value is in the range of its kind
+pub record StandInRange (source : Source) (cells : PlainCells) : Type 0 where
+  pub world : World
+  pub stands : StandFor source cells world
+  pub in_range : AllInRange source world
+
+-- what the parts of an event ask of a plant and of what is kept
+pub record IsReady (plant : PlainPlant) (k : PlainState) : Type 0 where
+  pub sound : IsSound plant.source
+  pub programs : length k.faulted ≡ length (programs_of plant)
+  pub alarms : length k.alarms ≡ length plant.alarms
+  pub watches : k.watches ≡ watches_of plant.alarms
+  pub follow : k.follows ≡ true → Follow (value_at k.cells) k.watches k.alarms
+  pub outputs : k.outputs ≡ outputs_from 0 (globals_of plant) (value_at k.cells)
+  pub values : StandInRange plant.source k.cells
+
+-- whether the number of an output isn't what it was before
+abbrev pub differs : (ℕ → ℤ) → (ℕ → ℤ) → ℕ × Value → Bool
+differs before now output = not (int_eq (before output.0) (now output.0))
+
+-- an input gets its value
+abbrev pub with_cell : PlainCells → ℕ × Value → PlainCells
+with_cell cells input = assigned cells input.0 (worth input.1)
+
+-- what a scan with an image at moment t leaves and reports
+pub record ScanRan (plant : PlainPlant) (old : PlainState) (image : List (ℕ × Value)) (t : ℕ) (new : PlainState) (r : PlainReport) : Type 0 where
+  pub programs : (w : World) → StandFor plant.source (fold with_cell old.cells image) w → ProgramsRan plant.source (programs_from plant.source t 0 old.faulted w) new.cells new.faulted r.faults
+  pub faults_within : All (λ f. f.0.path < length (paths_of plant.source)) r.faults
+  pub sites_are : new.sites ≡ old.sites
+  pub watches_are : new.watches ≡ old.watches
+  pub follow : Follow (value_at new.cells) new.watches new.alarms
+  pub alarms_are : new.alarms ≡ alarms_after (value_at new.cells) t plant.alarms old.alarms
+  pub changes_are : r.changes ≡ changes_from 0 old.alarms new.alarms
+  pub outputs_are : new.outputs ≡ outputs_from 0 (globals_of plant) (value_at new.cells)
+  pub outs_are : r.outs ≡ outs_from 0 (globals_of plant) (value_at old.cells) (value_at new.cells)
+  pub moment_is : new.moment ≡ t
+  pub reported_at : r.moment ≡ t
+  pub in_range : t ≤ LAST_MOMENT
+
+-- a scan made ready from a state after so many events: its event, and what it leaves of that state and reports
+pub record IsPreparedScan (plant : PlainPlant) (old : PlainState) (events : ℕ) (pairs : List PlainPair) (t : ℕ) (p : PlainPrepared) : Type 0 where
+  pub image : List (ℕ × Value)
+  pub event_is : p.event ≡ event.Scan image t
+  pub taken : taken_scan (globals_of plant) old.moment events pairs t ≡ Ok p.event
+  pub ran : ScanRan plant old image t (after_effect p.effect old) p.report
+
+-- an order made ready from a state: what it does, and its reply
+pub record IsPreparedOrder (plant : PlainPlant) (k : PlainState) (console : ℕ) (order : Order) (p : PlainPreparedOrder) : Type 0 where
+  pub console_is : p.console ≡ console
+  pub order_is : p.order ≡ order
+  pub done_is : p.done ≡ order_outcome plant k.alarms k.faulted k.moment console order
+  pub reply_is : p.reply ≡ reply_by p.done k.alarms

@@ -1,0 +1,186 @@
+//! How an order is made ready: what it does, and its reply.
+
+ghost use Rattle.std.specs.Prelude.{◌≡◌, ◌==◌, ◌≤◌, length, Some};
+ghost use Rattle.std.specs.List.{list_any};
+ghost use Rattle.alarm_machine.specs.Alarms.{after_order};
+ghost use Rattle.alarm_machine.specs.declared.limits.TheConstants.{LAST_MOMENT};
+ghost use Rattle.plant_system.specs.Orders.{is_console, has_area, alarm_order, program_order, order_outcome, reply_by};
+ghost use Rattle.alarm_bank.specs.Moves.{change_from};
+ghost use Rattle.plant_system.specs.Steps.{IsPreparedOrder};
+
+use crate::event::Reply;
+use crate::state::{Effect, State};
+use alarm_machine::{Alarm, Change, OrderFault, Verb};
+use event_history::Order;
+use plant_config::Plant;
+use plant_file::Console;
+use std::marker::Model;
+
+/// An order that was made ready to be committed.
+#[derive(Drop)]
+pub struct PreparedOrder {
+    /// The number of the console that gives it.
+    pub console: u32,
+    /// The order.
+    pub order: Order,
+    /// What it does to the state, or why it is refused.
+    pub done: Result<Effect, OrderFault>,
+    /// The reply to it.
+    pub reply: Reply,
+}
+
+impl Model for PreparedOrder {
+    ghost use Rattle.plant_system.specs.States.{PlainPreparedOrder};
+
+    ghost Value = { PlainPreparedOrder };
+
+    ghost view = { λ p. record { console = p.console; order = p.order; done = p.done; reply = p.reply } };
+}
+
+/// Whether an area is among these.
+fn is_among(areas: &[usize], area: usize) -> bool
+    ensures { result ≡ list_any (λ a. a == area) areas.now }
+{
+    areas.contains(&area)
+}
+
+/// Whether a console has this number and this area.
+fn has_area(console: &Console, number: u32, area: u32) -> bool
+    ensures { result ≡ has_area number area console.now }
+{
+    console.number == number && is_among(console.areas.as_slice(), area as usize)
+}
+
+/// Whether a console may order the alarms of an area.
+fn may_order(consoles: &[Console], number: u32, area: u32) -> bool
+    ensures { result ≡ list_any (has_area number area) consoles.now }
+{
+    consoles
+        .iter()
+        .any(|console| has_area(console, number, area))
+}
+
+/// Whether a console is listed.
+fn is_listed(consoles: &[Console], number: u32) -> bool
+    ensures { result ≡ list_any (is_console number) consoles.now }
+{
+    consoles.iter().any(|console| console.number == number)
+}
+
+/// The alarm after an order, or why the order is refused.
+#[tactic(auto, using(crate::proofs::OrderLaws::after_order_ok, crate::proofs::OrderLaws::after_order_err))]
+fn after_order(alarm: Alarm, verb: Verb, last: u64) -> Result<Alarm, OrderFault>
+    requires { last ≤ LAST_MOMENT }
+    ensures { result ≡ after_order verb last alarm }
+{
+    let mut changed = alarm;
+    changed.order(verb, last)?;
+    Ok(changed)
+}
+
+/// What an order to the alarm of a number does, or why it is refused.
+fn alarm_order(
+    plant: &Plant,
+    alarms: &[Alarm],
+    last: u64,
+    console: u32,
+    verb: Verb,
+    number: u32,
+) -> Result<Effect, OrderFault>
+    requires each { length alarms.now ≡ length plant.now.alarms }
+    requires range { last ≤ LAST_MOMENT }
+    ensures { result ≡ alarm_order plant.now alarms.now last console verb number }
+{
+    let rows = plant.alarm_rows();
+    let at = number as usize;
+    if at >= rows.len() {
+        return Err(OrderFault::UnknownTarget);
+    }
+    if !may_order(plant.consoles(), console, rows[at].area) {
+        return Err(OrderFault::NotYourArea);
+    }
+    let alarm = after_order(alarms[at], verb, last)?;
+    Ok(Effect::Changed(number, alarm))
+}
+
+/// What a restart of the program of a number does, or why it is refused.
+fn program_order(
+    plant: &Plant,
+    faulted: &[bool],
+    console: u32,
+    number: u32,
+) -> Result<Effect, OrderFault>
+    ensures { result ≡ program_order plant.now faulted.now console number }
+{
+    let at = number as usize;
+    if at >= faulted.len() {
+        return Err(OrderFault::UnknownTarget);
+    }
+    if !is_listed(plant.consoles(), console) {
+        return Err(OrderFault::NotYourArea);
+    }
+    if faulted[at] {
+        Ok(Effect::Restarted(number))
+    } else {
+        Err(OrderFault::NotFaulted)
+    }
+}
+
+/// What an order does, or why it is refused.
+pub fn order_outcome(
+    plant: &Plant,
+    alarms: &[Alarm],
+    faulted: &[bool],
+    last: u64,
+    console: u32,
+    order: Order,
+) -> Result<Effect, OrderFault>
+    requires each { length alarms.now ≡ length plant.now.alarms }
+    requires range { last ≤ LAST_MOMENT }
+    ensures { result ≡ order_outcome plant.now alarms.now faulted.now last console order }
+{
+    match (order.target, order.verb) {
+        (None, _) => Err(OrderFault::UnknownTarget),
+        (Some(number), Verb::Restart) => program_order(plant, faulted, console, number),
+        (Some(number), verb) => alarm_order(plant, alarms, last, console, verb, number),
+    }
+}
+
+/// The change of the code from one alarm to another, if there is one.
+fn change_from(old: &Alarm, new: &Alarm) -> Option<Change>
+    ensures { result ≡ change_from (Some old.now) new.now }
+{
+    Change::between(old.state().code(), new.state().code())
+}
+
+/// The reply to an order, by what it does.
+pub fn reply_by(done: &Result<Effect, OrderFault>, alarms: &[Alarm]) -> Reply
+    ensures { result ≡ reply_by done.now alarms.now }
+{
+    match done {
+        Err(fault) => Reply::Refused(*fault),
+        Ok(Effect::Restarted(_)) => Reply::Done(None),
+        Ok(Effect::Changed(number, alarm)) => match alarms.get(*number as usize) {
+            Some(old) => Reply::Done(change_from(old, alarm)),
+            None => Reply::Done(None),
+        },
+    }
+}
+
+/// Makes an order of the console of a number ready.
+pub fn prepared_order(plant: &Plant, state: &State, console: u32, order: Order) -> PreparedOrder
+    requires alarms { length state.now.alarms ≡ length plant.now.alarms }
+    requires range { state.now.moment ≤ LAST_MOMENT }
+    ensures { IsPreparedOrder plant.now state.now console order result }
+{
+    let alarms = state.bank.alarms();
+    let faulted = state.faulted.as_slice();
+    let done = order_outcome(plant, alarms, faulted, state.bank.moment(), console, order);
+    let reply = reply_by(&done, alarms);
+    PreparedOrder {
+        console,
+        order,
+        done,
+        reply,
+    }
+}

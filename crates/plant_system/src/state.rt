@@ -1,0 +1,200 @@
+//! What is kept of a system beside its plant, and what a scan and an order do to it.
+
+ghost use Rattle.std.specs.Prelude.{◌≡◌, ◌<◌, ◌≤◌, length, map, slice_get, Some, IfOk, OnOk};
+ghost use Rattle.std.specs.Option.{option_map};
+ghost use Rattle.alarm_machine.specs.declared.limits.TheConstants.{LAST_MOMENT};
+ghost use Rattle.plant_config.specs.Plants.{IsPlant};
+ghost use Rattle.plant_system.specs.States.{IsState, after_effect};
+ghost use Rattle.plant_system.specs.Orders.{alarms_by, faulted_by};
+ghost use Rattle.plant_system.specs.System.{opening_alarm, opening_system, sites_of};
+ghost use Rattle.plant_system.specs.Watches.{watches_of};
+
+use crate::steps::{opening_alarms, opening_sites, outputs, watches_of};
+use alarm_bank::Bank;
+use alarm_machine::{Alarm, AlarmState, OrderFault};
+use alarm_watch::Watches;
+use plant_cells::Cells;
+use plant_config::Plant;
+use plant_types::Value;
+use std::alloc::{AllocError, Global};
+use std::marker::Model;
+use std::mem::replace;
+
+/// What is kept of a system beside its plant.
+#[derive(Drop)]
+pub struct State {
+    /// The values of the variables, by number, and the clocks of standard blocks.
+    pub cells: Cells,
+    /// For each program whether it is faulted.
+    pub faulted: Vec<bool>,
+    /// The alarms, in the order of the database, and the moment of the last scan.
+    pub bank: Bank,
+    /// What each alarm watches.
+    pub watches: Watches,
+    /// Whether there was a scan: then each alarm's last condition and suppression are what its globals hold in the cells.
+    pub follows: bool,
+    /// The outputs and their values, in order of declaration.
+    pub outputs: Vec<(u32, Value)>,
+}
+
+impl Model for State {
+    ghost use Rattle.plant_system.specs.States.{PlainState};
+
+    ghost Value = { PlainState };
+
+    ghost view = { λ s. record { cells = s.cells; faulted = s.faulted.items; sites = s.bank.sites; watches = s.watches; follows = s.follows; alarms = s.bank.alarms; outputs = s.outputs.items; moment = s.bank.moment } };
+}
+
+/// What a scan does to a state.
+#[derive(Drop)]
+pub struct ScanEffect {
+    /// The values that it leaves of the variables, by number, and the clocks of standard blocks.
+    pub cells: Cells,
+    /// For each program whether it is faulted then.
+    pub faulted: Vec<bool>,
+    /// The outputs and the values that it leaves of them.
+    pub outputs: Vec<(u32, Value)>,
+    /// The alarms that it moves, by number, as it leaves them.
+    pub moved: Vec<(u32, Alarm)>,
+    /// Its moment in milliseconds.
+    pub moment: u64,
+}
+
+impl Model for ScanEffect {
+    ghost use Rattle.plant_system.specs.States.{PlainScanEffect};
+
+    ghost Value = { PlainScanEffect };
+
+    ghost view = { λ s. record { cells = s.cells; faulted = s.faulted.items; outputs = s.outputs.items; moved = s.moved.items; moment = s.moment } };
+}
+
+/// What an order that isn't refused does to a state.
+#[derive(Clone, Copy)]
+pub enum Effect {
+    /// The alarm of a number becomes this one.
+    Changed(u32, Alarm),
+    /// The program of a number is restarted.
+    Restarted(u32),
+}
+
+/// The alarms of a plant before the first event. Fails if allocation fails.
+fn opening_bank(alloc: Global, plant: &Plant) -> Result<Bank, AllocError>
+    ensures { IfOk result (λ bank. bank ≡ record { sites = sites_of plant.now.alarms; alarms = map opening_alarm plant.now.alarms; moment = 0 }) }
+{
+    let rows = plant.alarm_rows();
+    let sites = opening_sites(alloc, rows)?;
+    let alarms = opening_alarms(alloc, rows)?;
+    Bank::new(alloc, plant.areas(), sites, alarms)
+}
+
+/// What the alarms of a plant watch. Fails if allocation fails.
+fn opening_watches(alloc: Global, plant: &Plant) -> Result<Watches, AllocError>
+    ensures { IfOk result (λ watches. watches ≡ watches_of plant.now.alarms) }
+{
+    let watches = watches_of(alloc, plant.alarm_rows())?;
+    Watches::new(alloc, watches)
+}
+
+/// The state before the first event: each variable has its initial value, no program is faulted, and each alarm is normal. Fails if
+/// allocation fails.
+pub fn opening_state(alloc: Global, plant: &Plant) -> Result<State, AllocError>
+    ensures state { IfOk result (IsState (opening_system plant.now)) }
+    ensures is_plant { OnOk result (IsPlant plant.now) }
+{
+    let logic = plant.logic();
+    let cells = logic.opening(alloc)?;
+    let outputs = outputs(alloc, logic.globals(), &cells)?;
+    let bank = opening_bank(alloc, plant)?;
+    let watches = opening_watches(alloc, plant)?;
+    let faulted = vec![in alloc; false; plant.programs() as usize]?;
+    Ok(State {
+        cells,
+        faulted,
+        bank,
+        watches,
+        follows: false,
+        outputs,
+    })
+}
+
+/// What holds nothing, to be written over.
+pub fn empty_effect(alloc: Global) -> ScanEffect {
+    ScanEffect {
+        cells: Cells::new(Vec::new(alloc), Vec::new(alloc)),
+        faulted: Vec::new(alloc),
+        outputs: Vec::new(alloc),
+        moved: Vec::new(alloc),
+        moment: 0,
+    }
+}
+
+/// A copy of cells, in the room of other cells if these have as many values and clocks. Fails if allocation fails.
+pub fn copied_cells(alloc: Global, cells: &Cells, room: Cells) -> Result<Cells, AllocError>
+    ensures { IfOk result (λ copy. copy ≡ cells.now) }
+{
+    if room.len() != cells.len() || room.clock_count() != cells.clock_count() {
+        return cells.copy(alloc);
+    }
+    let mut copy = room;
+    copy.copy_from(cells);
+    Ok(copy)
+}
+
+/// A copy of flags, in the room of other flags. Fails if allocation fails.
+pub fn copied_flags(flags: &[bool], room: Vec<bool>) -> Result<Vec<bool>, AllocError>
+    ensures { IfOk result (λ copy. copy.items ≡ flags.now) }
+{
+    let mut copy = room;
+    copy.clear();
+    copy.extend_from_slice(flags)?;
+    Ok(copy)
+}
+
+/// The state of the alarm of a number.
+pub fn alarm_state(state: &State, alarm: u32) -> AlarmState
+    requires { alarm < length state.now.alarms }
+    ensures { option_map (λ a. a.state) (slice_get state.now.alarms alarm) ≡ Some result }
+{
+    state.bank.state(alarm)
+}
+
+/// Does what a scan does, and returns what the state had in its place, for its room. It takes no memory.
+pub fn apply_scan(effect: ScanEffect, state: &mut State) -> ScanEffect
+    requires { effect.moment ≤ LAST_MOMENT }
+    ensures { state.new ≡ after_effect effect state.old }
+{
+    let ScanEffect {
+        cells,
+        faulted,
+        outputs,
+        moved,
+        moment,
+    } = effect;
+    state.bank.apply(moved.as_slice(), moment);
+    state.follows = true;
+    ScanEffect {
+        cells: replace(&mut state.cells, cells),
+        faulted: replace(&mut state.faulted, faulted),
+        outputs: replace(&mut state.outputs, outputs),
+        moved,
+        moment,
+    }
+}
+
+/// Does what an order does: nothing, if it is refused.
+pub fn apply(done: &Result<Effect, OrderFault>, state: &mut State)
+    ensures { state.new ≡ record state.old { faulted = faulted_by done.now state.old.faulted; alarms = alarms_by done.now state.old.alarms } }
+{
+    match done {
+        Ok(Effect::Changed(number, alarm)) => {
+            state.bank.replace(*number, *alarm);
+        }
+        Ok(Effect::Restarted(number)) => {
+            let at = *number as usize;
+            if at < state.faulted.len() {
+                state.faulted[at] = false;
+            }
+        }
+        Err(_) => {}
+    }
+}

@@ -1,0 +1,170 @@
+//! The parts of a scan: inputs, alarms and outputs.
+
+ghost use Rattle.std.specs.Prelude.{◌≡◌, ◌<◌, ◌^◌, true, length, fold, map, IfOk, All, ◌≤◌};
+ghost use Rattle.std.specs.List.{filter};
+ghost use Rattle.alarm_machine.specs.declared.limits.TheConstants.{LONGEST_SHELVE_MS};
+ghost use Rattle.plant_cells.specs.Cells.{value_at};
+ghost use Rattle.plant_system.specs.System.{opening_alarm, sites_of, is_output, outputs_from};
+ghost use Rattle.plant_system.specs.Watches.{watches_of};
+ghost use Rattle.alarm_watch.specs.Watched.{alarms_watched, Follow};
+ghost use Rattle.alarm_bank.specs.Moves.{put_all, changes_from};
+ghost use Rattle.plant_system.specs.Steps.{with_cell, output_in, differs, IsShowable, AreShowable};
+
+use crate::state::State;
+use alarm_bank::Site;
+use alarm_machine::{Alarm, Change};
+use alarm_watch::{Watch, value_at};
+use plant_cells::Cells;
+use plant_config::AlarmRow;
+use plant_logic::Variable;
+use plant_types::{Region, Value};
+use std::alloc::{AllocError, Global};
+
+/// Gives the inputs of an image their values.
+pub fn set_inputs(image: &[(u32, Value)], cells: &mut Cells)
+    ensures { cells.new ≡ fold with_cell cells.old image.now }
+{
+    for (global, value) in image {
+        let slot = *global as usize;
+        if slot < cells.len() {
+            cells.set(slot, value.worth());
+        }
+    }
+}
+
+/// The alarms before the first scan, one for each row. Fails if allocation fails.
+pub fn opening_alarms(alloc: Global, rows: &[AlarmRow]) -> Result<Vec<Alarm>, AllocError>
+    requires { All (λ row. row.max_shelve_ms ≤ LONGEST_SHELVE_MS) rows.now }
+    ensures { IfOk result (λ alarms. alarms.items ≡ map opening_alarm rows.now) }
+{
+    let mut alarms = Vec::new(alloc);
+    for row in rows {
+        alarms.push(Alarm::new(row.latching, row.max_shelve_ms))?;
+    }
+    Ok(alarms)
+}
+
+/// The area and the priority of each alarm, one for each row. Fails if allocation fails.
+pub fn opening_sites(alloc: Global, rows: &[AlarmRow]) -> Result<Vec<Site>, AllocError>
+    ensures { IfOk result (λ sites. sites.items ≡ sites_of rows.now) }
+{
+    let mut sites = Vec::new(alloc);
+    for row in rows {
+        sites.push(Site {
+            area: row.area,
+            priority: row.priority,
+        })?;
+    }
+    Ok(sites)
+}
+
+/// What each alarm watches, one for each row. Fails if allocation fails.
+pub fn watches_of(alloc: Global, rows: &[AlarmRow]) -> Result<Vec<Watch>, AllocError>
+    ensures { IfOk result (λ watches. watches.items ≡ watches_of rows.now) }
+{
+    let mut watches = Vec::new(alloc);
+    for row in rows {
+        watches.push(Watch {
+            condition: row.condition,
+            suppress: row.suppress,
+        })?;
+    }
+    Ok(watches)
+}
+
+/// The alarms of a state that a scan moves which leaves these cells, each as it leaves it, and the changes of their codes in the order of the
+/// database, both in the room of other lists. The state stays. Fails if allocation fails.
+pub fn step_alarms(
+    alloc: Global,
+    old: &State,
+    cells: &Cells,
+    moment: u64,
+    marks: &mut Vec<bool>,
+    room: (Vec<(u32, Alarm)>, Vec<(u32, Change)>),
+) -> Result<(Vec<(u32, Alarm)>, Vec<(u32, Change)>), AllocError>
+    requires each { length old.now.alarms ≡ length old.now.watches }
+    requires follow { old.now.follows ≡ true → Follow (value_at old.now.cells) old.now.watches old.now.alarms }
+    ensures alarms { IfOk result (λ r. put_all old.now.alarms r.0.items ≡ alarms_watched (value_at cells.now) moment old.now.watches old.now.alarms) }
+    ensures changes { IfOk result (λ r. r.1.items ≡ changes_from 0 old.now.alarms (alarms_watched (value_at cells.now) moment old.now.watches old.now.alarms)) }
+{
+    let bank = &old.bank;
+    let before = &old.cells;
+    let (alarms, changes) = room;
+    let moved = old.watches.moved(
+        alloc,
+        bank,
+        old.follows,
+        before,
+        cells,
+        moment,
+        marks,
+        alarms,
+    )?;
+    let changes = bank.changes(changes, moved.as_slice())?;
+    Ok((moved, changes))
+}
+
+/// Whether a region is that of outputs.
+fn is_output(region: Option<Region>) -> bool
+    ensures { result ≡ is_output region }
+{
+    matches!(region, Some(Region::Output))
+}
+
+/// The outputs and their values, in order of declaration: each is in the range of its kind. Fails if allocation fails.
+pub fn outputs(
+    alloc: Global,
+    globals: &[Variable],
+    cells: &Cells,
+) -> Result<Vec<(u32, Value)>, AllocError>
+    requires few { length globals.now < 2 ^ 32 }
+    requires ranges { AreShowable globals.now (value_at cells.now) }
+    ensures { IfOk result (λ outputs. outputs.items ≡ outputs_from 0 globals.now (value_at cells.now)) }
+{
+    let mut outputs = Vec::new(alloc);
+    for (i, global) in globals.iter().enumerate() {
+        if is_output(global.region) {
+            let number = i as u32;
+            let value = Value::of_kind(global.kind, value_at(cells, number));
+            outputs.push((number, value))?;
+        }
+    }
+    Ok(outputs)
+}
+
+/// The outputs with the values that they have in cells, in the room of other outputs; each is in the range of its kind. Fails if allocation fails.
+pub fn renewed(
+    outputs: &[(u32, Value)],
+    cells: &Cells,
+    room: Vec<(u32, Value)>,
+) -> Result<Vec<(u32, Value)>, AllocError>
+    requires { All (IsShowable (value_at cells.now)) outputs.now }
+    ensures { IfOk result (λ renewed. renewed.items ≡ map (output_in (value_at cells.now)) outputs.now) }
+{
+    let mut renewed = room;
+    renewed.clear();
+    for (global, value) in outputs {
+        let value = Value::of_kind(value.kind(), value_at(cells, *global));
+        renewed.push((*global, value))?;
+    }
+    Ok(renewed)
+}
+
+/// The outputs whose number isn't what it was before, in order, in the room of other outputs. Fails if allocation fails.
+pub fn changed(
+    outputs: &[(u32, Value)],
+    before: &Cells,
+    now: &Cells,
+    room: Vec<(u32, Value)>,
+) -> Result<Vec<(u32, Value)>, AllocError>
+    ensures { IfOk result (λ changed. changed.items ≡ filter (differs (value_at before.now) (value_at now.now)) outputs.now) }
+{
+    let mut changed = room;
+    changed.clear();
+    for (global, value) in outputs {
+        if value_at(before, *global) != value_at(now, *global) {
+            changed.push((*global, *value))?;
+        }
+    }
+    Ok(changed)
+}
