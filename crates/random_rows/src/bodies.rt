@@ -1,7 +1,9 @@
 //! Random bodies, as texts. A body is made from its beginning to its end: what is still to be written waits on a stack.
 
-use crate::dice::Dice;
-use crate::names::{BOOLS, Called, DINTS, GLOBALS, ROUTINES, Routine, TIMES};
+use crate::names::{
+    BLOCKS, BOOLS, Called, DINTS, GLOBALS, GROUPS, NAMES, PROGRAMS, Routine, THIRD, TIMES,
+};
+use gathered_runs::Dice;
 use plant_types::Kind;
 use std::alloc::{AllocError, Global};
 
@@ -10,6 +12,8 @@ use std::alloc::{AllocError, Global};
 enum Piece {
     /// These words.
     Words(&'static str),
+    /// A name that is assigned.
+    Target(&'static str),
     /// An expression of a kind, and at most so deep.
     Expr(Kind, u32),
     /// A list of statements, each at most so deep.
@@ -97,11 +101,19 @@ fn targets(kind: Kind) -> &'static [&'static str] {
     }
 }
 
+/// The groups of globals that a body uses: of one it reads globals, of the other it reads and assigns them.
+#[derive(Clone, Copy, Drop)]
+struct Groups {
+    read: &'static str,
+    assigned: &'static str,
+}
+
 /// A body that is being written.
 #[derive(Drop)]
 struct Writer<'a> {
     dice: &'a mut Dice,
     routine: Routine,
+    groups: Groups,
     /// What is written.
     text: String,
     /// What is still to be written, the next one last.
@@ -138,6 +150,18 @@ impl Writer<'_> {
         self.text.push_str(word)
     }
 
+    /// Writes a name: of a global with its group, and where there is no group, the like name of the body's own.
+    fn name(&mut self, name: &'static str, group: &'static str) -> Result<(), AllocError> {
+        match name.strip_prefix("g") {
+            Some(own) if group.is_empty() => self.text.push_str(own),
+            Some(_) => {
+                self.text.push_str(name)?;
+                self.text.push_str(group)
+            }
+            None => self.text.push_str(name),
+        }
+    }
+
     /// Writes a literal or a name of a kind.
     fn leaf(&mut self, kind: Kind) -> Result<(), AllocError> {
         if self.dice.is_one_of(3) {
@@ -149,8 +173,10 @@ impl Writer<'_> {
             Kind::Dint => routine.dints,
             Kind::Time => routine.times,
         };
-        let word = self.dice.pick(from, "");
-        self.text.push_str(word)
+        let name = self.dice.pick(from, "");
+        let groups = [self.groups.read, self.groups.assigned];
+        let group = self.dice.pick(&groups, "");
+        self.name(name, group)
     }
 
     /// Has two expressions of a kind written with an operator between them.
@@ -215,7 +241,7 @@ impl Writer<'_> {
     fn assignment(&mut self) -> Result<(), AllocError> {
         let kind = self.kind();
         let target = self.dice.pick(targets(kind), "");
-        self.text.push_str(target)?;
+        self.name(target, self.groups.assigned)?;
         self.text.push_str(" := ")?;
         let is_free = self.dice.is_one_of(4);
         match (kind, is_free) {
@@ -234,7 +260,7 @@ impl Writer<'_> {
                     Piece::Words(", "),
                     Piece::Words(*name),
                     Piece::Words(" => "),
-                    Piece::Words(target),
+                    Piece::Target(target),
                 ])?;
             }
         }
@@ -366,6 +392,7 @@ impl Writer<'_> {
     fn write(&mut self, piece: Piece) -> Result<(), AllocError> {
         match piece {
             Piece::Words(words) => self.text.push_str(words),
+            Piece::Target(name) => self.name(name, self.groups.assigned),
             Piece::Expr(kind, depth) => self.expression(kind, depth),
             Piece::List(depth) => self.list(depth),
             Piece::Stmt(depth) => self.statement(depth),
@@ -385,11 +412,18 @@ impl Writer<'_> {
     }
 }
 
-/// The text of a routine with a random body, which calls each of its blocks at least once.
-fn routine_text(alloc: Global, dice: &mut Dice, routine: Routine) -> Result<String, AllocError> {
+/// Adds a routine with a random body, which calls each of its blocks at least once.
+fn push_routine(
+    alloc: Global,
+    dice: &mut Dice,
+    text: &mut String,
+    routine: Routine,
+    groups: Groups,
+) -> Result<(), AllocError> {
     let mut writer = Writer {
         dice,
         routine,
+        groups,
         text: String::from_str(alloc, routine.head)?,
         pieces: Vec::new(alloc),
     };
@@ -398,16 +432,47 @@ fn routine_text(alloc: Global, dice: &mut Dice, routine: Routine) -> Result<Stri
         writer.next(&[Piece::List(routine.depth), Piece::Call(*called)])?;
     }
     writer.write_all()?;
-    writer.text.push_str(routine.end)?;
-    Ok(writer.text)
+    text.push_str(writer.text.as_str())?;
+    text.push_str(routine.end)
 }
 
-/// A random source: two block types and two programs with random bodies.
+/// The groups of the block types: the first one, or one time in two none.
+fn groups_of_blocks(dice: &mut Dice) -> Groups {
+    let group = dice.pick(&["0", ""], "");
+    Groups {
+        read: group,
+        assigned: group,
+    }
+}
+
+/// The groups of a program.
+fn groups_of_program(dice: &mut Dice) -> Groups {
+    Groups {
+        read: dice.pick(GROUPS, ""),
+        assigned: dice.pick(GROUPS, ""),
+    }
+}
+
+/// A program without its name, one of so many.
+fn program(dice: &mut Dice, many: u32) -> Routine {
+    let chosen = dice.pick(PROGRAMS, THIRD);
+    let depth = if many > 4 { 2 } else { chosen.depth };
+    Routine { depth, ..chosen }
+}
+
+/// A random source: two block types, and 2 to 12 programs with random bodies, which share some of the globals.
 pub fn source(alloc: Global, dice: &mut Dice) -> Result<String, AllocError> {
     let mut text = String::from_str(alloc, GLOBALS)?;
-    for routine in ROUTINES {
-        let body = routine_text(alloc, dice, routine)?;
-        text.push_str(body.as_str())?;
+    let groups = groups_of_blocks(dice);
+    for block in BLOCKS {
+        push_routine(alloc, dice, &mut text, block, groups)?;
+    }
+    let many = dice.below(11) + 2;
+    for name in NAMES.iter().take(many as usize) {
+        text.push_str(name)?;
+        let routine = program(dice, many);
+        let groups = groups_of_program(dice);
+        push_routine(alloc, dice, &mut text, routine, groups)?;
     }
     Ok(text)
 }

@@ -10,10 +10,10 @@ pub struct Called {
     pub outputs: &'static [(&'static str, Kind)],
 }
 
-/// A program or a block type.
+/// A program or a block type. Of the names that begin with `g` a body has those of the groups that it uses.
 #[derive(Clone, Copy, Drop)]
 pub struct Routine {
-    /// Its name and its declarations.
+    /// Its declarations; of a block type, its name before them.
     pub head: &'static str,
     pub end: &'static str,
     /// What may be read, by kind.
@@ -27,14 +27,22 @@ pub struct Routine {
     pub length: u32,
 }
 
-/// The globals.
+/// The globals: three inputs, and six groups of three, of which a group's number is the end of each name. Two groups have initial values.
 pub const GLOBALS: &str = "VAR_GLOBAL
   di AT %ID0 : DINT; bi AT %IX0.0 : BOOL; ti AT %IL0 : TIME;
-  gx AT %QD0 : DINT; gp AT %QX0.0 : BOOL; gu AT %QL0 : TIME;
+  gx0 AT %QD0 : DINT; gp0 AT %QX0.0 : BOOL; gu0 AT %QL0 : TIME;
+  gx1 AT %QD1 : DINT := 4; gp1 AT %QX0.1 : BOOL := TRUE; gu1 AT %QL1 : TIME := T#1s;
+  gx2 : DINT; gp2 : BOOL; gu2 : TIME;
+  gx3 : DINT := -2; gp3 : BOOL := TRUE; gu3 : TIME := T#500ms;
+  gx4 : DINT; gp4 : BOOL; gu4 : TIME;
+  gx5 : DINT; gp5 : BOOL; gu5 : TIME;
 END_VAR
 ";
 
-/// The variables that may be assigned anywhere.
+/// The groups of globals, and a few times none.
+pub const GROUPS: &[&str] = &["0", "1", "2", "3", "4", "5", "", ""];
+
+/// The variables that may be assigned anywhere; of a group's globals, those of one group.
 pub const DINTS: &[&str] = &["x", "y", "gx"];
 
 pub const BOOLS: &[&str] = &["p", "q", "gp"];
@@ -105,8 +113,11 @@ VAR x, y, i1, i2 : DINT; p, q : BOOL; u, v : TIME; off : TOF; inner : Low; END_V
     length: 2,
 };
 
+/// The block types.
+pub const BLOCKS: [Routine; 2] = [LOW, HIGH];
+
 const FIRST: Routine = Routine {
-    head: "PROGRAM First
+    head: "
 VAR x : DINT := 5; y, i1, i2, i3 : DINT; p, q : BOOL; u, v : TIME; inner : Low; outer : High; on : TON; edge : R_TRIG; END_VAR
 ",
     end: "END_PROGRAM
@@ -120,7 +131,7 @@ VAR x : DINT := 5; y, i1, i2, i3 : DINT; p, q : BOOL; u, v : TIME; inner : Low; 
 };
 
 const SECOND: Routine = Routine {
-    head: "PROGRAM Second
+    head: "
 VAR x, y, i1, i2, i3 : DINT; p : BOOL := TRUE; q : BOOL; u, v : TIME := T#1m; outer : High; off : TOF; END_VAR
 ",
     end: "END_PROGRAM
@@ -133,5 +144,36 @@ VAR x, y, i1, i2, i3 : DINT; p : BOOL := TRUE; q : BOOL; u, v : TIME := T#1m; ou
     length: 3,
 };
 
-/// The routines of a source: two block types and two programs.
-pub const ROUTINES: [Routine; 4] = [LOW, HIGH, FIRST, SECOND];
+/// The program that calls standard blocks alone.
+pub const THIRD: Routine = Routine {
+    head: "
+VAR x, y : DINT := 2; i1, i2, i3 : DINT; p, q : BOOL; u, v : TIME; on : TON; off : TOF; edge : R_TRIG; END_VAR
+",
+    end: "END_PROGRAM
+",
+    dints: &["x", "y", "gx", "gx", "di", "i1", "i2", "i3"],
+    bools: &["p", "q", "gp", "gp", "bi", "on.Q", "off.Q", "edge.Q"],
+    times: &["u", "v", "gu", "gu", "ti", "on.ET", "off.ET"],
+    called: &[TON, TOF, EDGE],
+    depth: 3,
+    length: 3,
+};
+
+/// The programs without their names.
+pub const PROGRAMS: &[Routine] = &[FIRST, SECOND, THIRD, THIRD];
+
+/// How each program begins.
+pub const NAMES: &[&str] = &[
+    "PROGRAM P1",
+    "PROGRAM P2",
+    "PROGRAM P3",
+    "PROGRAM P4",
+    "PROGRAM P5",
+    "PROGRAM P6",
+    "PROGRAM P7",
+    "PROGRAM P8",
+    "PROGRAM P9",
+    "PROGRAM P10",
+    "PROGRAM P11",
+    "PROGRAM P12",
+];

@@ -7,4 +7,4 @@ mod scans;
 mod twin;
 
 pub use scans::{Scanned, TwinScans};
-pub use twin::Twin;
+pub use twin::{Twin, set};

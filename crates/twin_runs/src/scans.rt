@@ -1,10 +1,11 @@
 //! The scans of a plant, as a server takes them.
 
-ghost use Rattle.std.specs.Prelude.{◌≡◌, ◌<◌, length};
+ghost use Rattle.std.specs.Prelude.{◌≡◌, ◌<◌, length, IfOk};
+ghost use Rattle.plant_walk.specs.Runs.{HasCells};
 
 use crate::twin::Twin;
 use plant_types::{Pair, Region, Value, fitted};
-use plant_walk::{Framed, Walked};
+use plant_walk::{Framed, Walked, sound_source_is_small};
 use std::alloc::{AllocError, Global};
 
 /// The last moment of all.
@@ -28,6 +29,7 @@ pub enum Scanned {
 /// anew.
 #[derive(Drop)]
 pub struct TwinScans {
+    framed: Framed,
     twin: Twin,
     /// Which programs are stopped.
     stopped: Vec<bool>,
@@ -35,6 +37,7 @@ pub struct TwinScans {
     moment: u64,
     /// How many scans and orders were taken.
     events: u64,
+    ghost cells: { HasCells framed twin.ran },
 }
 
 /// The input that a pair names and its new value; `None` if the pair names no input, or if its value doesn't fit.
@@ -68,7 +71,8 @@ fn image_of(
 
 /// Gives inputs their new values.
 fn set_inputs(twin: &mut Twin, image: &[(usize, i64)])
-    ensures { twin.new ≡ twin.old }
+    ensures values { length twin.new.ran.values ≡ length twin.old.ran.values }
+    ensures clocks { length twin.new.ran.clocks ≡ length twin.old.ran.clocks }
 {
     for (number, value) in image {
         twin.set(*number, *value);
@@ -76,9 +80,16 @@ fn set_inputs(twin: &mut Twin, image: &[(usize, i64)])
 }
 
 /// Runs a program in both ways, unless it is stopped. False if they end apart.
-fn run_program(twin: &mut Twin, stopped: &mut [bool], program: u32, moment: u64) -> bool
-    requires { program < length twin.old.programs }
-    ensures { twin.new ≡ twin.old }
+fn run_program(
+    framed: &Framed,
+    twin: &mut Twin,
+    stopped: &mut [bool],
+    program: u32,
+    moment: u64,
+) -> bool
+    requires there { program < length framed.now.programs }
+    requires cells { HasCells framed.now twin.old.ran }
+    ensures { HasCells framed.now twin.new.ran }
 {
     let Some(is_stopped) = stopped.get_mut(program as usize) else {
         return true;
@@ -86,7 +97,7 @@ fn run_program(twin: &mut Twin, stopped: &mut [bool], program: u32, moment: u64)
     if *is_stopped {
         return true;
     }
-    match twin.run(program, moment) {
+    match twin.run(framed, program, moment) {
         Some(Walked::Done) => true,
         Some(Walked::Trapped(_, _)) => {
             *is_stopped = true;
@@ -97,29 +108,44 @@ fn run_program(twin: &mut Twin, stopped: &mut [bool], program: u32, moment: u64)
 }
 
 /// Runs the programs that aren't stopped, in order. False if both ways of one end apart, or leave something else.
-fn run_programs(twin: &mut Twin, stopped: &mut [bool], moment: u64) -> bool
-    ensures { twin.new ≡ twin.old }
+fn run_programs(framed: &Framed, twin: &mut Twin, stopped: &mut [bool], moment: u64) -> bool
+    requires { HasCells framed.now twin.old.ran }
+    ensures { HasCells framed.now twin.new.ran }
 {
+    sound_source_is_small();
     let mut is_alike = true;
-    for program in 0..twin.programs() {
-        if !run_program(twin, stopped, program, moment) {
+    for program in 0..framed.programs().len() {
+        if !run_program(framed, twin, stopped, program as u32, moment) {
             is_alike = false;
         }
     }
     is_alike && twin.is_alike()
 }
 
+/// Cells for the runs of a logic, and that no program is stopped. Fails if allocation fails.
+fn opened(alloc: Global, framed: &Framed) -> Result<(Twin, Vec<bool>), AllocError>
+    ensures { IfOk result (λ made. HasCells framed.now made.0.ran) }
+{
+    let twin = Twin::new(alloc, framed)?;
+    Ok((twin, vec![in alloc; false; framed.programs().len()]?))
+}
+
 impl TwinScans {
     /// The programs before the first scan. Fails if allocation fails.
     pub fn new(alloc: Global, framed: Framed) -> Result<TwinScans, AllocError> {
-        let stopped = vec![in alloc; false; framed.programs().len()]?;
-        let twin = Twin::new(alloc, framed)?;
-        Ok(TwinScans {
-            twin,
-            stopped,
-            moment: 0,
-            events: 0,
-        })
+        match opened(alloc, &framed) {
+            Ok((twin, stopped)) => Ok(TwinScans {
+                framed,
+                twin,
+                stopped,
+                moment: 0,
+                events: 0,
+            }),
+            Err(refused) => {
+                drop(framed);
+                Err(refused)
+            }
+        }
     }
 
     /// Takes a scan, if a server takes it. The pairs give inputs their values, by name. Fails if allocation fails.
@@ -132,13 +158,14 @@ impl TwinScans {
         if moment > LAST_MOMENT || moment < self.moment || self.events >= MOST_EVENTS {
             return Ok(Scanned::Refused);
         }
-        let Some(image) = image_of(alloc, self.twin.framed(), pairs)? else {
+        let Some(image) = image_of(alloc, &self.framed, pairs)? else {
             return Ok(Scanned::Refused);
         };
         self.events += 1;
         self.moment = moment;
         set_inputs(&mut self.twin, image.as_slice());
-        if run_programs(&mut self.twin, self.stopped.as_mut_slice(), moment) {
+        let stopped = self.stopped.as_mut_slice();
+        if run_programs(&self.framed, &mut self.twin, stopped, moment) {
             Ok(Scanned::Alike)
         } else {
             Ok(Scanned::Apart)
@@ -161,7 +188,7 @@ impl TwinScans {
     /// Whether a server has taken so many events, its last scan had this moment, and its outputs, by their numbers, have the values that the
     /// walks have left.
     pub fn shows(&self, events: u64, moment: u64, outputs: &[(u32, Value)]) -> bool {
-        let values = self.twin.values();
+        let values = self.twin.walked.as_slice();
         self.events == events
             && self.moment == moment
             && outputs.iter().all(|output| values.get(output.0 as usize) == Some(&output.1.worth()))

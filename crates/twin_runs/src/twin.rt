@@ -2,43 +2,24 @@ ghost use Rattle.std.specs.Prelude.{◌≡◌, ◌<◌, length, IfOk};
 ghost use Rattle.plant_walk.specs.Runs.{HasCells};
 
 use plant_cells::{Cells, Clock};
-use plant_walk::{
-    Framed, Stack, Walked, run, sound_source_is_small, standing_cells_are_there, walk,
-};
+use plant_walk::{Framed, Stack, Walked, run, standing_cells_are_there, walk};
 use std::alloc::{AllocError, Global};
-use std::marker::Model;
 
-/// The programs of a source, with cells for each of the two ways in which they run. Contracts see the source.
+/// Cells for each of the two ways in which the programs of a source run, and memory for the runs.
 #[derive(Drop)]
 pub struct Twin {
-    framed: Framed,
     /// What the walks have left.
-    walked: Cells,
+    pub walked: Cells,
     /// What the runs of the codes have left.
-    ran: Cells,
+    pub ran: Cells,
     /// Memory for these runs.
     stack: Stack,
 }
 
-impl Model for Twin {
-    ghost use Rattle.plant_logic.specs.Source.{Source};
-    ghost use Rattle.plant_logic.specs.Code.{source_code};
-
-    ghost Value = { Source };
-
-    ghost coded = { source_code };
-
-    ghost use Rattle.plant_walk.specs.Runs.{HasCells};
-
-    ghost view = { λ twin. twin.framed };
-
-    ghost invariant = { λ twin. HasCells twin.framed twin.ran };
-}
-
 /// Gives the value of a number, if there is one.
-fn set(cells: &mut Cells, number: usize, value: i64)
+pub fn set(cells: &mut Cells, number: usize, value: i64)
     ensures values { length cells.new.values ≡ length cells.old.values }
-    ensures clocks { cells.new.clocks ≡ cells.old.clocks }
+    ensures clocks { length cells.new.clocks ≡ length cells.old.clocks }
 {
     if number < cells.len() {
         cells.set(number, value);
@@ -58,58 +39,25 @@ fn show_alike(one: &[Clock], other: &[Clock]) -> bool {
     true
 }
 
-/// Cells before the first scan for each of the two ways, and memory for the runs. Fails if allocation fails.
-fn opened(alloc: Global, framed: &Framed) -> Result<(Cells, Cells, Stack), AllocError>
-    ensures { IfOk result (λ made. HasCells framed.now made.1) }
-{
-    standing_cells_are_there();
-    let stack = Stack::new(alloc)?;
-    let walked = framed.opening(alloc)?;
-    Ok((walked, framed.opening(alloc)?, stack))
-}
-
 impl Twin {
-    /// The programs before the first scan. Fails if allocation fails.
-    pub fn new(alloc: Global, framed: Framed) -> Result<Twin, AllocError>
-        ensures { IfOk result (λ twin. twin ≡ framed) }
+    /// Cells before the first scan. Fails if allocation fails.
+    pub fn new(alloc: Global, framed: &Framed) -> Result<Twin, AllocError>
+        ensures { IfOk result (λ twin. HasCells framed.now twin.ran) }
     {
-        match opened(alloc, &framed) {
-            Ok((walked, ran, stack)) => Ok(Twin {
-                framed,
-                walked,
-                ran,
-                stack,
-            }),
-            Err(refused) => {
-                drop(framed);
-                Err(refused)
-            }
-        }
-    }
-
-    /// The logic.
-    pub fn framed(&self) -> &Framed
-        ensures { result.now ≡ self.now }
-    {
-        &self.framed
-    }
-
-    /// How many programs there are.
-    pub fn programs(&self) -> u32
-        ensures { result ≡ length self.now.programs }
-    {
-        sound_source_is_small();
-        self.framed.programs().len() as u32
-    }
-
-    /// The values that the walks have left, those of the globals first.
-    pub fn values(&self) -> &[i64] {
-        self.walked.as_slice()
+        standing_cells_are_there();
+        let stack = Stack::new(alloc)?;
+        let walked = framed.opening(alloc)?;
+        Ok(Twin {
+            ran: framed.opening(alloc)?,
+            walked,
+            stack,
+        })
     }
 
     /// Gives the global of a number a value, for both ways. It does nothing if there is no such global.
     pub fn set(&mut self, global: usize, value: i64)
-        ensures { self.new ≡ self.old }
+        ensures values { length self.new.ran.values ≡ length self.old.ran.values }
+        ensures clocks { length self.new.ran.clocks ≡ length self.old.ran.clocks }
     {
         set(&mut self.walked, global, value);
         set(&mut self.ran, global, value);
@@ -117,18 +65,13 @@ impl Twin {
 
     /// Runs the program of a number, from 0, in both ways. Tells how it ended, if it ended alike: at the same place, with the same trap;
     /// `None` otherwise. The moment is that of the scan, in milliseconds.
-    pub fn run(&mut self, program: u32, moment: u64) -> Option<Walked>
-        requires { program < length self.old.programs }
-        ensures { self.new ≡ self.old }
+    pub fn run(&mut self, framed: &Framed, program: u32, moment: u64) -> Option<Walked>
+        requires there { program < length framed.now.programs }
+        requires cells { HasCells framed.now self.old.ran }
+        ensures { HasCells framed.now self.new.ran }
     {
-        let walked = walk(&self.framed, program, &mut self.walked, moment);
-        let ran = run(
-            &self.framed,
-            program,
-            &mut self.stack,
-            &mut self.ran,
-            moment,
-        );
+        let walked = walk(framed, program, &mut self.walked, moment);
+        let ran = run(framed, program, &mut self.stack, &mut self.ran, moment);
         if walked == ran { Some(walked) } else { None }
     }
 

@@ -1,6 +1,10 @@
-use Rattle.std.proofs.Common.{◌≡◌}
+use Rattle.std.proofs.Common.{◌≡◌, length}
+use Rattle.plant_walk.specs.Runs.{HasCells}
 use Rattle.twin_runs.proofs.scans.run_programs.Given as goal
 
--- the source stays
+-- the source has its cells still
 abbrev pub invariant-loop-program : goal.invariant-loop-program
-invariant-loop-program l = l.twin ≡ l.fn.twin
+invariant-loop-program l = record {
+  end : l.program-end ≡ length l.framed.programs;
+  cells : HasCells l.framed l.twin.ran;
+}
