@@ -1,12 +1,11 @@
 -- What a contract sees of a console, and of the owner's ends of its rings.
-use Rattle.std.specs.Prelude.{◌≡◌, ℕ, ◌≤◌, List}
+use Rattle.std.specs.Prelude.{◌≡◌, ℕ, ◌≤◌, List, [], false, if◌then◌else◌}
 use mathlib.Core.List.{IsPrefix}
 use Rattle.rtrb.specs.Ring.{sent, received, known_free, known_items, IsPair, all_sent, Finishes, IsFinishedOf, SameProducer, SameConsumer}
 use Rattle.console_link.specs.declared.answer.Answer.{Answer}
 use Rattle.console_link.specs.declared.console.Console.{Console}
 use Rattle.console_link.specs.declared.console.Finished.{Finished}
 use Rattle.console_link.specs.declared.lane.Lane.{Lane}
-use Rattle.console_link.specs.declared.lane.Left.{Left}
 
 module _ {O R : Type 0} where
   -- every order that the console submitted, in order
@@ -37,20 +36,28 @@ module _ {O R : Type 0} where
   abbrev pub answer_room : Lane O R → ℕ
   answer_room l = known_free l.answers
 
-  -- the same two rings
+  -- the console hasn't ended, as far as the owner knows
+  abbrev pub IsOpen : Lane O R → Type 0
+  IsOpen l = l.ended ≡ false
+
+  -- the orders that were left when the console ended, in order; none before
+  abbrev pub left_of : Lane O R → List O
+  left_of l = if l.ended then known_items l.orders else []
+
+  -- the same number and the same two rings
   abbrev pub SameConsole : Console O R → Console O R → Type 0
-  SameConsole a b = SameProducer a.orders b.orders × SameConsumer a.answers b.answers
+  SameConsole a b = (b.number ≡ a.number) × (SameProducer a.orders b.orders × SameConsumer a.answers b.answers)
 
   abbrev pub SameLane : Lane O R → Lane O R → Type 0
-  SameLane a b = SameConsumer a.orders b.orders × SameProducer a.answers b.answers
+  SameLane a b = (b.number ≡ a.number) × (SameConsumer a.orders b.orders × SameProducer a.answers b.answers)
 
   -- the lane is the owner's end of this console's rings
   abbrev pub IsConsoleOf : Console O R → Lane O R → Type 0
-  IsConsoleOf c l = IsPair c.orders l.orders × IsPair l.answers c.answers
+  IsConsoleOf c l = (l.number ≡ c.number) × (IsPair c.orders l.orders × IsPair l.answers c.answers)
 
   -- the lane is the owner's end of the rings of this console, which has ended
   abbrev pub IsEndOf : Finished O R → Lane O R → Type 0
-  IsEndOf f l = IsFinishedOf f.orders l.orders × IsPair l.answers f.answers
+  IsEndOf f l = (l.number ≡ f.number) × (IsFinishedOf f.orders l.orders × IsPair l.answers f.answers)
 
   -- every order that a console submitted, and every answer that it took, before it ended
   abbrev pub all_submitted : Finished O R → List O
@@ -59,16 +66,12 @@ module _ {O R : Type 0} where
   abbrev pub all_taken : Finished O R → List (Answer O R)
   all_taken f = received f.answers
 
-  -- the console ended as this one, with the same rings
+  -- the console ended as this one, with the same number and the same rings
   abbrev pub Ends : Console O R → Finished O R → Type 0
-  Ends c f = Finishes c.orders f.orders × (f.answers ≡ c.answers)
+  Ends c f = (f.number ≡ c.number) × (Finishes c.orders f.orders × (f.answers ≡ c.answers))
 
   -- nothing was taken or given, and no more is known than before
   abbrev pub LaneLooked : Lane O R → Lane O R → Type 0
   LaneLooked a b =
       SameLane a b × (orders_taken b ≡ orders_taken a) × (answers_given b ≡ answers_given a) × IsPrefix (orders_known a) (orders_known b)
       × (answer_room a ≤ answer_room b)
-
--- the orders that were left, in order
-abbrev pub left_of : {O : Type 0} → Left O → List O
-left_of l = known_items l.orders

@@ -8,6 +8,7 @@ use rtrb::{Consumer, Producer, PushError};
 /// A console: it submits orders and takes their answers. It may go to a thread of its own.
 #[derive(Drop)]
 pub struct Console<O, R> {
+    pub(crate) number: u32,
     pub(crate) orders: Producer<O>,
     pub(crate) answers: Consumer<Answer<O, R>>,
     ghost places: { producer_capacity orders ≡ 64 },
@@ -16,6 +17,7 @@ pub struct Console<O, R> {
 /// A console that has ended: it submits and takes nothing more.
 #[derive(Drop)]
 pub struct Finished<O, R> {
+    pub(crate) number: u32,
     pub(crate) orders: rtrb::Finished<O>,
     pub(crate) answers: Consumer<Answer<O, R>>,
 }
@@ -23,6 +25,13 @@ pub struct Finished<O, R> {
 impl<O: Drop, R: Drop> Console<O, R> {
     ghost use Rattle.std.specs.Prelude.{◌≡◌, ◌<◌, ◌≤◌, [], ◌∷◌, ◌++◌, OnOk, IfErr, IfSome, IsOk, IfNone};
     ghost use Rattle.console_link.specs.Seats.{submitted, taken, known_room, SameConsole, all_submitted, all_taken, Ends};
+
+    /// Its number.
+    pub fn number(&self) -> u32
+        ensures { result ≡ self.now.number }
+    {
+        self.number
+    }
 
     /// How many places of the order ring the console knows to be free, at most 64.
     pub fn room(&mut self) -> u32
@@ -61,8 +70,27 @@ impl<O: Drop, R: Drop> Console<O, R> {
     pub fn finish(self) -> Option<Finished<O, R>>
         ensures { IfSome result (λ f. Ends self f × (all_submitted f ≡ submitted self) × (all_taken f ≡ taken self)) }
     {
-        let Console { orders, answers } = self;
+        let Console {
+            number,
+            orders,
+            answers,
+        } = self;
         let orders = orders.finish()?;
-        Some(Finished { orders, answers })
+        Some(Finished {
+            number,
+            orders,
+            answers,
+        })
+    }
+}
+
+impl<O: Drop, R: Drop> Finished<O, R> {
+    ghost use Rattle.std.specs.Prelude.{◌≡◌};
+
+    /// The number that its console had.
+    pub fn number(&self) -> u32
+        ensures { result ≡ self.now.number }
+    {
+        self.number
     }
 }

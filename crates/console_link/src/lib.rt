@@ -2,7 +2,7 @@
 //!
 //! A console's ends are its `Console`, which goes to a thread of its own; the owner keeps a `Lane` for each. Neither end waits, and none of
 //! their calls takes memory. The two lists of a ring, what was put in and what was taken out, are joined where both ends have come to one
-//! thread again, in `Lane::close`; before that each end knows its own list alone.
+//! thread again, in `Lane::end`; before that each end knows its own list alone.
 //!
 //! The crate is generic in the order `O` and in the reply `R`, so that it stands on neither the engine nor the history.
 #![tactic(auto)]
@@ -13,4 +13,4 @@ mod lane;
 
 pub use answer::Answer;
 pub use console::{Console, Finished};
-pub use lane::{Lane, Left, open};
+pub use lane::{Lane, open};

@@ -43,7 +43,7 @@ fn new_standing<H: Threads + Wait + Clone + Send + Drop + 'static>(
     let Ok(gate) = Arc::new(alloc, Ungated) else {
         return Err(AllocError);
     };
-    match Standing::new(rt, alloc, workers, gate) {
+    match Standing::with_least(rt, alloc, workers, gate, 0) {
         Ok(crew) => Ok(crew),
         Err(_) => Err(AllocError),
     }

@@ -6,7 +6,7 @@ use std::test::*;
 
 #[test]
 fn full_rings_hand_orders_back(rt: HostRuntime) -> Result<(), Fail> {
-    let (mut console, mut lane) = again!(open(rt.alloc())).map_err(|_| "memory")?;
+    let (mut console, mut lane) = again!(open(rt.alloc(), 1)).map_err(|_| "memory")?;
     assert_eq!(rt; console.room(), 64);
     assert_eq!(rt; submit(&mut console, 0, 64), 64);
     assert_eq!(rt; console.room(), 0);

@@ -39,8 +39,8 @@ fn submit_hundred(console: Console<u32, u8>) -> bool {
 
 #[test]
 fn two_consoles_are_answered(rt: HostRuntime) -> Result<(), Fail> {
-    let (one, mut first) = again!(open(rt.alloc())).map_err(|_| "memory")?;
-    let (two, mut second) = again!(open(rt.alloc())).map_err(|_| "memory")?;
+    let (one, mut first) = again!(open(rt.alloc(), 1)).map_err(|_| "memory")?;
+    let (two, mut second) = again!(open(rt.alloc(), 2)).map_err(|_| "memory")?;
     let Ok(one) = thread::spawn(&rt, move || submit_hundred(one)) else {
         return Err("no thread".into());
     };

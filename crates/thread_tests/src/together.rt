@@ -44,7 +44,8 @@ fn stand_together<H: Threads + Wait + Clone + Send + Drop + 'static>(
     let Ok(gate) = Arc::new(alloc, Holding::new(held, until, watch.clone()?)) else {
         return Err(AllocError);
     };
-    let Ok(mut crew) = Standing::<Job, Start, Done, Holding>::new(rt, alloc, 2, gate) else {
+    let Ok(mut crew) = Standing::<Job, Start, Done, Holding>::with_least(rt, alloc, 2, gate, 0)
+    else {
         return Err(AllocError);
     };
     let mut fine = true;

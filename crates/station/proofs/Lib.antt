@@ -1,0 +1,5 @@
+pub mod Agrees
+pub mod Ends
+pub mod Openings
+pub mod Parts
+pub mod Takes

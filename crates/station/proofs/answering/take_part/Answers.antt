@@ -1,0 +1,20 @@
+use Rattle.std.proofs.Common.{◌∷◌, [], ◌++◌, ◌∙◌, subst, arith, length-append}
+use Rattle.plant_config.specs.Plants.{PlainPlant}
+use Rattle.event_history.specs.declared.event.Order.{Order}
+use Rattle.station.specs.Turns.{Took, HasNoneToTake}
+use Rattle.station.proofs.Takes.{took_more, chosen}
+use Rattle.station.proofs.answering.take_part.Goals as goal
+
+pub loop-preserved : goal.loop-preserved
+loop-preserved c =
+    let h = c.loop.invariant in
+    let after = c.take_order.new in
+    let one = chosen c.in-Ok-true.field-0 ((x : Order) × Took c.loop.engine.plant c.loop.lane after.lane c.loop.engine.history after.engine.history (x ∷ []))
+    (Took c.loop.engine.plant c.loop.lane after.lane c.loop.engine.history after.engine.history [] × HasNoneToTake after.lane) c.in-Ok-true.field-0-test c.in-Ok-true.ensures.took in (
+      h.0 ++ one.0 ∷ [],
+      took_more c.args.engine.now.plant c.args.lane.now c.loop.lane after.lane c.args.engine.now.history c.loop.engine.history after.engine.history h.0 (one.0 ∷ []) h.1
+          (subst (λ (p : PlainPlant). Took p c.loop.lane after.lane c.loop.engine.history after.engine.history (one.0 ∷ [])) h.4 one.1),
+      omega (arith, length-append h.0 (one.0 ∷ []), h.2),
+      omega (arith, h.3),
+      c.take_order.ensures.plant ∙ h.4,
+    )

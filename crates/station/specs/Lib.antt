@@ -1,0 +1,4 @@
+pub mod Closings
+pub mod Parts
+pub mod Stations
+pub mod Turns

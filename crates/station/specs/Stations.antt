@@ -1,0 +1,104 @@
+-- What a contract sees of a station: its plant, its history, and its lanes, each of which agrees with the history.
+use Rattle.std.specs.Prelude.{◌≡◌, ℕ, ◌==◌, Bool, false, List, [], ◌∷◌, ◌++◌, map, nat_eq, Option, Some, None, Ok, All, MatchBool, if◌then◌else◌}
+use mathlib.Core.List.{IsPrefix}
+use Rattle.plant_types.specs.Pairs.{PlainPair}
+use Rattle.console_link.specs.declared.answer.Answer.{Answer}
+use Rattle.console_link.specs.declared.console.Console.{Console}
+use Rattle.console_link.specs.declared.console.Finished.{Finished}
+use Rattle.console_link.specs.declared.lane.Lane.{Lane}
+use Rattle.console_link.specs.Seats.{orders_taken, answers_given, submitted, taken as answers_taken, known_room, IsConsoleOf, IsEndOf, IsOpen, left_of, all_submitted, all_taken}
+use Rattle.event_history.specs.declared.event.Event.{Event}
+use Rattle.event_history.specs.declared.event.Order.{Order}
+use Rattle.plant_config.specs.Plants.{PlainPlant}
+use Rattle.plant_file.specs.Lists.{repeats}
+use Rattle.plant_file.specs.declared.console.Console.{Console as Listed}
+use Rattle.plant_system.specs.declared.event.Reply.{Reply}
+use Rattle.plant_system.specs.System.{scan_event}
+use Rattle.plant_system.specs.Reports.{PlainReport}
+use Rattle.engine.specs.Engines.{PlainEngine, state_of}
+use Rattle.plant_system.specs.States.{IsReport}
+use Rattle.station.specs.Parts.{answers_of, orders_in}
+use Rattle.station.specs.Turns.{TookParts}
+
+-- the numbers of consoles, as a plant lists them
+abbrev pub numbers_of : List Listed → List ℕ
+numbers_of consoles = map (λ (console : Listed). console.number) consoles
+
+-- the numbers of lanes, in order
+abbrev pub numbers_in : List (Lane Order Reply) → List ℕ
+numbers_in lanes = map (λ (lane : Lane Order Reply). lane.number) lanes
+
+-- no number stands in the list twice
+abbrev pub HasNoTwin : List ℕ → Type 0
+HasNoTwin numbers = repeats nat_eq numbers ≡ false
+
+-- the lane has taken and answered just the orders that the history has of its console, in order, and its console hasn't ended
+pub record AgreesWith (plant : PlainPlant) (history : List Event) (lane : Lane Order Reply) : Type 0 where
+  pub taken : orders_taken lane ≡ orders_in (answers_of lane.number plant history)
+  pub given : answers_given lane ≡ answers_of lane.number plant history
+  pub is_open : IsOpen lane
+
+-- the lane of a console's number is the owner's end of its rings
+abbrev pub IsConsoleIn : List (Lane Order Reply) → Console Order Reply → Type 0
+IsConsoleIn [] c = ⊥
+IsConsoleIn (lane ∷ lanes) c = MatchBool (lane.number == c.number) (IsConsoleOf c lane) (IsConsoleIn lanes c)
+
+-- and of a console that has ended
+abbrev pub IsEndIn : List (Lane Order Reply) → Finished Order Reply → Type 0
+IsEndIn [] f = ⊥
+IsEndIn (lane ∷ lanes) f = MatchBool (lane.number == f.number) (IsEndOf f lane) (IsEndIn lanes f)
+
+-- each console has its lane, in the same order
+abbrev pub ArePairs : List (Console Order Reply) → List (Lane Order Reply) → Type 0
+ArePairs [] [] = Unit {0}
+ArePairs [] (lane ∷ lanes) = ⊥
+ArePairs (c ∷ consoles) [] = ⊥
+ArePairs (c ∷ consoles) (lane ∷ lanes) = IsConsoleOf c lane × ArePairs consoles lanes
+
+-- a lane of which nothing was taken
+pub record IsUnused (lane : Lane Order Reply) : Type 0 where
+  pub taken : orders_taken lane ≡ []
+  pub given : answers_given lane ≡ []
+  pub is_open : IsOpen lane
+
+-- a console before it submits its first order
+pub record IsFresh (c : Console Order Reply) : Type 0 where
+  pub none_submitted : submitted c ≡ []
+  pub none_taken : answers_taken c ≡ []
+  pub room : known_room c ≡ 64
+
+-- a console and a lane for each of these numbers, in order, before the first order
+pub record AreOpened (numbers : List ℕ) (consoles : List (Console Order Reply)) (lanes : List (Lane Order Reply)) : Type 0 where
+  pub console_numbers : map (λ (c : Console Order Reply). c.number) consoles ≡ numbers
+  pub lane_numbers : numbers_in lanes ≡ numbers
+  pub pairs : ArePairs consoles lanes
+  pub fresh : All IsFresh consoles
+  pub unused : All IsUnused lanes
+
+-- each console of the one is a console of the other, also where it has ended
+pub record KeepsConsoles (before after : List (Lane Order Reply)) : Type 0 where
+  pub consoles : (c : Console Order Reply) → IsConsoleIn before c → IsConsoleIn after c
+  pub ended : (f : Finished Order Reply) → IsEndIn before f → IsEndIn after f
+
+-- a turn: its scan is the next event of the history, then come the orders that were taken
+pub record IsTurn (old new : PlainEngine) (before after : List (Lane Order Reply)) (pairs : List PlainPair) (t : ℕ) (report : PlainReport) (taken : ℕ) (stopped : Bool) : Type 0 where
+  pub scan : Event
+  pub scan_is : scan_event (state_of old) pairs t ≡ Ok scan
+  pub report_is : IsReport (state_of old) scan report
+  pub plant_is : new.plant ≡ old.plant
+  pub parts : TookParts old.plant before after (old.history ++ scan ∷ []) new.history taken stopped
+
+-- the first of a list of ended consoles that has this number
+abbrev pub finished_of : ℕ → List (Finished Order Reply) → Option (Finished Order Reply)
+finished_of number [] = None
+finished_of number (f ∷ consoles) = if f.number == number then Some f else finished_of number consoles
+
+-- the orders that were left of the console of a number
+abbrev pub left_in : ℕ → List (Lane Order Reply) → List Order
+left_in number [] = []
+left_in number (lane ∷ lanes) = if lane.number == number then left_of lane else left_in number lanes
+
+-- what is known of a console once its station is closed: the orders that the history has of it, followed by those that are left, are what it submitted, each once and in order; the answers that it took are the first of those that the history has of it. Nothing is left of one whose end wasn't handed in
+abbrev pub IsClosed : List (Answer Order Reply) → List Order → Option (Finished Order Reply) → Type 0
+IsClosed answers left None = left ≡ []
+IsClosed answers left (Some f) = (orders_in answers ++ left ≡ all_submitted f) × IsPrefix (all_taken f) answers

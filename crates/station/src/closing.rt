@@ -1,0 +1,89 @@
+//! What is left once a station is closed.
+
+ghost use Rattle.std.specs.Prelude.{◌≡◌, ◌≢◌, ℕ, [], ◌∷◌, All, IfSome, IfNone};
+ghost use Rattle.station.specs.Stations.{left_in, numbers_in, HasNoTwin, IsEndIn};
+ghost use Rattle.station.specs.Closings.{EndedOne, AreEnded};
+
+use console_link::{Finished, Lane};
+use engine::{Engine, Order, Reply};
+
+/// A station that was closed: its engine, its crew, and the orders that were left of the consoles that had ended.
+#[derive(Drop)]
+pub struct Closing<C> {
+    pub(crate) engine: Engine,
+    pub(crate) crew: C,
+    pub(crate) lanes: Vec<Lane<Order, Reply>>,
+}
+
+/// Joins the rings of a console that has ended with the lane of its number.
+fn end_lane(lanes: &mut [Lane<Order, Reply>], console: Finished<Order, Reply>)
+    requires { IsEndIn lanes.old console }
+    ensures { EndedOne console lanes.old lanes.new }
+{
+    let Some((lane, others)) = lanes.split_first_mut() else {
+        return;
+    };
+    if lane.number() == console.number() {
+        lane.end(console);
+    } else {
+        end_lane(others, console);
+    }
+}
+
+/// Joins the rings of consoles that have ended, each with the lane of its number.
+pub(crate) fn end_lanes(lanes: &mut [Lane<Order, Reply>], mut finished: Vec<Finished<Order, Reply>>)
+    requires once { HasNoTwin (numbers_in lanes.old) }
+    requires ends { All (IsEndIn lanes.old) finished.items }
+    ensures { AreEnded finished.items lanes.old lanes.new }
+{
+    while let Some(console) = finished.pop() {
+        end_lane(lanes, console);
+    }
+}
+
+/// Takes the next order that was left of the console of a number.
+fn next_left_in(lanes: &mut [Lane<Order, Reply>], console: u32) -> Option<Order>
+    ensures some { IfSome result (λ o. left_in console lanes.old ≡ o ∷ left_in console lanes.new) }
+    ensures none { IfNone result ((left_in console lanes.old ≡ []) × (left_in console lanes.new ≡ [])) }
+    ensures others { (n : ℕ) → n ≢ console → left_in n lanes.new ≡ left_in n lanes.old }
+{
+    let (lane, others) = lanes.split_first_mut()?;
+    if lane.number() == console {
+        lane.next_left()
+    } else {
+        next_left_in(others, console)
+    }
+}
+
+impl<C: Drop> Closing<C> {
+    /// The engine.
+    pub fn engine(&self) -> &Engine
+        ensures { result.now ≡ self.now.engine }
+    {
+        &self.engine
+    }
+
+    /// Takes the next order that was left of the console of a number; `None` where none is, or where that console's end wasn't handed in.
+    pub fn next_left(&mut self, console: u32) -> Option<Order>
+        ensures some { IfSome result (λ o. left_in console self.old.lanes.items ≡ o ∷ left_in console self.new.lanes.items) }
+        ensures none { IfNone result ((left_in console self.old.lanes.items ≡ []) × (left_in console self.new.lanes.items ≡ [])) }
+        ensures others { (n : ℕ) → n ≢ console → left_in n self.new.lanes.items ≡ left_in n self.old.lanes.items }
+        ensures engine { self.new.engine ≡ self.old.engine }
+    {
+        next_left_in(self.lanes.as_mut_slice(), console)
+    }
+
+    /// Gives the crew back.
+    pub fn into_crew(self) -> C
+        ensures { result ≡ self.crew }
+    {
+        let Closing {
+            engine,
+            crew,
+            lanes,
+        } = self;
+        drop(engine);
+        drop(lanes);
+        crew
+    }
+}
