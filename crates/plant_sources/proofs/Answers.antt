@@ -4,7 +4,7 @@ use Rattle.std.specs.Prelude.{slice_get}
 use Rattle.st_lexer.specs.declared.token.Token.{Token}
 use Rattle.st_lexer.specs.Lexes.{Stops}
 use Rattle.st_lexer.proofs.Cutting.{one_list, one_place, never_both}
-use Rattle.st_parser.specs.Lexemes.{lexemes}
+use Rattle.st_expressions.specs.Lexemes.{lexemes}
 use Rattle.st_parser.specs.Units.{PlainUnit}
 use Rattle.st_parser.specs.Declarations.{SpellsUnit}
 use Rattle.st_parser.proofs.FoundUnits.{one_unit}

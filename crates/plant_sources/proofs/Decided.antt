@@ -5,7 +5,7 @@ use Rattle.st_lexer.specs.declared.token.Token.{Token}
 use Rattle.st_lexer.specs.Lexes.{Lexes, Stops, unmarked, start_of}
 use Rattle.st_lexer.proofs.Cutting.{some_answer}
 use Rattle.st_lexer.specs.Places.{line_at, column_at}
-use Rattle.st_parser.specs.Lexemes.{Lexeme, lexemes}
+use Rattle.st_expressions.specs.Lexemes.{Lexeme, lexemes}
 use Rattle.st_parser.specs.Units.{PlainUnit}
 use Rattle.st_parser.specs.Declarations.{SpellsUnit}
 use Rattle.st_parser.specs.ReadingUnits.{unit_at}

@@ -6,7 +6,7 @@ use Rattle.st_lexer.specs.declared.token.Token.{Token}
 use Rattle.st_lexer.specs.Lexes.{Lexes}
 use Rattle.st_parser.specs.declared.unit.Unit.{Unit as Tree}
 use Rattle.st_parser.specs.Declarations.{SpellsUnit}
-use Rattle.st_parser.specs.Lexemes.{lexemes}
+use Rattle.st_expressions.specs.Lexemes.{lexemes}
 use Rattle.st_parser.specs.Units.{PlainUnit, view_unit}
 use Rattle.plant_sources.specs.declared.fault.SourceFault.{SourceFault}
 use Rattle.plant_sources.specs.declared.fault.SourceFault.TheVariants as fault

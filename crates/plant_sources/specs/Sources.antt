@@ -3,7 +3,7 @@ use Rattle.std.specs.Prelude.{◌≡◌, ⊤, ℕ, ◌≤◌, List, [], ◌∷�
 use Rattle.st_lexer.specs.declared.token.Token.{Token}
 use Rattle.st_lexer.specs.Lexes.{Lexes, Stops, unmarked, start_of}
 use Rattle.st_lexer.specs.Places.{line_at, column_at}
-use Rattle.st_parser.specs.Lexemes.{lexemes}
+use Rattle.st_expressions.specs.Lexemes.{lexemes}
 use Rattle.st_parser.specs.Units.{PlainUnit}
 use Rattle.st_parser.specs.Declarations.{SpellsUnit}
 use Rattle.plant_sources.specs.declared.fault.SourceFault.{SourceFault}

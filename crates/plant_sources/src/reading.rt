@@ -3,7 +3,7 @@
 ghost use Rattle.std.specs.Prelude.{◌≡◌, map, MatchResult};
 ghost use Rattle.st_lexer.specs.Lexes.{Lexes};
 ghost use Rattle.st_parser.specs.Declarations.{SpellsUnit};
-ghost use Rattle.st_parser.specs.Lexemes.{lexemes};
+ghost use Rattle.st_expressions.specs.Lexemes.{lexemes};
 ghost use Rattle.st_parser.specs.Units.{view_unit};
 ghost use Rattle.plant_sources.specs.Sources.{HasUnit, HaveUnits, IsTextFault, IsSourceFault};
 

@@ -6,15 +6,15 @@ use Rattle.st_lexer.specs.declared.token.Symbol.TheVariants as s
 use Rattle.st_tree.specs.declared.tree.Label.{Label}
 use Rattle.st_tree.specs.Plain.{PlainExpr, PlainArgument, input, output, PlainStmt, PlainBody, empty, assign, call, choose, select, repeat, done}
 use Rattle.st_tree.specs.View.{body_of, branches_of, choices_of}
-use Rattle.st_parser.specs.Lexemes.{Lexeme, word, keyword, integer, symbol}
-use Rattle.st_parser.specs.Phrases.{Each, Perhaps, After}
-use Rattle.st_parser.specs.Grammar.{IsExpression}
+use Rattle.st_expressions.specs.Lexemes.{Lexeme, word, keyword, integer, symbol}
+use Rattle.st_expressions.specs.Phrases.{Each, Perhaps, After}
+use Rattle.st_expressions.specs.Grammar.{IsExpression}
 use Rattle.st_parser.specs.Statements.{IsArgument, for_input, for_output, Arguments, none, some, IsNumber, plain, negative, IsLabel, range, IsBranch, test, IsChoice, labelled, Otherwise, nothing, instead, Statement, bare, assignment, calling, branching, selecting, repeating, Ended, ended, Sequence, sequence, SpellsStmt, IsBody}
-use Rattle.st_parser.specs.Reading.{word_at, is_symbol, is_keyword, symbol_at, keyword_at, all_at, perhaps_at, after_symbol, after_keyword, listed_at, expression_at}
+use Rattle.st_expressions.specs.Reading.{word_at, is_symbol, is_keyword, symbol_at, keyword_at, all_at, perhaps_at, after_symbol, after_keyword, listed_at, expression_at}
 use Rattle.st_parser.specs.ReadingStatements.{taken_at, given_at, called_at, assigned_at, argued_at, argument_at, arguments_at, negative_at, number_at, label_at, is_label, is_statement, simple_at, branch_at, choice_at, otherwise_at, branches_at, choices_at, if_at, case_at, bounds_at, header_at, for_at, stmt_at, ended_at, as_body, item_at, sequence_at, body_at}
-use Rattle.st_parser.proofs.Many.{Front, Finds, turned, with_first_some, all_found, perhaps_found, after_symbol_found, after_keyword_found, listed_found, three_parts}
-use Rattle.st_parser.proofs.Sound.{expression_found}
-use Rattle.st_parser.proofs.Steps.{true_or_false, bind_some, same_some, passed, word_found, symbol_found, keyword_found, next_is_symbol, next_is_keyword}
+use Rattle.st_expressions.proofs.Many.{Front, Finds, turned, with_first_some, all_found, perhaps_found, after_symbol_found, after_keyword_found, listed_found, three_parts}
+use Rattle.st_expressions.proofs.Sound.{expression_found}
+use Rattle.st_expressions.proofs.Steps.{true_or_false, bind_some, same_some, passed, word_found, symbol_found, keyword_found, next_is_symbol, next_is_keyword}
 
 abbrev anything : List Lexeme → Bool
 anything ts = true

@@ -4,11 +4,11 @@ use Rattle.st_lexer.specs.declared.token.Keyword.TheVariants as k
 use Rattle.plant_types.specs.declared.values.Region.{Region}
 use Rattle.st_lexer.specs.declared.token.Symbol.TheVariants as s
 use Rattle.st_tree.specs.Plain.{PlainExpr}
-use Rattle.st_parser.specs.Lexemes.{Lexeme, word, keyword, address, symbol}
-use Rattle.st_parser.specs.Phrases.{Perhaps, After, listed}
-use Rattle.st_parser.specs.Grammar.{IsExpression}
+use Rattle.st_expressions.specs.Lexemes.{Lexeme, word, keyword, address, symbol}
+use Rattle.st_expressions.specs.Phrases.{Perhaps, After, listed}
+use Rattle.st_expressions.specs.Grammar.{IsExpression}
 use Rattle.st_parser.specs.Declarations.{IsName, kind_of_word, sort_of, Declares, declaration, DeclaresGlobal, placed, anywhere, Globals, globals, section_of, IsSection, variables, opening_keyword, closing_keyword, IsPou, organised, SpellsUnit, unit}
-use Rattle.st_parser.specs.Reading.{word_at, is_symbol, is_keyword, is_word, symbol_at, keyword_at, with_first, all_at, perhaps_at, after_symbol, others_at, table_at, expression_at}
+use Rattle.st_expressions.specs.Reading.{word_at, is_symbol, is_keyword, is_word, symbol_at, keyword_at, with_first, all_at, perhaps_at, after_symbol, others_at, table_at, expression_at}
 use Rattle.st_parser.specs.ReadingStatements.{body_at}
 use Rattle.st_parser.specs.ReadingUnits.{address_at, initial_at, declared_at, placed_at, declaration_at, global_at, globals_at, is_section, section_at, pou_of, is_pou, pou_at, unit_at}
 use Rattle.st_parser.specs.Units.{PlainDeclaration, PlainUnit}
@@ -17,10 +17,10 @@ use Rattle.st_parser.specs.declared.unit.SectionKind.TheVariants as section
 use Rattle.st_parser.specs.declared.unit.Sort.{Sort}
 use Rattle.st_parser.specs.declared.unit.Sort.TheVariants as sort
 use Rattle.st_parser.proofs.FoundStatements.{chosen, left_out, body_found}
-use Rattle.st_parser.proofs.Many.{Front, Finds, turned, with_first_some, all_found, perhaps_found, after_symbol_found, others_found, two_parts}
+use Rattle.st_expressions.proofs.Many.{Front, Finds, turned, with_first_some, all_found, perhaps_found, after_symbol_found, others_found, two_parts}
 use Rattle.st_parser.proofs.ReadUnits.{unit_read}
-use Rattle.st_parser.proofs.Sound.{expression_found}
-use Rattle.st_parser.proofs.Steps.{true_or_false, bind_some, same_some, word_found, symbol_found, keyword_found, next_is_keyword}
+use Rattle.st_expressions.proofs.Sound.{expression_found}
+use Rattle.st_expressions.proofs.Steps.{true_or_false, bind_some, same_some, word_found, symbol_found, keyword_found, next_is_keyword}
 
 abbrev anything : List Lexeme → Bool
 anything ts = true

@@ -1,9 +1,3 @@
-pub mod Steps
-pub mod Chain
-pub mod Complete
-pub mod Many
-pub mod Several
-pub mod Sound
 pub mod ReadStatements
 pub mod FoundStatements
 pub mod ReadUnits

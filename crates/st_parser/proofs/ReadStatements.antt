@@ -6,14 +6,14 @@ use Rattle.st_lexer.specs.declared.token.Symbol.TheVariants as s
 use Rattle.st_tree.specs.declared.tree.Label.{Label}
 use Rattle.st_tree.specs.Plain.{PlainExpr, PlainArgument, PlainStmt, PlainBody, choose, select, repeat}
 use Rattle.st_tree.specs.View.{branches_of, choices_of}
-use Rattle.st_parser.specs.Lexemes.{Lexeme, word, keyword, integer, symbol}
-use Rattle.st_parser.specs.Phrases.{Each, Perhaps, absent, present, After, after, Listed, listed}
-use Rattle.st_parser.specs.Grammar.{IsExpression}
+use Rattle.st_expressions.specs.Lexemes.{Lexeme, word, keyword, integer, symbol}
+use Rattle.st_expressions.specs.Phrases.{Each, Perhaps, absent, present, After, after, Listed, listed}
+use Rattle.st_expressions.specs.Grammar.{IsExpression}
 use Rattle.st_parser.specs.Statements.{IsArgument, for_input, for_output, Arguments, none, some, IsNumber, plain, negative, IsLabel, range, IsBranch, test, IsChoice, labelled, Otherwise, nothing, instead, Statement, bare, assignment, calling, branching, selecting, repeating, Ended, ended, Sequence, sequence, SpellsStmt, IsBody}
-use Rattle.st_parser.specs.Reading.{is_symbol, is_keyword, after_symbol, after_keyword, expression_at}
+use Rattle.st_expressions.specs.Reading.{is_symbol, is_keyword, after_symbol, after_keyword, expression_at}
 use Rattle.st_parser.specs.ReadingStatements.{called_at, assigned_at, argued_at, argument_at, arguments_at, number_at, label_at, is_label, is_statement, simple_at, branch_at, choice_at, otherwise_at, branches_at, choices_at, if_at, case_at, bounds_at, header_at, for_at, stmt_at, ended_at, as_body, item_at, sequence_at, body_at}
-use Rattle.st_parser.proofs.Complete.{ends, expression_read}
-use Rattle.st_parser.proofs.Many.{Reads, Begins, may_follow, all_read, perhaps_read, after_symbol_read, after_keyword_read, symbol_next, keyword_next, after_keyword_begins, listed_read, three_parts}
+use Rattle.st_expressions.proofs.Complete.{ends, expression_read}
+use Rattle.st_expressions.proofs.Many.{Reads, Begins, may_follow, all_read, perhaps_read, after_symbol_read, after_keyword_read, symbol_next, keyword_next, after_keyword_begins, listed_read, three_parts}
 
 -- ---- calls
 argument_read : Reads IsArgument argument_at ends

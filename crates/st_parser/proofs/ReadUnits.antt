@@ -4,12 +4,12 @@ use Rattle.st_lexer.specs.declared.token.Keyword.TheVariants as k
 use Rattle.plant_types.specs.declared.values.Region.{Region}
 use Rattle.st_lexer.specs.declared.token.Symbol.TheVariants as s
 use Rattle.st_tree.specs.Plain.{PlainExpr, PlainBody}
-use Rattle.st_parser.specs.Lexemes.{Lexeme, word, keyword, symbol}
-use Rattle.st_parser.specs.Phrases.{Each, Perhaps, After, after, listed}
-use Rattle.st_parser.specs.Grammar.{IsExpression}
+use Rattle.st_expressions.specs.Lexemes.{Lexeme, word, keyword, symbol}
+use Rattle.st_expressions.specs.Phrases.{Each, Perhaps, After, after, listed}
+use Rattle.st_expressions.specs.Grammar.{IsExpression}
 use Rattle.st_parser.specs.Statements.{IsBody}
 use Rattle.st_parser.specs.Declarations.{IsName, sort_of, Declares, declaration, DeclaresGlobal, placed, anywhere, Globals, globals, section_of, IsSection, variables, opening_keyword, closing_keyword, IsPou, organised, SpellsUnit, unit}
-use Rattle.st_parser.specs.Reading.{word_at, is_symbol, is_keyword, is_word, keyword_at, all_at, after_symbol, expression_at}
+use Rattle.st_expressions.specs.Reading.{word_at, is_symbol, is_keyword, is_word, keyword_at, all_at, after_symbol, expression_at}
 use Rattle.st_parser.specs.ReadingStatements.{is_statement, body_at}
 use Rattle.st_parser.specs.ReadingUnits.{initial_at, declared_at, placed_at, declaration_at, global_at, globals_at, is_section, section_at, pou_of, is_pou, pou_at, unit_at}
 use Rattle.st_parser.specs.Units.{PlainDeclaration, PlainSection, PlainPou, PlainUnit}
@@ -17,8 +17,8 @@ use Rattle.st_parser.specs.declared.unit.PouKind.{PouKind}
 use Rattle.st_parser.specs.declared.unit.PouKind.TheVariants as pou
 use Rattle.st_parser.specs.declared.unit.Sort.{Sort}
 use Rattle.st_parser.specs.declared.unit.Sort.TheVariants as sort
-use Rattle.st_parser.proofs.Complete.{ends, expression_read}
-use Rattle.st_parser.proofs.Many.{Reads, Begins, all_read, perhaps_read, after_symbol_read, symbol_next, others_read, two_parts}
+use Rattle.st_expressions.proofs.Complete.{ends, expression_read}
+use Rattle.st_expressions.proofs.Many.{Reads, Begins, all_read, perhaps_read, after_symbol_read, symbol_next, others_read, two_parts}
 use Rattle.st_parser.proofs.ReadStatements.{stops, body_begins, body_read}
 
 abbrev anything : List Lexeme → Bool

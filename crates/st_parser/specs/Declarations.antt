@@ -7,9 +7,9 @@ use Rattle.st_lexer.specs.declared.token.Keyword.TheVariants as k
 use Rattle.plant_types.specs.declared.values.Region.{Region}
 use Rattle.st_lexer.specs.declared.token.Symbol.TheVariants as s
 use Rattle.st_tree.specs.Plain.{PlainExpr, PlainBody}
-use Rattle.st_parser.specs.Lexemes.{Lexeme, word, keyword, address, symbol}
-use Rattle.st_parser.specs.Phrases.{Each, Perhaps, After, Listed}
-use Rattle.st_parser.specs.Grammar.{IsExpression}
+use Rattle.st_expressions.specs.Lexemes.{Lexeme, word, keyword, address, symbol}
+use Rattle.st_expressions.specs.Phrases.{Each, Perhaps, After, Listed}
+use Rattle.st_expressions.specs.Grammar.{IsExpression}
 use Rattle.st_parser.specs.Statements.{IsBody}
 use Rattle.st_parser.specs.Units.{PlainDeclaration, PlainSection, PlainPou, PlainUnit}
 use Rattle.st_parser.specs.declared.unit.PouKind.{PouKind}

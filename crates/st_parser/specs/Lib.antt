@@ -1,10 +1,6 @@
 pub mod Units
-pub mod Lexemes
-pub mod Phrases
-pub mod Grammar
 pub mod Statements
 pub mod Declarations
-pub mod Reading
 pub mod ReadingStatements
 pub mod ReadingUnits
 pub mod Outcome

@@ -6,9 +6,9 @@ use Rattle.st_lexer.specs.declared.token.Symbol.TheVariants as s
 use Rattle.st_tree.specs.declared.tree.Label.{Label}
 use Rattle.st_tree.specs.Plain.{PlainExpr, PlainArgument, input, output, PlainStmt, empty, assign, call, choose, select, repeat, PlainBody, done}
 use Rattle.st_tree.specs.View.{body_of, branches_of, choices_of}
-use Rattle.st_parser.specs.Lexemes.{Lexeme, word, keyword, integer, symbol}
-use Rattle.st_parser.specs.Phrases.{Each, Perhaps, After, Listed}
-use Rattle.st_parser.specs.Grammar.{IsExpression}
+use Rattle.st_expressions.specs.Lexemes.{Lexeme, word, keyword, integer, symbol}
+use Rattle.st_expressions.specs.Phrases.{Each, Perhaps, After, Listed}
+use Rattle.st_expressions.specs.Grammar.{IsExpression}
 
 -- ---- calls
 -- an argument: a value for an input, or a variable for an output

@@ -1,15 +1,12 @@
 //! The arguments of a call.
 
 ghost use Rattle.std.specs.Prelude.{map};
-ghost use Rattle.st_parser.specs.Outcome.{Returns};
+ghost use Rattle.st_expressions.specs.Outcome.{Returns};
 ghost use Rattle.st_parser.specs.ReadingStatements.{argument_at, arguments_at};
 ghost use Rattle.st_tree.specs.View.{view_argument};
 
-use crate::expr::expression;
-use crate::fault::Stop;
-use crate::phrases::{Phrase, parse_after};
-use crate::reader::Reader;
 use plant_types::Text;
+use st_expressions::{Phrase, Reader, Stop, expression, parse_after};
 use st_lexer::Symbol;
 use st_tree::Argument;
 use std::alloc::Global;
@@ -39,7 +36,7 @@ impl Phrase for CommaArgument {
 
     ghost use Rattle.std.specs.Prelude.{List, ℕ};
     ghost use Rattle.st_lexer.specs.declared.token.Symbol.TheVariants.{Comma};
-    ghost use Rattle.st_parser.specs.Reading.{is_symbol, after_symbol};
+    ghost use Rattle.st_expressions.specs.Reading.{is_symbol, after_symbol};
     ghost use Rattle.st_parser.specs.ReadingStatements.{argument_at};
     ghost use Rattle.st_tree.specs.Plain.{PlainArgument};
     ghost use Rattle.st_tree.specs.View.{view_argument};

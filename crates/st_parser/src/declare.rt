@@ -2,18 +2,15 @@
 
 ghost use Rattle.std.specs.Prelude.{◌≡◌, ◌∷◌, [], option_map};
 ghost use Rattle.st_parser.specs.Declarations.{kind_of_word, sort_of, section_of};
-ghost use Rattle.st_parser.specs.Outcome.{Returns};
-ghost use Rattle.st_parser.specs.Reading.{with_first, others_at, word_at, perhaps_at, is_symbol, after_symbol, expression_at, table_next, table_at};
+ghost use Rattle.st_expressions.specs.Outcome.{Returns};
+ghost use Rattle.st_expressions.specs.Reading.{with_first, others_at, word_at, perhaps_at, is_symbol, after_symbol, expression_at, table_next, table_at};
 ghost use Rattle.st_parser.specs.ReadingUnits.{address_at, initial_at, declared_at, placed_at, declaration_at, global_at, globals_at, is_section, section_at};
 ghost use Rattle.st_parser.specs.Units.{view_declaration, view_section};
 ghost use Rattle.st_tree.specs.View.{view_expr};
 
-use crate::expr::expression;
-use crate::fault::Stop;
-use crate::phrases::{Phrase, parse_after, parse_all};
-use crate::reader::Reader;
 use crate::unit::{Declaration, PouKind, Section, SectionKind, Sort};
 use plant_types::{Kind, Region, Text};
+use st_expressions::{Phrase, Reader, Stop, expression, parse_after, parse_all};
 use st_lexer::{Keyword, Symbol, TokenKind};
 use st_tree::Expr;
 use std::alloc::Global;
@@ -124,7 +121,7 @@ impl Phrase for CommaName {
 
     ghost use Rattle.std.specs.Prelude.{List, ℕ};
     ghost use Rattle.st_lexer.specs.declared.token.Symbol.TheVariants.{Comma};
-    ghost use Rattle.st_parser.specs.Reading.{is_symbol, after_symbol, word_at};
+    ghost use Rattle.st_expressions.specs.Reading.{is_symbol, after_symbol, word_at};
 
     ghost Plain = { List ℕ };
 
@@ -204,7 +201,7 @@ struct LocalDeclaration;
 impl Phrase for LocalDeclaration {
     type Tree = Declaration;
 
-    ghost use Rattle.st_parser.specs.Reading.{is_word};
+    ghost use Rattle.st_expressions.specs.Reading.{is_word};
     ghost use Rattle.st_parser.specs.ReadingUnits.{declaration_at};
     ghost use Rattle.st_parser.specs.Units.{PlainDeclaration, view_declaration};
 
@@ -231,7 +228,7 @@ struct GlobalDeclaration;
 impl Phrase for GlobalDeclaration {
     type Tree = Declaration;
 
-    ghost use Rattle.st_parser.specs.Reading.{is_word};
+    ghost use Rattle.st_expressions.specs.Reading.{is_word};
     ghost use Rattle.st_parser.specs.ReadingUnits.{global_at};
     ghost use Rattle.st_parser.specs.Units.{PlainDeclaration, view_declaration};
 

@@ -1,13 +1,11 @@
 //! The labels of a CASE.
 
 ghost use Rattle.std.specs.Prelude.{◌≡◌};
-ghost use Rattle.st_parser.specs.Outcome.{Returns};
-ghost use Rattle.st_parser.specs.Reading.{listed_at, perhaps_at, is_symbol, after_symbol};
+ghost use Rattle.st_expressions.specs.Outcome.{Returns};
+ghost use Rattle.st_expressions.specs.Reading.{listed_at, perhaps_at, is_symbol, after_symbol};
 ghost use Rattle.st_parser.specs.ReadingStatements.{number_at, label_at, is_label, negative_at};
 
-use crate::fault::Stop;
-use crate::phrases::{Phrase, parse_after};
-use crate::reader::Reader;
+use st_expressions::{Phrase, Reader, Stop, parse_after};
 use st_lexer::{Symbol, TokenKind};
 use st_tree::Label;
 use std::alloc::Global;
@@ -85,7 +83,7 @@ impl Phrase for CommaLabel {
     type Tree = Label;
 
     ghost use Rattle.st_lexer.specs.declared.token.Symbol.TheVariants.{Comma};
-    ghost use Rattle.st_parser.specs.Reading.{is_symbol, after_symbol};
+    ghost use Rattle.st_expressions.specs.Reading.{is_symbol, after_symbol};
     ghost use Rattle.st_parser.specs.ReadingStatements.{label_at};
     ghost use Rattle.st_tree.specs.declared.tree.Label.{Label};
 

@@ -5,11 +5,8 @@
 
 mod calls;
 mod declare;
-mod expr;
 mod fault;
 mod labels;
-mod phrases;
-mod reader;
 mod stmt;
 mod unit;
 mod units;

@@ -1,18 +1,16 @@
 //! Statements.
 
 ghost use Rattle.std.specs.Prelude.{◌≡◌, ◌∷◌, [], map, ◌<◌};
-ghost use Rattle.st_parser.specs.Outcome.{Returns};
-ghost use Rattle.st_parser.specs.Reading.{all_at, with_first, perhaps_at, is_keyword, after_keyword, expression_at};
+ghost use Rattle.st_expressions.specs.Outcome.{Returns};
+ghost use Rattle.st_expressions.specs.Reading.{all_at, with_first, perhaps_at, is_keyword, after_keyword, expression_at};
 ghost use Rattle.st_parser.specs.ReadingStatements.{assigned_at, called_at, simple_at, branch_at, branches_at, choice_at, choices_at, otherwise_at, if_at, case_at, bounds_at, header_at, for_at, stmt_at, item_at, sequence_at, body_at, is_statement, is_label};
 ghost use Rattle.st_tree.specs.Plain.{repeat};
 ghost use Rattle.st_tree.specs.View.{view_expr, view_option, view_stmt, view_body, view_branch, view_choice};
 
 use crate::calls::arguments;
-use crate::expr::expression;
-use crate::fault::Stop;
 use crate::labels::{is_label, labels};
-use crate::reader::Reader;
 use plant_types::Text;
+use st_expressions::{Reader, Stop, expression};
 use st_lexer::{Keyword, Symbol, TokenKind};
 use st_tree::{Branch, Choice, Expr, Stmt};
 use std::alloc::Global;

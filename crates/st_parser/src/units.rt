@@ -2,18 +2,18 @@
 
 ghost use Rattle.std.specs.Prelude.{◌≡◌, ◌-◌, List, length, IfErr, MatchResult};
 ghost use Rattle.st_parser.specs.Declarations.{SpellsUnit, closing_keyword};
-ghost use Rattle.st_parser.specs.Lexemes.{Lexeme, lexemes};
-ghost use Rattle.st_parser.specs.Outcome.{Returns, SpellNone, NamesOneOf};
-ghost use Rattle.st_parser.specs.Reading.{table_next};
+ghost use Rattle.st_expressions.specs.Lexemes.{Lexeme, lexemes};
+ghost use Rattle.st_expressions.specs.Outcome.{Returns};
+ghost use Rattle.st_parser.specs.Outcome.{SpellNone, NamesOneOf};
+ghost use Rattle.st_expressions.specs.Reading.{table_next};
 ghost use Rattle.st_parser.specs.ReadingUnits.{pou_of, is_pou, pou_at, unit_at};
 ghost use Rattle.st_parser.specs.Units.{PlainUnit, view_unit, view_pou};
 
 use crate::declare::{globals, is_section, section};
-use crate::fault::{ParseFault, Stop};
-use crate::phrases::{Phrase, parse_all};
-use crate::reader::Reader;
+use crate::fault::ParseFault;
 use crate::stmt::statements;
 use crate::unit::{Pou, PouKind, Section, Unit};
+use st_expressions::{Phrase, Reader, Stop, parse_all};
 use st_lexer::{Keyword, Token, TokenKind};
 use std::alloc::Global;
 
@@ -25,7 +25,7 @@ impl Phrase for GlobalSection {
     type Tree = Section;
 
     ghost use Rattle.st_lexer.specs.declared.token.Keyword.TheVariants.{VarGlobal};
-    ghost use Rattle.st_parser.specs.Reading.{is_keyword};
+    ghost use Rattle.st_expressions.specs.Reading.{is_keyword};
     ghost use Rattle.st_parser.specs.ReadingUnits.{globals_at};
     ghost use Rattle.st_parser.specs.Units.{PlainSection, view_section};
 

@@ -1,7 +1,7 @@
 use Rattle.std.proofs.Common.{◌≡◌, ◌+◌, ◌-◌, ◌*◌, length, map}
 use Rattle.st_lexer.specs.declared.token.Keyword.TheVariants as k
 use Rattle.st_tree.specs.View.{view_stmt, view_branch, view_choice}
-use Rattle.st_parser.specs.Reading.{with_first, many, is_keyword, after_keyword}
+use Rattle.st_expressions.specs.Reading.{with_first, many, is_keyword, after_keyword}
 use Rattle.st_parser.specs.ReadingStatements.{is_statement, item_at, branch_at, choice_at, is_label, sequence_at}
 use Rattle.st_parser.proofs.stmt.+stmt.Given as goal
 

@@ -1,10 +1,11 @@
 -- A unit is found where one is spelled.
 use Rattle.std.proofs.Common.{◌∙◌, ap, sym, subst, arith}
-use Rattle.st_parser.specs.Lexemes.{lexemes}
-use Rattle.st_parser.specs.Outcome.{Fails, SpellNone}
+use Rattle.st_expressions.specs.Lexemes.{lexemes}
+use Rattle.st_expressions.specs.Outcome.{Fails}
+use Rattle.st_parser.specs.Outcome.{SpellNone}
 use Rattle.st_parser.specs.ReadingUnits.{unit_at}
 use Rattle.st_parser.specs.Units.{view_unit}
-use Rattle.st_parser.specs.declared.fault.Stop.{Stop}
+use Rattle.st_expressions.specs.declared.stop.Stop.{Stop}
 use Rattle.st_parser.proofs.FoundUnits.{unit_spelled, some_left, none_read}
 use Rattle.st_parser.proofs.units.parse.Goals as goal
 

@@ -1,10 +1,10 @@
 -- One phrase more, none more, and one that stops.
 use Rattle.std.proofs.Common.{◌≡◌, ◌+◌, ◌-◌, ◌∙◌, ap, sym, subst, arith, rules, length, map, None, Some}
 use Rattle.std.specs.Prelude.{option_map}
-use Rattle.st_parser.specs.Outcome.{Fails}
-use Rattle.st_parser.specs.Reading.{perhaps_at}
-use Rattle.st_parser.proofs.Several.{several_more, several_end, several_stop}
-use Rattle.st_parser.proofs.phrases.parse_more.Goals as goal
+use Rattle.st_expressions.specs.Outcome.{Fails}
+use Rattle.st_expressions.specs.Reading.{perhaps_at}
+use Rattle.st_expressions.proofs.Several.{several_more, several_end, several_stop}
+use Rattle.st_expressions.proofs.phrases.parse_more.Goals as goal
 
 pub returns-in_err-tree : goal.returns-in_err-tree
 returns-in_err-tree g c =

@@ -1,6 +1,6 @@
 use Rattle.std.proofs.Common.{◌≡◌, ◌-◌, length, map}
-use Rattle.st_parser.specs.Reading.{with_first, many}
-use Rattle.st_parser.proofs.phrases.parse_more.Given as goal
+use Rattle.st_expressions.specs.Reading.{with_first, many}
+use Rattle.st_expressions.proofs.phrases.parse_more.Given as goal
 
 -- what is parsed so far and what is still to come is all
 abbrev pub invariant-loop-turn : goal.invariant-loop-turn

@@ -1,11 +1,11 @@
 //! The tokens of a text that are not parsed yet.
 
 ghost use Rattle.std.specs.Prelude.{◌≡◌, ◌∷◌, [], length, drop, IfOk, MatchOption};
-ghost use Rattle.st_parser.specs.Lexemes.{lexemes, lexeme_of, first_name, slice_of};
-ghost use Rattle.st_parser.specs.Reading.{word_at, is_symbol, is_keyword, is_word, symbol_at, keyword_at};
-ghost use Rattle.st_parser.specs.Outcome.{Returns};
+ghost use Rattle.st_expressions.specs.Lexemes.{lexemes, lexeme_of, first_name, slice_of};
+ghost use Rattle.st_expressions.specs.Reading.{word_at, is_symbol, is_keyword, is_word, symbol_at, keyword_at};
+ghost use Rattle.st_expressions.specs.Outcome.{Returns};
 
-use crate::fault::Stop;
+use crate::stop::Stop;
 use plant_types::Text;
 use st_lexer::{Keyword, Symbol, Token, TokenKind};
 use std::alloc::Global;
@@ -20,7 +20,7 @@ pub struct Reader<'a> {
 
 impl<'a> Model for Reader<'a> {
     ghost use Rattle.std.specs.Prelude.{List};
-    ghost use Rattle.st_parser.specs.Lexemes.{Lexeme, lexemes};
+    ghost use Rattle.st_expressions.specs.Lexemes.{Lexeme, lexemes};
 
     ghost Value = { List Lexeme };
 

@@ -7,10 +7,10 @@ use Rattle.st_lexer.specs.contracts.token.Symbol.{the_type as symbol_type}
 use Rattle.st_lexer.specs.declared.token.Keyword.{Keyword}
 use Rattle.st_lexer.specs.declared.token.Symbol.{Symbol}
 use Rattle.st_lexer.specs.declared.token.Symbol.TheVariants as s
-use Rattle.st_parser.specs.Lexemes.{Lexeme, keyword, symbol}
-use Rattle.st_parser.specs.Phrases.{Each, Perhaps, absent, present, After, after, Listed, listed}
-use Rattle.st_parser.specs.Reading.{◌>>=◌, is_symbol, is_keyword, symbol_at, keyword_at, ahead, with_first, many, all_at, perhaps_at, after_symbol, after_keyword, others_at, listed_at}
-use Rattle.st_parser.proofs.Steps.{true_or_false, bind_some, same_some, symbol_found, keyword_found}
+use Rattle.st_expressions.specs.Lexemes.{Lexeme, keyword, symbol}
+use Rattle.st_expressions.specs.Phrases.{Each, Perhaps, absent, present, After, after, Listed, listed}
+use Rattle.st_expressions.specs.Reading.{◌>>=◌, is_symbol, is_keyword, symbol_at, keyword_at, ahead, with_first, many, all_at, perhaps_at, after_symbol, after_keyword, others_at, listed_at}
+use Rattle.st_expressions.proofs.Steps.{true_or_false, bind_some, same_some, symbol_found, keyword_found}
 
 -- a phrase at the front
 pub record Front {A : Type 0} (Q : List Lexeme → A → Type 0) (ts : List Lexeme) (a : A) (rest : List Lexeme) : Type 0 where

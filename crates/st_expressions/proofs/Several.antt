@@ -1,13 +1,13 @@
 -- Phrases one after another, each parsed where one is next.
 use Rattle.std.proofs.Common.{◌≡◌, ℕ, zero, suc, ◌+◌, Bool, true, false, List, [], ◌∷◌, ◌++◌, map, Option, Some, None, refl, ap, ◌∙◌, cond}
 use Rattle.std.specs.Prelude.{option_map}
-use Rattle.st_parser.specs.Lexemes.{Lexeme}
-use Rattle.st_parser.specs.Outcome.{Fails}
-use Rattle.st_parser.specs.Reading.{◌>>=◌, with_first, many, perhaps_at}
-use Rattle.st_parser.specs.declared.fault.Stop.{Stop}
-use Rattle.st_parser.specs.declared.fault.Stop.TheVariants as stop
-use Rattle.st_parser.proofs.Steps.{same_some}
-use Rattle.st_parser.proofs.Many.{many_goes, many_ends}
+use Rattle.st_expressions.specs.Lexemes.{Lexeme}
+use Rattle.st_expressions.specs.Outcome.{Fails}
+use Rattle.st_expressions.specs.Reading.{◌>>=◌, with_first, many, perhaps_at}
+use Rattle.st_expressions.specs.declared.stop.Stop.{Stop}
+use Rattle.st_expressions.specs.declared.stop.Stop.TheVariants as stop
+use Rattle.st_expressions.proofs.Steps.{same_some}
+use Rattle.st_expressions.proofs.Many.{many_goes, many_ends}
 
 module _ {A : Type 0} where
   -- a phrase that was found, and the lexemes after it

@@ -1,9 +1,9 @@
 -- An expression is what climbing finds, without its depth.
 use Rattle.std.proofs.Common.{ap, rules}
-use Rattle.st_parser.specs.Outcome.{Fails}
-use Rattle.st_parser.specs.Reading.{climb, tree_of, expression_at}
-use Rattle.st_parser.proofs.Steps.{fails_tree}
-use Rattle.st_parser.proofs.expr.expression.Goals as goal
+use Rattle.st_expressions.specs.Outcome.{Fails}
+use Rattle.st_expressions.specs.Reading.{climb, tree_of, expression_at}
+use Rattle.st_expressions.proofs.Steps.{fails_tree}
+use Rattle.st_expressions.proofs.expr.expression.Goals as goal
 
 pub returns-in_err-expr : goal.returns-in_err-expr
 returns-in_err-expr c =

@@ -4,12 +4,12 @@ ghost use Rattle.std.specs.Prelude.{◌≡◌, IfOk, Some, None, drop, ◌+◌, 
 ghost use Rattle.std.proofs.Common.{neg_ℤ};
 ghost use Rattle.st_tree.specs.Plain.{literal, binary};
 ghost use Rattle.st_tree.specs.View.{view_expr};
-ghost use Rattle.st_parser.specs.Grammar.{level_of, top, in_parentheses};
-ghost use Rattle.st_parser.specs.Outcome.{Returns};
-ghost use Rattle.st_parser.specs.Reading.{operator_at, reference_at, minus_at, operand as operand_at, prefixed as prefixed_at, chain as chain_at, climb, expression_at};
+ghost use Rattle.st_expressions.specs.Grammar.{level_of, top, in_parentheses};
+ghost use Rattle.st_expressions.specs.Outcome.{Returns};
+ghost use Rattle.st_expressions.specs.Reading.{operator_at, reference_at, minus_at, operand as operand_at, prefixed as prefixed_at, chain as chain_at, climb, expression_at};
 
-use crate::fault::Stop;
 use crate::reader::Reader;
+use crate::stop::Stop;
 use plant_types::{Text, Value};
 use st_lexer::{Keyword, Symbol, TokenKind};
 use st_tree::{Binary, Expr, Literal, Unary};

@@ -1,7 +1,7 @@
 -- Phrases made of phrases: Q says which lexemes spell which one.
 use Rattle.std.specs.Prelude.{◌≡◌, List, [], ◌∷◌, ◌++◌, Option, Some, None}
 use Rattle.st_lexer.specs.declared.token.Symbol.TheVariants as s
-use Rattle.st_parser.specs.Lexemes.{Lexeme, symbol}
+use Rattle.st_expressions.specs.Lexemes.{Lexeme, symbol}
 
 -- any number of them, one after another
 abbrev pub Each : {A : Type 0} → (List Lexeme → A → Type 0) → List Lexeme → List A → Type 0

@@ -8,11 +8,11 @@ use Rattle.st_lexer.specs.declared.token.Keyword.{Keyword}
 use Rattle.st_lexer.specs.declared.token.Symbol.{Symbol}
 use Rattle.st_lexer.specs.declared.token.TokenKind.{TokenKind}
 use Rattle.st_lexer.specs.declared.token.TokenKind.TheVariants as kind
-use Rattle.st_parser.specs.Lexemes.{Lexeme, word, keyword, symbol, lexeme_of, first_name}
-use Rattle.st_parser.specs.Reading.{Answer, tree_of, ◌>>=◌, word_at, is_symbol, is_keyword, symbol_at, keyword_at}
-use Rattle.st_parser.specs.Outcome.{Fails}
-use Rattle.st_parser.specs.declared.fault.Stop.{Stop}
-use Rattle.st_parser.specs.declared.fault.Stop.TheVariants as stop
+use Rattle.st_expressions.specs.Lexemes.{Lexeme, word, keyword, symbol, lexeme_of, first_name}
+use Rattle.st_expressions.specs.Reading.{Answer, tree_of, ◌>>=◌, word_at, is_symbol, is_keyword, symbol_at, keyword_at}
+use Rattle.st_expressions.specs.Outcome.{Fails}
+use Rattle.st_expressions.specs.declared.stop.Stop.{Stop}
+use Rattle.st_expressions.specs.declared.stop.Stop.TheVariants as stop
 
 pub both_ways : (l k : ℕ) → ((nat_le l k ≡ true) × (l ≤ k)) ⊎ ((nat_le l k ≡ false) × (k < l))
 both_ways l k = leb_tells l k

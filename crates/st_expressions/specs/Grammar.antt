@@ -10,7 +10,7 @@ use Rattle.st_tree.specs.declared.tree.Unary.{Unary}
 use Rattle.st_tree.specs.declared.tree.Literal.TheVariants.{Integer, Value}
 use Rattle.st_tree.specs.declared.tree.Unary.TheVariants as u
 use Rattle.st_tree.specs.Plain.{PlainExpr, literal, read, output_of, unary, binary}
-use Rattle.st_parser.specs.Lexemes.{Lexeme, word, keyword, integer, typed, symbol}
+use Rattle.st_expressions.specs.Lexemes.{Lexeme, word, keyword, integer, typed, symbol}
 
 -- the literal that a lexeme is by itself
 abbrev pub literal_of : Lexeme → Option (PlainExpr (List ℕ))

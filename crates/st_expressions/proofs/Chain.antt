@@ -3,9 +3,9 @@ use Rattle.std.proofs.Common.{◌≡◌, ℕ, zero, suc, ◌+◌, ◌<◌, ◌�
 use Rattle.std.proofs.lemmas.Bool.Decides.{nat_tests}
 use Rattle.st_tree.specs.declared.tree.Binary.{Binary}
 use Rattle.st_tree.specs.Plain.{PlainExpr, binary}
-use Rattle.st_parser.specs.Lexemes.{Lexeme}
-use Rattle.st_parser.specs.Grammar.{level_of}
-use Rattle.st_parser.specs.Reading.{Answer, operator_at, chain}
+use Rattle.st_expressions.specs.Lexemes.{Lexeme}
+use Rattle.st_expressions.specs.Grammar.{level_of}
+use Rattle.st_expressions.specs.Reading.{Answer, operator_at, chain}
 
 none_both : (b : Bool) → cond b None None ≡ (let x : Answer = None in x)
 none_both true = refl

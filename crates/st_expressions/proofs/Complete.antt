@@ -10,11 +10,11 @@ use Rattle.st_tree.specs.declared.tree.Unary.TheVariants as u
 use Rattle.st_tree.specs.declared.tree.Binary.{Binary}
 use Rattle.st_tree.specs.declared.tree.Binary.TheVariants as b
 use Rattle.st_tree.specs.Plain.{PlainExpr, literal, read, output_of, unary}
-use Rattle.st_parser.specs.Lexemes.{Lexeme, word, keyword, integer, symbol}
-use Rattle.st_parser.specs.Grammar.{literal_of, prefix_of, operator_of, level_of, top, begins_negative, in_parentheses, constant, negative, variable, output, parens, before_operand, between_operands, SpellsExpr, IsExpression}
-use Rattle.st_parser.specs.Reading.{Answer, ◌>>=◌, operator_at, if_allowed, is_symbol, minus_at, constant_at, operand, prefixed, chain, climb, tree_of, expression_at}
-use Rattle.st_parser.proofs.Chain.{stops, goes}
-use Rattle.st_parser.proofs.Steps.{both_ways, same_some}
+use Rattle.st_expressions.specs.Lexemes.{Lexeme, word, keyword, integer, symbol}
+use Rattle.st_expressions.specs.Grammar.{literal_of, prefix_of, operator_of, level_of, top, begins_negative, in_parentheses, constant, negative, variable, output, parens, before_operand, between_operands, SpellsExpr, IsExpression}
+use Rattle.st_expressions.specs.Reading.{Answer, ◌>>=◌, operator_at, if_allowed, is_symbol, minus_at, constant_at, operand, prefixed, chain, climb, tree_of, expression_at}
+use Rattle.st_expressions.proofs.Chain.{stops, goes}
+use Rattle.st_expressions.proofs.Steps.{both_ways, same_some}
 
 before : (n : ℕ) → 0 < n → (k : ℕ) × (n ≡ k + 1)
 before zero h = absurd (omega arith)

@@ -14,8 +14,8 @@ use Rattle.st_tree.specs.declared.tree.Literal.TheVariants.{Value}
 use Rattle.st_tree.specs.declared.tree.Unary.{Unary}
 use Rattle.st_tree.specs.declared.tree.Unary.TheVariants as u
 use Rattle.st_tree.specs.Plain.{PlainExpr, literal, read, output_of, unary, binary}
-use Rattle.st_parser.specs.Lexemes.{Lexeme, word, keyword, integer, symbol}
-use Rattle.st_parser.specs.Grammar.{literal_of, operator_of, level_of, top, in_parentheses}
+use Rattle.st_expressions.specs.Lexemes.{Lexeme, word, keyword, integer, symbol}
+use Rattle.st_expressions.specs.Grammar.{literal_of, operator_of, level_of, top, in_parentheses}
 
 infixl 10 ◌>>=◌
 abbrev pub ◌>>=◌ : {A B : Type 0} → Option A → (A → Option B) → Option B

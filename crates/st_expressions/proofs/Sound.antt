@@ -9,13 +9,13 @@ use Rattle.st_tree.specs.declared.tree.Unary.{Unary}
 use Rattle.st_tree.specs.declared.tree.Unary.TheVariants as u
 use Rattle.st_tree.specs.declared.tree.Binary.{Binary}
 use Rattle.st_tree.specs.Plain.{PlainExpr, literal, read, output_of, unary, binary}
-use Rattle.st_parser.specs.Lexemes.{Lexeme, word, keyword, integer, symbol}
-use Rattle.st_parser.specs.Grammar.{literal_of, prefix_of, operator_of, level_of, top, begins_negative, in_parentheses, Production, constant, negative, variable, output, parens, before_operand, between_operands, SpellsExpr, IsExpression}
-use Rattle.st_parser.specs.Reading.{Answer, word_at, operator_at, if_allowed, is_symbol, part_at, reference_at, minus_at, constant_at, operand, prefixed, close_group, symbol_at, chain, climb, tree_of, expression_at}
-use Rattle.st_parser.proofs.Chain.{stops, too_deep, goes, fails}
-use Rattle.st_parser.proofs.Complete.{starts_with, stops_at_top, some_lexeme}
-use Rattle.st_parser.proofs.Many.{Front}
-use Rattle.st_parser.proofs.Steps.{both_ways, true_or_false, some_or_none, bind_some, same_some, passed, word_found, symbol_found, next_is_symbol}
+use Rattle.st_expressions.specs.Lexemes.{Lexeme, word, keyword, integer, symbol}
+use Rattle.st_expressions.specs.Grammar.{literal_of, prefix_of, operator_of, level_of, top, begins_negative, in_parentheses, Production, constant, negative, variable, output, parens, before_operand, between_operands, SpellsExpr, IsExpression}
+use Rattle.st_expressions.specs.Reading.{Answer, word_at, operator_at, if_allowed, is_symbol, part_at, reference_at, minus_at, constant_at, operand, prefixed, close_group, symbol_at, chain, climb, tree_of, expression_at}
+use Rattle.st_expressions.proofs.Chain.{stops, too_deep, goes, fails}
+use Rattle.st_expressions.proofs.Complete.{starts_with, stops_at_top, some_lexeme}
+use Rattle.st_expressions.proofs.Many.{Front}
+use Rattle.st_expressions.proofs.Steps.{both_ways, true_or_false, some_or_none, bind_some, same_some, passed, word_found, symbol_found, next_is_symbol}
 
 -- a tree, its depth, and the lexemes after it
 abbrev pub Read : Type 0

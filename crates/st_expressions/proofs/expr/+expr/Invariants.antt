@@ -1,7 +1,7 @@
 use Rattle.std.proofs.Common.{◌≡◌, ◌+◌, ◌-◌, ◌*◌, ◌≤◌}
 use Rattle.st_tree.specs.View.{view_expr}
-use Rattle.st_parser.specs.Reading.{climb, chain}
-use Rattle.st_parser.proofs.expr.+expr.Given as goal
+use Rattle.st_expressions.specs.Reading.{climb, chain}
+use Rattle.st_expressions.proofs.expr.+expr.Given as goal
 
 abbrev pub decreases-climb : goal.decreases-climb
 decreases-climb l = 4 * l.limit

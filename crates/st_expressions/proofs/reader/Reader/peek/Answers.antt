@@ -1,9 +1,9 @@
 -- The first lexeme is told by the first token.
 use Rattle.std.proofs.Common.{◌≡◌, ◌∷◌, ap, sym, ◌∙◌}
 use Rattle.std.specs.Str.Lossy.{utf8_lossy}
-use Rattle.st_parser.specs.Lexemes.{lexemes, lexeme_of, slice_of}
-use Rattle.st_parser.proofs.Steps.{first_is}
-use Rattle.st_parser.proofs.reader.Reader.peek.Goals as goal
+use Rattle.st_expressions.specs.Lexemes.{lexemes, lexeme_of, slice_of}
+use Rattle.st_expressions.proofs.Steps.{first_is}
+use Rattle.st_expressions.proofs.reader.Reader.peek.Goals as goal
 
 pub returns : goal.returns
 returns c =

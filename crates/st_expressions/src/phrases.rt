@@ -1,12 +1,12 @@
 //! Phrases that stand one after another.
 
 ghost use Rattle.std.specs.Prelude.{Bool, List, [], ◌∷◌, Option, map, option_map};
-ghost use Rattle.st_parser.specs.Lexemes.{Lexeme};
-ghost use Rattle.st_parser.specs.Outcome.{Returns};
-ghost use Rattle.st_parser.specs.Reading.{with_first, all_at, perhaps_at};
+ghost use Rattle.st_expressions.specs.Lexemes.{Lexeme};
+ghost use Rattle.st_expressions.specs.Outcome.{Returns};
+ghost use Rattle.st_expressions.specs.Reading.{with_first, all_at, perhaps_at};
 
-use crate::fault::Stop;
 use crate::reader::Reader;
+use crate::stop::Stop;
 use std::alloc::Global;
 
 /// A phrase of which several may stand one after another.

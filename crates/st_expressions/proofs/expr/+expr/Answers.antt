@@ -1,10 +1,10 @@
 -- One operator more, with its right operand.
 use Rattle.std.proofs.Common.{◌≡◌, ap, sym, ◌∙◌, arith, rules, ◌+◌, ◌-◌, max, drop, Some}
 use Rattle.st_tree.specs.View.{view_expr}
-use Rattle.st_parser.specs.Grammar.{level_of}
-use Rattle.st_parser.specs.Reading.{climb, operator_at}
-use Rattle.st_parser.proofs.Chain.{goes}
-use Rattle.st_parser.proofs.expr.+expr.Goals as goal
+use Rattle.st_expressions.specs.Grammar.{level_of}
+use Rattle.st_expressions.specs.Reading.{climb, operator_at}
+use Rattle.st_expressions.proofs.Chain.{goes}
+use Rattle.st_expressions.proofs.expr.+expr.Goals as goal
 
 pub chain-loop-turn-preserved : goal.chain-loop-turn-preserved
 chain-loop-turn-preserved t c =

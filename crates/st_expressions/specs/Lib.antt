@@ -1,0 +1,5 @@
+pub mod Lexemes
+pub mod Phrases
+pub mod Grammar
+pub mod Reading
+pub mod Outcome

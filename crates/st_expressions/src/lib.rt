@@ -1,0 +1,14 @@
+//! What the parser of Structured Text reads with: the tokens that are left, phrases one after another, and expressions. Each function returns what stands at the front of the tokens, or refuses the first token that does not fit.
+//!
+//! Contracts speak of a text's tokens as lexemes.
+#![tactic(auto)]
+
+mod expr;
+mod phrases;
+mod reader;
+mod stop;
+
+pub use expr::expression;
+pub use phrases::{Phrase, parse_after, parse_all};
+pub use reader::Reader;
+pub use stop::Stop;
