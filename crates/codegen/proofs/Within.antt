@@ -20,7 +20,7 @@ use Rattle.block_walk.specs.declared.frame.SeatOf.TheVariants as seat_of
 use Rattle.block_walk.specs.declared.frame.Seat.{Seat}
 use Rattle.block_walk.specs.declared.frame.Base.{Base}
 use Rattle.block_walk.specs.declared.frame.Frame.{Frame}
-use Rattle.block_walk.specs.Walks.{slot_of, member_slot, base_of}
+use Rattle.block_walk.specs.Walks.{member_slot, base_of}
 use Rattle.block_walk.proofs.Firsts.{first_is}
 use Rattle.acc_vm.specs.declared.instr.Instr.{Instr}
 use Rattle.acc_vm.specs.declared.instr.Instr.TheVariants as instr
@@ -332,8 +332,8 @@ module _ (has_value has_clock : ℕ → Bool) where
     clock_there k named = some_in (λ k. has_clock k ≡ true) clocks_of code (λ pc i at. (at_each (IsIn has_value has_clock) code pc i all at).1) k named.some
 
 -- the code of a program names what its frame names
-pub code_names_as_frame : (frames : List Frame) (globals first : ℕ) (base : Base) → NamesAsFrame frames globals first base (code_of globals frames first base)
-code_names_as_frame frames globals first base has_value has_clock h =
+pub code_names_as_frame : (frames : List Frame) (globals first : ℕ) (base : Base) (cost : ℕ) → NamesAsFrame frames globals first base (code_of globals frames first base cost)
+code_names_as_frame frames globals first base cost has_value has_clock h =
     let code = joined_of (program_lines globals frames first base) in
     let all = joined_in has_value has_clock (program_lines globals frames first base) (program_in has_value has_clock globals frames first base h) in
     record {

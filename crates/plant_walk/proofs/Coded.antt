@@ -36,7 +36,7 @@ under_ended path paths (Ok u) cells inside = refl
 under_ended path paths (Err stop) cells inside =
     ap (λ (p : Path). Trapped cells (record { path = p; statement = stop.place.statement }) stop.trap) (sym (get_or-map (λ (way : Path). way ++ path) paths stop.place.path [] [] inside))
 
-module _ (frames : List Frame) (globals first : ℕ) (base : Base) (code : PlainCode) (is : IsCodeOf frames globals first base code) (result : Result (Unit {0}) Stop) (inside : IfErr result (λ stop. stop.place.path < code.paths)) where
+module _ (frames : List Frame) (globals first : ℕ) (base : Base) (cost : ℕ) (code : PlainCode) (is : IsCodeOf frames globals first base cost code) (result : Result (Unit {0}) Stop) (inside : IfErr result (λ stop. stop.place.path < code.paths)) where
   -- a trap has a path of the frame
   pub path_inside : IfErr result (λ stop. stop.place.path < length (frame_paths frames (length frames) first))
   path_inside = subst (λ most. IfErr result (λ stop. stop.place.path < most)) is.paths inside
@@ -56,6 +56,8 @@ pub shape_kept : (source : Source) (old new : PlainCells) → SameShape new old 
 shape_kept source old new same has = record { values = same.values ∙ has.values; clocks = same.clocks ∙ has.clocks }
 
 -- codes of equal parts
-pub codes_same : (fs gs : List Frame) (a b c d : ℕ) (values v clocks w : List ℕ) (codes : List PlainCode) → fs ≡ gs → a ≡ b → c ≡ d → values ≡ v → clocks ≡ w → AreCodes fs a c values clocks codes → AreCodes gs b d v w codes
-codes_same fs gs a b c d values v clocks w codes e1 e2 e3 e4 e5 h =
-    subst (λ x. AreCodes x b d v w codes) e1 (subst (λ x. AreCodes fs x d v w codes) e2 (subst (λ x. AreCodes fs a x v w codes) e3 (subst (λ x. AreCodes fs a c x w codes) e4 (subst (λ x. AreCodes fs a c values x codes) e5 h))))
+pub codes_same : (fs gs : List Frame) (a b c d : ℕ) (values v clocks w costs s : List ℕ) (codes : List PlainCode)
+    → fs ≡ gs → a ≡ b → c ≡ d → values ≡ v → clocks ≡ w → costs ≡ s → AreCodes fs a c values clocks costs codes → AreCodes gs b d v w s codes
+codes_same fs gs a b c d values v clocks w costs s codes e1 e2 e3 e4 e5 e6 h =
+    subst (λ x. AreCodes x b d v w s codes) e1 (subst (λ x. AreCodes fs x d v w s codes) e2 (subst (λ x. AreCodes fs a x v w s codes) e3
+    (subst (λ x. AreCodes fs a c x w s codes) e4 (subst (λ x. AreCodes fs a c values x s codes) e5 (subst (λ x. AreCodes fs a c values clocks x codes) e6 h)))))

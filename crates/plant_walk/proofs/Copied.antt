@@ -4,6 +4,7 @@ use Rattle.plant_logic.specs.Source.{Source}
 use Rattle.plant_cells.specs.declared.clock.Standard.{Standard}
 use Rattle.block_walk.specs.declared.frame.Frame.{Frame}
 use Rattle.block_walk.specs.Plain.{view_frame}
+use Rattle.plant_limits.specs.Counts.{program_costs}
 use Rattle.block_frames.specs.Frames.{IsFrames, IsStart}
 use Rattle.acc_vm.specs.Codes.{PlainCode}
 use Rattle.program_codes.specs.Codes.{AreCodes}
@@ -18,7 +19,7 @@ start_kept source table copies law same h =
 
 -- the same with other frames
 pub framed_with : (source : Source) (order : List ℕ) (frames start : List Frame) (names : List (List ℕ)) (standards : List Standard) (values clocks paths : List ℕ) (codes : List PlainCode) → IsFramed source order frames start names standards values clocks paths codes
-    → (copies begun : List Frame) → IsFrames source order copies → HasStart source begun → AreCodes copies (length source.globals) (length order) values clocks codes
+    → (copies begun : List Frame) → IsFrames source order copies → HasStart source begun → AreCodes copies (length source.globals) (length order) values clocks (program_costs source) codes
     → IsFramed source order copies begun names standards values clocks paths codes
 framed_with source order frames start names standards values clocks paths codes h copies begun are has have = record {
   sound = h.sound;

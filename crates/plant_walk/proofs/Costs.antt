@@ -5,6 +5,7 @@ use Rattle.std.specs.List.{position, position_or_len}
 use Rattle.std.specs.Option.{option_map_or}
 use Rattle.std.proofs.lemmas.Bool.{cases_lt, cases_Bool}
 use Rattle.std.proofs.lemmas.Bool.Decides.{nat_tests}
+use Rattle.std.proofs.lemmas.List.{length-map}
 use Rattle.std.proofs.lemmas.List.Quantifiers.{position-Some}
 use Rattle.std.proofs.lemmas.Option.{slice_get_within, slice_get-get_or, slice_get-map, get_or_from_slice_get}
 use Rattle.st_tree.specs.Costs.{body_cost}
@@ -30,6 +31,7 @@ use Rattle.block_frames.specs.Numbers.{instance_number, HasItsNames, HasAllNames
 use Rattle.block_frames.specs.Frames.{place_in, seated, AreSeats, IsFrame, framed, IsFrames}
 use Rattle.code_sizes.specs.Sizes.{seat_cost, called_cost, frame_turns, routine_cost, frame_cost}
 use Rattle.codegen.proofs.Parts.{cost_is}
+use Rattle.program_codes.specs.Codes.{CostNoMore}
 use Rattle.plant_walk.proofs.Weighed.{body_less}
 
 -- a block type costs what its routine does, by what the block types that it declares cost
@@ -180,9 +182,16 @@ module _ (source : Source) (order : List ℕ) (frames : List Frame) (are : IsFra
       omega (arith, is, inside)
 
   -- as the list of all programs' costs has it
-  pub cost_listed : (n : ℕ) (p : PlainRoutine) → slice_get source.programs n ≡ Some p → frame_cost frames (length frames) (length order + n) ≤ get_or (program_costs source) n 0
+  cost_listed : (n : ℕ) (p : PlainRoutine) → slice_get source.programs n ≡ Some p → frame_cost frames (length frames) (length order + n) ≤ get_or (program_costs source) n 0
   cost_listed n p at =
       let own = program_less n p at in
       let listed : slice_get (program_costs source) n ≡ Some (limits.routine_cost (type_cost source.blocks) p) = slice_get-map (limits.routine_cost (type_cost source.blocks)) source.programs n ∙ ap (option_map (limits.routine_cost (type_cost source.blocks))) at in
       let same = get_or_from_slice_get (program_costs source) n (limits.routine_cost (type_cost source.blocks) p) 0 listed in
       omega (arith, own, same)
+
+  -- no program's frame costs more than the list has it
+  pub costs_listed : CostNoMore frames (length order) (program_costs source)
+  costs_listed n less =
+      let many = length-map source.programs (limits.routine_cost (type_cost source.blocks)) in
+      let p = element source.programs n (omega (arith, less, many)) in
+      cost_listed n p.0 p.1

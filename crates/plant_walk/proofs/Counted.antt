@@ -131,6 +131,6 @@ module _ (blocks : List PlainRoutine) where
 pub routine_at : (blocks : List Routine) (a : ℕ) (x : Routine) → a < length blocks → x ≡ get_or blocks a x → slice_get (map view_routine blocks) a ≡ Some (view_routine x)
 routine_at blocks a x within at = slice_get-map view_routine blocks a ∙ ap (option_map view_routine) (slice_get-get_or blocks a x within ∙ ap Some (sym at))
 
--- a program's count that hasn't stopped is the number of its values
-pub program_counted : (blocks : List PlainRoutine) (row : List ℕ) (p : PlainRoutine) (count : ℕ) → AreCounted blocks row → count ≡ stopped (value_count (numbers_in row) p) → count < 65537 → count ≡ length (values_rule (routine_values blocks) p [])
-program_counted blocks row p count counted is less = let e = routine_counted blocks (numbers_in row) p [] (λ n declares. counted.each n) in omega (arith, is, e, less)
+-- a program's count is the number of its values, up to where counts stop
+pub program_counted : (blocks : List PlainRoutine) (row : List ℕ) (p : PlainRoutine) (count : ℕ) → AreCounted blocks row → count ≡ stopped (value_count (numbers_in row) p) → count ≡ stopped (length (values_rule (routine_values blocks) p []))
+program_counted blocks row p count counted is = is ∙ routine_counted blocks (numbers_in row) p [] (λ n declares. counted.each n)

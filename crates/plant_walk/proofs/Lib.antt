@@ -3,6 +3,8 @@ pub mod Standing
 pub mod Ranges
 mod Counted
 mod Bases
+mod Few
+mod FewPaths
 mod Numbered
 mod Placed
 mod Spots

@@ -127,7 +127,7 @@ module _ (source : Source) (order : List ℕ) (below : AreBelow source.blocks or
       program_there source order below (behind [] (program_values_base source n) own_values) (behind no_clock (program_clocks_base source n) own_clocks) has_value has_clock value_there clock_there global_there
       frames are types names n p at (folded p.name ∷ []) (program_base source n) (behind_stands [] (program_values_base source n) own_values) (behind_stands no_clock (program_clocks_base source n) own_clocks)
 
-  module _ (code : PlainCode) (is : IsCodeOf frames (length source.globals) (length order + n) (program_base source n) code) where
+  module _ (cost : ℕ) (code : PlainCode) (is : IsCodeOf frames (length source.globals) (length order + n) (program_base source n) cost code) where
     names_only : NamesOnly has_value has_clock code
     names_only = is.within has_value has_clock own_there
 
@@ -160,14 +160,14 @@ module _ (source : Source) (order : List ℕ) (below : AreBelow source.blocks or
 -- by the rows of where programs begin, cells of the source have what a program's code names
 pub code_there : (source : Source) (order : List ℕ) → AreBelow source.blocks order → (frames : List Frame) → IsFrames source order frames → HasItsTypes source → HasAllNames source
     → (values stood : List ℕ) → AreBases (program_values_base source) (length source.programs) values → AreBases (program_clocks_base source) (length source.programs) stood
-    → (n : ℕ) → n < length source.programs → (code : PlainCode) → IsCodeOf frames (length source.globals) (length order + n) (base_in values stood n) code
+    → (n : ℕ) → n < length source.programs → (cost : ℕ) (code : PlainCode) → IsCodeOf frames (length source.globals) (length order + n) (base_in values stood n) cost code
     → (code.values ≤ length (cell_paths source)) × (code.clocks ≤ length (all_clocks source))
-code_there source order below frames are types names values stood values_begin clocks_begin n less code is =
+code_there source order below frames are types names values stood values_begin clocks_begin n less cost code is =
     let p = element source.programs n less in
     let values_are = values_begin.each n (omega (arith, less)) in
     let clocks_are = clocks_begin.each n (omega (arith, less)) in
-    code_within source order below frames are types names n p.0 p.1 code
-    (subst (λ (base : Base). IsCodeOf frames (length source.globals) (length order + n) base code) (λ i. record { values = values_are i; clocks = clocks_are i }) is)
+    code_within source order below frames are types names n p.0 p.1 cost code
+    (subst (λ (base : Base). IsCodeOf frames (length source.globals) (length order + n) base cost code) (λ i. record { values = values_are i; clocks = clocks_are i }) is)
 
 -- programs lie one behind another
 values_rise : (blocks ps : List PlainRoutine) (j k : ℕ) → j ≤ k → program_values_before blocks ps j ≤ program_values_before blocks ps k

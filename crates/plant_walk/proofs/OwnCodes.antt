@@ -20,7 +20,7 @@ use Rattle.plant_walk.proofs.Placed.{agrees}
 use Rattle.plant_walk.proofs.Spots.{many_below}
 
 module _ (source : Source) (order : List ℕ) (frames : List Frame) (n : ℕ) (p : PlainRoutine) (at : slice_get source.programs n ≡ Some p) (have_paths : frame_paths frames (length frames) (length order + n) ≡ paths_rule (type_paths source.blocks) p)
-    (code : PlainCode) (is : IsCodeOf frames (length source.globals) (length order + n) (program_base source n) code) where
+    (cost : ℕ) (code : PlainCode) (is : IsCodeOf frames (length source.globals) (length order + n) (program_base source n) cost code) where
   -- it has as many paths as the program
   pub as_many_paths : code.paths ≡ length (paths_in source n)
   as_many_paths = is.paths ∙ ap (λ (l : List Path). length l) have_paths ∙ sym (many_below source.blocks p) ∙ ap (λ found. length (paths_below source.blocks found)) (sym at)

@@ -1,7 +1,7 @@
 -- Sound sources are small, and their globals are found by name.
 use Rattle.std.proofs.Common.{◌≡◌, ◌∙◌, ◌≤◌, ◌<◌, ◌+◌, ap, sym, subst, refl, ℕ, zero, suc, Bool, true, false, List, [], ◌∷◌, Some, None, slice_get, length, length-append, get_or, inl, inr, cond, nat_lt, arith}
 use Rattle.std.specs.Prelude.{not, if◌then◌else◌}
-use Rattle.std.specs.List.{list_any, position_or_len, sum_by}
+use Rattle.std.specs.List.{list_any, position, position_or_len, sum_by}
 use Rattle.std.specs.Str.{bytes_eq}
 use Rattle.std.specs.Cmp.Lexicographic.{bytes_decides}
 use Rattle.std.proofs.lemmas.Bool.{or_parts, cases_Bool, both_ways, lt-ltb, ltb-false}
@@ -79,6 +79,16 @@ apart (w ∷ ws) (suc k) (suc i) d once before within = apart ws k i d (or_parts
 abbrev word : Variable → List ℕ
 word g = folded g.name
 
+-- a word that stands in a list of words in which none stands twice is found where it stands
+pub word_found : (words : List (List ℕ)) (i : ℕ) (x : List ℕ) → repeats words ≡ false → i < length words → get_or words i x ≡ x → position (bytes_eq x) words ≡ Some i
+word_found words i x once within here =
+    let is : bytes_eq x (get_or words i x) ≡ true = (bytes_decides x (get_or words i x)).1 (sym here) in
+    let earlier : (k : ℕ) → k < i → bytes_eq x (get_or words k x) ≡ false =
+    λ k before. turned x (get_or words k x) ∙ subst (λ y. bytes_eq (get_or words k x) y ≡ false) here (apart words k i x once before within)
+    in
+    let first : position_or_len (bytes_eq x) words ≡ i = position_or_len_is (bytes_eq x) words i x (omega (arith, within)) earlier (λ _. is) in
+    subst (λ n. cond (nat_lt n (length words)) (Some n) None ≡ Some i) (sym first) (rw (lt-ltb i (length words) within) refl)
+
 pub found_again : (source : Source) (i : ℕ) (g : Variable) → IsSound source → slice_get source.globals i ≡ Some g → find_global source.globals g.name ≡ Some i
 found_again source i g sound at =
     let words = global_words source.globals in
@@ -86,9 +96,4 @@ found_again source i g sound at =
     let inside = slice_get_within source.globals i g at in
     let within : i < length words = subst (λ n. i < n) (sym (length-map source.globals word)) inside in
     let here : get_or words i x ≡ x = get_or-map word source.globals i g x inside ∙ ap word (get_or_from_slice_get source.globals i g g at) in
-    let is : bytes_eq x (get_or words i x) ≡ true = (bytes_decides x (get_or words i x)).1 (sym here) in
-    let earlier : (k : ℕ) → k < i → bytes_eq x (get_or words k x) ≡ false =
-    λ k before. turned x (get_or words k x) ∙ subst (λ y. bytes_eq (get_or words k x) y ≡ false) here (apart words k i x (sound_named source sound).globals_apart before within)
-    in
-    let first : position_or_len (bytes_eq x) words ≡ i = position_or_len_is (bytes_eq x) words i x (omega (arith, within)) earlier (λ _. is) in
-    subst (λ n. cond (nat_lt n (length words)) (Some n) None ≡ Some i) (sym first) (rw (lt-ltb i (length words) within) refl)
+    word_found words i x (sound_named source sound).globals_apart within here

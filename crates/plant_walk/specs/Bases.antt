@@ -70,7 +70,11 @@ paths_of_seat counts (seat_of.Frame k) = counts k
 abbrev pub seat_count : (ℕ → ℕ) → Seat → ℕ
 seat_count counts seat = if seat.is_called then paths_of_seat counts seat.of else 0
 
--- a row has the count of paths of each of the first so many frames
+-- a count of paths that stops at 2^32 - 1
+abbrev pub stopped_paths : ℕ → ℕ
+stopped_paths n = min n 4294967295
+
+-- a row has the count of paths of each of the first so many frames, up to where counts stop
 pub record ArePathsCounted (frames : List Frame) (limit : ℕ) (row : List ℕ) : Type 0 where
   pub long : length row ≡ limit
-  pub each : (k : ℕ) → numbers_in row k ≡ length (frame_paths frames limit k)
+  pub each : (k : ℕ) → numbers_in row k ≡ stopped_paths (length (frame_paths frames limit k))

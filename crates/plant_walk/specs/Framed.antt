@@ -5,6 +5,7 @@ use Rattle.plant_logic.specs.Source.{Source}
 use Rattle.plant_logic.specs.Blocks.{AreBelow}
 use Rattle.plant_logic.specs.Layout.{ClockAt, all_clocks}
 use Rattle.plant_logic.specs.Seats.{program_values_base, program_clocks_base}
+use Rattle.plant_limits.specs.Counts.{program_costs}
 use Rattle.plant_cells.specs.declared.clock.Standard.{Standard}
 use Rattle.block_walk.specs.declared.frame.Frame.{Frame}
 use Rattle.block_frames.specs.Frames.{IsFrames, IsStart}
@@ -28,7 +29,7 @@ pub record HasStart (source : Source) (table : List Frame) : Type 0 where
   pub table_is : table ≡ start ∷ []
   pub is_start : IsStart source start
 
--- a sound source has its frames, and where the values, the standard blocks and the paths of each program begin; each path number is one of 32 bits; and it has the code of each program
+-- a sound source has its frames, and where the values, the standard blocks and the paths of each program begin; each path number is one of 32 bits; and it has the code of each program, which tells what the program costs
 pub record IsFramed (source : Source) (order : List ℕ) (frames start : List Frame) (names : List (List ℕ)) (standards : List Standard) (values clocks paths : List ℕ) (codes : List PlainCode) : Type 0 where
   pub sound : IsSound source
   pub below : AreBelow source.blocks order
@@ -40,4 +41,4 @@ pub record IsFramed (source : Source) (order : List ℕ) (frames start : List Fr
   pub clocks_begin : AreBases (program_clocks_base source) (length source.programs) clocks
   pub paths_begin : AreBases (program_paths_base source) (length source.programs) paths
   pub paths_fit : program_paths_base source (length source.programs) < 2 ^ 32
-  pub codes_are : AreCodes frames (length source.globals) (length order) values clocks codes
+  pub codes_are : AreCodes frames (length source.globals) (length order) values clocks (program_costs source) codes

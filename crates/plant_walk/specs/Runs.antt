@@ -1,11 +1,12 @@
 -- Runs over cells, and runs in the worlds that they stand for.
-use Rattle.std.specs.Prelude.{◌≡◌, ◌<◌, ◌≤◌, ◌+◌, ◌++◌, ℕ, List, [], ◌∷◌, map, length, Option, Some, None, Result, Ok, Err, slice_get}
+use Rattle.std.specs.Prelude.{◌≡◌, ◌<◌, ◌≤◌, ◌+◌, ◌++◌, ℕ, List, [], ◌∷◌, map, length, get_or, Option, Some, None, Result, Ok, Err, slice_get}
 use Rattle.plant_types.specs.declared.values.Place.{Place}
 use Rattle.st_tree.specs.Meaning.{Spot, Ran, Done, Trapped}
 use Rattle.plant_logic.specs.Source.{PlainRoutine, Source}
 use Rattle.plant_logic.specs.Worlds.{World, run_program}
 use Rattle.plant_logic.specs.Layout.{cell_paths, all_clocks}
 use Rattle.plant_logic.specs.Paths.{paths_rule, type_paths, paths_of}
+use Rattle.plant_limits.specs.Counts.{program_costs}
 use Rattle.plant_cells.specs.declared.stop.Stop.{Stop}
 use Rattle.plant_cells.specs.Cells.{PlainCells}
 use Rattle.plant_cells.specs.Runs.{Path, spot_of}
@@ -62,7 +63,7 @@ pub record TakesInstructions (source : Source) (n t : ℕ) (cells : PlainCells) 
   pub frames : List Frame
   pub are_frames : IsFrames source order frames
   pub code : PlainCode
-  pub made : IsMade frames (length source.globals) (length order + n) (program_base source n) code
+  pub made : IsMade frames (length source.globals) (length order + n) (program_base source n) (get_or (program_costs source) n 0) code
   pub result : Ran PlainCells
   pub left : ℕ
   pub runs : run_of t [] code cells ≡ Over result left
@@ -89,11 +90,14 @@ pub record NamesOwn (source : Source) (n : ℕ) (code : List Instr) : Type 0 whe
   pub values : (s : ℕ) → Names code s → length source.globals ≤ s → IsOwnValue source n s
   pub clocks : (k : ℕ) → NamesClock code k → IsOwnClock source n k
 
--- code is that of the program of a number: it is sound, cells of the source have what it names, which beside the globals is the program's own, its paths are the program's, and from cells that stand for a world it ends as the program does there
+-- code is that of the program of a number: it is sound, cells of the source have what it names, which is few, and beside the globals the program's own, its paths are the program's, it tells what the program costs, and from cells that stand for a world it ends as the program does there
 pub record IsProgramCode (source : Source) (n : ℕ) (code : PlainCode) : Type 0 where
   pub sound : IsSound code
   pub values : (cells : PlainCells) → HasCells source cells → code.values ≤ length cells.values
   pub clocks : (cells : PlainCells) → HasCells source cells → code.clocks ≤ length cells.clocks
+  pub few_values : code.values ≤ 65536
+  pub few_clocks : code.clocks ≤ 65536
   pub own : NamesOwn source n code.instrs
+  pub cost : code.cost ≡ get_or (program_costs source) n 0
   pub paths : code.paths ≡ length (paths_in source n)
   pub ends : (t : ℕ) (cells : PlainCells) (w : World) → StandFor source cells w → EndsAsProgram source n t code cells w

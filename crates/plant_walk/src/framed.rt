@@ -30,7 +30,7 @@ use block_frames::{
 };
 use block_walk::{Frame, copy_frames, push_path, start_frame, walk_frame};
 use plant_cells::{Cells, Standard, Stop};
-use plant_limits::{LimitFault, block_type_counts, limits};
+use plant_limits::{LimitFault, block_type_counts, costs, limits};
 use plant_logic::{Logic, Routine, Variable, logic_of, order_is_of_source};
 use plant_types::Place;
 use program_codes::{Stack, codes_of, copied_frames_have_codes, copy_codes, run_code_counted};
@@ -114,10 +114,13 @@ fn made_of(alloc: Global, logic: &Logic, order: &[usize]) -> Result<Made, AllocE
     requires below { AreBelow (source_of logic.now).blocks order.now }
     ensures { IfOk result (λ m. IsFramed (source_of logic.now) order.now m.frames.items m.start.items m.names m.standards.list.items m.values.items m.standards.bases.items m.paths.items m.codes.items) }
 {
+    block_type_counts();
+    typed_names_are_known();
     let values = value_bases(alloc, logic, order)?;
     let (frames, start) = tables_of(alloc, logic, order)?;
     let paths = path_bases(alloc, logic, order, &frames)?;
     let standards = standards_of(alloc, logic, order, &frames)?;
+    let costs = costs(alloc, logic, order)?;
     let codes = codes_of(
         alloc,
         &frames,
@@ -125,6 +128,7 @@ fn made_of(alloc: Global, logic: &Logic, order: &[usize]) -> Result<Made, AllocE
         order.len(),
         &values,
         &standards.bases,
+        &costs,
     )?;
     Ok(Made {
         names: global_names(alloc, &logic.globals)?,
@@ -311,7 +315,6 @@ impl Framed {
         ensures count { TakesInstructions self.now program moment cells.old result.1 }
         ensures cost { result.1 ≤ 4 * get_or (program_costs self.now) program 0 + 4 }
     {
-        block_type_counts();
         frames_agree();
         frames_have_paths();
         typed_names_are_known();
@@ -331,6 +334,15 @@ impl Framed {
         let code = &self.codes[program];
         let _instrs = code.instrs();
         code
+    }
+
+    /// What the program of a number costs, from 0, by the rule of the limit on a scan's steps: the program as it is written, whatever of it was
+    /// folded.
+    pub fn cost(&self, program: usize) -> u64
+        requires { program < length self.now.programs }
+        ensures { result ≡ get_or (program_costs self.now) program 0 }
+    {
+        self.code(program).cost()
     }
 
     /// The number that the first path of the program of a number has among all paths. The program's other paths follow it, and all these numbers

@@ -3,24 +3,21 @@
 ghost use Rattle.std.specs.Prelude.{◌≡◌, ◌+◌, ◌^◌, ◌≤◌, ◌<◌, get_or, length, IfOk};
 ghost use Rattle.std.specs.List.{sum_by};
 ghost use Rattle.plant_logic.specs.Source.{source_of};
-ghost use Rattle.plant_logic.specs.Blocks.{AreBelow, HasItsTypes};
+ghost use Rattle.plant_logic.specs.Blocks.{AreBelow};
 ghost use Rattle.block_frames.specs.Frames.{IsFrames};
-ghost use Rattle.plant_walk.specs.Bases.{numbers_in, seat_count, ArePathsCounted, program_paths_base, AreBases};
+ghost use Rattle.plant_walk.specs.Sound.{IsSound};
+ghost use Rattle.plant_walk.specs.Bases.{numbers_in, seat_count, stopped_paths, ArePathsCounted, program_paths_base, AreBases};
 
 use block_frames::frames_have_paths;
 use block_walk::{Frame, Seat, SeatOf};
 use plant_logic::Logic;
 use std::alloc::{AllocError, Global};
 
-/// The sum. Fails if it doesn't fit 32 bits.
-fn sum(a: u32, b: u32) -> Result<u32, AllocError>
-    ensures sum { IfOk result (λ n. n ≡ a + b) }
-    ensures fits { IfOk result (λ n. n < 2 ^ 32) }
+/// The sum, up to where counts stop.
+fn add(a: u32, b: u32) -> u32
+    ensures { result ≡ stopped_paths (a + b) }
 {
-    match a.checked_add(b) {
-        Some(n) => Ok(n),
-        None => Err(AllocError),
-    }
+    a.saturating_add(b)
 }
 
 /// How many paths an instance adds, by the counts of the frames.
@@ -39,32 +36,31 @@ fn seat_count(counts: &[u32], seat: &Seat) -> u32
     }
 }
 
-/// How many paths a routine has, its own among them, by the counts of the frames. Fails if the number doesn't fit 32 bits.
-fn routine_count(counts: &[u32], seats: &[Seat]) -> Result<u32, AllocError>
-    ensures { IfOk result (λ n. n ≡ 1 + sum_by (seat_count (numbers_in counts.now)) seats.now) }
+/// How many paths a routine has, its own among them, by the counts of the frames, up to where counts stop.
+fn routine_count(counts: &[u32], seats: &[Seat]) -> u32
+    ensures { result ≡ stopped_paths (1 + sum_by (seat_count (numbers_in counts.now)) seats.now) }
 {
     let mut total = 1;
     for seat in seats {
-        total = sum(total, seat_count(counts, seat))?;
+        total = add(total, seat_count(counts, seat));
     }
-    Ok(total)
+    total
 }
 
-/// How many paths each frame has. Fails if allocation fails, or such a number doesn't fit 32 bits.
+/// How many paths each frame has, up to where counts stop. Fails if allocation fails.
 fn count_frames(alloc: Global, frames: &[Frame]) -> Result<Vec<u32>, AllocError>
     ensures { IfOk result (λ counts. ArePathsCounted frames.now (length frames.now) counts.items) }
 {
     let mut counts = Vec::new(alloc);
     for frame in frames {
-        let count = routine_count(&counts, &frame.seats)?;
+        let count = routine_count(&counts, &frame.seats);
         counts.push(count)?;
     }
     Ok(counts)
 }
 
-/// The number of the first path of each program, and behind them the number of all paths.
-///
-/// Fails if allocation fails, and where all programs together have more than 2^32 - 1 paths: they can't have where the limits are kept.
+/// The number of the first path of each program, and behind them the number of all paths. No count stops that is needed here: a program has at
+/// most one path more than its size. Fails if allocation fails.
 pub fn path_bases(
     alloc: Global,
     logic: &Logic,
@@ -73,7 +69,7 @@ pub fn path_bases(
 ) -> Result<Vec<u32>, AllocError>
     requires frames { IsFrames (source_of logic.now) order.now frames.now }
     requires below { AreBelow (source_of logic.now).blocks order.now }
-    requires types { HasItsTypes (source_of logic.now) }
+    requires sound { IsSound (source_of logic.now) }
     ensures bases { IfOk result (λ row. AreBases (program_paths_base (source_of logic.now)) (length (source_of logic.now).programs) row.items) }
     ensures fit { IfOk result (λ _. program_paths_base (source_of logic.now) (length (source_of logic.now).programs) < 2 ^ 32) }
 {
@@ -84,7 +80,7 @@ pub fn path_bases(
     row.push(at)?;
     let mut place = order.len();
     for _program in &logic.programs {
-        at = sum(at, counts[place])?;
+        at = add(at, counts[place]);
         row.push(at)?;
         place += 1;
     }

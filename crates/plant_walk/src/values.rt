@@ -1,9 +1,10 @@
 //! Where the values of each program begin.
 
-ghost use Rattle.std.specs.Prelude.{◌≡◌, ◌+◌, ◌<◌, length, map, IfOk};
+ghost use Rattle.std.specs.Prelude.{◌≡◌, ◌+◌, length, map, IfOk};
 ghost use Rattle.plant_logic.specs.Source.{view_routine, source_of};
 ghost use Rattle.plant_logic.specs.Blocks.{AreBelow};
 ghost use Rattle.plant_logic.specs.Seats.{program_values_base};
+ghost use Rattle.plant_limits.specs.Limits.{KeepsSlots};
 ghost use Rattle.plant_walk.specs.Bases.{stopped, instance_count, value_count, numbers_in, AreCounted, AreBases};
 
 use plant_logic::{BlockRef, Logic, Routine};
@@ -58,25 +59,11 @@ fn count_types(alloc: Global, blocks: &[Routine], order: &[usize]) -> Result<Vec
     Ok(counts)
 }
 
-/// The end of a row of values that begins at a number. Fails where the count has stopped: no source that keeps the limits has so many values.
-fn end_after(at: usize, count: usize) -> Result<usize, AllocError>
-    ensures { IfOk result (λ n. (n ≡ at + count) × (count < 65537)) }
-{
-    if count >= LAST {
-        return Err(AllocError);
-    }
-    match at.checked_add(count) {
-        Some(n) => Ok(n),
-        None => Err(AllocError),
-    }
-}
-
 /// The number of the first value of each program, and behind them the number of all values. The order lists each block type after those
-/// that it declares.
-///
-/// Fails if allocation fails, and where a program has more than 65,536 values: it can't have where the limits are kept.
+/// that it declares. No count of a program's values stops, since the values are no more than the slots. Fails if allocation fails.
 pub fn value_bases(alloc: Global, logic: &Logic, order: &[usize]) -> Result<Vec<usize>, AllocError>
-    requires { AreBelow (source_of logic.now).blocks order.now }
+    requires below { AreBelow (source_of logic.now).blocks order.now }
+    requires slots { KeepsSlots (source_of logic.now) }
     ensures { IfOk result (λ row. AreBases (program_values_base (source_of logic.now)) (length (source_of logic.now).programs) row.items) }
 {
     let counts = count_types(alloc, &logic.blocks, order)?;
@@ -84,7 +71,7 @@ pub fn value_bases(alloc: Global, logic: &Logic, order: &[usize]) -> Result<Vec<
     let mut at = logic.globals.len();
     row.push(at)?;
     for program in &logic.programs {
-        at = end_after(at, value_count(&counts, program))?;
+        at = add(at, value_count(&counts, program));
         row.push(at)?;
     }
     Ok(row)

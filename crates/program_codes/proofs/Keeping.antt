@@ -56,8 +56,9 @@ folded_again [] = refl
 folded_again (f ∷ frames) = ap (λ (l : List PlainFrame). folded_frame (view_frame f) ∷ l) (folded_again frames)
 
 -- what is folded of frames is what is folded of their copies
-pub made_of_copies : (frames copies : List Frame) → map view_frame copies ≡ map view_frame frames → (globals first : ℕ) (base : Base) (code : PlainCode) → IsMade frames globals first base code → IsMade copies globals first base code
-made_of_copies frames copies same globals first base code made = record {
+pub made_of_copies : (frames copies : List Frame) → map view_frame copies ≡ map view_frame frames → (globals first : ℕ) (base : Base) (cost : ℕ) (code : PlainCode)
+    → IsMade frames globals first base cost code → IsMade copies globals first base cost code
+made_of_copies frames copies same globals first base cost code made = record {
   folded = made.folded;
   are_folded = made.are_folded ∙ folded_again frames ∙ ap (map folded_frame) (sym same) ∙ sym (folded_again copies);
   is = made.is;

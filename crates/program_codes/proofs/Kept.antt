@@ -90,23 +90,23 @@ module _ (view : Frame → PlainFrame) (kept : IsKept view) (fs gs : List Frame)
   unfolding frame_cost
   cost_less = first_holds view (λ (m n : ℕ). m ≤ n) 0 0 routine_cost routine_cost (omega arith) routine_less fs gs (at_place view fs gs seen)
 
-  all_costs : (first : ℕ) → frame_cost gs (length gs) first ≤ frame_cost fs (length fs) first
+  pub all_costs : (first : ℕ) → frame_cost gs (length gs) first ≤ frame_cost fs (length fs) first
   all_costs first = subst (λ n. frame_cost gs n first ≤ frame_cost fs (length fs) first) (sym (same_length view fs gs seen)) (cost_less (length fs) first)
 
   -- the code of a frame that is seen as another is that of the other
-  pub code_kept : (globals first : ℕ) (base : Base) (code : PlainCode) → IsCodeOf gs globals first base code → IsCodeOf fs globals first base code
-  code_kept globals first base code is = record {
+  pub code_kept : (globals first : ℕ) (base : Base) (cost : ℕ) (code : PlainCode) → IsCodeOf gs globals first base cost code → IsCodeOf fs globals first base cost code
+  code_kept globals first base cost code is = record {
     runs = runs_kept globals first base code is.runs;
     paths = is.paths ∙ ap (λ (l : List Path). length l) (all_paths first);
     within = λ has_value has_clock h. is.within has_value has_clock (there_kept has_value has_clock globals first base h);
     stack = is.stack;
-    cost = let most = all_costs first in let own = is.cost in omega arith;
+    tells = is.tells;
   }
 
-  pub codes_kept : (globals first : ℕ) (values clocks : List ℕ) (codes : List PlainCode) → ((n : ℕ) (base : Base) (code : PlainCode) → IsMade gs globals n base code → IsMade fs globals n base code)
-      → AreCodes gs globals first values clocks codes → AreCodes fs globals first values clocks codes
-  codes_kept globals first values clocks codes made are = record {
+  pub codes_kept : (globals first : ℕ) (values clocks costs : List ℕ) (codes : List PlainCode) → ((n : ℕ) (base : Base) (cost : ℕ) (code : PlainCode) → IsMade gs globals n base cost code → IsMade fs globals n base cost code)
+      → AreCodes gs globals first values clocks costs codes → AreCodes fs globals first values clocks costs codes
+  codes_kept globals first values clocks costs codes made are = record {
     long = are.long;
-    each = λ n code at. code_kept globals _ _ code (are.each n code at);
-    made = λ n code at. made _ _ code (are.made n code at);
+    each = λ n code at. code_kept globals _ _ _ code (are.each n code at);
+    made = λ n code at. made _ _ _ code (are.made n code at);
   }

@@ -1,5 +1,5 @@
 -- The codes of the programs of a table of frames.
-use Rattle.std.specs.Prelude.{◌≡◌, ◌≤◌, ◌+◌, ℕ, List, length, get_or, Some, slice_get}
+use Rattle.std.specs.Prelude.{◌≡◌, ◌<◌, ◌≤◌, ◌+◌, ℕ, List, length, get_or, Some, slice_get}
 use Rattle.block_walk.specs.declared.frame.Base.{Base}
 use Rattle.block_walk.specs.declared.frame.Frame.{Frame}
 use Rattle.block_walk.specs.Frames.{frame_paths}
@@ -13,36 +13,40 @@ use Rattle.program_codes.specs.Folded.{AreFolded}
 abbrev pub stack_words : ℕ
 stack_words = 8192
 
--- code is that of the frame of a number as a program, at a base: it runs as the frame does, has the frame's paths, names only what is there wherever what the frame names is there, finds room on the stack, and costs no more than the frame
-pub record IsCodeOf (frames : List Frame) (globals first : ℕ) (base : Base) (code : PlainCode) : Type 0 where
+-- code is that of the frame of a number as a program, at a base: it runs as the frame does, has the frame's paths, names only what is there wherever what the frame names is there, finds room on the stack, and tells a cost
+pub record IsCodeOf (frames : List Frame) (globals first : ℕ) (base : Base) (cost : ℕ) (code : PlainCode) : Type 0 where
   pub runs : RunsFrame frames globals first base code
   pub paths : code.paths ≡ length (frame_paths frames (length frames) first)
   pub within : NamesAsFrame frames globals first base code
   pub stack : code.stack ≤ stack_words
-  pub cost : code.cost ≤ frame_cost frames (length frames) first
+  pub tells : code.cost ≡ cost
 
 -- where a program begins, by the rows of where the values and the clocks of each begin
 abbrev pub base_in : (values clocks : List ℕ) → (n : ℕ) → Base
 base_in values clocks n = record { values = get_or values n 0; clocks = get_or clocks n 0 }
 
--- each of the codes is that of its program: the programs are the frames from one on
-abbrev pub EachIsCode : (frames : List Frame) → (globals first : ℕ) → (values clocks : List ℕ) → List PlainCode → Type 0
-EachIsCode frames globals first values clocks codes =
-    (n : ℕ) (code : PlainCode) → slice_get codes n ≡ Some code → IsCodeOf frames globals (first + n) (base_in values clocks n) code
+-- no program costs more than is told: the programs are the frames from one on
+abbrev pub CostNoMore : (frames : List Frame) → (first : ℕ) → (costs : List ℕ) → Type 0
+CostNoMore frames first costs = (n : ℕ) → n < length costs → frame_cost frames (length frames) (first + n) ≤ get_or costs n 0
 
--- code is what is made of the frame of a number as a program, at a base, with the constants of all frames folded
-pub record IsMade (frames : List Frame) (globals first : ℕ) (base : Base) (code : PlainCode) : Type 0 where
+-- each of the codes is that of its program, and tells its cost
+abbrev pub EachIsCode : (frames : List Frame) → (globals first : ℕ) → (values clocks costs : List ℕ) → List PlainCode → Type 0
+EachIsCode frames globals first values clocks costs codes =
+    (n : ℕ) (code : PlainCode) → slice_get codes n ≡ Some code → IsCodeOf frames globals (first + n) (base_in values clocks n) (get_or costs n 0) code
+
+-- code is what is made of the frame of a number as a program, at a base, with the constants of all frames folded, and with the cost that it tells
+pub record IsMade (frames : List Frame) (globals first : ℕ) (base : Base) (cost : ℕ) (code : PlainCode) : Type 0 where
   pub folded : List Frame
   pub are_folded : AreFolded frames folded
-  pub is : code ≡ code_of globals folded first base
+  pub is : code ≡ code_of globals folded first base cost
 
 -- each of the codes is what is made of its program
-abbrev pub EachIsMade : (frames : List Frame) → (globals first : ℕ) → (values clocks : List ℕ) → List PlainCode → Type 0
-EachIsMade frames globals first values clocks codes =
-    (n : ℕ) (code : PlainCode) → slice_get codes n ≡ Some code → IsMade frames globals (first + n) (base_in values clocks n) code
+abbrev pub EachIsMade : (frames : List Frame) → (globals first : ℕ) → (values clocks costs : List ℕ) → List PlainCode → Type 0
+EachIsMade frames globals first values clocks costs codes =
+    (n : ℕ) (code : PlainCode) → slice_get codes n ≡ Some code → IsMade frames globals (first + n) (base_in values clocks n) (get_or costs n 0) code
 
--- codes are those of the programs, of which the rows tell where each begins, and behind them where the last one ends
-pub record AreCodes (frames : List Frame) (globals first : ℕ) (values clocks : List ℕ) (codes : List PlainCode) : Type 0 where
+-- codes are those of the programs, of which the rows tell where each begins, and behind them where the last one ends, and what each costs
+pub record AreCodes (frames : List Frame) (globals first : ℕ) (values clocks costs : List ℕ) (codes : List PlainCode) : Type 0 where
   pub long : length codes + 1 ≡ length values
-  pub each : EachIsCode frames globals first values clocks codes
-  pub made : EachIsMade frames globals first values clocks codes
+  pub each : EachIsCode frames globals first values clocks costs codes
+  pub made : EachIsMade frames globals first values clocks costs codes

@@ -2,10 +2,11 @@
 
 ghost use Rattle.std.specs.Prelude.{◌≡◌, ◌+◌, ◌<◌, ◌≤◌, get_or, length, IfOk};
 ghost use Rattle.block_walk.specs.Frames.{AreInTurn};
+ghost use Rattle.code_sizes.specs.Sizes.{frame_cost};
 ghost use Rattle.code_sizes.specs.Counts.{AreCounts};
 ghost use Rattle.codegen.specs.Codes.{code_of, AreSteady};
 ghost use Rattle.program_codes.specs.Folded.{AreFolded};
-ghost use Rattle.program_codes.specs.Codes.{IsCodeOf, AreCodes};
+ghost use Rattle.program_codes.specs.Codes.{IsCodeOf, AreCodes, CostNoMore};
 
 use crate::folding::fold_frames;
 use crate::running::STACK_WORDS;
@@ -29,15 +30,17 @@ fn code_of(
     first: usize,
     values: usize,
     clocks: usize,
+    cost: u64,
 ) -> Result<Code, AllocError>
     requires there { first < length folded.now }
     requires counted { AreCounts folded.now counts.now }
     requires in_turn { AreInTurn folded.now }
     requires steady { AreSteady folded.now }
-    ensures runs { IfOk result (IsCodeOf folded.now globals first (record { values = values; clocks = clocks })) }
-    ensures is { IfOk result (λ code. code ≡ code_of globals folded.now first (record { values = values; clocks = clocks })) }
+    requires cost { frame_cost folded.now (length folded.now) first ≤ cost }
+    ensures runs { IfOk result (IsCodeOf folded.now globals first (record { values = values; clocks = clocks }) cost) }
+    ensures is { IfOk result (λ code. code ≡ code_of globals folded.now first (record { values = values; clocks = clocks }) cost) }
 {
-    let code = compile_counted(alloc, folded, counts, globals, first, values, clocks)?;
+    let code = compile_counted(alloc, folded, counts, globals, first, values, clocks, cost)?;
     if code.stack() > STACK_WORDS {
         return Err(AllocError);
     }
@@ -45,7 +48,8 @@ fn code_of(
 }
 
 /// The codes of the programs of a table, which are its frames from a number on, in their order. The rows have the numbers at which the values
-/// and the clocks of each program begin, and behind them where those of the last one end.
+/// and the clocks of each program begin, and behind them where those of the last one end. The costs are told by the codes: no program costs more
+/// before its constants are folded.
 ///
 /// Fails if allocation fails; and if a code can't be numbered in 32 bits, or needs more words than a stack has, which is answered as refused
 /// memory too: no accepted source has such a program.
@@ -56,13 +60,16 @@ pub fn codes_of(
     first: usize,
     values: &[usize],
     clocks: &[usize],
+    costs: &[u64],
 ) -> Result<Vec<Code>, AllocError>
     requires in_turn { AreInTurn frames.now }
     requires steady { AreSteady frames.now }
     requires values { length frames.now + 1 ≡ first + length values.now }
     requires clocks { length clocks.now ≡ length values.now }
+    requires costs { length costs.now + 1 ≡ length values.now }
     requires there { first ≤ length frames.now }
-    ensures { IfOk result (λ codes. AreCodes frames.now globals first values.now clocks.now codes.items) }
+    requires enough { CostNoMore frames.now first costs.now }
+    ensures { IfOk result (λ codes. AreCodes frames.now globals first values.now clocks.now costs.now codes.items) }
 {
     folded_body_does_same::<usize, Cells>();
     folded_constants_are_literals::<usize>();
@@ -70,7 +77,7 @@ pub fn codes_of(
     folded_names_stay::<usize>();
     let folded = fold_frames(alloc, frames)?;
     let counts = count_frames(alloc, &folded)?;
-    let programs = values.len() - 1;
+    let programs = costs.len();
     let mut codes = Vec::with_capacity(alloc, programs)?;
     for n in 0..programs {
         let code = code_of(
@@ -81,6 +88,7 @@ pub fn codes_of(
             first + n,
             values[n],
             clocks[n],
+            costs[n],
         )?;
         codes.push(code)?;
     }

@@ -9,6 +9,6 @@ ghost use Rattle.program_codes.specs.Codes.{AreCodes};
 /// The codes of frames are those of their copies too.
 pub fn copied_frames_have_codes()
     ensures { (frames copies : List Frame) → map view_frame copies ≡ map view_frame frames
-        → (globals first : ℕ) (values clocks : List ℕ) (codes : List PlainCode)
-        → AreCodes frames globals first values clocks codes → AreCodes copies globals first values clocks codes }
+        → (globals first : ℕ) (values clocks costs : List ℕ) (codes : List PlainCode)
+        → AreCodes frames globals first values clocks costs codes → AreCodes copies globals first values clocks costs codes }
 {}

@@ -1,21 +1,26 @@
 use Rattle.std.proofs.Common.{◌≡◌, ◌∙◌, ap, sym, subst, refl, length, arith}
+use Rattle.std.proofs.lemmas.List.{length-map}
 use Rattle.st_names.specs.Taken.{repeats}
 use Rattle.plant_logic.specs.Source.{source_of}
 use Rattle.plant_logic.specs.Names.{global_words}
+use Rattle.plant_limits.specs.Counts.{routine_cost, type_cost, program_costs}
+use Rattle.block_frames.specs.Numbers.{HasAllNames}
 use Rattle.codegen.specs.Codes.{AreSteady}
+use Rattle.program_codes.specs.Codes.{CostNoMore}
 use Rattle.plant_walk.specs.Framed.{global_names}
 use Rattle.plant_walk.proofs.Coded.{sound_steady, codes_same}
 use Rattle.plant_walk.proofs.Small.{sound_named, sound_types}
+use Rattle.plant_walk.proofs.Costs.{costs_listed}
 use Rattle.plant_walk.proofs.framed.made_of.Goals as goal
+
+pub value_bases-requires-clause-slots : goal.value_bases-requires-clause-slots
+value_bases-requires-clause-slots c = c.requires.sound.limits.slots
 
 pub tables_of-requires-clause-types : goal.tables_of-requires-clause-types
 tables_of-requires-clause-types c = sound_types (source_of c.args.logic.now) c.requires.sound
 
 pub tables_of-requires-clause-named : goal.tables_of-requires-clause-named
 tables_of-requires-clause-named c = sound_named (source_of c.args.logic.now) c.requires.sound
-
-pub path_bases-requires-clause-types : goal.path_bases-requires-clause-types
-path_bases-requires-clause-types c = sound_types (source_of c.args.logic.now) c.requires.sound
 
 pub standards_of-requires-clause-types : goal.standards_of-requires-clause-types
 standards_of-requires-clause-types c = sound_types (source_of c.args.logic.now) c.requires.sound
@@ -25,8 +30,30 @@ codes_of-requires-clause-steady c =
     let source = source_of c.args.logic.now in
     subst AreSteady (sym c.deref-3.ensures.value) (sound_steady source c.args.order.now c.in_ok-frames.frames.items c.requires.sound c.requires.below c.in_ok-frames.ensures.frames)
 
+pub codes_of-requires-clause-costs : goal.codes_of-requires-clause-costs
+codes_of-requires-clause-costs c =
+    let source = source_of c.args.logic.now in
+    let costs = c.in_ok-costs.costs.items in
+    let are : costs ≡ program_costs source = c.in_ok-costs.ensures.kept c.requires.sound.limits.cost in
+    let told = ap length (c.deref-6.ensures.value ∙ are) in
+    let many = length-map source.programs (routine_cost (type_cost source.blocks)) in
+    let rows = ap length c.deref-4.ensures.value in
+    let long = c.in_ok-values.ensures.long in
+    omega (arith, told, many, rows, long)
+
+pub codes_of-requires-clause-enough : goal.codes_of-requires-clause-enough
+codes_of-requires-clause-enough c =
+    let source = source_of c.args.logic.now in
+    let sound = c.requires.sound in
+    let frames = c.in_ok-frames.frames.items in
+    let order = c.args.order.now in
+    let are : c.in_ok-costs.costs.items ≡ program_costs source = c.in_ok-costs.ensures.kept sound.limits.cost in
+    let names : HasAllNames source = subst HasAllNames (sym sound.are_theirs) (c.typed_names_are_known.ensures sound.units sound.typed) in
+    let enough : CostNoMore frames (length order) (program_costs source) = costs_listed source order frames c.in_ok-frames.ensures.frames c.requires.below (sound_types source sound) names (c.block_type_counts.ensures.cost source.blocks order) in
+    subst (λ fs. CostNoMore fs (length order) c.deref-6.result.now) (sym c.deref-3.ensures.value) (subst (CostNoMore frames (length order)) (sym (c.deref-6.ensures.value ∙ are)) enough)
+
 pub global_names-requires : goal.global_names-requires
-global_names-requires c = ap (λ l. repeats (global_words l)) c.deref-6.ensures.value ∙ (sound_named (source_of c.args.logic.now) c.requires.sound).globals_apart
+global_names-requires c = ap (λ l. repeats (global_words l)) c.deref-7.ensures.value ∙ (sound_named (source_of c.args.logic.now) c.requires.sound).globals_apart
 
 pub returns : goal.returns
 returns c =
@@ -43,12 +70,12 @@ returns c =
       below = c.requires.below;
       are_frames = c.in_ok-frames.ensures.frames;
       has_start = c.in_ok-frames.ensures.start;
-      names_are = c.in_ok-global_names.ensures ∙ ap global_names c.deref-6.ensures.value;
+      names_are = c.in_ok-global_names.ensures ∙ ap global_names c.deref-7.ensures.value;
       standards_are = c.in_ok-standards.ensures.list;
       values_begin = c.in_ok-values.ensures;
       clocks_begin = c.in_ok-standards.ensures.bases;
       paths_begin = c.in_ok-paths.ensures.bases;
       paths_fit = c.in_ok-paths.ensures.fit;
-      codes_are = codes_same c.deref-3.result.now frames c.len.result (length source.globals) (length order) (length order) c.deref-4.result.now values c.deref-5.result.now c.in_ok-standards.standards.bases.items c.in_ok-codes.codes.items
-          c.deref-3.ensures.value globals_are refl c.deref-4.ensures.value c.deref-5.ensures.value c.in_ok-codes.ensures;
+      codes_are = codes_same c.deref-3.result.now frames c.len.result (length source.globals) (length order) (length order) c.deref-4.result.now values c.deref-5.result.now c.in_ok-standards.standards.bases.items c.deref-6.result.now (program_costs source) c.in_ok-codes.codes.items
+          c.deref-3.ensures.value globals_are refl c.deref-4.ensures.value c.deref-5.ensures.value (c.deref-6.ensures.value ∙ c.in_ok-costs.ensures.kept c.requires.sound.limits.cost) c.in_ok-codes.ensures;
     }

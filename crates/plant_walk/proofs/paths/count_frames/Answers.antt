@@ -1,7 +1,7 @@
 use Rattle.std.proofs.Common.{◌≡◌, ◌∙◌, ◌+◌, ap, refl, length, subst, arith}
 use Rattle.std.proofs.lemmas.Option.{slice_get_read}
 use Rattle.std.specs.List.{sum_by}
-use Rattle.plant_walk.specs.Bases.{seat_count, numbers_in, ArePathsCounted}
+use Rattle.plant_walk.specs.Bases.{seat_count, numbers_in, stopped_paths, ArePathsCounted}
 use Rattle.plant_walk.proofs.Numbered.{paths_none, paths_counted}
 use Rattle.plant_walk.proofs.paths.count_frames.Goals as goal
 
@@ -14,10 +14,10 @@ loop-frame-preserved c =
     let i = c.loop-frame.frame-index in
     let frame = c.frame-item.result in
     let row = c.loop-frame.counts.items in
-    let count = c.in_ok-count.count in
+    let count = c.routine_count-count.result in
     let at = slice_get_read frames (length frames) i frame refl c.loop-frame-test.true c.frame-item.is in
-    let is : count ≡ 1 + sum_by (seat_count (numbers_in row)) frame.seats.items =
-    c.in_ok-count.ensures ∙ ap (λ l. 1 + sum_by (seat_count (numbers_in l)) c.deref-in-loop-frame.result.now) c.deref.ensures.value ∙ ap (λ l. 1 + sum_by (seat_count (numbers_in row)) l) c.deref-in-loop-frame.ensures.value
+    let is : count ≡ stopped_paths (1 + sum_by (seat_count (numbers_in row)) frame.seats.items) =
+    c.routine_count-count.ensures ∙ ap (λ l. stopped_paths (1 + sum_by (seat_count (numbers_in l)) c.deref-in-loop-frame.result.now)) c.deref.ensures.value ∙ ap (λ l. stopped_paths (1 + sum_by (seat_count (numbers_in row)) l)) c.deref-in-loop-frame.ensures.value
     in
     paths_counted frames i frame row c.push.new.self.items count at is c.in_ok-push.ensures.items c.loop-frame.invariant
 

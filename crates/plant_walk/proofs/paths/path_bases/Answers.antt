@@ -1,11 +1,13 @@
-use Rattle.std.proofs.Common.{◌≡◌, ◌∙◌, ◌<◌, ◌≤◌, ◌+◌, ◌^◌, ◌++◌, ◌∷◌, [], ap, sym, subst, length, get_or, rules, arith}
+use Rattle.std.proofs.Common.{◌≡◌, ◌∙◌, ◌<◌, ◌≤◌, ◌+◌, ◌++◌, ◌∷◌, [], ap, sym, subst, length, get_or, rules, arith}
 use Rattle.std.proofs.lemmas.List.{length-map, get_or_default}
 use Rattle.plant_logic.specs.Source.{view_routine, source_of}
 use Rattle.plant_logic.specs.Paths.{paths_rule, type_paths}
 use Rattle.block_walk.specs.Frames.{frame_paths}
-use Rattle.plant_walk.specs.Bases.{program_paths_base, AreBases}
+use Rattle.plant_walk.specs.Bases.{stopped_paths, program_paths_base, AreBases}
 use Rattle.plant_walk.proofs.Bases.{bases_none, bases_more, paths_begin, paths_next}
 use Rattle.plant_walk.proofs.Counted.{routine_at}
+use Rattle.plant_walk.proofs.FewPaths.{paths_few}
+use Rattle.plant_walk.proofs.Small.{sound_types}
 use Rattle.plant_walk.proofs.paths.path_bases.Goals as goal
 
 pub loop-program-init : goal.loop-program-init
@@ -14,7 +16,6 @@ loop-program-init c =
     record {
       place_is = omega arith;
       at_is = sym (paths_begin source);
-      fits = omega arith;
       so_far = bases_none (program_paths_base source) c.push.new.self.items 0 (c.in_ok-push.ensures.items ∙ ap (λ l. l ++ 0 ∷ []) c.new-row.ensures.items) (sym (paths_begin source));
     }
 
@@ -34,24 +35,24 @@ loop-program-preserved c =
     let at = routine_at logic.programs.items k routine within (c._program-item.is ∙ ap (λ l. get_or l k routine) items) in
     let counts = c.in_ok-counts.counts.items in
     let counted = c.in_ok-counts.ensures in
-    let have = c.frames_have_paths.ensures source order frames c.requires.frames c.requires.below c.requires.types k p at in
+    let have = c.frames_have_paths.ensures source order frames c.requires.frames c.requires.below (sound_types source c.requires.sound) k p at in
     let place = before.place_is in
     let whole = c.requires.frames.whole in
     let all = length-map logic.programs.items view_routine in
     let long = counted.long in
-    let count : c.index.result.now ≡ length (paths_rule (type_paths source.blocks) p) =
+    let count : c.index.result.now ≡ stopped_paths (length (paths_rule (type_paths source.blocks) p)) =
     c.index.ensures ∙ get_or_default counts c.loop-program.place c.index.result.now 0 (omega (arith, place, whole, all, long, within)) ∙ counted.each c.loop-program.place
-    ∙ ap (λ n. length (frame_paths frames (length frames) n)) place ∙ ap length have
+    ∙ ap (λ n. stopped_paths (length (frame_paths frames (length frames) n))) place ∙ ap (λ l. stopped_paths (length l)) have
     in
     let next = paths_next source k p at in
     let were = before.at_is in
-    let sum = c.in_ok-at.ensures.sum in
-    let now : c.in_ok-at.at ≡ program_paths_base source (k + 1) = omega (arith, sum, count, next, were) in
+    let sum = c.add-at.ensures in
+    let few = paths_few source c.requires.sound (k + 1) (omega (arith, within, all)) in
+    let now : c.add-at.result ≡ program_paths_base source (k + 1) = omega (arith, sum, count, next, were, few) in
     record {
       place_is = omega (arith, place);
       at_is = now;
-      fits = c.in_ok-at.ensures.fits;
-      so_far = bases_more (program_paths_base source) k c.loop-program.row.items c.push-in-loop-program.new.self.items c.in_ok-at.at before.so_far now c.in_ok-push-2.ensures.items;
+      so_far = bases_more (program_paths_base source) k c.loop-program.row.items c.push-in-loop-program.new.self.items c.add-at.result before.so_far now c.in_ok-push-2.ensures.items;
     }
 
 pub returns-clause-bases : goal.returns-clause-bases
@@ -66,15 +67,7 @@ returns-clause-bases c =
     subst (λ n. AreBases (program_paths_base source) n c.loop-program.row.items) whole c.loop-program.invariant.so_far
 
 pub returns-clause-fit : goal.returns-clause-fit
-returns-clause-fit c =
-    let logic = c.args.logic.now in
-    let source = source_of logic in
-    let items = ap length c.deref-program-items.ensures.value in
-    let long = length-map logic.programs.items view_routine in
-    let past = c.loop-program-test.false in
-    let end = c.loop-program.auto._program-index-end in
-    let whole : c.loop-program._program-index ≡ length source.programs = omega (arith, items, past, end, long) in
-    subst (λ n. program_paths_base source n < 2 ^ 32) whole (subst (λ n. n < 2 ^ 32) c.loop-program.invariant.at_is c.loop-program.invariant.fits)
+returns-clause-fit c = let source = source_of c.args.logic.now in paths_few source c.requires.sound (length source.programs) (omega arith)
 
 pub index-requires : goal.index-requires
 index-requires c =

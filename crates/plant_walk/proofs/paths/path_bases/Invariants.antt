@@ -1,4 +1,4 @@
-use Rattle.std.proofs.Common.{◌≡◌, ◌+◌, ◌<◌, ◌^◌, length}
+use Rattle.std.proofs.Common.{◌≡◌, ◌+◌, length}
 use Rattle.plant_logic.specs.Source.{source_of}
 use Rattle.plant_walk.specs.Bases.{program_paths_base, AreBases}
 use Rattle.plant_walk.proofs.paths.path_bases.Given as goal
@@ -7,6 +7,5 @@ abbrev pub invariant-loop-program : goal.invariant-loop-program
 invariant-loop-program l = record {
   place_is : l.place ≡ length l.order + l._program-index;
   at_is : l.at ≡ program_paths_base (source_of l.logic) l._program-index;
-  fits : l.at < 2 ^ 32;
   so_far : AreBases (program_paths_base (source_of l.logic)) l._program-index l.row.items;
 }

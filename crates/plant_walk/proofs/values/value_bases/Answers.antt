@@ -5,6 +5,7 @@ use Rattle.plant_logic.specs.Seats.{program_values_base}
 use Rattle.plant_walk.specs.Bases.{stopped, value_count, numbers_in, AreBases, AreCounted}
 use Rattle.plant_walk.proofs.Bases.{bases_none, bases_more, values_begin, values_next}
 use Rattle.plant_walk.proofs.Counted.{routine_at, program_counted}
+use Rattle.plant_walk.proofs.Few.{bases_few}
 use Rattle.plant_walk.proofs.values.value_bases.Goals as goal
 
 pub loop-program-init : goal.loop-program-init
@@ -31,16 +32,16 @@ loop-program-preserved c =
     let within : k < length logic.programs.items = let e = ap length items in let less = c.loop-program-test.true in omega (arith, e, less) in
     let at = routine_at logic.programs.items k routine within (c.program-item.is ∙ ap (λ l. get_or l k routine) items) in
     let counted = subst (λ bs. AreCounted (map view_routine bs) row) c.deref.ensures.value c.in_ok-counts.ensures in
-    let told = c.in_ok-at.ensures in
     let count_is = c.value_count.ensures ∙ ap (λ l. stopped (value_count (numbers_in l) p)) c.deref-in-loop-program.ensures.value in
-    let count = program_counted source.blocks row p c.value_count.result counted count_is told.1 in
+    let count = program_counted source.blocks row p c.value_count.result counted count_is in
     let before = c.loop-program.invariant.at_is in
     let next = values_next source k p at in
-    let here = told.0 in
-    let now : c.in_ok-at.at ≡ program_values_base source (k + 1) = omega (arith, here, count, before, next) in
+    let few = bases_few source c.requires.slots (k + 1) in
+    let here = c.add-at.ensures in
+    let now : c.add-at.result ≡ program_values_base source (k + 1) = omega (arith, here, count, before, next, few) in
     record {
       at_is = now;
-      so_far = bases_more (program_values_base source) k c.loop-program.row.items c.push-in-loop-program.new.self.items c.in_ok-at.at c.loop-program.invariant.so_far now c.in_ok-push-2.ensures.items;
+      so_far = bases_more (program_values_base source) k c.loop-program.row.items c.push-in-loop-program.new.self.items c.add-at.result c.loop-program.invariant.so_far now c.in_ok-push-2.ensures.items;
     }
 
 pub returns : goal.returns

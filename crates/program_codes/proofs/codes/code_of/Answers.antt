@@ -12,5 +12,5 @@ returns-clause-runs c =
       paths = ap (λ (k : PlainCode). k.paths) made.is;
       within = made.within;
       stack = omega arith;
-      cost = omega (arith, cost);
+      tells = cost;
     }

@@ -6,5 +6,5 @@ use Rattle.program_codes.proofs.laws.copied_frames_have_codes.Goals as goal
 
 -- frames are copies of their copies
 pub returns : goal.returns
-returns c = λ frames copies same globals first values clocks codes are. codes_kept view_frame copying_keeps copies frames (sym same) globals first values clocks codes
-    (λ n base code made. made_of_copies frames copies same globals n base code made) are
+returns c = λ frames copies same globals first values clocks costs codes are. codes_kept view_frame copying_keeps copies frames (sym same) globals first values clocks costs codes
+    (λ n base cost code made. made_of_copies frames copies same globals n base cost code made) are

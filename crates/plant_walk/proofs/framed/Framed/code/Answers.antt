@@ -1,12 +1,14 @@
-use Rattle.std.proofs.Common.{◌≡◌, ◌<◌, ◌+◌, sym, subst, refl, length, Some, arith}
+use Rattle.std.proofs.Common.{◌≡◌, ◌<◌, ◌+◌, sym, subst, refl, length, get_or, Some, arith}
 use Rattle.std.specs.Prelude.{slice_get}
 use Rattle.std.proofs.lemmas.Option.{slice_get_read}
 use Rattle.plant_logic.specs.Source.{Source, source_of}
 use Rattle.block_frames.specs.Numbers.{HasAllNames}
 use Rattle.block_frames.specs.Frames.{program_base}
 use Rattle.program_codes.specs.Codes.{base_in, IsCodeOf}
+use Rattle.plant_limits.specs.Counts.{program_costs}
 use Rattle.plant_walk.specs.Runs.{IsProgramCode}
 use Rattle.plant_walk.proofs.Small.{sound_named, sound_types}
+use Rattle.plant_walk.proofs.Few.{cells_few}
 use Rattle.plant_walk.proofs.Walks.{the_program, is_there}
 use Rattle.plant_walk.proofs.OwnCells.{code_within, names_own}
 use Rattle.plant_walk.proofs.OwnCodes.{as_many_paths, ends_as_program}
@@ -29,19 +31,24 @@ returns c =
     let values_are = are.values_begin.each n (omega (arith, there)) in
     let clocks_are = are.clocks_begin.each n (omega (arith, there)) in
     let base_is : base_in inside.values.items inside.clocks.items n ≡ program_base source n = λ i. record { values = values_are i; clocks = clocks_are i } in
-    let is : IsCodeOf frames (length source.globals) (length order + n) (program_base source n) code = subst (λ base. IsCodeOf frames (length source.globals) (length order + n) base code) base_is made in
+    let cost = get_or (program_costs source) n 0 in
+    let is : IsCodeOf frames (length source.globals) (length order + n) (program_base source n) cost code = subst (λ base. IsCodeOf frames (length source.globals) (length order + n) base cost code) base_is made in
     let p = the_program source n in
     let found = is_there source n there in
     let types = sound_types source are.sound in
     let names : HasAllNames source = subst HasAllNames (sym are.sound.are_theirs) (c.typed_names_are_known.ensures are.sound.units are.sound.typed) in
     let have_paths = c.frames_have_paths.ensures source order frames are.are_frames are.below types n p found in
-    let within = code_within source order are.below frames are.are_frames types names n p found code is in
+    let within = code_within source order are.below frames are.are_frames types names n p found cost code is in
+    let few = cells_few source are.sound.limits.slots in
     let whole : IsProgramCode source n code = record {
       sound = c.instrs-instrs.ensures.sound;
       values = λ cells has. let all = has.values in let enough = within.0 in omega (arith, enough, all);
       clocks = λ cells has. let all = has.clocks in let enough = within.1 in omega (arith, enough, all);
-      own = names_own source order are.below frames are.are_frames types names n p found code is;
-      paths = as_many_paths source order frames n p found have_paths code is;
-      ends = λ t cells w stands. ends_as_program source order frames n p found have_paths code is t cells w (c.frames_agree.ensures source order frames are.are_frames are.below types (sound_named source are.sound) names t n p found w cells stands);
+      few_values = omega (arith, within.0, few.0);
+      few_clocks = omega (arith, within.1, few.1);
+      own = names_own source order are.below frames are.are_frames types names n p found cost code is;
+      cost = is.tells;
+      paths = as_many_paths source order frames n p found have_paths cost code is;
+      ends = λ t cells w stands. ends_as_program source order frames n p found have_paths cost code is t cells w (c.frames_agree.ensures source order frames are.are_frames are.below types (sound_named source are.sound) names t n p found w cells stands);
     } in
     subst (λ (s : Source). IsProgramCode s n code) c.self.view_is whole

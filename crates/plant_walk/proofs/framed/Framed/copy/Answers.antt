@@ -1,5 +1,6 @@
 use Rattle.std.proofs.Common.{rules, ◌≡◌, length, map}
 use Rattle.plant_logic.specs.Source.{source_of}
+use Rattle.plant_limits.specs.Counts.{program_costs}
 use Rattle.block_walk.specs.Plain.{view_frame}
 use Rattle.program_codes.specs.Codes.{AreCodes}
 use Rattle.plant_walk.specs.Framed.{IsFramed}
@@ -25,8 +26,8 @@ invariant_of-result c =
     let laws = c.copied_frames_are_frames.ensures in
     let are = laws.frames source own.order.items own.frames.items frames same_frames c.self.invariant.are_frames in
     let has = start_kept source own.start.items start (laws.start source) same_start c.self.invariant.has_start in
-    let have : AreCodes frames (length source.globals) (length own.order.items) own.values.items own.clocks.items own.codes.items =
-    c.copied_frames_have_codes.ensures own.frames.items frames same_frames (length source.globals) (length own.order.items) own.values.items own.clocks.items own.codes.items c.self.invariant.codes_are
+    let have : AreCodes frames (length source.globals) (length own.order.items) own.values.items own.clocks.items (program_costs source) own.codes.items =
+    c.copied_frames_have_codes.ensures own.frames.items frames same_frames (length source.globals) (length own.order.items) own.values.items own.clocks.items (program_costs source) own.codes.items c.self.invariant.codes_are
     in
     let framed : IsFramed source own.order.items frames start own.names own.standards.items own.values.items own.clocks.items own.paths.items own.codes.items =
     framed_with source own.order.items own.frames.items own.start.items own.names own.standards.items own.values.items own.clocks.items own.paths.items own.codes.items c.self.invariant frames start are has have in

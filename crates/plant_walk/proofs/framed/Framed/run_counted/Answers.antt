@@ -15,7 +15,6 @@ use Rattle.plant_walk.specs.Runs.{Agree, HasCells, IsWithin, TakesInstructions, 
 use Rattle.plant_walk.proofs.Small.{sound_named, sound_types}
 use Rattle.plant_walk.proofs.Walks.{the_program, is_there, fits_in, within_is, ran_is}
 use Rattle.plant_limits.specs.Counts.{program_costs}
-use Rattle.plant_walk.proofs.Costs.{cost_listed}
 use Rattle.plant_walk.proofs.Coded.{path_inside, ends_as_frame, shape_kept}
 use Rattle.plant_walk.proofs.OwnCells.{code_there}
 use Rattle.plant_walk.proofs.framed.Framed.run_counted.Goals as goal
@@ -34,7 +33,7 @@ run_code_counted-ended-requires-clause-values c =
     let is = are.codes_are.each n code at in
     let has : HasCells source c.args.cells.now = subst (λ (s : Source). HasCells s c.args.cells.now) (sym c.self.view_is) c.requires.cells in
     let names : HasAllNames source = subst HasAllNames (sym are.sound.are_theirs) (c.typed_names_are_known.ensures are.sound.units are.sound.typed) in
-    let own = (code_there source inside.order.items are.below inside.frames.items are.are_frames (sound_types source are.sound) names inside.values.items inside.clocks.items are.values_begin are.clocks_begin n there code is).0 in
+    let own = (code_there source inside.order.items are.below inside.frames.items are.are_frames (sound_types source are.sound) names inside.values.items inside.clocks.items are.values_begin are.clocks_begin n there (get_or (program_costs source) n 0) code is).0 in
     let all = has.values in
     omega (arith, own, all)
 
@@ -52,7 +51,7 @@ run_code_counted-ended-requires-clause-clocks c =
     let is = are.codes_are.each n code at in
     let has : HasCells source c.args.cells.now = subst (λ (s : Source). HasCells s c.args.cells.now) (sym c.self.view_is) c.requires.cells in
     let names : HasAllNames source = subst HasAllNames (sym are.sound.are_theirs) (c.typed_names_are_known.ensures are.sound.units are.sound.typed) in
-    let own = (code_there source inside.order.items are.below inside.frames.items are.are_frames (sound_types source are.sound) names inside.values.items inside.clocks.items are.values_begin are.clocks_begin n there code is).1 in
+    let own = (code_there source inside.order.items are.below inside.frames.items are.are_frames (sound_types source are.sound) names inside.values.items inside.clocks.items are.values_begin are.clocks_begin n there (get_or (program_costs source) n 0) code is).1 in
     let all = has.clocks in
     omega (arith, own, all)
 
@@ -96,8 +95,8 @@ returns-clause-ran c w stands =
     let names : HasAllNames source = subst HasAllNames (sym are.sound.are_theirs) (c.typed_names_are_known.ensures are.sound.units are.sound.typed) in
     let here : StandFor source c.args.cells.now w = subst (λ (s : Source). StandFor s c.args.cells.now w) (sym c.self.view_is) stands in
     let agree = c.frames_agree.ensures source order frames are.are_frames are.below types (sound_named source are.sound) names c.args.moment n p (is_there source n there) w c.args.cells.now here in
-    let placed = path_inside frames (length source.globals) (length order + n) (base_in inside.values.items inside.clocks.items n) code is ended c.run_code_counted-ended.ensures.path in
-    let as_frame = ends_as_frame frames (length source.globals) (length order + n) (base_in inside.values.items inside.clocks.items n) code is ended c.run_code_counted-ended.ensures.path c.args.moment c.args.cells.now new
+    let placed = path_inside frames (length source.globals) (length order + n) (base_in inside.values.items inside.clocks.items n) (get_or (program_costs source) n 0) code is ended c.run_code_counted-ended.ensures.path in
+    let as_frame = ends_as_frame frames (length source.globals) (length order + n) (base_in inside.values.items inside.clocks.items n) (get_or (program_costs source) n 0) code is ended c.run_code_counted-ended.ensures.path c.args.moment c.args.cells.now new
     (λ l. (_, c.run_code_counted-ended.ensures.ran l)) in
     let whole = ran_is source order frames n there have_paths frames (length order + n) refl refl ended placed c.args.moment (length source.globals) (get_or inside.values.items n 0) (get_or inside.clocks.items n 0) c.index-2.result.now
     c.args.cells.now new (run_program source n c.args.moment w) refl values_are clocks_are base_is as_frame agree
@@ -123,7 +122,7 @@ returns-clause-within c =
     let have_paths = c.frames_have_paths.ensures source order frames are.are_frames are.below (sound_types source are.sound) n (the_program source n) (is_there source n there) in
     let paths_long = are.paths_begin.long in
     let base_is : c.index-2.result.now ≡ program_paths_base source n = c.index-2.ensures ∙ get_or_default inside.paths.items n c.index-2.result.now 0 (omega (arith, there, paths_long)) ∙ are.paths_begin.each n most in
-    let placed = path_inside frames (length source.globals) (length order + n) (base_in inside.values.items inside.clocks.items n) code is c.run_code_counted-ended.result.0 c.run_code_counted-ended.ensures.path in
+    let placed = path_inside frames (length source.globals) (length order + n) (base_in inside.values.items inside.clocks.items n) (get_or (program_costs source) n 0) code is c.run_code_counted-ended.result.0 c.run_code_counted-ended.ensures.path in
     let whole = within_is source order frames n there have_paths frames (length order + n) refl refl c.run_code_counted-ended.result.0 placed c.index-2.result.now base_is in
     subst (λ (s : Source). IsWithin s c.walked.result) c.self.view_is (subst (IsWithin source) (sym c.walked.ensures) whole)
 
@@ -148,7 +147,7 @@ walked-requires c =
     let have_paths = c.frames_have_paths.ensures source order frames are.are_frames are.below (sound_types source are.sound) n (the_program source n) (is_there source n there) in
     let paths_long = are.paths_begin.long in
     let base_is : c.index-2.result.now ≡ program_paths_base source n = c.index-2.ensures ∙ get_or_default inside.paths.items n c.index-2.result.now 0 (omega (arith, there, paths_long)) ∙ are.paths_begin.each n most in
-    let placed = path_inside frames (length source.globals) (length order + n) (base_in inside.values.items inside.clocks.items n) code is c.run_code_counted-ended.result.0 c.run_code_counted-ended.ensures.path in
+    let placed = path_inside frames (length source.globals) (length order + n) (base_in inside.values.items inside.clocks.items n) (get_or (program_costs source) n 0) code is c.run_code_counted-ended.result.0 c.run_code_counted-ended.ensures.path in
     fits_in source order frames n there have_paths frames (length order + n) refl refl c.run_code_counted-ended.result.0 placed c.index-2.result.now 4294967296 base_is are.paths_fit
 
 pub returns-clause-cost : goal.returns-clause-cost
@@ -164,11 +163,9 @@ returns-clause-cost c =
     let rows = are.values_begin.long in
     let code = c.index.result.now in
     let at : slice_get inside.codes.items n ≡ Some code = slice_get_read inside.codes.items (length inside.codes.items) n code refl (omega (arith, there, long, rows)) c.index.ensures in
-    let names : HasAllNames source = subst HasAllNames (sym are.sound.are_theirs) (c.typed_names_are_known.ensures are.sound.units are.sound.typed) in
-    let most = cost_listed source order frames are.are_frames are.below (sound_types source are.sound) names (c.block_type_counts.ensures.cost source.blocks order) n (the_program source n) (is_there source n there) in
-    let own = (are.codes_are.each n code at).cost in
+    let own = (are.codes_are.each n code at).tells in
     let done = c.run_code_counted-ended.ensures.count in
-    let all : c.run_code_counted-ended.result.1 ≤ 4 * get_or (program_costs source) n 0 + 4 = omega (arith, most, own, done) in
+    let all : c.run_code_counted-ended.result.1 ≤ 4 * get_or (program_costs source) n 0 + 4 = omega (arith, own, done) in
     subst (λ (s : Source). c.run_code_counted-ended.result.1 ≤ 4 * get_or (program_costs s) n 0 + 4) c.self.view_is all
 
 pub returns-clause-count : goal.returns-clause-count
@@ -192,7 +189,7 @@ returns-clause-count c =
       frames = inside.frames.items;
       are_frames = are.are_frames;
       code = code;
-      made = subst (λ base. IsMade inside.frames.items (length source.globals) (length inside.order.items + n) base code) base_is (are.codes_are.made n code at);
+      made = subst (λ base. IsMade inside.frames.items (length source.globals) (length inside.order.items + n) base (get_or (program_costs source) n 0) code) base_is (are.codes_are.made n code at);
       result = ended [] c.run_code_counted-ended.result.0 c.run_code_counted-ended.new.cells;
       left = 4 * code.cost + 4 - c.run_code_counted-ended.result.1;
       runs = c.run_code_counted-ended.ensures.ran [];
