@@ -25,8 +25,8 @@ use plant_types::Text;
 use st_tree::Stmt;
 use std::alloc::{AllocError, Global};
 
-/// Nothing.
-const NOTHING: Extent = Extent {
+/// The extent of what has no value, no clock and no path.
+const EMPTY_EXTENT: Extent = Extent {
     values: 0,
     clocks: 0,
     paths: 0,
@@ -161,7 +161,7 @@ fn frame_of_block(
         has_starts: false,
         clocks: 0,
     };
-    Ok((frame, NOTHING))
+    Ok((frame, EMPTY_EXTENT))
 }
 
 /// Room for what is known of so many block types. Fails if allocation fails.
@@ -169,7 +169,7 @@ fn make_table(alloc: Global, count: usize) -> Result<Vec<Callee>, AllocError>
     ensures { IfOk result (λ table. length table.items ≡ count) }
 {
     let none = Callee {
-        extent: NOTHING,
+        extent: EMPTY_EXTENT,
         place: 0,
         has_starts: false,
     };

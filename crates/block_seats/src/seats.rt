@@ -48,7 +48,9 @@ fn sum_of_paths(a: u32, b: u32) -> Result<u32, AllocError>
     }
 }
 
-/// Both together. Fails if no memory has room for so many.
+/// How many values, clocks and path numbers two things have together: from an instance's first ones on, where the next instance's begin. Fails
+/// where a number is past the last one of its type. The instances of a source that keeps its limits don't come to that: their values and clocks
+/// are at most its slots, and their paths at most its size and one more.
 fn plus(a: Extent, b: Extent) -> Result<Extent, AllocError>
     ensures { IfOk result (λ e. e ≡ plus a b) }
 {
