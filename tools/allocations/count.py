@@ -1,8 +1,8 @@
 #!/usr/bin/env python3
-"""count.py PROGRAM [LINES]: how many allocations the built program takes for a line of each kind, on its built-in plant.
+"""count.py PROGRAM [LINES]: how many allocations the built program takes for a line of each kind, on its built-in plant; and for a scan by workers, on plants of many programs.
 
 Each kind of line is given to the program so many times and twice as often; the difference of the two counts, divided by the number of lines, is what one line takes. So what the program
-takes at its beginning is not in it, and vectors that grow (history, journal) show as a part of an allocation. Needs gcc."""
+takes at its beginning is not in it, and vectors that grow (history, journal) show as a part of an allocation. Scans by workers are a tenth as many. Needs gcc."""
 import os
 import subprocess
 import sys
@@ -18,10 +18,45 @@ KINDS = [
 ]
 
 
-def count(program, preload, lines):
-    """The allocations of a run on lines."""
+# programs, turns of each one's loop, workers: with few turns the caller runs all by itself
+CREWS = [(programs, turns, workers) for programs in (16, 64) for turns in (1, 1000) for workers in (1, 2, 4)]
+
+PLANT = """name = "Many"
+epoch = "2026-11-23T06:00:00Z"
+areas = ["a"]
+sources = ["many.st"]
+alarms = "alarms.csv"
+[[console]]
+number = 1
+areas = ["a"]
+"""
+
+ALARMS = """tag,area,priority,condition,suppress,latch,max_shelve_ms,text
+T1,a,1,high,,FALSE,0,One
+"""
+
+PROGRAM = """PROGRAM p{number}
+  VAR i, x : DINT; late : TON; END_VAR
+  FOR i := 1 TO {turns} DO x := (x + a) MOD 1000; END_FOR;
+  late(IN := x > 500, PT := T#1s);
+END_PROGRAM
+"""
+
+
+def plant(folder, programs, turns):
+    """Writes a plant of so many programs, which share nothing but an input, and tells its file."""
+    os.makedirs(folder)
+    source = "VAR_GLOBAL a AT %ID0 : DINT; high : BOOL; END_VAR\n" + "".join(PROGRAM.format(number=n, turns=turns) for n in range(programs))
+    for name, text in ("plant.toml", PLANT), ("alarms.csv", ALARMS), ("many.st", source):
+        with open(f"{folder}/{name}", "w") as file:
+            file.write(text)
+    return f"{folder}/plant.toml"
+
+
+def count(program, preload, lines, words=()):
+    """The allocations of a run on lines, with these words behind the program's name."""
     given = "".join(f"{line}\n" for line in lines).encode()
-    ran = subprocess.run([program], input=given, stdout=subprocess.DEVNULL, stderr=subprocess.PIPE, env={**os.environ, "LD_PRELOAD": preload}, check=True)
+    ran = subprocess.run([program, *words], input=given, stdout=subprocess.DEVNULL, stderr=subprocess.PIPE, env={**os.environ, "LD_PRELOAD": preload}, check=True)
     return int(ran.stderr.rsplit(b"allocations ", 1)[1])
 
 
@@ -35,6 +70,12 @@ def main():
             every = [lines[n % len(lines)].format(t=n) for n in range(2 * number)]
             more = count(program, preload, every) - count(program, preload, every[:number])
             print(f"{name}: {more / number:.4f} a line")
+        scans = max(1, number // 10)
+        every = [f"scan {n} a={n % 100}" for n in range(2 * scans)]
+        for programs, turns, workers in CREWS:
+            words = ["run", plant(f"{room}/{programs}_{turns}_{workers}", programs, turns), "--workers", str(workers)]
+            more = count(program, preload, every, words) - count(program, preload, every[:scans], words)
+            print(f"a scan of {programs} programs of {turns} turns by {workers} workers: {more / scans:.4f}")
 
 
 if __name__ == "__main__":

@@ -10,6 +10,7 @@ ghost use Rattle.code_slices.specs.Parts.{IsPart, HasPart};
 ghost use Rattle.slice_store.specs.Starts.{Gives};
 ghost use Rattle.slice_store.specs.Level.{PutsPart, Takes};
 
+use crate::reserve::Spare;
 use crate::start::Start;
 use acc_vm::{Code, Own, Shared};
 use code_slices::{Part, put_clocks, put_values};
@@ -39,12 +40,14 @@ impl Model for Job {
     ghost invariant = { λ j. IsReadyJob (arc_value j.start) j.cells j.stack.items };
 }
 
-/// A job's run that ended, which contracts see as its start: the code gives the result from it.
+/// A job's run that ended, which contracts see as its start: the code gives the result from it. It has the job's stack still, whose memory
+/// serves a later job.
 #[derive(Drop)]
 pub struct Done {
     start: Arc<Start>,
     cells: Cells,
     result: Result<(), Stop>,
+    stack: Vec<i64>,
 }
 
 impl Model for Done {
@@ -141,11 +144,11 @@ impl Work<Start, Done> for Job {
             mut stack,
         } = self;
         let result = run_from(&start, stack.as_mut_slice(), &mut cells);
-        drop(stack);
         Done {
             start,
             cells,
             result,
+            stack,
         }
     }
 
@@ -185,5 +188,17 @@ impl Done {
         put_part(self.start.part(), &self.cells, values, clocks);
         let program = self.start.number() as usize - 1;
         faulted[program] = self.result.is_err();
+    }
+
+    /// The memory of the run, for a later job.
+    pub(crate) fn into_spare(self) -> Spare {
+        let Done {
+            start,
+            cells,
+            result: _,
+            stack,
+        } = self;
+        drop(start);
+        Spare { cells, stack }
     }
 }

@@ -11,6 +11,7 @@ ghost use Rattle.slice_store.specs.Fits.{IsMisfit};
 use crate::done::{Done, Job};
 use crate::matching::{Out, match_up};
 use crate::misfit::Misfit;
+use crate::reserve::{Reserve, Spare, copied, widened};
 use crate::start::Start;
 use code_slices::Part;
 use crew::Work;
@@ -18,10 +19,11 @@ use level_plan::Levels;
 use plant_cells::{Cells, Clock};
 use std::alloc::{AllocError, Global};
 use std::marker::Model;
+use std::mem::replace;
 use std::sync::Arc;
 
 /// The values and clocks of all programs, which programs are faulted, and a scan's moment, in milliseconds; and the starts of the jobs that
-/// are out. Contracts see these.
+/// are out. Contracts see these. Jobs take the memory of earlier ones from a reserve.
 #[derive(Drop)]
 pub struct Store {
     values: Vec<i64>,
@@ -30,6 +32,7 @@ pub struct Store {
     moment: u64,
     out: Vec<Out>,
     ticks: Vec<bool>,
+    reserve: Reserve,
 }
 
 impl Model for Store {
@@ -52,44 +55,49 @@ fn take_all(values: &mut [i64], clocks: &mut [Clock], faulted: &mut [bool], runs
     }
 }
 
-/// The job that starts from a part's cells. Fails if memory was refused.
-fn begin(
-    alloc: Global,
-    number: u32,
-    part: &Arc<Part>,
-    moment: u64,
-    cells: Cells,
-) -> Result<Job, AllocError>
+/// Where the job of a number starts, with the cells of a part. Fails if memory was refused.
+fn start_of(number: u32, part: &Arc<Part>, moment: u64, cells: Cells) -> Result<Start, AllocError>
     requires values { length cells.values ≡ length (arc_value part.now).slots }
     requires clocks { length cells.clocks ≡ length (arc_value part.now).clocks }
-    ensures { IfOk result (λ job. job ≡ record { number = number; part = arc_value part.now; moment = moment; cells = cells }) }
+    ensures { IfOk result (λ start. start ≡ record { number = number; part = arc_value part.now; moment = moment; cells = cells }) }
 {
-    let stack = vec![in alloc; 0; part.code().stack()]?;
-    let own = cells.copy(alloc)?;
+    let _code = part.code();
     let part = Arc::try_clone(part)?;
-    let start = Start::new(number, part, moment, cells);
+    Ok(Start::new(number, part, moment, cells))
+}
+
+/// The job that starts there, in the memory of an earlier one. Fails if memory was refused.
+fn begin(alloc: Global, start: Start, spare: Spare) -> Result<Job, AllocError>
+    ensures { IfOk result (λ job. job ≡ start) }
+{
+    let Spare { cells, stack } = spare;
+    let stack = widened(stack, start.part().code().stack())?;
+    let own = copied(alloc, start.cells(), cells)?;
     let Ok(start) = Arc::new(alloc, start) else {
         return Err(AllocError);
     };
     Ok(Job::new(start, own, stack))
 }
 
-/// The starts of jobs. Fails if memory was refused.
-fn starts_of(alloc: Global, jobs: &[Job]) -> Result<Vec<Out>, AllocError>
+/// The starts of jobs, in the room of others. Fails if memory was refused.
+fn starts_of(jobs: &[Job], room: Vec<Out>) -> Result<Vec<Out>, AllocError>
     ensures { IfOk result (λ out. out.items ≡ jobs.now) }
 {
-    let mut out = Vec::with_capacity(alloc, jobs.len())?;
+    let mut out = room;
+    out.clear();
     for job in jobs {
         out.push(Out::new(Arc::try_clone(job.start())?))?;
     }
     Ok(out)
 }
 
-/// Ticks for so many jobs, all off. Fails if memory was refused.
-fn no_ticks(alloc: Global, many: usize) -> Result<Vec<bool>, AllocError>
+/// Ticks for so many jobs, all off, in the room of others. Fails if memory was refused.
+fn no_ticks(many: usize, room: Vec<bool>) -> Result<Vec<bool>, AllocError>
     ensures { IfOk result (λ ticks. ticks.items ≡ replicate many false) }
 {
-    let ticks = vec![in alloc; false; many]?;
+    let mut ticks = room;
+    ticks.clear();
+    ticks.resize(many, false)?;
     Ok(ticks)
 }
 
@@ -114,7 +122,22 @@ impl Store {
             moment,
             out: Vec::new(alloc),
             ticks: Vec::new(alloc),
+            reserve: Reserve::new(alloc),
         })
+    }
+
+    /// Lends the store memory of earlier jobs.
+    pub fn lend(&mut self, reserve: Reserve)
+        ensures { self.new ≡ self.old }
+    {
+        self.reserve = reserve;
+    }
+
+    /// Takes back what the store was lent, with the memory of the jobs that were gathered since.
+    pub fn take_back(&mut self, alloc: Global) -> Reserve
+        ensures { self.new ≡ self.old }
+    {
+        replace(&mut self.reserve, Reserve::new(alloc))
     }
 
     /// The values and clocks of all programs, and which programs are faulted. It copies nothing.
@@ -129,9 +152,11 @@ impl Store {
             moment: _,
             out,
             ticks,
+            reserve,
         } = self;
         drop(out);
         drop(ticks);
+        drop(reserve);
         (Cells::new(values, clocks), faulted)
     }
 
@@ -176,10 +201,11 @@ impl Store {
         levels.of(program as u32) == level && !self.is_faulted(program)
     }
 
-    /// The job of a program, from the cells and at the moment of the store. Fails if memory was refused.
+    /// The job of a program, from the cells and at the moment of the store, in the memory of an earlier one. Fails if memory was refused.
     fn begin_program(
         &self,
         alloc: Global,
+        reserve: &mut Reserve,
         program: usize,
         part: &Arc<Part>,
     ) -> Result<Job, AllocError>
@@ -187,15 +213,19 @@ impl Store {
         requires few { program + 1 < 2 ^ 32 }
         ensures { IfOk result (λ job. job ≡ begun (program + 1) (arc_value part.now) self.now.moment self.now.cells) }
     {
+        let number = program as u32 + 1;
+        let spare = reserve.take(alloc, number)?;
         let cells = part.load(alloc, self.values(), self.clocks())?;
-        let job = begin(alloc, program as u32 + 1, part, self.moment(), cells)?;
+        let start = start_of(number, part, self.moment(), cells)?;
+        let job = begin(alloc, start, spare)?;
         Ok(job)
     }
 
-    /// The jobs of a level's programs that aren't faulted, in program order. Fails if memory was refused.
+    /// The jobs of a level's programs that aren't faulted, in program order, in the memory of earlier ones. Fails if memory was refused.
     fn begin_level(
         &self,
         alloc: Global,
+        reserve: &mut Reserve,
         parts: &[Arc<Part>],
         levels: &Levels,
         level: u32,
@@ -203,18 +233,58 @@ impl Store {
         requires { CanSplit (map arc_value parts.now) levels.now level self.now.cells (length self.now.faulted) }
         ensures { IfOk result (λ jobs. AreJobsBefore (map arc_value parts.now) levels.now level self.now (length parts.now) jobs.items) }
     {
-        let mut jobs = Vec::new(alloc);
+        let mut jobs = Vec::with_capacity(alloc, parts.len())?;
         for p in 0..parts.len() {
             if self.is_chosen(levels, level, p) {
-                let job = self.begin_program(alloc, p, &parts[p])?;
+                let job = self.begin_program(alloc, reserve, p, &parts[p])?;
                 jobs.push(job)?;
             }
         }
         Ok(jobs)
     }
 
-    /// Splits a level: a job for each program of it that isn't faulted, in program order, from the cells and at the moment of the store. All
-    /// jobs that were out have been gathered. Fails if memory was refused; then none is out.
+    /// Begins a level: the jobs, their starts, and a tick for each, all off. Fails if memory was refused.
+    fn begin_all(
+        &self,
+        alloc: Global,
+        reserve: &mut Reserve,
+        parts: &[Arc<Part>],
+        levels: &Levels,
+        level: u32,
+    ) -> Result<(Vec<Job>, Vec<Out>, Vec<bool>), AllocError>
+        requires { CanSplit (map arc_value parts.now) levels.now level self.now.cells (length self.now.faulted) }
+        ensures jobs { IfOk result (λ r. AreJobsBefore (map arc_value parts.now) levels.now level self.now (length parts.now) r.0.items) }
+        ensures out { IfOk result (λ r. r.1.items ≡ r.0.items) }
+        ensures ticks { IfOk result (λ r. r.2.items ≡ replicate (length r.0.items) false) }
+    {
+        let jobs = self.begin_level(alloc, reserve, parts, levels, level)?;
+        let out = starts_of(jobs.as_slice(), reserve.take_out(alloc))?;
+        let ticks = no_ticks(jobs.len(), reserve.take_ticks(alloc))?;
+        Ok((jobs, out, ticks))
+    }
+
+    /// Begins a level in the memory of the store's reserve. Fails if memory was refused.
+    fn begin_lent(
+        &mut self,
+        alloc: Global,
+        parts: &[Arc<Part>],
+        levels: &Levels,
+        level: u32,
+    ) -> Result<(Vec<Job>, Vec<Out>, Vec<bool>), AllocError>
+        requires { CanSplit (map arc_value parts.now) levels.now level self.old.cells (length self.old.faulted) }
+        ensures jobs { IfOk result (λ r. AreJobsBefore (map arc_value parts.now) levels.now level self.old (length parts.now) r.0.items) }
+        ensures out { IfOk result (λ r. r.1.items ≡ r.0.items) }
+        ensures ticks { IfOk result (λ r. r.2.items ≡ replicate (length r.0.items) false) }
+        ensures same { self.new ≡ self.old }
+    {
+        let mut reserve = self.take_back(alloc);
+        let begun = self.begin_all(alloc, &mut reserve, parts, levels, level);
+        self.lend(reserve);
+        begun
+    }
+
+    /// Splits a level: a job for each program of it that isn't faulted, in program order, from the cells and at the moment of the store, in the
+    /// memory of earlier jobs. All jobs that were out have been gathered. Fails if memory was refused; then none is out.
     pub fn split(
         &mut self,
         alloc: Global,
@@ -230,9 +300,7 @@ impl Store {
         ensures refused { IfErr result (λ e. self.new.out ≡ []) }
         ensures same { SameStore self.new self.old }
     {
-        let jobs = self.begin_level(alloc, parts, levels, level)?;
-        let out = starts_of(alloc, jobs.as_slice())?;
-        let ticks = no_ticks(alloc, jobs.len())?;
+        let (jobs, out, ticks) = self.begin_lent(alloc, parts, levels, level)?;
         self.out = out;
         self.ticks = ticks;
         Ok(jobs)
@@ -251,8 +319,8 @@ impl Store {
             self.faulted.as_mut_slice(),
             &runs,
         );
-        self.out.clear();
-        self.ticks.clear();
+        self.reserve.keep_lists(&mut self.out, &mut self.ticks);
+        self.reserve.keep_all(runs);
     }
 
     /// Takes in one run for each job that is out, in any order. After a misfit the store isn't used again. It allocates nothing.
@@ -270,8 +338,8 @@ impl Store {
                 &runs,
             );
         }
-        self.out.clear();
-        self.ticks.clear();
+        self.reserve.keep_lists(&mut self.out, &mut self.ticks);
+        self.reserve.keep_all(runs);
         fits
     }
 }

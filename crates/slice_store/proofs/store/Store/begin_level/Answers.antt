@@ -9,7 +9,7 @@ use Rattle.slice_store.proofs.store.Store.begin_level.Goals.{then-is_chosen+in_o
 
 pub loop-p-init : goal.loop-p-init
 loop-p-init c =
-    subst (AreJobsBefore (map arc_value c.args.parts.now) c.args.levels.now c.args.level c.args.self.now 0) (sym c.new-jobs.ensures.items)
+    subst (AreJobsBefore (map arc_value c.args.parts.now) c.args.levels.now c.args.level c.args.self.now 0) (sym c.in_ok-jobs.ensures.items)
     (jobs_none (map arc_value c.args.parts.now) c.args.levels.now c.args.level c.args.self.now)
 
 pub begin_program-requires-clause-there : goal.begin_program-requires-clause-there

@@ -11,15 +11,15 @@ load-requires c =
     let same : c.deref.result.now ≡ arc_value c.args.part.now = cc in
     has_by (arc_value c.args.part.now) c.deref.result.now c.args.self.now.cells c.values.result.now c.clocks.result.now same c.values.ensures c.clocks.ensures c.requires.there
 
-pub begin-requires-clause-values : goal.begin-requires-clause-values
-begin-requires-clause-values c =
+pub start_of-requires-clause-values : goal.start_of-requires-clause-values
+start_of-requires-clause-values c =
     let same : c.deref.result.now ≡ arc_value c.args.part.now = cc in
     let from : c.in_ok-cells.cells ≡ loaded (arc_value c.args.part.now) c.args.self.now.cells
     = loaded_by (arc_value c.args.part.now) c.deref.result.now c.args.self.now.cells c.values.result.now c.clocks.result.now same c.values.ensures c.clocks.ensures c.in_ok-cells.cells c.in_ok-cells.ensures in
     ap (λ (x : PlainCells). length x.values) from ∙ length-map (arc_value c.args.part.now).slots _
 
-pub begin-requires-clause-clocks : goal.begin-requires-clause-clocks
-begin-requires-clause-clocks c =
+pub start_of-requires-clause-clocks : goal.start_of-requires-clause-clocks
+start_of-requires-clause-clocks c =
     let same : c.deref.result.now ≡ arc_value c.args.part.now = cc in
     let from : c.in_ok-cells.cells ≡ loaded (arc_value c.args.part.now) c.args.self.now.cells
     = loaded_by (arc_value c.args.part.now) c.deref.result.now c.args.self.now.cells c.values.result.now c.clocks.result.now same c.values.ensures c.clocks.ensures c.in_ok-cells.cells c.in_ok-cells.ensures in
@@ -30,4 +30,4 @@ returns c =
     let same : c.deref.result.now ≡ arc_value c.args.part.now = cc in
     let from : c.in_ok-cells.cells ≡ loaded (arc_value c.args.part.now) c.args.self.now.cells
     = loaded_by (arc_value c.args.part.now) c.deref.result.now c.args.self.now.cells c.values.result.now c.clocks.result.now same c.values.ensures c.clocks.ensures c.in_ok-cells.cells c.in_ok-cells.ensures in
-    starts_by (c.args.program + 1) (arc_value c.args.part.now) c.moment.result c.args.self.now.moment c.in_ok-cells.cells c.args.self.now.cells c.moment.ensures from c.in_ok-job.job c.in_ok-job.ensures
+    starts_by (c.args.program + 1) (arc_value c.args.part.now) c.moment.result c.args.self.now.moment c.in_ok-cells.cells c.args.self.now.cells c.moment.ensures from c.in_ok-job.job (c.in_ok-job.ensures ∙ c.in_ok-start.ensures)

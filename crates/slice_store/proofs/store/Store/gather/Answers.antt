@@ -19,7 +19,7 @@ take_all-requires c =
     rw (c.as_mut_slice-then-is_ok.ensures.value, c.as_mut_slice-then-is_ok-2.ensures.value, c.as_mut_slice-then-is_ok-3.ensures.value, c.deref-then-is_ok.ensures.value) (c.self.inside.moment, jobs_of_runs _ _ _ c.self.inside.out.items c.args.runs.items c.self.invariant.jobs each)
 
 pub invariant_of-self : goal.invariant_of-self
-invariant_of-self c = rw (c.clear.ensures.items, c.clear-2.ensures.items) (ready_empty _ _ _)
+invariant_of-self c = rw (c.keep_lists.ensures.out, c.keep_lists.ensures.ticks) (ready_empty _ _ _)
 
 pub returns-clause-misfit : goal.returns-clause-misfit
 returns-clause-misfit c =

@@ -1,0 +1,7 @@
+use Rattle.slice_store.proofs.store.Store.begin_lent.Goals as goal
+
+pub begin_all-begun-requires : goal.begin_all-begun-requires
+begin_all-begun-requires c = rw c.take_back-reserve.ensures c.requires
+
+pub returns-clause-jobs : goal.returns-clause-jobs
+returns-clause-jobs c = rw (← c.take_back-reserve.ensures) c.begin_all-begun.ensures.jobs
