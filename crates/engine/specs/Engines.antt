@@ -57,6 +57,12 @@ pub record Fits (e : PlainEngine) (p : PlainPrepared) : Type 0 where
   pub taken : IsTaken (state_of e) p.event
   pub row_room : length p.report.faults + length p.report.changes ≤ e.row_room
 
+-- the cells that a scan leaves which was made ready are those of a state of the system after it
+pub record LeavesState (e : PlainEngine) (p : PlainPrepared) : Type 0 where
+  pub state : PlainState
+  pub state_is : IsState (after_event (state_of e) p.event) state
+  pub cells_are : state.cells ≡ p.effect.cells
+
 -- an engine may commit an order that was made ready: there is room, for two rows too, that is what the order does in this engine's state, and the order was taken there
 pub record FitsOrder (e : PlainEngine) (p : PlainPreparedOrder) : Type 0 where
   pub room : 0 < e.room

@@ -8,7 +8,7 @@ ghost use Rattle.plant_system.specs.Orders.{restart_of};
 ghost use Rattle.plant_system.specs.System.{scan_event, order_event, reply_to, outputs_of, summary_of};
 ghost use Rattle.engine.specs.Lawful.{IsLawfulHistory};
 ghost use Rattle.engine.specs.Journal.{IsJournal, IsLine, added_entries, journal_of};
-ghost use Rattle.engine.specs.Engines.{state_of, Fits, FitsOrder, IsEngine, TakesScan};
+ghost use Rattle.engine.specs.Engines.{state_of, Fits, FitsOrder, IsEngine, LeavesState, TakesScan};
 ghost use Rattle.plant_system.specs.States.{IsReport};
 
 use crate::journal::{line_text, push_order, push_scan, row_count};
@@ -23,8 +23,7 @@ use plant_system::{
     alarm_state, apply, apply_scan, opening_state, prepared_order, prepared_scan, widest_image,
 };
 use plant_types::{Pair, Value};
-use plant_walk::Stack;
-use scan_logic::{Levelled, plan_levels};
+use scan_logic::{Levelled, Workspace, plan_levels};
 use slice_store::{Done, Job, Start};
 use std::alloc::{AllocError, Global};
 use std::marker::Model;
@@ -58,12 +57,12 @@ impl Model for Engine {
 fn opening(alloc: Global, plant: &Plant) -> Result<(State, Room), AllocError>
     ensures { IfOk result (λ made. IsEngine plant.now [] [] made.0) }
 {
-    let stack = Stack::new(alloc)?;
+    let space = Workspace::new(alloc)?;
     let state = opening_state(alloc, plant)?;
     let run = RunRoom {
         spare: None,
         report: None,
-        stack,
+        space,
         marks: Vec::new(alloc),
     };
     let room = Room {
@@ -227,6 +226,14 @@ impl Engine {
         self.room.image = image;
         self.room.run.spare = Some(apply_scan(effect, &mut self.state));
         report
+    }
+
+    /// A law, which does nothing: what a scan that was made ready leaves of the variables is what the system has after it.
+    pub fn leaves_a_state(&self, prepared: &Prepared)
+        requires { Fits self.now prepared.now }
+        ensures { LeavesState self.now prepared.now }
+    {
+        let _kept = &self.state;
     }
 
     /// Gives a report back, so that the next scan's lists take its memory and none of their own. The report is lost; the engine stays as it is.

@@ -10,8 +10,9 @@ use crate::jobs::{Ended, push_ended, run_shuffled};
 use crate::state::State;
 use plant_walk::{Framed, programs_share_no_cell, sound_source_is_small};
 use scan_logic::Levelled;
-use slice_store::{Done, Job, Misfit, Store};
+use slice_store::{Done, Job, Misfit, Reserve, Store};
 use std::alloc::{AllocError, Global};
+use std::mem::replace;
 
 /// Why a scan gave up.
 #[derive(Clone, Copy, Drop)]
@@ -121,8 +122,8 @@ fn run_levels(
     Ok(ended)
 }
 
-/// Runs a scan's programs level by level, the jobs of each level run and gathered in an order drawn from dice. Tells how they ended. After an
-/// error cells and flags are as before.
+/// Runs a scan's programs level by level, the jobs of each level run and gathered in an order drawn from dice, in the memory of earlier jobs.
+/// Tells how they ended. After an error cells and flags are as before.
 pub fn run_by_levels(
     alloc: Global,
     framed: &Framed,
@@ -142,7 +143,9 @@ pub fn run_by_levels(
     let Ok(mut store) = new_store(alloc, framed, levelled, state, state.moment) else {
         return Err(Fault::Memory);
     };
+    store.lend(replace(&mut state.jobs, Reserve::new(alloc)));
     let ended = run_levels(alloc, levelled, dice, &mut store)?;
+    state.jobs = store.take_back(alloc);
     let (cells, faulted) = store.into_parts();
     state.cells = cells;
     state.faulted = faulted;

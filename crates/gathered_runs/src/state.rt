@@ -7,6 +7,7 @@ use crate::dice::Dice;
 use code_slices::same_cells;
 use plant_cells::Cells;
 use plant_walk::{Framed, Walked, sound_source_is_small, standing_cells_are_there};
+use slice_store::Reserve;
 use std::alloc::{AllocError, Global};
 use twin_runs::Twin;
 
@@ -20,6 +21,8 @@ pub struct State {
     pub cells: Cells,
     /// Which programs are faulted in the levels.
     pub faulted: Vec<bool>,
+    /// Memory of the levels' jobs, for those of the next scan.
+    pub jobs: Reserve,
     /// The moment of the next scan.
     pub moment: u64,
 }
@@ -47,6 +50,7 @@ pub fn opened(alloc: Global, framed: &Framed) -> Result<State, AllocError>
         stopped,
         cells,
         faulted,
+        jobs: Reserve::new(alloc),
         moment: 0,
     })
 }

@@ -18,8 +18,7 @@ use crate::steps::{changed, renewed, set_inputs, step_alarms};
 use crew::Crew;
 use plant_config::Plant;
 use plant_types::{Pair, Value};
-use plant_walk::Stack;
-use scan_logic::{Levelled, run_programs};
+use scan_logic::{Levelled, Workspace, run_programs};
 use slice_store::{Done, Job, Start};
 use std::alloc::{AllocError, Global};
 use std::marker::Model;
@@ -66,7 +65,7 @@ pub struct RunRoom {
     /// What an earlier scan reported.
     pub report: Option<Report>,
     /// For the programs' runs.
-    pub stack: Stack,
+    pub space: Workspace,
     /// For the marks of the alarms that may move.
     pub marks: Vec<bool>,
 }
@@ -139,7 +138,7 @@ fn run_scan<C: Crew<Job, Start, Done, H>, H>(
     set_inputs(image, &mut cells);
     let mut faulted = copied_flags(old.faulted.as_slice(), room_of_flags)?;
     let framed = plant.logic();
-    let stack = &mut room.stack;
+    let space = &mut room.space;
     let flags = &mut faulted;
     let faults = run_programs(
         rt,
@@ -148,7 +147,7 @@ fn run_scan<C: Crew<Job, Start, Done, H>, H>(
         framed,
         levels,
         moment,
-        stack,
+        space,
         &mut cells,
         flags,
         room_of_faults,

@@ -18,10 +18,11 @@ use level_jobs::{ProgramFault, run_levels};
 use plant_cells::Cells;
 use plant_types::{Place, Trap};
 use plant_walk::{Framed, place_is_in_source, programs_share_no_cell, sound_source_is_small};
-use slice_store::{Done, Job, Start, Store};
+use slice_store::{Done, Job, Reserve, Start, Store};
 use std::alloc::{AllocError, Global};
+use std::mem::replace;
 
-/// Runs the programs level by level by a crew, and tells the faults by their programs' own paths.
+/// Runs the programs level by level by a crew, and tells the faults by their programs' own paths. Its jobs take the memory of earlier ones.
 fn run_in_levels<C: Crew<Job, Start, Done, H>, H>(
     rt: &H,
     alloc: Global,
@@ -29,6 +30,7 @@ fn run_in_levels<C: Crew<Job, Start, Done, H>, H>(
     framed: &Framed,
     levelled: &Levelled,
     moment: u64,
+    jobs: &mut Reserve,
     cells: &mut Cells,
     faulted: &mut Vec<bool>,
 ) -> Result<Vec<ProgramFault>, CrewFault>
@@ -47,17 +49,26 @@ fn run_in_levels<C: Crew<Job, Start, Done, H>, H>(
     let Ok(mut store) = Store::new(alloc, cells, faulted.as_slice(), moment) else {
         return Err(CrewFault::Memory);
     };
+    store.lend(replace(jobs, Reserve::new(alloc)));
     let parts = levelled.parts();
-    let faults = run_levels(rt, alloc, crew, parts, levelled.levels(), &mut store)?;
-    let (left, flags) = store.into_parts();
-    *cells = left;
-    *faulted = flags;
-    Ok(faults)
+    match run_levels(rt, alloc, crew, parts, levelled.levels(), &mut store) {
+        Ok(faults) => {
+            *jobs = store.take_back(alloc);
+            let (left, flags) = store.into_parts();
+            *cells = left;
+            *faulted = flags;
+            Ok(faults)
+        }
+        Err(fault) => {
+            *jobs = store.take_back(alloc);
+            Err(fault)
+        }
+    }
 }
 
 /// Runs the programs level by level, the jobs of each level by a crew, and returns the faults in program order. Cells, flags and faults are
 /// those of the programs one after another: one that is faulted doesn't run, and one that traps is faulted from then on. The moment is that of
-/// the scan, in milliseconds.
+/// the scan, in milliseconds. Jobs take the memory of earlier ones, and leave theirs for later ones.
 ///
 /// Fails as the crew does, with `Memory` where memory was refused; then neither the cells nor the flags are of use.
 pub fn run_by_crew<C: Crew<Job, Start, Done, H>, H>(
@@ -67,6 +78,7 @@ pub fn run_by_crew<C: Crew<Job, Start, Done, H>, H>(
     framed: &Framed,
     levelled: &Levelled,
     moment: u64,
+    jobs: &mut Reserve,
     cells: &mut Cells,
     faulted: &mut Vec<bool>,
 ) -> Result<Vec<(Place, Trap)>, CrewFault>
@@ -79,7 +91,9 @@ pub fn run_by_crew<C: Crew<Job, Start, Done, H>, H>(
     ensures faults { C.faulted crew.new ≡ faults_after (C.faulted crew.old) result }
 {
     place_is_in_source();
-    let told = run_in_levels(rt, alloc, crew, framed, levelled, moment, cells, faulted)?;
+    let told = run_in_levels(
+        rt, alloc, crew, framed, levelled, moment, jobs, cells, faulted,
+    )?;
     let Ok(faults) = all_placed(alloc, framed, told.as_slice()) else {
         return Err(CrewFault::Memory);
     };

@@ -10,8 +10,10 @@ mod levels;
 mod parts;
 mod placing;
 mod running;
+mod workspace;
 
 pub use by_crew::run_by_crew;
 pub use in_order::run_in_order;
 pub use levels::Levelled;
 pub use running::{plan_levels, run_programs};
+pub use workspace::Workspace;

@@ -11,15 +11,13 @@ use plant_walk::Framed;
 use std::alloc::{AllocError, Global};
 use std::sync::Arc;
 
-/// Makes a table as long as a code needs it. Fails if memory was refused, and past 2^32 numbers, which no plant has.
+/// Makes a table as long as a code needs it. Fails if memory was refused.
 fn make_room(table: &mut Vec<u32>, many: usize) -> Result<(), AllocError>
-    requires { length table.old.items ≤ 2 ^ 32 }
+    requires table { length table.old.items ≤ 2 ^ 32 }
+    requires many { many ≤ 65536 }
     ensures long { IfOk result (λ _. many ≤ length table.new.items) }
     ensures few { OnOk result (length table.new.items ≤ 2 ^ 32) }
 {
-    if many > u32::MAX as usize {
-        return Err(AllocError);
-    }
     if table.len() < many {
         table.resize(many, 0)?;
     }
@@ -35,6 +33,8 @@ fn part_of(
 ) -> Result<Part, AllocError>
     requires slots { length slots.old.items ≤ 2 ^ 32 }
     requires clocks { length clocks.old.items ≤ 2 ^ 32 }
+    requires few_slots { code.now.values ≤ 65536 }
+    requires few_clocks { code.now.clocks ≤ 65536 }
     ensures part { IfOk result (IsPartOf code.now) }
     ensures slots { OnOk result (length slots.new.items ≤ 2 ^ 32) }
     ensures clocks { OnOk result (length clocks.new.items ≤ 2 ^ 32) }

@@ -13,10 +13,11 @@ ghost use Rattle.scan_logic.specs.Levels.{AreLevelsOf};
 use crate::by_crew::run_by_crew;
 use crate::in_order::run_in_order;
 use crate::levels::Levelled;
+use crate::workspace::Workspace;
 use crew::{Crew, CrewFault};
 use plant_cells::Cells;
 use plant_types::{Place, Trap};
-use plant_walk::{Framed, Stack};
+use plant_walk::Framed;
 use slice_store::{Done, Job, Start};
 use std::alloc::{AllocError, Global};
 
@@ -41,7 +42,7 @@ pub fn plan_levels(
 /// the caller's thread. Both leave the same. A program that traps is faulted from then on. The moment is that of the scan, in milliseconds.
 ///
 /// Fails as the crew does, with `Memory` where memory was refused; then neither the cells nor the flags are of use. The faults take the room of
-/// others where they can.
+/// others where they can, and runs take their memory from a workspace.
 pub fn run_programs<C: Crew<Job, Start, Done, H>, H>(
     rt: &H,
     alloc: Global,
@@ -49,7 +50,7 @@ pub fn run_programs<C: Crew<Job, Start, Done, H>, H>(
     framed: &Framed,
     levels: &Option<Levelled>,
     moment: u64,
-    stack: &mut Stack,
+    space: &mut Workspace,
     cells: &mut Cells,
     faulted: &mut Vec<bool>,
     room: Vec<(Place, Trap)>,
@@ -64,9 +65,12 @@ pub fn run_programs<C: Crew<Job, Start, Done, H>, H>(
 {
     match levels {
         Some(levels) if !crew.is_alone() => {
-            run_by_crew(rt, alloc, crew, framed, levels, moment, cells, faulted)
+            let jobs = &mut space.jobs;
+            run_by_crew(
+                rt, alloc, crew, framed, levels, moment, jobs, cells, faulted,
+            )
         }
-        _ => match run_in_order(framed, moment, stack, cells, faulted, room) {
+        _ => match run_in_order(framed, moment, &mut space.stack, cells, faulted, room) {
             Ok(faults) => Ok(faults),
             Err(_) => Err(CrewFault::Memory),
         },

@@ -1,6 +1,12 @@
 use Rattle.scan_logic.proofs.FirstParts.{first_more}
 use Rattle.scan_logic.proofs.parts.parts_of.Goals as goal
 
+pub part_of-requires-clause-few_slots : goal.part_of-requires-clause-few_slots
+part_of-requires-clause-few_slots c = c.code-code.ensures.few_values
+
+pub part_of-requires-clause-few_clocks : goal.part_of-requires-clause-few_clocks
+part_of-requires-clause-few_clocks c = c.code-code.ensures.few_clocks
+
 pub loop-program-preserved : goal.loop-program-preserved
 loop-program-preserved c =
     let l = c.loop-program in

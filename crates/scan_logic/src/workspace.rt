@@ -1,0 +1,25 @@
+//! Memory for the runs of programs.
+
+use plant_walk::Stack;
+use slice_store::Reserve;
+use std::alloc::{AllocError, Global};
+
+/// Memory for the programs' runs, which one scan after another uses: for runs in program order, and for the jobs of a crew. What it holds
+/// doesn't matter.
+#[derive(Drop)]
+pub struct Workspace {
+    /// For runs in program order.
+    pub(crate) stack: Stack,
+    /// For a crew's jobs.
+    pub(crate) jobs: Reserve,
+}
+
+impl Workspace {
+    /// Memory for runs in program order, and none yet for jobs. Fails if memory was refused.
+    pub fn new(alloc: Global) -> Result<Workspace, AllocError> {
+        Ok(Workspace {
+            stack: Stack::new(alloc)?,
+            jobs: Reserve::new(alloc),
+        })
+    }
+}
