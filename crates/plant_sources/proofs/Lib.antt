@@ -1,3 +1,4 @@
 pub mod Answers
+pub mod Collected
 pub mod Decided
 pub mod Spelled

@@ -1,2 +1,3 @@
+pub mod Readings
 pub mod Sources
 pub mod UnitNames

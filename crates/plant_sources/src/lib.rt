@@ -5,8 +5,10 @@ mod fault;
 mod laws;
 mod names;
 mod reading;
+mod threads;
 
 pub use fault::SourceFault;
 pub use laws::{one_answer, spelled_or_stopped};
 pub use names::unit_name;
 pub use reading::units;
+pub use threads::units_in_threads;

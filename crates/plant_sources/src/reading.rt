@@ -47,7 +47,7 @@ fn parsed(alloc: Global, source: usize, text: &[u8], tokens: &[Token]) -> Result
 }
 
 /// The unit of the text of a source, or its fault.
-fn unit(alloc: Global, source: usize, text: &[u8]) -> Result<Unit, SourceFault>
+pub(crate) fn unit(alloc: Global, source: usize, text: &[u8]) -> Result<Unit, SourceFault>
     ensures { MatchResult result (λ unit. HasUnit text.now (view_unit unit)) (IsTextFault source text.now) }
 {
     let tokens = match tokens(alloc, source, text) {
