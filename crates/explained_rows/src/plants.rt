@@ -1,0 +1,78 @@
+//! The files of a plant, and what is told of it.
+
+use crate::faults::fault_of;
+use plant_config::ConfigFault;
+use plant_explain::{Refused, explain};
+use row_text::Source;
+use std::alloc::{AllocError, Global};
+
+/// The plant file of a plant that has none of its own.
+const PLANT: &[u8] = b"name = \"P\"
+epoch = \"2024-01-01T00:00:00Z\"
+areas = [\"north\", \"south\"]
+sources = [\"p.st\"]
+alarms = \"alarms.csv\"
+[[console]]
+number = 1
+areas = [\"north\"]
+";
+
+/// The alarm database of a plant that has none of its own.
+const ALARMS: &[u8] = b"tag,area,priority,condition,suppress,latch,max_shelve_ms,text
+T1,north,2,c,,FALSE,5000,Feed ratio high
+";
+
+/// A file and its name.
+#[derive(Drop)]
+pub struct File {
+    pub name: String,
+    pub source: Source,
+}
+
+/// The text of the file of a name, with a line in place of its line `..`; another text where there is none. Fails if allocation fails.
+fn text_of(
+    alloc: Global,
+    files: &[File],
+    name: &str,
+    given: &str,
+    other: &[u8],
+) -> Result<Vec<u8>, AllocError> {
+    for file in files {
+        if file.name.as_str() == name {
+            if file.source.has_gap() {
+                return file.source.with(alloc, given);
+            }
+            return Vec::from_slice(alloc, file.source.as_slice());
+        }
+    }
+    Vec::from_slice(alloc, other)
+}
+
+/// What is told of a refused plant, as a text. Fails if allocation fails.
+fn told(alloc: Global, refused: &Refused<'_>, line: &str) -> Result<String, AllocError> {
+    let fault = fault_of(alloc, line)?;
+    match fault {
+        ConfigFault::Memory => Ok(String::new(alloc)),
+        fault => explain(alloc, refused, &fault),
+    }
+}
+
+/// What is told of the plant of files that is refused by a line, with another line in place of the line `..`. Fails if allocation fails.
+pub fn told_of(
+    alloc: Global,
+    files: &[File],
+    line: &str,
+    given: &str,
+) -> Result<String, AllocError> {
+    let plant = text_of(alloc, files, "plant.toml", given, PLANT)?;
+    let alarms = text_of(alloc, files, "alarms.csv", given, ALARMS)?;
+    let source = text_of(alloc, files, "p.st", given, b"")?;
+    let sources = [("p.st", source.as_slice())];
+    let refused = Refused {
+        path: "plant.toml",
+        plant: plant.as_slice(),
+        sources: &sources,
+        alarms: alarms.as_slice(),
+    };
+    told(alloc, &refused, line)
+}

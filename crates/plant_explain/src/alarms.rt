@@ -1,0 +1,183 @@
+//! What is wrong in the alarm database (C11 to C14).
+
+use crate::fields::{Field, field_at, first_field, first_uneven, next_field};
+use crate::place::place_at;
+use crate::refused::Refused;
+use alarm_db::Column;
+use std::alloc::{AllocError, Global};
+use std::str;
+use token_causes::{Cause, cause_at, cause_of, part};
+
+/// Where the table's rules stand.
+const ALARMS: &str = "docs/PLANT.md, \"alarms.csv\"";
+
+/// The bytes of a field.
+fn mark_of(field: Field) -> (usize, usize) {
+    (field.from, field.until)
+}
+
+/// The number of a column, from 0.
+fn number_of(column: Column) -> usize {
+    match column {
+        Column::Tag => 0,
+        Column::Area => 1,
+        Column::Priority => 2,
+        Column::Condition => 3,
+        Column::Suppress => 4,
+        Column::Latch => 5,
+        Column::MaxShelveMs => 6,
+        Column::Text => 7,
+    }
+}
+
+/// A field as it stands in the text; empty where it isn't UTF-8.
+fn shown(text: &[u8], field: Field) -> &str {
+    match str::from_utf8(part(text, field.from, field.until)) {
+        Ok(shown) => shown,
+        Err(_) => "",
+    }
+}
+
+/// What is wrong with the header. Fails if allocation fails.
+fn misheaded(alloc: Global, text: &[u8]) -> Result<Cause, AllocError> {
+    for column in Column::all() {
+        let Some(field) = field_at(text, 0, number_of(column)) else {
+            break;
+        };
+        let name = column.name();
+        if part(text, field.from, field.until) != name.as_bytes() {
+            let said = format!(in alloc;
+                "the header has '{name}' in this place, and commas between its names"
+            )?;
+            return Ok(cause_at(mark_of(field), said, ALARMS));
+        }
+    }
+    let said = String::from_str(
+        alloc,
+        "the header is tag,area,priority,condition,suppress,latch,max_shelve_ms,text, and nothing more or less",
+    )?;
+    Ok(cause_of(said, ALARMS))
+}
+
+/// The cause of a header that isn't right, or of a row that hasn't eight fields. Fails if allocation fails.
+pub fn uneven(alloc: Global, text: &[u8]) -> Result<Cause, AllocError> {
+    match first_uneven(text, 8) {
+        Some(field) if field.record > 0 => {
+            let count = field.number.saturating_add(1);
+            let said = format!(in alloc;
+                "this row has {count} fields, and 8 are wanted (a text with a comma stands in double quotes)"
+            )?;
+            Ok(cause_at(mark_of(field), said, ALARMS))
+        }
+        _ => misheaded(alloc, text),
+    }
+}
+
+/// The form of a column's fields.
+fn form_of(column: Column) -> &'static str {
+    match column {
+        Column::Tag | Column::Area => "has 1 to 32 letters, digits, '_', '-' and '.'",
+        Column::Priority => "is 1, 2, 3 or 4",
+        Column::Condition =>
+            "is the name of a global: a letter or '_', then letters, digits and '_'",
+        Column::Suppress => "is empty, or the name of a global",
+        Column::Latch => "is TRUE or FALSE",
+        Column::MaxShelveMs => "is a number of milliseconds, at most 2592000000, without a unit",
+        Column::Text => "has at most 200 bytes of UTF-8, without tabs and line breaks",
+    }
+}
+
+/// The cause of a field without its column's form. Fails if allocation fails.
+pub fn malformed(
+    alloc: Global,
+    text: &[u8],
+    row: u32,
+    column: Column,
+) -> Result<Cause, AllocError> {
+    let (name, form) = (column.name(), form_of(column));
+    let said = format!(in alloc; "{name} {form}")?;
+    match field_at(text, row as usize, number_of(column)) {
+        Some(field) => Ok(cause_at(mark_of(field), said, ALARMS)),
+        None => Ok(cause_of(said, ALARMS)),
+    }
+}
+
+/// The bytes of a field, without the quotes around them.
+fn unquoted(text: &[u8], field: Field) -> &[u8] {
+    let bytes = part(text, field.from, field.until);
+    match bytes {
+        [b'"', inner @ .., b'"'] => inner,
+        _ => bytes,
+    }
+}
+
+/// The tag of an earlier row that is the tag of a row; `None` if there is none.
+fn first_same(text: &[u8], tag: Field) -> Option<Field> {
+    let wanted = unquoted(text, tag);
+    let mut field = first_field(text);
+    for _ in 0..text.len() {
+        if field.record >= tag.record {
+            return None;
+        }
+        let is_tag = field.record > 0 && field.number == 0;
+        if is_tag && unquoted(text, field) == wanted {
+            return Some(field);
+        }
+        field = next_field(text, field)?;
+    }
+    None
+}
+
+/// The cause of a tag that an earlier row has. Fails if allocation fails.
+pub fn doubled(alloc: Global, text: &[u8], row: u32) -> Result<Cause, AllocError> {
+    let Some(tag) = field_at(text, row as usize, 0) else {
+        let said = String::from_str(alloc, "a tag stands twice")?;
+        return Ok(cause_of(said, ALARMS));
+    };
+    let name = shown(text, tag);
+    let first = match first_same(text, tag) {
+        Some(first) => first.from,
+        None => tag.from,
+    };
+    let line = place_at(text, first).line;
+    let said = format!(in alloc; "the tag '{name}' stands in line {line} already")?;
+    Ok(cause_at(mark_of(tag), said, ALARMS))
+}
+
+/// The plant's areas, each behind a blank. Fails if allocation fails.
+fn areas_of(alloc: Global, plant: &[u8]) -> Result<String, AllocError> {
+    let mut list = String::new(alloc);
+    let Ok(file) = plant_file::read(alloc, plant) else {
+        return Ok(list);
+    };
+    for name in file.areas() {
+        list.push_str(" ")?;
+        list.push_str(name.as_str())?;
+    }
+    Ok(list)
+}
+
+/// The cause of an area that the plant hasn't, or of a name that is no BOOL global's. Fails if allocation fails.
+pub fn unknown(
+    alloc: Global,
+    refused: &Refused<'_>,
+    row: u32,
+    column: Column,
+) -> Result<Cause, AllocError> {
+    let text = refused.alarms;
+    let Some(field) = field_at(text, row as usize, number_of(column)) else {
+        let said = String::from_str(alloc, "a name in this row is not the plant's")?;
+        return Ok(cause_of(said, ALARMS));
+    };
+    let name = shown(text, field);
+    let said = if column == Column::Area {
+        let areas = areas_of(alloc, refused.plant)?;
+        let areas = areas.as_str();
+        format!(in alloc; "the plant has no area '{name}'; its areas are:{areas}")?
+    } else {
+        format!(in alloc;
+            "no BOOL global is called '{name}': a DINT or a TIME doesn't serve, and a program's own variable isn't found"
+        )?
+    };
+    Ok(cause_at(mark_of(field), said, ALARMS))
+}

@@ -1,0 +1,104 @@
+//! The cause of a refusal is looked for.
+
+use crate::alarms::{doubled, malformed, uneven, unknown};
+use crate::document::{no_epoch, not_toml, wrong_keys};
+use crate::limits::over_limit;
+use crate::place::{FileOf, byte_at};
+use crate::refused::{Refused, Spot};
+use crate::units::{Rule, cause_in};
+use plant_config::ConfigFault;
+use plant_types::Text;
+use std::alloc::{AllocError, Global};
+use token_causes::{Cause, misspelled, ungrammatical};
+
+/// The number of the source of a name, from 0; how many there are if there is none.
+fn source_named(refused: &Refused<'_>, name: &Text) -> usize {
+    let found = refused
+        .sources
+        .iter()
+        .position(|source| source.0 == name.as_str());
+    match found {
+        Some(number) => number,
+        None => refused.sources.len(),
+    }
+}
+
+/// The cause of a fault of spelling or grammar, at a line and a column. Fails if allocation fails.
+fn in_text(
+    alloc: Global,
+    refused: &Refused<'_>,
+    name: &Text,
+    place: (usize, usize),
+    is_spelling: bool,
+) -> Result<Spot, AllocError> {
+    let file = FileOf::Source(source_named(refused, name));
+    let text = refused.text(file);
+    let at = byte_at(text, place.0, place.1);
+    let cause = if is_spelling {
+        misspelled(alloc, text, at)?
+    } else {
+        ungrammatical(alloc, text, at)?
+    };
+    Ok(Spot { file, cause })
+}
+
+/// The cause of a fault in a unit of a source. Fails if allocation fails.
+fn in_unit(
+    alloc: Global,
+    refused: &Refused<'_>,
+    name: &Text,
+    unit: &Text,
+    rule: Rule,
+) -> Result<Spot, AllocError> {
+    let number = source_named(refused, name);
+    let file = FileOf::Source(number);
+    let text = refused.text(file);
+    let cause = cause_in(alloc, text, unit.as_str(), rule)?;
+    Ok(Spot { file, cause })
+}
+
+/// The cause of a fault in the plant file, or in the alarm database. Fails if allocation fails.
+fn in_table(
+    alloc: Global,
+    refused: &Refused<'_>,
+    fault: &ConfigFault,
+) -> Result<Cause, AllocError> {
+    match fault {
+        ConfigFault::NotToml => not_toml(alloc, refused.plant),
+        ConfigFault::PlantFile => wrong_keys(alloc, refused.plant),
+        ConfigFault::Epoch => no_epoch(alloc, refused.plant),
+        ConfigFault::Field { row, column } => malformed(alloc, refused.alarms, *row, *column),
+        ConfigFault::Twice { row } => doubled(alloc, refused.alarms, *row),
+        ConfigFault::Unknown { row, column } => unknown(alloc, refused, *row, *column),
+        _ => uneven(alloc, refused.alarms),
+    }
+}
+
+/// The file in which a refused plant has a fault, and its cause there. Fails if allocation fails.
+pub fn find(alloc: Global, refused: &Refused<'_>, fault: &ConfigFault) -> Result<Spot, AllocError> {
+    match fault {
+        ConfigFault::Limit(limit) => over_limit(alloc, refused, *limit),
+        ConfigFault::Spelling { file, line, column } => {
+            in_text(alloc, refused, file, (*line, *column), true)
+        }
+        ConfigFault::Grammar { file, line, column } => {
+            in_text(alloc, refused, file, (*line, *column), false)
+        }
+        ConfigFault::Name { file, unit } => in_unit(alloc, refused, file, unit, Rule::Names),
+        ConfigFault::Kind { file, unit } => in_unit(alloc, refused, file, unit, Rule::Kinds),
+        ConfigFault::HoldsItself { file, unit } => {
+            in_unit(alloc, refused, file, unit, Rule::Blocks)
+        }
+        ConfigFault::Constant { file, unit } => {
+            in_unit(alloc, refused, file, unit, Rule::Constants)
+        }
+        ConfigFault::NotToml | ConfigFault::PlantFile | ConfigFault::Epoch => Ok(Spot {
+            file: FileOf::Plant,
+            cause: in_table(alloc, refused, fault)?,
+        }),
+        _ => Ok(Spot {
+            file: FileOf::Alarms,
+            cause: in_table(alloc, refused, fault)?,
+        }),
+    }
+}

@@ -1,0 +1,99 @@
+//! Places in the texts of a plant.
+
+ghost use Rattle.std.specs.Prelude.{◌≡◌, ◌≤◌, ◌+◌, ◌==◌, not, length, count_by};
+ghost use Rattle.std.specs.List.{suffix_len};
+ghost use Rattle.st_lexer.specs.Lexes.{mark_len};
+ghost use Rattle.plant_explain.specs.Told.{IsPlaceIn};
+
+/// A file of a plant.
+#[derive(Clone, Copy, Debug, PartialEq, Eq, Drop)]
+pub enum FileOf {
+    /// The plant file.
+    Plant,
+    /// A source, by its number in the plant file, from 0.
+    Source(usize),
+    /// The alarm database.
+    Alarms,
+}
+
+/// A place in a text. Lines count from 1, and so do the bytes of a line; a byte order mark at the text's start isn't counted.
+#[derive(Clone, Copy, Debug, PartialEq, Eq, Drop)]
+pub struct Place {
+    pub line: usize,
+    pub column: usize,
+}
+
+/// How many bytes of a byte order mark a text begins with: 3 for EF BB BF, else 0.
+pub fn mark_len(text: &[u8]) -> usize
+    ensures found { result ≡ mark_len text.now }
+    ensures within { result ≤ length text.now }
+{
+    match text {
+        [0xEF, 0xBB, 0xBF, ..] => 3,
+        _ => 0,
+    }
+}
+
+/// The line and the column of the place after these bytes, which are all that stand before it.
+fn place_after(before: &[u8]) -> Place
+    ensures line { result.line ≡ count_by (λ b. b == 10) before.now + 1 }
+    ensures column { result.column ≡ suffix_len (λ b. not (b == 10)) before.now + 1 }
+{
+    let mut line = 1;
+    let mut column = 1;
+    for byte in before {
+        if *byte == b'\n' {
+            line += 1;
+            column = 1;
+        } else {
+            column += 1;
+        }
+    }
+    Place { line, column }
+}
+
+/// The place of a byte of a text by its number, from 0; beyond the last it is the text's end, in a byte order mark the text's start.
+pub fn place_at(text: &[u8], at: usize) -> Place
+    ensures { IsPlaceIn text.now result }
+{
+    let skipped = mark_len(text);
+    let body = &text[skipped..];
+    let number = at.saturating_sub(skipped).min(body.len());
+    place_after(&body[..number])
+}
+
+/// The number of the byte at a line and a column of a text; that of its end if it has no such line.
+pub fn byte_at(text: &[u8], line: usize, column: usize) -> usize {
+    let mut lines = 1usize;
+    let mut start = mark_len(text);
+    for (i, byte) in text.iter().enumerate() {
+        if lines >= line {
+            break;
+        }
+        if *byte == b'\n' {
+            lines = lines.saturating_add(1);
+            start = i.saturating_add(1);
+        }
+    }
+    if lines < line {
+        return text.len();
+    }
+    start
+        .saturating_add(column)
+        .saturating_sub(1)
+        .min(text.len())
+}
+
+/// Where the line of a byte begins, and where it ends, without its line end.
+pub fn line_around(text: &[u8], at: usize) -> (usize, usize) {
+    let mut start = mark_len(text);
+    for (i, byte) in text.iter().enumerate() {
+        if *byte == b'\n' || *byte == b'\r' {
+            if i >= at {
+                return (start, i);
+            }
+            start = i.saturating_add(1);
+        }
+    }
+    (start, text.len())
+}

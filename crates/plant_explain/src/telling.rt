@@ -1,0 +1,38 @@
+//! A refusal, explained.
+
+ghost use Rattle.std.specs.Prelude.{◌≡◌, ◌≢◌, ◌++◌, IfOk, string_bytes};
+ghost use Rattle.plant_config.specs.declared.fault.ConfigFault.TheVariants as config_fault;
+ghost use Rattle.plant_config.specs.FaultLine.{config_line};
+ghost use Rattle.plant_explain.specs.Told.{BeginsWith};
+
+use crate::finding::find;
+use crate::refused::Refused;
+use crate::render::shown;
+use plant_config::ConfigFault;
+use std::alloc::{AllocError, Global};
+
+/// A line, and behind its line feed a text. Fails if allocation fails.
+fn under(alloc: Global, line: &str, text: &str) -> Result<String, AllocError>
+    ensures { IfOk result (λ both. BeginsWith line.now (string_bytes both)) }
+{
+    let mut both = String::from_str(alloc, line)?;
+    let rest = format!(in alloc; "\n{text}")?;
+    both.push_str(rest.as_str())?;
+    Ok(both)
+}
+
+/// What a person is told when a plant is refused: first the line of the refusal, then the place, the line there with a mark, what is wrong, and
+/// where to read on. Fails if allocation fails.
+pub fn explain(
+    alloc: Global,
+    refused: &Refused<'_>,
+    fault: &ConfigFault,
+) -> Result<String, AllocError>
+    requires { fault.now ≢ config_fault.Memory }
+    ensures { IfOk result (λ text. BeginsWith (config_line fault.now) (string_bytes text)) }
+{
+    let line = fault.line(alloc)?;
+    let spot = find(alloc, refused, fault)?;
+    let rest = shown(alloc, refused, &spot)?;
+    under(alloc, line.as_str(), rest.as_str())
+}

@@ -1,0 +1,195 @@
+//! The token with which no source can go on (C5).
+
+use crate::cause::{Cause, cause_at};
+use crate::roles::{kind_at, kind_before, span_of, word_at};
+use st_lexer::{Keyword, LexFault, Symbol, Token, TokenKind, lex, place_of};
+use std::alloc::{AllocError, Global};
+
+/// Where the grammar stands.
+const GRAMMAR: &str = "docs/LANGUAGE.md, \"Grammar\"";
+
+/// The tokens of a text; none where it has a fault. Fails if allocation fails.
+pub fn tokens_of(alloc: Global, text: &[u8]) -> Result<Vec<Token>, AllocError> {
+    match lex(alloc, text) {
+        Ok(tokens) => Ok(tokens),
+        Err(LexFault::Memory) => Err(AllocError),
+        Err(_) => Ok(Vec::new(alloc)),
+    }
+}
+
+/// The keyword that closes what a keyword opens; empty for one that opens nothing.
+fn closing_word(kind: TokenKind) -> &'static str {
+    match kind {
+        TokenKind::Keyword(Keyword::If) => "END_IF",
+        TokenKind::Keyword(Keyword::Case) => "END_CASE",
+        TokenKind::Keyword(Keyword::For) => "END_FOR",
+        TokenKind::Keyword(Keyword::Program) => "END_PROGRAM",
+        TokenKind::Keyword(Keyword::FunctionBlock) => "END_FUNCTION_BLOCK",
+        TokenKind::Keyword(
+            Keyword::Var
+            | Keyword::VarGlobal
+            | Keyword::VarInput
+            | Keyword::VarOutput
+            | Keyword::VarExternal,
+        ) => "END_VAR",
+        _ => "",
+    }
+}
+
+/// Whether a keyword closes something.
+fn is_closing(kind: TokenKind) -> bool {
+    matches!(
+        kind,
+        TokenKind::Keyword(
+            Keyword::EndIf
+                | Keyword::EndCase
+                | Keyword::EndFor
+                | Keyword::EndVar
+                | Keyword::EndProgram
+                | Keyword::EndFunctionBlock
+        )
+    )
+}
+
+/// The last token before that of a number which opens something that isn't closed before it.
+fn last_open(tokens: &[Token], number: usize) -> Option<usize> {
+    let mut closed = 0usize;
+    for i in (0..number).rev() {
+        let Some(kind) = kind_at(tokens, i) else {
+            continue;
+        };
+        if is_closing(kind) {
+            closed = closed.saturating_add(1);
+        } else if !closing_word(kind).is_empty() {
+            if closed == 0 {
+                return Some(i);
+            }
+            closed = closed.saturating_sub(1);
+        }
+    }
+    None
+}
+
+/// What is said where something is open that should be closed before a token. Fails if allocation fails.
+fn unclosed(
+    alloc: Global,
+    text: &[u8],
+    tokens: &[Token],
+    opened: usize,
+    number: usize,
+) -> Result<Cause, AllocError> {
+    let line = place_of(text, tokens, opened).0;
+    let open = word_at(text, tokens, opened);
+    let closing = match kind_at(tokens, opened) {
+        Some(kind) => closing_word(kind),
+        None => "",
+    };
+    let behind = if closing == "END_IF" {
+        " ('ELSE IF' opens an IF of its own; ELSIF doesn't)"
+    } else {
+        ""
+    };
+    let said = format!(in alloc; "{closing} is missing for the {open} of line {line}{behind}")?;
+    let mark = span_of(text, tokens, number, number.saturating_add(1));
+    Ok(cause_at(mark, said, GRAMMAR))
+}
+
+/// Whether a statement may end with a token.
+fn may_end(kind: TokenKind) -> bool {
+    match kind {
+        TokenKind::Symbol(symbol) => symbol == Symbol::Close,
+        TokenKind::Keyword(keyword) => matches!(
+            keyword,
+            Keyword::True | Keyword::False | Keyword::EndIf | Keyword::EndCase | Keyword::EndFor
+        ),
+        _ => true,
+    }
+}
+
+/// Whether a statement may begin with a token, or statements end with it.
+fn may_begin(kind: TokenKind) -> bool {
+    match kind {
+        TokenKind::Word => true,
+        TokenKind::Keyword(keyword) => {
+            is_closing(kind)
+                || matches!(
+                    keyword,
+                    Keyword::If | Keyword::Case | Keyword::For | Keyword::Elsif | Keyword::Else
+                )
+        }
+        _ => false,
+    }
+}
+
+/// What is said of the token of a number by itself, or by those beside it; empty where that says nothing.
+fn told(tokens: &[Token], number: usize) -> &'static str {
+    let (Some(kind), Some(before)) = (kind_at(tokens, number), kind_before(tokens, number, 1))
+    else {
+        return "";
+    };
+    let after = kind_at(tokens, number.saturating_add(1));
+    match (before, kind, after) {
+        (TokenKind::Word, TokenKind::Symbol(Symbol::Equal), _) => "': an assignment is written :=",
+        (TokenKind::Word, TokenKind::Symbol(Symbol::Open), _) => {
+            "': there are no functions, and a call of an instance stands by itself, as t(IN := a);"
+        }
+        (_, TokenKind::Integer(2147483648), _) => {
+            "': 2147483648 may stand behind a - alone; the greatest DINT is 2147483647"
+        }
+        (
+            _,
+            TokenKind::Keyword(_),
+            Some(TokenKind::Symbol(Symbol::Colon | Symbol::Becomes | Symbol::Comma)),
+        ) => "' is a keyword, and can't be a name",
+        _ => "",
+    }
+}
+
+/// Whether a semicolon seems to be missing before the token of a number.
+fn lacks_semicolon(tokens: &[Token], number: usize) -> bool {
+    match (kind_before(tokens, number, 1), kind_at(tokens, number)) {
+        (Some(before), Some(kind)) => may_end(before) && may_begin(kind),
+        _ => false,
+    }
+}
+
+/// The cause at the token of a number. Fails if allocation fails.
+fn cause_of_token(
+    alloc: Global,
+    text: &[u8],
+    tokens: &[Token],
+    number: usize,
+) -> Result<Cause, AllocError> {
+    let word = word_at(text, tokens, number);
+    let told = told(tokens, number);
+    let said = if !told.is_empty() {
+        format!(in alloc; "found '{word}{told}")?
+    } else if lacks_semicolon(tokens, number) {
+        let line = place_of(text, tokens, number.saturating_sub(1)).0;
+        format!(in alloc; "found '{word}': a ';' seems to be missing before it, in line {line}")?
+    } else {
+        match (kind_at(tokens, number), last_open(tokens, number)) {
+            (Some(kind), Some(opened)) if is_closing(kind) => {
+                return unclosed(alloc, text, tokens, opened, number);
+            }
+            _ => format!(in alloc; "no source can go on with '{word}' here")?,
+        }
+    };
+    let mark = span_of(text, tokens, number, number.saturating_add(1));
+    Ok(cause_at(mark, said, GRAMMAR))
+}
+
+/// The cause of a fault of grammar at a byte of a source: the token there, or the text's end. Fails if allocation fails.
+pub fn ungrammatical(alloc: Global, text: &[u8], at: usize) -> Result<Cause, AllocError> {
+    let tokens = tokens_of(alloc, text)?;
+    let tokens = tokens.as_slice();
+    if let Some(number) = tokens.iter().position(|token| token.from >= at) {
+        return cause_of_token(alloc, text, tokens, number);
+    }
+    if let Some(opened) = last_open(tokens, tokens.len()) {
+        return unclosed(alloc, text, tokens, opened, tokens.len());
+    }
+    let end = text.len();
+    let said = String::from_str(alloc, "the text ends too early")?;
+    Ok(cause_at((end, end), said, GRAMMAR))
+}
