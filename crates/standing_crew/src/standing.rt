@@ -12,6 +12,7 @@ use crate::waiting::next_of;
 use crew::{Crew, CrewFault, Gate, Work};
 use crossbeam_channel::{Receiver, SendError, Sender};
 use std::alloc::Global;
+use std::marker::Model;
 use std::sync::{Arc, Wait};
 use std::thread;
 use std::thread::{JoinHandle, Threads};
@@ -34,6 +35,14 @@ pub struct Standing<J, S, D, G> {
     round: u64,
     lost: bool,
     faults: u64,
+}
+
+impl<J, S, D, G> Model for Standing<J, S, D, G> {
+    ghost use Rattle.standing_crew.specs.Standings.{PlainStanding};
+
+    ghost Value = { PlainStanding };
+
+    ghost view = { λ s. record { lost = s.lost; faults = s.faults } };
 }
 
 /// The runs of a round that are here, how many messages are away, and the first fault.
