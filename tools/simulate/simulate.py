@@ -230,7 +230,7 @@ class Trial:
         words = self.words(workers, some.choice(["check", "run"]))
         given, wanted = self.due(folder, words)
         user = NOBODY if "locked" in folder.how.values() and os.geteuid() == 0 else None
-        ran = runs.run(words, given, bench.seconds, user=user)
+        ran = unexplained(runs.run(words, given, bench.seconds, user=user))
         fits = ran == wanted if wanted else is_refusal(ran) or (ran.status, ran.error) == (0, b"")
         self.judge("folders with a file that is cut or changed" if not folder.how else "folders with a file that can't be read", folder.said, words, given, wanted.out if wanted else b"", ran, fits)
         self.count("folders that are accepted all the same", ran.status == 0)
@@ -257,12 +257,18 @@ class Trial:
     def spoiled_with_little(self, folder, words, given, wanted):
         """The same with little memory: the same, or memory (or a thread) is refused, before a byte of a line on the plant was written."""
         env, most, detail = self.limit(11)
-        ran = runs.run(words, given, self.bench.seconds, most, env)
+        ran = unexplained(runs.run(words, given, self.bench.seconds, most, env))
         workers = words[1] == "run" and "--workers" in words
         refused = ran.status == 1 and (ran.error == b"RUN MEMORY\n" or (ran.error == b"RUN CREW\n" and workers))
         begun = wanted.out.startswith(ran.out) if wanted.status == 0 and words[1] == "run" else not ran.out
         self.judge("folders with little memory", f"{folder.said}; {detail}", words, given, wanted.out, ran, ran == wanted or (refused and begun))
         self.count_refused(ran, refused)
+
+
+def unexplained(ran):
+    """A refusal without what a person is told of it on standard error, which begins with the refusal's own line."""
+    explained = ran.status == 3 and ran.out.startswith(b"CONFIG C") and ran.error.startswith(ran.out)
+    return Ran(ran.out, b"", ran.status) if explained else ran
 
 
 def is_refusal(ran):

@@ -4,7 +4,7 @@ ghost use Rattle.std.specs.Prelude.{◌<◌, ◌≤◌};
 
 use crew::{CrewFault, Ungated};
 use engine::{Done, Job, Start};
-use serving::ServeFault;
+use plant_service::ServeFault;
 use standing_crew::Standing;
 use std::alloc::Global;
 use std::sync::{Arc, Wait};

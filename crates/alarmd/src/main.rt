@@ -2,29 +2,44 @@
 //!
 //! Without words it serves its example plant: commands from standard input, one on each line, and answers on standard output. `check PLANT` tells
 //! whether a plant is accepted, and `run PLANT` serves it, with `--workers N` by N workers. What is chosen, accepted, refused and answered is proved in the libraries
-//! `command_line` and `serving`.
+//! `command_line` and `plant_service`.
 #![tactic(auto)]
 
 ghost use Rattle.command_line.specs.Choices.{HasWorkers};
 
 mod crews;
 mod example;
+mod explained;
 mod plants;
 mod prints;
+mod texts;
 mod words;
 
+use crate::explained::explained;
 use crate::plants::{check, serve_example, serve_files};
 use crate::prints::{help, stopped, usage};
 use crate::words::choice;
 use command_line::{Choice, Ended, UsageFault, status};
-use serving::ServeFault;
+use plant_service::ServeFault;
 use std::process::ExitCode;
-use std::rt::Runtime;
+use std::rt::{Files, Runtime};
 use std::sync::Wait;
 use std::thread::Threads;
 
+/// How the program ends; where the plant of a plant file's path was refused, a person is told more.
+fn told<R: Files + Eprint + AllocGlobal + Threads + Sync>(
+    rt: &R,
+    path: &str,
+    ended: Ended,
+) -> Ended {
+    if let Ended::Refused = ended {
+        explained(rt, path);
+    }
+    ended
+}
+
 /// Does what was chosen.
-fn done<R: Runtime + Threads + Wait + AllocGlobal + Send + 'static>(
+fn done<R: Runtime + Threads + Wait + AllocGlobal + Send + Sync + 'static>(
     rt: &R,
     choice: &Choice,
 ) -> Ended
@@ -32,13 +47,16 @@ fn done<R: Runtime + Threads + Wait + AllocGlobal + Send + 'static>(
 {
     match choice {
         Choice::Example => serve_example(rt),
-        Choice::Check(path) => check(rt, path.as_str()),
-        Choice::Run(path, workers) => serve_files(rt, path.as_str(), *workers),
+        Choice::Check(path) => told(rt, path.as_str(), check(rt, path.as_str())),
+        Choice::Run(path, workers) => {
+            let ended = serve_files(rt, path.as_str(), *workers);
+            told(rt, path.as_str(), ended)
+        }
     }
 }
 
 /// Does what the words ask for.
-fn ended<R: Runtime + Threads + Wait + AllocGlobal + Send + 'static>(rt: &R) -> Ended {
+fn ended<R: Runtime + Threads + Wait + AllocGlobal + Send + Sync + 'static>(rt: &R) -> Ended {
     match choice(rt) {
         Ok(choice) => done(rt, &choice),
         Err(UsageFault::Memory) => stopped(rt, ServeFault::Memory),

@@ -7,7 +7,7 @@ use crate::example::{ALARMS, PLANT, SOURCE, SOURCE_NAME};
 use crate::prints::stopped;
 use command_line::Ended;
 use engine::{Alone, Crew, Done, Job, Start};
-use serving::{Disk, Reading, RunEnd, ServeFault, Writing, check_from, run, run_from};
+use plant_service::{Disk, Reading, RunEnd, ServeFault, Writing, check_from, run, run_from};
 use std::io;
 use std::rt::{Files, Runtime};
 use std::sync::Wait;
@@ -23,9 +23,12 @@ fn ended<R: Eprint>(rt: &R, run: Result<RunEnd, ServeFault>) -> Ended {
 }
 
 /// Tells whether the plant of a plant file's path is accepted.
-pub fn check<R: Files + Print + Eprint + AllocGlobal>(rt: &R, path: &str) -> Ended {
+pub fn check<R: Files + Print + Eprint + Threads + AllocGlobal + Sync>(
+    rt: &R,
+    path: &str,
+) -> Ended {
     let mut sink = Writing::new(io::writer(rt));
-    match check_from(rt.alloc(), &Disk { files: rt }, path, &mut sink) {
+    match check_from(rt, rt.alloc(), &Disk { files: rt }, path, &mut sink) {
         Ok(true) => Ended::Done,
         Ok(false) => Ended::Refused,
         Err(fault) => stopped(rt, fault),
@@ -33,11 +36,10 @@ pub fn check<R: Files + Print + Eprint + AllocGlobal>(rt: &R, path: &str) -> End
 }
 
 /// Serves the plant of a plant file's path over standard input and output, its programs run by the crew.
-fn serve_by<R: Files + Input + Print + Eprint + Wait + AllocGlobal, C: Crew<Job, Start, Done, R>>(
-    rt: &R,
-    crew: &mut C,
-    path: &str,
-) -> Ended
+fn serve_by<
+    R: Files + Input + Print + Eprint + Threads + Wait + AllocGlobal + Sync,
+    C: Crew<Job, Start, Done, R>,
+>(rt: &R, crew: &mut C, path: &str) -> Ended
     requires { C.asks }
 {
     let mut feed = Reading::new(rt.reader());
@@ -50,7 +52,7 @@ fn serve_by<R: Files + Input + Print + Eprint + Wait + AllocGlobal, C: Crew<Job,
 }
 
 /// Serves the plant of a plant file's path over standard input and output, its programs run by so many workers. One is the caller alone.
-pub fn serve_files<R: Runtime + Threads + Wait + AllocGlobal + Send + 'static>(
+pub fn serve_files<R: Runtime + Threads + Wait + AllocGlobal + Send + Sync + 'static>(
     rt: &R,
     path: &str,
     number: u32,
@@ -72,7 +74,9 @@ pub fn serve_files<R: Runtime + Threads + Wait + AllocGlobal + Send + 'static>(
 }
 
 /// Serves the example plant over standard input and output.
-pub fn serve_example<R: Input + Print + Eprint + Wait + AllocGlobal>(rt: &R) -> Ended {
+pub fn serve_example<R: Input + Print + Eprint + Threads + Wait + AllocGlobal + Sync>(
+    rt: &R,
+) -> Ended {
     let mut feed = Reading::new(rt.reader());
     let mut sink = Writing::new(io::writer(rt));
     let sources = [(SOURCE_NAME, SOURCE)];

@@ -4,7 +4,7 @@ ghost use Rattle.std.specs.Prelude.{◌≡◌, ◌⊎◌};
 ghost use Rattle.command_line.specs.declared.ended.Ended.TheVariants as ended;
 
 use command_line::Ended;
-use serving::{ServeFault, Writing, put_all};
+use plant_service::{ServeFault, Writing, put_all};
 use std::io;
 
 /// Prints on standard error why the program stopped.

@@ -34,6 +34,7 @@ use st_typing::{Typed, check};
 use stamps::Epoch;
 use std::alloc::{AllocError, Global};
 use std::marker::Model;
+use std::thread::Threads;
 
 /// An accepted plant. Its areas, alarms, globals and programs are numbered from 0: areas as the plant file lists them, alarms in the order of the
 /// database, globals and programs in the order of the sources and, in a source, of its text.
@@ -163,7 +164,8 @@ fn with_units(
 }
 
 /// The parts of the plant of texts whose plant file and epoch are right, or why there are none.
-fn parts_in(
+fn parts_in<H: Threads + Sync>(
+    rt: &H,
     alloc: Global,
     handed: &Handed<'_>,
     file: &PlantFile,
@@ -175,14 +177,15 @@ fn parts_in(
     if let Err(fault) = check_limits(handed, file, epoch) {
         return Err(fault);
     }
-    match units_of(alloc, handed, file, epoch) {
+    match units_of(rt, alloc, handed, file, epoch) {
         Ok(units) => with_units(alloc, handed, file, epoch, units.as_slice()),
         Err(fault) => Err(fault),
     }
 }
 
 /// The plant of texts whose plant file and epoch are right, or why there is none.
-fn plant_in(
+fn plant_in<H: Threads + Sync>(
+    rt: &H,
     alloc: Global,
     handed: &Handed<'_>,
     file: PlantFile,
@@ -191,14 +194,18 @@ fn plant_in(
     requires { HasEpoch handed.now file epoch }
     ensures { MatchResult result (Accepted handed.now) (IsRefused handed.now) }
 {
-    match parts_in(alloc, handed, &file, epoch) {
+    match parts_in(rt, alloc, handed, &file, epoch) {
         Ok((logic, alarms, tags)) => Ok(assembled(file, epoch, logic, alarms, tags)),
         Err(fault) => Err(fault),
     }
 }
 
 /// The plant of texts, or why there is none.
-fn accepted(alloc: Global, handed: &Handed<'_>) -> Result<Plant, ConfigFault>
+fn accepted<H: Threads + Sync>(
+    rt: &H,
+    alloc: Global,
+    handed: &Handed<'_>,
+) -> Result<Plant, ConfigFault>
     ensures { MatchResult result (Accepted handed.now) (IsRefused handed.now) }
 {
     let file = match listed(alloc, handed) {
@@ -206,7 +213,7 @@ fn accepted(alloc: Global, handed: &Handed<'_>) -> Result<Plant, ConfigFault>
         Err(fault) => return Err(fault),
     };
     match epoch_of(handed, &file) {
-        Ok(epoch) => plant_in(alloc, handed, file, epoch),
+        Ok(epoch) => plant_in(rt, alloc, handed, file, epoch),
         Err(fault) => Err(fault),
     }
 }
@@ -259,7 +266,10 @@ impl Plant {
     /// Every fault but `Memory` is the first that the texts have, by the order of the refusals: C1, C2, C3; C10 of SOURCES, TEXT, AREAS and
     /// CONSOLES; C4 or C5 of the first source that has one; C6, C7, C8, C9; C10 of TURNS, BLOCK_DEPTH, PROGRAMS, SLOTS, SIZE and COST; C11; C10 of
     /// ALARMS; C12, C13, C14. `Memory` comes if allocation fails; where the texts are right, nothing else does.
-    pub fn read(
+    ///
+    /// Large sources are parsed in threads, as many at once as there are processors.
+    pub fn read<H: Threads + Sync>(
+        rt: &H,
         alloc: Global,
         plant: &[u8],
         sources: &[(&str, &[u8])],
@@ -274,7 +284,7 @@ impl Plant {
             sources,
             alarms,
         };
-        accepted(alloc, &handed)
+        accepted(rt, alloc, &handed)
     }
 
     /// The same plant. Fails if allocation fails.

@@ -19,6 +19,7 @@ use st_parser::Unit;
 use st_typing::TypeFault;
 use stamps::Epoch;
 use std::alloc::{AllocError, Global};
+use std::thread::Threads;
 
 /// The name of a source by its number; empty if there is none. Fails if allocation fails.
 fn name_at(alloc: Global, sources: &[(&str, &[u8])], number: usize) -> Result<Text, AllocError>
@@ -58,7 +59,8 @@ fn misspelled(alloc: Global, handed: &Handed<'_>, fault: SourceFault) -> ConfigF
 }
 
 /// The units of the sources, or the fault of the first that spells none: C4 or C5.
-pub fn units_of(
+pub fn units_of<H: Threads + Sync>(
+    rt: &H,
     alloc: Global,
     handed: &Handed<'_>,
     file: &PlantFile,
@@ -67,7 +69,7 @@ pub fn units_of(
     requires { IsLimited handed.now file.now epoch }
     ensures { MatchResult result (λ units. HasUnits handed.now file.now epoch (map view_unit units.items)) (IsRefused handed.now) }
 {
-    match plant_sources::units(alloc, handed.sources) {
+    match plant_sources::units_in_threads(rt, alloc, handed.sources) {
         Ok(units) => Ok(units),
         Err(fault) => Err(misspelled(alloc, handed, fault)),
     }

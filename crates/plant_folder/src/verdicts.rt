@@ -9,6 +9,7 @@ use crate::folder::Folder;
 use crate::texts::{FetchFault, SourceText, fetch};
 use plant_config::{ConfigFault, Plant};
 use std::alloc::{AllocError, Global};
+use std::thread::Threads;
 
 /// The line for a plant that is accepted. Fails if allocation fails.
 fn accepted_line(alloc: Global, plant: &Plant) -> Result<String, AllocError>
@@ -57,7 +58,8 @@ fn missing_line(alloc: Global, name: &str) -> Result<String, AllocError>
 
 /// Reads a plant from its texts, each source with its name. There is none where it is refused. With it comes the line that is due, empty where
 /// there is nothing to say: the line of an accepted plant is due only where it is asked for (`says_accepted`). Fails if allocation fails.
-pub fn verdict(
+pub fn verdict<H: Threads + Sync>(
+    rt: &H,
     alloc: Global,
     plant: &[u8],
     sources: &[(&str, &[u8])],
@@ -66,7 +68,7 @@ pub fn verdict(
 ) -> Result<(Option<Plant>, String), AllocError>
     ensures { IfOk result (λ v. IsVerdict (texts_of plant.now (map (λ s. s.0.now) sources.now) (map (λ s. s.1.now) sources.now) alarms.now) says_accepted v.0 (string_bytes v.1)) }
 {
-    match Plant::read(alloc, plant, sources, alarms) {
+    match Plant::read(rt, alloc, plant, sources, alarms) {
         Ok(plant) => {
             let line = due_line(alloc, &plant, says_accepted)?;
             Ok((Some(plant), line))
@@ -108,7 +110,8 @@ fn fetch_line(alloc: Global, fault: &FetchFault) -> Result<String, AllocError>
 
 /// As `verdict`, from the files of a plant: the plant file of this path and those that it names. The line for a file that can't be read, or has
 /// more than 16,777,217 bytes, has its name. Fails if allocation fails.
-pub fn files_verdict<F: Folder>(
+pub fn files_verdict<H: Threads + Sync, F: Folder>(
+    rt: &H,
     alloc: Global,
     folder: &F,
     path: &str,
@@ -120,6 +123,7 @@ pub fn files_verdict<F: Folder>(
         Ok(texts) => {
             let sources = pairs(alloc, texts.sources.as_slice())?;
             verdict(
+                rt,
                 alloc,
                 texts.plant.as_slice(),
                 sources.as_slice(),

@@ -11,6 +11,7 @@ use plant_config::Plant;
 use plant_folder::{Folder, files_verdict, verdict};
 use serve_faults::{ServeFault, put_all};
 use std::alloc::Global;
+use std::thread::Threads;
 
 /// Writes the line of a verdict, and returns its plant.
 fn told<S: Sink>(
@@ -36,7 +37,8 @@ fn told<S: Sink>(
 ///
 /// Returns `Memory` only where an allocation failed, and then nothing is written; and `Write` only where the sink failed in this call.
 #[tactic(auto, using(crate::proofs::AdmitLaws::told_of))]
-pub fn admit<S: Sink>(
+pub fn admit<H: Threads + Sync, S: Sink>(
+    rt: &H,
     alloc: Global,
     plant: &[u8],
     sources: &[(&str, &[u8])],
@@ -48,7 +50,7 @@ pub fn admit<S: Sink>(
     ensures told { IsTold (IsVerdict (texts_of plant.now (map (λ s. s.0.now) sources.now) (map (λ s. s.1.now) sources.now) alarms.now) says_accepted) (S.written sink.old) (S.written sink.new) result }
     ensures write { S.broken sink.new ≡ is_write result }
 {
-    match verdict(alloc, plant, sources, alarms, says_accepted) {
+    match verdict(rt, alloc, plant, sources, alarms, says_accepted) {
         Ok((plant, line)) => told(sink, plant, line.as_str()),
         Err(_) => Err(ServeFault::Memory),
     }
@@ -58,7 +60,8 @@ pub fn admit<S: Sink>(
 /// a file that can't be read, or has more than 16,777,217 bytes, it writes the name.
 ///
 /// Returns `Memory` only where an allocation failed, and then nothing is written; and `Write` only where the sink failed in this call.
-pub fn admit_from<F: Folder, S: Sink>(
+pub fn admit_from<H: Threads + Sync, F: Folder, S: Sink>(
+    rt: &H,
     alloc: Global,
     folder: &F,
     path: &str,
@@ -69,7 +72,7 @@ pub fn admit_from<F: Folder, S: Sink>(
     ensures told { IsTold (IsFilesVerdict (F.finds folder.now) path.now says_accepted) (S.written sink.old) (S.written sink.new) result }
     ensures write { S.broken sink.new ≡ is_write result }
 {
-    match files_verdict(alloc, folder, path, says_accepted) {
+    match files_verdict(rt, alloc, folder, path, says_accepted) {
         Ok((plant, line)) => told(sink, plant, line.as_str()),
         Err(_) => Err(ServeFault::Memory),
     }
@@ -79,7 +82,8 @@ pub fn admit_from<F: Folder, S: Sink>(
 /// plant.
 ///
 /// Returns `Memory` only where an allocation failed, and then nothing is written; and `Write` only where the sink failed in this call.
-pub fn check_from<F: Folder, S: Sink>(
+pub fn check_from<H: Threads + Sync, F: Folder, S: Sink>(
+    rt: &H,
     alloc: Global,
     folder: &F,
     path: &str,
@@ -89,7 +93,7 @@ pub fn check_from<F: Folder, S: Sink>(
     ensures told { IsChecked (F.finds folder.now) path.now (S.written sink.old) (S.written sink.new) result }
     ensures write { S.broken sink.new ≡ is_write result }
 {
-    match admit_from(alloc, folder, path, true, sink) {
+    match admit_from(rt, alloc, folder, path, true, sink) {
         Ok(plant) => {
             let is_accepted = plant.is_some();
             drop(plant);

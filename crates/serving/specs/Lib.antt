@@ -2,4 +2,3 @@ pub mod Requests
 pub mod Answers
 pub mod Session
 pub mod Laws
-pub mod Runs

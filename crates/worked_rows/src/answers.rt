@@ -2,7 +2,7 @@
 
 use engine::{Crew, Done, Engine, Job, Start};
 use plant_config::Plant;
-use serving::{Feed, Reading, ServeFault, Sink, Writing, serve};
+use plant_service::{Feed, Reading, ServeFault, Sink, Writing, serve};
 use std::alloc::{AllocError, Global};
 use std::sync::Wait;
 

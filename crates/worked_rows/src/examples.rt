@@ -5,8 +5,8 @@ use crate::crews::Crews;
 use crate::laws::call_laws;
 use crate::shown::push_texts;
 use engine::{Alone, Crew, Done, Job, Start};
+use plant_service::{Disk, Reading, ServeFault, Writing, check_from, run_from};
 use row_text::push_line;
-use serving::{Disk, Reading, ServeFault, Writing, check_from, run_from};
 use std::alloc::{AllocError, Global};
 use std::fs;
 use std::rt::Files;
@@ -14,14 +14,18 @@ use std::sync::Wait;
 use std::thread::Threads;
 
 /// What there is to say of the plant of a plant file's path.
-fn checked<R: Files>(rt: &R, alloc: Global, path: &str) -> Result<Vec<u8>, ServeFault> {
+fn checked<R: Files + Threads + Sync>(
+    rt: &R,
+    alloc: Global,
+    path: &str,
+) -> Result<Vec<u8>, ServeFault> {
     let mut sink = Writing::new(Vec::new(alloc));
-    check_from(alloc, &Disk { files: rt }, path, &mut sink)?;
+    check_from(rt, alloc, &Disk { files: rt }, path, &mut sink)?;
     Ok(sink.to)
 }
 
 /// What the plant of a plant file's path is answered on the commands of a file.
-fn served<R: Files + Wait, C: Crew<Job, Start, Done, R>>(
+fn served<R: Files + Threads + Wait + Sync, C: Crew<Job, Start, Done, R>>(
     rt: &R,
     alloc: Global,
     crew: &mut C,
@@ -42,7 +46,7 @@ fn served<R: Files + Wait, C: Crew<Job, Start, Done, R>>(
 
 /// Adds what an example is answered: `check PLANT`, or `run PLANT COMMANDS`. A session whose commands can't be read has no answers but
 /// `RUN READ`; the answers are kept in memory, so that a write fails only where memory was refused.
-fn push_example<R: Files + Wait, C: Crew<Job, Start, Done, R>>(
+fn push_example<R: Files + Threads + Wait + Sync, C: Crew<Job, Start, Done, R>>(
     rt: &R,
     alloc: Global,
     crew: &mut C,
@@ -65,7 +69,7 @@ fn push_example<R: Files + Wait, C: Crew<Job, Start, Done, R>>(
 }
 
 /// Adds the answer to a line `example ..`, `texts` or `laws`; no other line has one.
-fn push_row<R: Files + Wait, C: Crew<Job, Start, Done, R>>(
+fn push_row<R: Files + Threads + Wait + Sync, C: Crew<Job, Start, Done, R>>(
     rt: &R,
     alloc: Global,
     crew: &mut C,
@@ -87,7 +91,7 @@ fn push_row<R: Files + Wait, C: Crew<Job, Start, Done, R>>(
 }
 
 /// Adds the answers to the lines `example ..`, `texts` and `laws` of a table. Where memory is refused a line is answered once more.
-fn push_examples<R: Files + Wait, C: Crew<Job, Start, Done, R>>(
+fn push_examples<R: Files + Threads + Wait + Sync, C: Crew<Job, Start, Done, R>>(
     rt: &R,
     alloc: Global,
     crew: &mut C,
@@ -107,7 +111,7 @@ fn push_examples<R: Files + Wait, C: Crew<Job, Start, Done, R>>(
 }
 
 /// Adds the answers to the lines `example ..`, `texts` and `laws` of a table, which each crew of workers answers once more.
-pub fn push_examples_by_all<R: Files + Threads + Wait>(
+pub fn push_examples_by_all<R: Files + Threads + Wait + Sync>(
     rt: &R,
     alloc: Global,
     crews: &mut Crews,

@@ -4,10 +4,13 @@ ghost use Rattle.std.specs.Prelude.{◌≡◌, false};
 
 use crate::plants::{File, Plan, text_of, texts_of};
 use engine::{Crew, Done, Job, Start};
+use plant_service::{
+    FileFault, Folder, Reading, RunEnd, ServeFault, Writing, check_from, run, run_from,
+};
 use row_text::push_line;
-use serving::{FileFault, Folder, Reading, RunEnd, ServeFault, Writing, check_from, run, run_from};
 use std::alloc::{AllocError, Global};
 use std::sync::Wait;
+use std::thread::Threads;
 
 /// A folder `plant` with the files of a plant.
 #[derive(Drop)]
@@ -37,21 +40,26 @@ impl Folder for Shelf<'_> {
 const PATH: &str = "plant/plant.toml";
 
 /// Adds what there is to say of the plant of files in a folder.
-pub fn push_checked(alloc: Global, text: &mut Vec<u8>, plan: &Plan<'_>) -> Result<(), AllocError> {
+pub fn push_checked<H: Threads + Sync>(
+    rt: &H,
+    alloc: Global,
+    text: &mut Vec<u8>,
+    plan: &Plan<'_>,
+) -> Result<(), AllocError> {
     let texts = texts_of(alloc, plan.files, plan.given)?;
     let shelf = Shelf {
         files: plan.files,
         texts: &texts,
     };
     let mut sink = Writing::new(Vec::new(alloc));
-    if check_from(alloc, &shelf, PATH, &mut sink).is_err() {
+    if check_from(rt, alloc, &shelf, PATH, &mut sink).is_err() {
         return Err(AllocError);
     }
     text.extend_from_slice(sink.to.as_slice())
 }
 
 /// Runs the plant of a folder to the end of a feed: from its files, or from the texts of its plant file, of `p.st` and of its alarms.
-fn ran<H: Wait, C: Crew<Job, Start, Done, H>>(
+fn ran<H: Threads + Wait + Sync, C: Crew<Job, Start, Done, H>>(
     rt: &H,
     alloc: Global,
     crew: &mut C,
@@ -83,7 +91,7 @@ fn ran<H: Wait, C: Crew<Job, Start, Done, H>>(
 }
 
 /// Adds what the run of a plant writes, how it ends, and how many bytes of the input it leaves.
-pub fn push_ran<H: Wait, C: Crew<Job, Start, Done, H>>(
+pub fn push_ran<H: Threads + Wait + Sync, C: Crew<Job, Start, Done, H>>(
     rt: &H,
     alloc: Global,
     crew: &mut C,

@@ -21,13 +21,13 @@ use plant_logic::{
     program_values_stand, typed_names_are_distinct, typed_types_are_there, value_of_number,
     value_written, values_stand_once,
 };
+use plant_service::requests_end_in_lf;
 use plant_sources::spelled_or_stopped;
 use plant_walk::{
     as_many_cells, assigned_global_stays_in_range, cell_of_global, each_found, found_global,
     global_is_in_range, opening_world_is_in_range, program_stays_in_range, sound_source_is_small,
     written_cell,
 };
-use serving::requests_end_in_lf;
 use st_lexer::{one_answer, one_cut, some_answer, word_spelling};
 use st_parser::one_unit;
 use st_tree::{constant_of_is_value_of, control_values_count_to_bound, kind_of_expr_is_kind_in};

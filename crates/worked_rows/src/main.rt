@@ -72,7 +72,7 @@ use std::thread::Threads;
 use table::answers_to;
 
 /// Adds what a table is answered.
-fn push_answers<R: Files + Threads + Wait>(
+fn push_answers<R: Files + Threads + Wait + Sync>(
     rt: &R,
     alloc: Global,
     crews: &mut Crews,
@@ -85,7 +85,7 @@ fn push_answers<R: Files + Threads + Wait>(
 }
 
 /// Adds what a table is answered, and a last line where all crews answer alike. The crews are let go here alone.
-fn push_all<R: Files + Threads + Wait + Clone + Send + Drop + 'static>(
+fn push_all<R: Files + Threads + Wait + Clone + Send + Sync + Drop + 'static>(
     rt: &R,
     alloc: Global,
     text: &mut Vec<u8>,

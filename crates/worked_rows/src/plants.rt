@@ -4,6 +4,7 @@ use plant_config::{ConfigFault, Files, Plant};
 use plant_types::Text;
 use row_text::{Source, push_line};
 use std::alloc::{AllocError, Global};
+use std::thread::Threads;
 
 /// What stands in `plant.toml` where the table gives a plant none of its own.
 const PLANT: &str = "name = \"P\"
@@ -180,7 +181,8 @@ fn push_listed(printed: &mut Vec<u8>, listed: &Files) -> Result<(), AllocError> 
 }
 
 /// The plant of texts, of which the files that its plant file names are those of the plan. Where there is none, a line that says why is added.
-fn plant_in(
+fn plant_in<H: Threads + Sync>(
+    rt: &H,
     alloc: Global,
     printed: &mut Vec<u8>,
     plan: &Plan<'_>,
@@ -198,14 +200,15 @@ fn plant_in(
         return Ok(None);
     };
     let plant = text_of(plan.files, texts, "plant.toml").unwrap_or(&[]);
-    match Plant::read(alloc, plant, &sources, alarms) {
+    match Plant::read(rt, alloc, plant, &sources, alarms) {
         Ok(plant) => Ok(Some(plant)),
         Err(fault) => refused(alloc, printed, fault),
     }
 }
 
 /// The plant of a plan. Where there is none, or its files are to be listed, lines that say so are added.
-pub fn plant_of(
+pub fn plant_of<H: Threads + Sync>(
+    rt: &H,
     alloc: Global,
     printed: &mut Vec<u8>,
     plan: &Plan<'_>,
@@ -217,7 +220,7 @@ pub fn plant_of(
             push_listed(printed, &listed)?;
             Ok(None)
         }
-        Ok(listed) => plant_in(alloc, printed, plan, &texts, listed),
+        Ok(listed) => plant_in(rt, alloc, printed, plan, &texts, listed),
         Err(fault) => refused(alloc, printed, fault),
     }
 }

@@ -195,7 +195,7 @@ fn run_plant<H: Wait, C: Crew<Job, Start, Done, H>>(
 }
 
 /// Adds what there is of the plant of a plan: why there is no such plant, what it has if it is only checked, or its answers.
-fn push_read<H: Wait, C: Crew<Job, Start, Done, H>>(
+fn push_read<H: Threads + Wait + Sync, C: Crew<Job, Start, Done, H>>(
     rt: &H,
     alloc: Global,
     crew: &mut C,
@@ -204,7 +204,7 @@ fn push_read<H: Wait, C: Crew<Job, Start, Done, H>>(
 ) -> Result<(), AllocError>
     requires { C.asks }
 {
-    match plant_of(alloc, text, plan)? {
+    match plant_of(rt, alloc, text, plan)? {
         None => Ok(()),
         Some(plant) if matches!(plan.asked, Asked::Run) => {
             run_plant(rt, alloc, crew, text, plant, plan.lines)
@@ -221,7 +221,7 @@ fn push_read<H: Wait, C: Crew<Job, Start, Done, H>>(
 }
 
 /// Adds what a plan asks for.
-fn push_plan<H: Wait, C: Crew<Job, Start, Done, H>>(
+fn push_plan<H: Threads + Wait + Sync, C: Crew<Job, Start, Done, H>>(
     rt: &H,
     alloc: Global,
     crew: &mut C,
@@ -234,14 +234,14 @@ fn push_plan<H: Wait, C: Crew<Job, Start, Done, H>>(
         Asked::Run | Asked::RunGone | Asked::Check | Asked::List => push_read(
             rt, alloc, crew, text, plan,
         ),
-        Asked::CheckFiles => push_checked(alloc, text, plan),
+        Asked::CheckFiles => push_checked(rt, alloc, text, plan),
         Asked::RunFiles => push_ran(rt, alloc, crew, text, plan, false),
         Asked::RunTexts => push_ran(rt, alloc, crew, text, plan, true),
     }
 }
 
 /// Adds what a plan asks for. Where memory is refused it is asked for once more.
-pub fn push_plan_again<H: Wait, C: Crew<Job, Start, Done, H>>(
+pub fn push_plan_again<H: Threads + Wait + Sync, C: Crew<Job, Start, Done, H>>(
     rt: &H,
     alloc: Global,
     crew: &mut C,
@@ -259,7 +259,7 @@ pub fn push_plan_again<H: Wait, C: Crew<Job, Start, Done, H>>(
 }
 
 /// Adds what a plan asks for. Where it serves a plant, it is asked for once more by each crew of workers.
-pub fn push_plan_by_all<H: Threads + Wait>(
+pub fn push_plan_by_all<H: Threads + Wait + Sync>(
     rt: &H,
     alloc: Global,
     crews: &mut Crews,

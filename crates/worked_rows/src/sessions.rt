@@ -4,8 +4,8 @@ ghost use Rattle.std.specs.Prelude.{◌≡◌, false};
 
 use engine::{Crew, Done, Engine, Job, Start};
 use plant_config::Plant;
+use plant_service::{Failed, Feed, ServeFault, Sink, serve};
 use row_text::push_line;
-use serving::{Failed, Feed, ServeFault, Sink, serve};
 use std::alloc::{AllocError, Global};
 use std::sync::Wait;
 

@@ -2,10 +2,10 @@
 
 use engine::{CrewFault, EngineFault};
 use plant_config::{AlarmRow, ConfigFault, Limit, Plant};
+use plant_service::ServeFault;
 use plant_types::{Kind, Region};
 use plant_walk::{Framed, Walked, walk};
 use row_text::push_line;
-use serving::ServeFault;
 use std::alloc::{AllocError, Global};
 
 fn kind_text(kind: Kind) -> &'static str {

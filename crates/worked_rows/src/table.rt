@@ -63,7 +63,7 @@ impl Table {
     }
 
     /// Runs the plant, if it is to be run, on the lines of its run.
-    fn flush<H: Threads + Wait>(
+    fn flush<H: Threads + Wait + Sync>(
         &mut self,
         rt: &H,
         alloc: Global,
@@ -141,7 +141,7 @@ impl Table {
     }
 
     /// Takes a line.
-    fn take<H: Threads + Wait>(
+    fn take<H: Threads + Wait + Sync>(
         &mut self,
         rt: &H,
         alloc: Global,
@@ -164,7 +164,7 @@ impl Table {
     }
 
     /// Takes lines.
-    fn take_all<H: Threads + Wait>(
+    fn take_all<H: Threads + Wait + Sync>(
         &mut self,
         rt: &H,
         alloc: Global,
@@ -179,7 +179,7 @@ impl Table {
 }
 
 /// What a table is answered.
-pub fn answers_to<H: Threads + Wait>(
+pub fn answers_to<H: Threads + Wait + Sync>(
     rt: &H,
     alloc: Global,
     crews: &mut Crews,

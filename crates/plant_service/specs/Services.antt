@@ -5,8 +5,8 @@ use Rattle.std.specs.Io.KnownBytes.{Appends, Consumes, IsAtEnd}
 use Rattle.event_history.specs.declared.event.Event.{Event}
 use Rattle.plant_config.specs.Plants.{PlainPlant}
 use Rattle.serve_faults.specs.declared.fault.ServeFault.{ServeFault}
-use Rattle.serving.specs.declared.runs.RunEnd.{RunEnd}
-use Rattle.serving.specs.declared.runs.RunEnd.TheVariants as run_end
+use Rattle.plant_service.specs.declared.service.RunEnd.{RunEnd}
+use Rattle.plant_service.specs.declared.service.RunEnd.TheVariants as run_end
 use Rattle.serving.specs.Session.{StoppedBy, out_text}
 use Rattle.plant_verdict.specs.Admits.{IsTold}
 

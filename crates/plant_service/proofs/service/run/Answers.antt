@@ -1,8 +1,8 @@
 use Rattle.std.proofs.Common.{map, false}
 use Rattle.plant_config.specs.Files.{texts_of}
 use Rattle.plant_folder.specs.Verdicts.{IsVerdict}
-use Rattle.serving.proofs.RunLaws.{quiet-texts, run-served, run-stopped}
-use Rattle.serving.proofs.runs.run.Goals as goal
+use Rattle.plant_service.proofs.ServiceLaws.{quiet-texts, run-served, run-stopped}
+use Rattle.plant_service.proofs.service.run.Goals as goal
 
 pub returns-in-Ok-clause-run : goal.returns-in-Ok-clause-run
 returns-in-Ok-clause-run g c =

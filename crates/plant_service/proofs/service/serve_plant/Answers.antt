@@ -2,7 +2,7 @@ use Rattle.std.proofs.Common.{[], refl, inl}
 use Rattle.std.proofs.KnownBytes.{Consumes-nil}
 use Rattle.std.proofs.lemmas.Result.{on_ok_weaker, IfErr-weaker}
 use Rattle.serving.proofs.SessionLaws.{stopped-none}
-use Rattle.serving.proofs.runs.serve_plant.Goals as goal
+use Rattle.plant_service.proofs.service.serve_plant.Goals as goal
 
 pub returns-in-Ok-clause-ok : goal.returns-in-Ok-clause-ok
 returns-in-Ok-clause-ok g c =

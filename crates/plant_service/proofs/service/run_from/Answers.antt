@@ -1,7 +1,7 @@
 use Rattle.std.proofs.Common.{false}
 use Rattle.plant_folder.specs.Verdicts.{IsFilesVerdict}
-use Rattle.serving.proofs.RunLaws.{quiet-files, run-served, run-stopped}
-use Rattle.serving.proofs.runs.run_from.Goals as goal
+use Rattle.plant_service.proofs.ServiceLaws.{quiet-files, run-served, run-stopped}
+use Rattle.plant_service.proofs.service.run_from.Goals as goal
 
 pub returns-in-Ok-clause-run : goal.returns-in-Ok-clause-run
 returns-in-Ok-clause-run g c =

@@ -4,17 +4,18 @@ ghost use Rattle.std.specs.Prelude.{◌≡◌, ◌||◌, map, false, OnOk, IfErr
 ghost use Rattle.plant_config.specs.Files.{texts_of};
 ghost use Rattle.plant_folder.specs.Verdicts.{IsVerdict, IsFilesVerdict};
 ghost use Rattle.serve_faults.specs.Faults.{is_read, is_write, crew_faults};
-ghost use Rattle.serving.specs.Runs.{IsServed, IsStopped, IsRun};
+ghost use Rattle.plant_service.specs.Services.{IsServed, IsStopped, IsRun};
 
-use crate::session::serve;
 use byte_streams::{Feed, Sink};
 use engine::{Crew, Done, Engine, Job, Start};
 use plant_config::Plant;
 use plant_folder::Folder;
 use plant_verdict::{admit, admit_from};
 use serve_faults::ServeFault;
+use serving::serve;
 use std::alloc::Global;
 use std::sync::Wait;
+use std::thread::Threads;
 
 /// What came of a run.
 #[derive(Clone, Copy, Debug, PartialEq, Eq, Drop)]
@@ -61,7 +62,7 @@ fn serve_plant<H: Wait, C: Crew<Job, Start, Done, H>, F: Feed, S: Sink>(
 /// `Refused` exactly the line of the refusal. Returns `Memory` only where an allocation failed, and `Read`, `Write` and `Crew` only where the
 /// feed, the sink or the crew failed in this call. After an error either nothing was read and at most a part of the line was written, or the session came as
 /// far as `serve` says. It returns only where `serve` does.
-pub fn run<H: Wait, C: Crew<Job, Start, Done, H>, F: Feed, S: Sink>(
+pub fn run<H: Threads + Wait + Sync, C: Crew<Job, Start, Done, H>, F: Feed, S: Sink>(
     rt: &H,
     alloc: Global,
     crew: &mut C,
@@ -80,7 +81,7 @@ pub fn run<H: Wait, C: Crew<Job, Start, Done, H>, F: Feed, S: Sink>(
     ensures write { S.broken sink.new ≡ is_write result }
     ensures crew { C.faulted crew.new ≡ crew_faults (C.faulted crew.old) result }
 {
-    match admit(alloc, plant, sources, alarms, false, sink) {
+    match admit(rt, alloc, plant, sources, alarms, false, sink) {
         Ok(Some(plant)) => match serve_plant(rt, alloc, crew, plant, feed, sink) {
             Ok(()) => Ok(RunEnd::Served),
             Err(fault) => Err(fault),
@@ -92,7 +93,13 @@ pub fn run<H: Wait, C: Crew<Job, Start, Done, H>, F: Feed, S: Sink>(
 
 /// Reads a plant from its files, as `admit_from` does, and serves it to the end of the input, its programs run by the crew; or writes the line
 /// of its refusal, or of the file that isn't found. What it returns, and what is written then, is as `run` says.
-pub fn run_from<H: Wait, C: Crew<Job, Start, Done, H>, D: Folder, F: Feed, S: Sink>(
+pub fn run_from<
+    H: Threads + Wait + Sync,
+    C: Crew<Job, Start, Done, H>,
+    D: Folder,
+    F: Feed,
+    S: Sink,
+>(
     rt: &H,
     alloc: Global,
     crew: &mut C,
@@ -109,7 +116,7 @@ pub fn run_from<H: Wait, C: Crew<Job, Start, Done, H>, D: Folder, F: Feed, S: Si
     ensures write { S.broken sink.new ≡ is_write result }
     ensures crew { C.faulted crew.new ≡ crew_faults (C.faulted crew.old) result }
 {
-    match admit_from(alloc, folder, path, false, sink) {
+    match admit_from(rt, alloc, folder, path, false, sink) {
         Ok(Some(plant)) => match serve_plant(rt, alloc, crew, plant, feed, sink) {
             Ok(()) => Ok(RunEnd::Served),
             Err(fault) => Err(fault),

@@ -10,11 +10,11 @@ use Rattle.plant_folder.specs.Fetches.{Finds}
 use Rattle.plant_folder.specs.Verdicts.{IsVerdict, IsFilesVerdict}
 use Rattle.serve_faults.specs.declared.fault.ServeFault.{ServeFault}
 use Rattle.serve_faults.specs.declared.fault.ServeFault.TheVariants as fault
-use Rattle.serving.specs.declared.runs.RunEnd.TheVariants as run_end
+use Rattle.plant_service.specs.declared.service.RunEnd.TheVariants as run_end
 use Rattle.serving.specs.Requests.{ended_requests}
 use Rattle.serving.specs.Session.{StoppedBy}
 use Rattle.plant_verdict.specs.Admits.{IsTold}
-use Rattle.serving.specs.Runs.{IsServed, IsStopped, IsRun}
+use Rattle.plant_service.specs.Services.{IsServed, IsStopped, IsRun}
 use Rattle.serving.proofs.SessionLaws.{answered-more, stopped-more}
 
 -- a session that a fault stopped, where nothing was written before it

@@ -1,0 +1,89 @@
+//! What a person is told on standard error when a plant is refused.
+
+use crate::texts::{is_file, named};
+use plant_config::{ConfigFault, Plant};
+use plant_explain::{Refused, explain};
+use plant_service::{Disk, FetchFault, Fetched, Folder, fetch};
+use std::alloc::{AllocError, Global};
+use std::rt::Files;
+use std::thread::Threads;
+
+/// What is told of a plant whose texts are refused; nothing where they aren't. Fails if allocation fails.
+fn told_of_texts<R: Threads + Sync>(
+    rt: &R,
+    alloc: Global,
+    path: &str,
+    texts: &Fetched,
+) -> Result<Option<String>, AllocError> {
+    let sources = named(alloc, texts.sources.as_slice())?;
+    let (plant, alarms) = (texts.plant.as_slice(), texts.alarms.as_slice());
+    let refused = Refused {
+        path,
+        plant,
+        sources: sources.as_slice(),
+        alarms,
+    };
+    match Plant::read(rt, alloc, plant, sources.as_slice(), alarms) {
+        Ok(plant) => {
+            drop(plant);
+            Ok(None)
+        }
+        Err(ConfigFault::Memory) => Err(AllocError),
+        Err(fault) => {
+            let text = explain(alloc, &refused, &fault)?;
+            Ok(Some(text))
+        }
+    }
+}
+
+/// What is told of a plant file that is refused by itself. Fails if allocation fails.
+fn told_of_plant_file<R: Files>(
+    rt: &R,
+    alloc: Global,
+    path: &str,
+    fault: &ConfigFault,
+) -> Result<Option<String>, AllocError> {
+    let Ok(plant) = (Disk { files: rt }).contents(alloc, path) else {
+        return Ok(None);
+    };
+    let refused = Refused {
+        path,
+        plant: plant.as_slice(),
+        sources: &[],
+        alarms: b"",
+    };
+    match fault {
+        ConfigFault::Memory => Err(AllocError),
+        fault => {
+            let text = explain(alloc, &refused, fault)?;
+            Ok(Some(text))
+        }
+    }
+}
+
+/// What is told of the plant of a plant file's path, where it is refused for what its files hold. They are read once more. Fails if allocation
+/// fails.
+fn told<R: Files + Threads + Sync>(
+    rt: &R,
+    alloc: Global,
+    path: &str,
+) -> Result<Option<String>, AllocError> {
+    match fetch(alloc, &Disk { files: rt }, path) {
+        Ok(texts) => told_of_texts(rt, alloc, path, &texts),
+        Err(FetchFault::Config(fault)) => told_of_plant_file(rt, alloc, path, &fault),
+        Err(FetchFault::Memory) => Err(AllocError),
+        Err(FetchFault::File(_)) => Ok(None),
+    }
+}
+
+/// Tells on standard error, where the plant of a plant file's path is refused for what its files hold, the place, what is wrong, and where to
+/// read on. A path that is no file, such as a pipe, can't be read once more, and then nothing is told; nor is it where memory is refused, or standard
+/// error can't be written.
+pub fn explained<R: Files + Eprint + AllocGlobal + Threads + Sync>(rt: &R, path: &str) {
+    if !is_file(rt, path) {
+        return;
+    }
+    if let Ok(Some(text)) = told(rt, rt.alloc(), path) {
+        let _ = eprint!(rt; "{text}");
+    }
+}

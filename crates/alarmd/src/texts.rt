@@ -1,0 +1,26 @@
+//! Files, and sources by their names.
+
+use plant_service::SourceText;
+use std::alloc::{AllocError, Global};
+use std::fs;
+use std::rt::Files;
+
+/// Whether a path leads to a file.
+pub fn is_file<R: Files>(rt: &R, path: &str) -> bool {
+    match fs::metadata(rt, path) {
+        Ok(found) => found.is_file(),
+        Err(_) => false,
+    }
+}
+
+/// Sources as pairs of a name and a text. Fails if allocation fails.
+pub fn named<'a>(
+    alloc: Global,
+    sources: &'a [SourceText],
+) -> Result<Vec<(&'a str, &'a [u8])>, AllocError> {
+    let mut pairs = Vec::new(alloc);
+    for source in sources {
+        pairs.push((source.name.as_str(), source.text.as_slice()))?;
+    }
+    Ok(pairs)
+}
