@@ -10,7 +10,6 @@
 
 mod board;
 mod entry;
-mod guard;
 mod reader;
 mod replies;
 mod rule;
@@ -20,7 +19,6 @@ mod writer;
 
 pub use board::Board;
 pub use entry::{Answer, Entry, Reply};
-pub use guard::{BoardView, Home, Leaves};
 pub use reader::{BoardReader, BoardReading};
 pub use rule::Grows;
 pub use tally::Tally;

@@ -16,10 +16,17 @@ pub struct BoardReader {
     ghost counted: { events ≡ seen_events (view reader.place).seen },
 }
 
-/// A reader with the board that it reads. End it by `leave`.
+/// A reader with the board that it reads. While it is held, the owner can publish once; the next time it waits until this reader has left.
 pub struct BoardReading {
     reading: Reading<Board, View, Grows>,
     ghost saw: { (view reading.place).seen ≡ Some (reading.part.value.opening.value, reading.part.value.list) },
+}
+
+impl Drop for BoardReading {
+    fn drop(self) {
+        let Self { reading } = self;
+        drop(reading.leave());
+    }
 }
 
 mod entering;

@@ -1,5 +1,5 @@
 -- What a contract sees of a console, and of the owner's ends of its rings.
-use Rattle.std.specs.Prelude.{◌≡◌, ℕ, ◌≤◌, List, [], false, if◌then◌else◌}
+use Rattle.std.specs.Prelude.{◌≡◌, ℕ, ◌≤◌, List, [], false, Option, Some, None, if◌then◌else◌}
 use mathlib.Core.List.{IsPrefix}
 use Rattle.rtrb.specs.Ring.{sent, received, known_free, known_items, IsPair, all_sent, Finishes, IsFinishedOf, SameProducer, SameConsumer}
 use Rattle.console_link.specs.declared.answer.Answer.{Answer}
@@ -43,6 +43,10 @@ module _ {O R : Type 0} where
   -- the orders that were left when the console ended, in order; none before
   abbrev pub left_of : Lane O R → List O
   left_of l = if l.ended then known_items l.orders else []
+
+  -- how many events the console saw, once it has ended
+  abbrev pub seen_by : Lane O R → Option ℕ
+  seen_by l = if l.ended then Some l.seen else None
 
   -- the same number and the same two rings
   abbrev pub SameConsole : Console O R → Console O R → Type 0

@@ -1,6 +1,6 @@
 //! A console's ends of its rings.
-ghost use Rattle.std.specs.Prelude.{◌≡◌};
-ghost use Rattle.rtrb.specs.Ring.{producer_capacity};
+ghost use Rattle.std.specs.Prelude.{◌≡◌, length};
+ghost use Rattle.rtrb.specs.Ring.{producer_capacity, received};
 
 use crate::answer::Answer;
 use rtrb::{Consumer, Producer, PushError};
@@ -11,7 +11,10 @@ pub struct Console<O, R> {
     pub(crate) number: u32,
     pub(crate) orders: Producer<O>,
     pub(crate) answers: Consumer<Answer<O, R>>,
+    /// How many answers it has taken.
+    pub(crate) answered: u64,
     ghost places: { producer_capacity orders ≡ 64 },
+    ghost counted: { answered ≡ length (received answers) },
 }
 
 /// A console that has ended: it submits and takes nothing more.
@@ -20,10 +23,12 @@ pub struct Finished<O, R> {
     pub(crate) number: u32,
     pub(crate) orders: rtrb::Finished<O>,
     pub(crate) answers: Consumer<Answer<O, R>>,
+    /// How many events it saw, as its owner says.
+    pub(crate) seen: u64,
 }
 
 impl<O: Drop, R: Drop> Console<O, R> {
-    ghost use Rattle.std.specs.Prelude.{◌≡◌, ◌<◌, ◌≤◌, [], ◌∷◌, ◌++◌, OnOk, IfErr, IfSome, IsOk, IfNone};
+    ghost use Rattle.std.specs.Prelude.{◌≡◌, ◌<◌, ◌≤◌, [], ◌∷◌, ◌++◌, length, OnOk, IfErr, IfSome, IsOk, IfNone};
     ghost use Rattle.console_link.specs.Seats.{submitted, taken, known_room, SameConsole, all_submitted, all_taken, Ends};
 
     /// Its number.
@@ -31,6 +36,13 @@ impl<O: Drop, R: Drop> Console<O, R> {
         ensures { result ≡ self.now.number }
     {
         self.number
+    }
+
+    /// How many answers it has taken.
+    pub fn answered(&self) -> u64
+        ensures { result ≡ length (taken self.now) }
+    {
+        self.answered
     }
 
     /// How many places of the order ring the console knows to be free, at most 64.
@@ -56,30 +68,39 @@ impl<O: Drop, R: Drop> Console<O, R> {
         }
     }
 
-    /// Takes the next answer; `None` where none is there.
+    /// Takes the next answer; `None` where none is there. It takes fewer than 2^64 answers in all.
     pub fn answer(&mut self) -> Option<Answer<O, R>>
         ensures seat { SameConsole self.old self.new }
         ensures some { IfSome result (λ a. taken self.new ≡ taken self.old ++ a ∷ []) }
         ensures none { IfNone result (taken self.new ≡ taken self.old) }
         ensures submitted { submitted self.new ≡ submitted self.old }
     {
-        self.answers.pop().ok()
+        if self.answered == u64::MAX {
+            return None;
+        }
+        let answer = self.answers.pop().ok()?;
+        self.answered += 1;
+        Some(answer)
     }
 
-    /// Ends the console. `None` where the order ring can't be ended; then nothing is known of the orders that are left in it.
-    pub fn finish(self) -> Option<Finished<O, R>>
-        ensures { IfSome result (λ f. Ends self f × (all_submitted f ≡ submitted self) × (all_taken f ≡ taken self)) }
+    /// Ends the console, which saw so many events. `None` where the order ring can't be ended; then nothing is known of the orders that are left
+    /// in it.
+    pub fn finish(self, seen: u64) -> Option<Finished<O, R>>
+        ensures rings { IfSome result (λ f. Ends self f × (all_submitted f ≡ submitted self) × (all_taken f ≡ taken self)) }
+        ensures seen { IfSome result (λ f. f.seen ≡ seen) }
     {
         let Console {
             number,
             orders,
             answers,
+            answered: _,
         } = self;
         let orders = orders.finish()?;
         Some(Finished {
             number,
             orders,
             answers,
+            seen,
         })
     }
 }

@@ -15,6 +15,8 @@ pub struct Lane<O, R> {
     pub(crate) answers: Producer<Answer<O, R>>,
     /// Whether its console has ended, and all that it submitted is known.
     pub(crate) ended: bool,
+    /// How many events its console saw, once it has ended.
+    pub(crate) seen: u64,
 }
 
 /// A console of a number and the owner's ends, with two empty rings of 64 places each. Fails if allocation fails.
@@ -32,20 +34,22 @@ pub fn open<O: Drop, R: Drop>(
         number,
         orders: submits,
         answers: takes,
+        answered: 0,
     };
     let lane = Lane {
         number,
         orders,
         answers,
         ended: false,
+        seen: 0,
     };
     Ok((console, lane))
 }
 
 impl<O: Copy + Drop, R: Copy + Drop> Lane<O, R> {
-    ghost use Rattle.std.specs.Prelude.{◌≡◌, ◌<◌, ◌≤◌, [], ◌∷◌, ◌++◌, length, IfSome, IfNone, ◌⊎◌, List};
+    ghost use Rattle.std.specs.Prelude.{◌≡◌, ◌<◌, ◌≤◌, [], ◌∷◌, ◌++◌, length, Some, IfSome, IfNone, ◌⊎◌, List};
     ghost use mathlib.Core.List.{IsPrefix};
-    ghost use Rattle.console_link.specs.Seats.{orders_taken, orders_known, answers_given, answer_room, SameLane, LaneLooked, IsEndOf, all_submitted, all_taken, left_of};
+    ghost use Rattle.console_link.specs.Seats.{orders_taken, orders_known, answers_given, answer_room, SameLane, LaneLooked, IsEndOf, all_submitted, all_taken, left_of, seen_by};
     ghost use Rattle.console_link.specs.declared.answer.Answer.{Answer};
 
     /// The number of its console.
@@ -91,20 +95,31 @@ impl<O: Copy + Drop, R: Copy + Drop> Lane<O, R> {
         ensures same { (orders_taken self.new ≡ orders_taken self.old) × (answers_given self.new ≡ answers_given self.old) }
         ensures orders { orders_taken self.new ++ left_of self.new ≡ all_submitted console }
         ensures answers { IsPrefix (all_taken console) (answers_given self.new) }
+        ensures seen { seen_by self.new ≡ Some console.seen }
     {
         let Finished {
             number: _,
             orders: mut ended,
             answers: mut takes,
+            seen,
         } = console;
         self.orders.slots_after(&mut ended);
         takes.slots_beside(&mut self.answers);
         self.ended = true;
+        self.seen = seen;
+    }
+
+    /// How many events its console saw that has ended; `None` where it hasn't.
+    pub fn seen(&self) -> Option<u64>
+        ensures { result ≡ seen_by self.now }
+    {
+        if self.ended { Some(self.seen) } else { None }
     }
 
     /// Takes the next order that was left when the console ended; `None` where none is, or where it hasn't ended.
     pub fn next_left(&mut self) -> Option<O>
         ensures number { self.new.number ≡ self.old.number }
+        ensures seen { seen_by self.new ≡ seen_by self.old }
         ensures some { IfSome result (λ o. left_of self.old ≡ o ∷ left_of self.new) }
         ensures none { IfNone result ((left_of self.old ≡ []) × (left_of self.new ≡ [])) }
     {

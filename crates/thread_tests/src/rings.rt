@@ -18,6 +18,6 @@ fn full_rings_hand_orders_back(rt: HostRuntime) -> Result<(), Fail> {
     assert!(rt; console.answer().is_none());
     assert_eq!(rt; turn(&mut lane), 64);
     assert!(rt; take(&mut console, 64, 128));
-    assert!(rt; console.finish().is_some());
+    assert!(rt; console.finish(0).is_some());
     Ok(())
 }

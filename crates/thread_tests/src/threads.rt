@@ -34,7 +34,7 @@ fn submit_hundred(console: Console<u32, u8>) -> bool {
             None => thread::yield_now(),
         }
     }
-    answered == 100 && console.answer().is_none() && console.finish().is_some()
+    answered == 100 && console.answer().is_none() && console.finish(0).is_some()
 }
 
 #[test]

@@ -1,7 +1,8 @@
 //! What a reader does.
-ghost use Rattle.std.specs.Prelude.{◌≡◌, MatchResult, Some};
-ghost use Rattle.boards.specs.Stories.{IsSince, seen_events};
-ghost use Rattle.boards.specs.Readers.{seen, told, story_read, told_before};
+ghost use Rattle.std.specs.Prelude.{◌≡◌, MatchResult, Some, true};
+ghost use Rattle.boards.specs.Stories.{IsSince, seen_events, is_lawful};
+ghost use Rattle.boards.specs.Replies.{after, allows};
+ghost use Rattle.boards.specs.Readers.{story_of, seen, told, story_read, told_before};
 
 use super::{BoardReader, BoardReading};
 use crate::board::Board;
@@ -29,9 +30,10 @@ impl BoardReader {
 }
 
 impl BoardReading {
-    /// The board.
+    /// The board. Each of its entries might come after those before it.
     pub fn board(&self) -> &Board
-        ensures { (result.now.opening.value, result.now.list) ≡ story_read self.now }
+        ensures story { story_of result.now ≡ story_read self.now }
+        ensures lawful { is_lawful after allows (story_read self.now).0 (story_read self.now).1 ≡ true }
     {
         self.reading.get()
     }

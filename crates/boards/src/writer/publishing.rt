@@ -9,6 +9,7 @@ use crate::board::Board;
 use crate::entry::Entry;
 use crate::reader::BoardReader;
 use crate::rule::{Informs, Looks, Notes};
+use core::mem::replace_with;
 use left_right::writer::Writer;
 use std::alloc::{AllocError, Global};
 use std::sync::Wait;
@@ -46,15 +47,23 @@ impl BoardWriter {
         self.writer.append(entry)
     }
 
-    /// Shows readers the board with each entry that was laid by, one after another, of those that may come. It takes no memory, and waits for
-    /// readers that still have the copy before.
-    pub fn publish<R: Wait>(self, rt: &R) -> BoardWriter
-        ensures published { published result ≡ fold (grown after allows) (published self) (pending self) }
-        ensures pending { pending result ≡ [] }
+    /// The writer once it has shown what was laid by.
+    fn shown<R: Wait>(self, rt: &R) -> (BoardWriter, ())
+        ensures published { published result.0 ≡ fold (grown after allows) (published self) (pending self) }
+        ensures pending { pending result.0 ≡ [] }
     {
         let BoardWriter { writer } = self;
         let (writer, _) = writer.publish_as::<Looks, R>(rt);
-        BoardWriter { writer }
+        (BoardWriter { writer }, ())
+    }
+
+    /// Shows readers the board with each entry that was laid by, one after another, of those that may come. It takes no memory, and waits for
+    /// readers that still have the copy before.
+    pub fn publish<R: Wait>(&mut self, rt: &R)
+        ensures published { published self.new ≡ fold (grown after allows) (published self.old) (pending self.old) }
+        ensures pending { pending self.new ≡ [] }
+    {
+        replace_with(self, rt, BoardWriter::shown)
     }
 
     /// A reader that has seen nothing yet, and is told what is published now. Fails where no place is left for one, or if allocation fails.

@@ -5,7 +5,7 @@ use Rattle.boards.specs.Stories.{Story, Continues}
 use Rattle.boards.specs.Replies.{after, allows}
 use Rattle.boards.specs.Readers.{story_of}
 use Rattle.boards.proofs.Sights.{turns, grown_all}
-use Rattle.boards.proofs.writer.BoardWriter.publish.Goals as goal
+use Rattle.boards.proofs.writer.BoardWriter.shown.Goals as goal
 
 pub publish_as-writer-requires : goal.publish_as-writer-requires
 publish_as-writer-requires g c next is =

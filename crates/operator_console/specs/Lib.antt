@@ -1,0 +1,3 @@
+pub mod Consoles
+pub mod Sights
+pub mod Views

@@ -1,0 +1,64 @@
+-- What a console sees of its board, and has seen.
+use Rattle.std.specs.Prelude.{◌≡◌, ◌≤◌, ℕ, true, Option, Some, None}
+use Rattle.alarm_machine.specs.declared.states.AlarmState.{AlarmState}
+use Rattle.alarm_bank.specs.Banks.{PlainBank}
+use Rattle.boards.specs.declared.entry.Entry.{Entry}
+use Rattle.boards.specs.Stories.{Story, IsSince, shown, is_lawful}
+use Rattle.boards.specs.Replies.{after, allows, state_at}
+use Rattle.boards.specs.Counts.{count_of}
+use Rattle.boards.specs.Readers.{seen, told, story_read, told_before}
+use Rattle.operator_console.specs.declared.sight.Sight.{Sight}
+use Rattle.operator_console.specs.declared.sight.Sight.TheVariants as sight
+
+-- what a board shows: the alarms as they opened, and the events since
+abbrev pub BoardStory : Type 0
+BoardStory = Story PlainBank Entry
+
+-- what was seen last, if anything was
+abbrev pub seen_by : Sight → Option BoardStory
+seen_by (sight.Idle r) = seen r
+seen_by (sight.Looking g) = Some (story_read g)
+seen_by sight.Gone = None
+
+-- what it was told of, if it was
+abbrev pub told_by : Sight → Option BoardStory
+told_by (sight.Idle r) = told r
+told_by (sight.Looking g) = told_before g
+told_by sight.Gone = None
+
+-- what it looks at, if it looks
+abbrev pub looked_at : Sight → Option BoardStory
+looked_at (sight.Idle r) = None
+looked_at (sight.Looking g) = Some (story_read g)
+looked_at sight.Gone = None
+
+-- what was seen goes on from what was seen before
+abbrev pub GoesOn : Option BoardStory → Option BoardStory → Type 0
+GoesOn a None = a ≡ None
+GoesOn a (Some s) = IsSince a s
+
+-- what it looks at goes on from what was seen, and from what it was told of, if it looks
+abbrev pub IsSeenSince : Option BoardStory → Option BoardStory → Option BoardStory → Type 0
+IsSeenSince before told None = Unit {0}
+IsSeenSince before told (Some s) = IsSince before s × IsSince told s
+
+-- it has seen and was told of the same
+pub record KnowsAs (a b : Sight) : Type 0 where
+  pub seen : seen_by b ≡ seen_by a
+  pub told : told_by b ≡ told_by a
+
+-- a look of one who has seen and was told of this
+pub record LooksFrom (before told : Option BoardStory) (b : Sight) : Type 0 where
+  pub seen : GoesOn before (seen_by b)
+  pub told_is : told_by b ≡ told
+  pub shown : IsSeenSince before told (looked_at b)
+
+-- a board is looked at, each entry of which might come after those before it, and which has so many orders of this console, or more
+abbrev pub HasOrders : ℕ → ℕ → Option BoardStory → Type 0
+HasOrders console orders None = ⊥
+HasOrders console orders (Some s) = (is_lawful after allows s.0 s.1 ≡ true) × (orders ≤ count_of console s.1)
+
+-- the state of an alarm on the board that is looked at
+abbrev pub state_shown : ℕ → Option BoardStory → Option AlarmState
+state_shown alarm None = None
+state_shown alarm (Some s) = state_at alarm (shown after s.0 s.1)

@@ -1,0 +1,39 @@
+//! A view of the board.
+ghost use Rattle.std.specs.Prelude.{◌≡◌};
+ghost use Rattle.boards.specs.Stories.{seen_events};
+ghost use Rattle.operator_console.specs.Sights.{looked_at, state_shown};
+ghost use Rattle.operator_console.specs.Consoles.{HasLeft};
+
+use crate::console::Console;
+use alarm_machine::AlarmState;
+
+/// A view of the board, as it was when the console looked. While it is held, the owner can publish once; the next time it waits until the view is
+/// dropped.
+pub struct BoardView<'a, O, R> {
+    pub(crate) console: &'a mut Console<O, R>,
+}
+
+impl<O, R> Drop for BoardView<'_, O, R> {
+    fn drop(self)
+        ensures { HasLeft self.entry.console.now self.exit.0.now }
+    {
+        let Self { console } = self;
+        console.leave();
+    }
+}
+
+impl<O, R> BoardView<'_, O, R> {
+    /// The state of the alarm of a number; `None` where it isn't there.
+    pub fn state(&self, alarm: u32) -> Option<AlarmState>
+        ensures { result ≡ state_shown alarm (looked_at self.now.console.now.sight) }
+    {
+        self.console.sight.state(alarm)
+    }
+
+    /// How many events it shows the effect of.
+    pub fn events(&self) -> u64
+        ensures { result ≡ seen_events (looked_at self.now.console.now.sight) }
+    {
+        self.console.sight.events()
+    }
+}
