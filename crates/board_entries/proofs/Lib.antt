@@ -1,0 +1,4 @@
+pub mod Laid
+pub mod Orders
+pub mod Scans
+pub mod Steps

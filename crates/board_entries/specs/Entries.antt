@@ -1,0 +1,52 @@
+-- The entries of a history, as a board takes them in: event by event, from the system's state before it.
+use Rattle.std.specs.Prelude.{ℕ, List, [], ◌∷◌, Option, Result, Ok, Err}
+use Rattle.plant_types.specs.declared.values.Value.{Value}
+use Rattle.alarm_machine.specs.declared.states.OrderFault.{OrderFault}
+use Rattle.alarm_machine.specs.Codes.{PlainChange}
+use Rattle.alarm_bank.specs.Banks.{PlainBank}
+use Rattle.alarm_bank.specs.declared.event.BankEvent.{BankEvent}
+use Rattle.alarm_bank.specs.declared.event.BankEvent.TheVariants as bank_event
+use Rattle.event_history.specs.declared.event.Event.{Event}
+use Rattle.event_history.specs.declared.event.Event.TheVariants as event
+use Rattle.plant_config.specs.Plants.{PlainPlant}
+use Rattle.plant_config.specs.Names.{globals_of}
+use Rattle.plant_system.specs.declared.event.Reply.{Reply}
+use Rattle.plant_system.specs.declared.event.Reply.TheVariants as reply
+use Rattle.plant_system.specs.Programs.{global_in}
+use Rattle.plant_system.specs.System.{System, opening_system, after_event, conditions, suppressions, scanned_by, reply_to, sites_of}
+use Rattle.boards.specs.declared.entry.Entry.{Entry}
+use Rattle.boards.specs.declared.entry.Entry.TheVariants as entry
+use Rattle.boards.specs.Stories.{Story}
+
+-- a reply, as a board has it
+abbrev pub board_reply : Reply → Result (Option PlainChange) OrderFault
+board_reply (reply.Done change) = Ok change
+board_reply (reply.Refused fault) = Err fault
+
+-- what a scan gives to the alarms in a state: the conditions and suppressions that its programs leave
+abbrev pub given_by : System → List (ℕ × Value) → ℕ → BankEvent
+given_by sys image t =
+    let now = global_in (globals_of sys.plant) (scanned_by sys image t).world in
+    bank_event.Scan t (conditions now sys.plant.alarms) (suppressions now sys.plant.alarms)
+
+-- the entry of an event in a state: of an order its console and the reply there
+abbrev pub entry_of : System → Event → Entry
+entry_of sys (event.Scan image t) = entry.Scan (given_by sys image t)
+entry_of sys (event.Order console order) = entry.Order console (record { order = order; reply = board_reply (reply_to sys console order) })
+
+-- the entries of events that come one after another from a state on
+abbrev pub entries_from : System → List Event → List Entry
+entries_from sys [] = []
+entries_from sys (e ∷ events) = entry_of sys e ∷ entries_from (after_event sys e) events
+
+-- the entries of a history
+unfoldable pub entries_of : PlainPlant → List Event → List Entry
+entries_of plant history = entries_from (opening_system plant) history
+
+-- the alarms of a system, as a board has them
+abbrev pub bank_of : System → PlainBank
+bank_of sys = record { sites = sites_of sys.plant.alarms; alarms = sys.alarms; moment = sys.moment }
+
+-- what a board shows of a history: the alarms as they open, and its entries
+abbrev pub history_story : PlainPlant → List Event → Story PlainBank Entry
+history_story plant history = (bank_of (opening_system plant), entries_of plant history)

@@ -1,0 +1,129 @@
+//! How the entry of an event is laid by.
+
+ghost use Rattle.std.specs.Prelude.{◌≡◌, map, IfOk, MatchResult};
+ghost use Rattle.alarm_bank.specs.declared.event.BankEvent.TheVariants.{Scan};
+ghost use Rattle.event_history.specs.declared.event.Event.TheVariants.{Order};
+ghost use Rattle.plant_cells.specs.Cells.{value_at};
+ghost use Rattle.plant_types.specs.Values.{is_true};
+ghost use Rattle.alarm_watch.specs.Watched.{suppression};
+ghost use Rattle.plant_system.specs.System.{conditions, suppressions};
+ghost use Rattle.engine.specs.Engines.{Fits, FitsOrder};
+ghost use Rattle.board_entries.specs.Entries.{board_reply};
+ghost use Rattle.board_entries.specs.Showing.{ShowsHistory, HasNext};
+
+use alarm_bank::BankEvent;
+use alarm_watch::value_at;
+use boards::{Answer, BoardWriter, Entry};
+use engine::{Engine, Prepared, PreparedOrder};
+use plant_cells::Cells;
+use plant_config::AlarmRow;
+use plant_system::Reply;
+use plant_types::Items;
+use std::alloc::{AllocError, Global};
+
+/// Whether an alarm's condition is met, by cells.
+fn is_met(cells: &Cells, row: &AlarmRow) -> bool
+    ensures { result ≡ is_true (value_at cells.now row.now.condition) }
+{
+    value_at(cells, row.condition) != 0
+}
+
+/// The condition of each alarm, by cells. Fails if allocation fails.
+fn conditions(alloc: Global, rows: &[AlarmRow], cells: &Cells) -> Result<Vec<bool>, AllocError>
+    ensures { IfOk result (λ flags. flags.items ≡ conditions (value_at cells.now) rows.now) }
+{
+    let mut flags = Vec::new(alloc);
+    for row in rows {
+        flags.push(is_met(cells, row))?;
+    }
+    Ok(flags)
+}
+
+/// Whether an alarm is suppressed, by cells.
+fn is_suppressed(cells: &Cells, row: &AlarmRow) -> bool
+    ensures { result ≡ suppression (value_at cells.now) row.now.suppress }
+{
+    match row.suppress {
+        Some(global) => value_at(cells, global) != 0,
+        None => false,
+    }
+}
+
+/// The suppression of each alarm, by cells. Fails if allocation fails.
+fn suppressions(alloc: Global, rows: &[AlarmRow], cells: &Cells) -> Result<Vec<bool>, AllocError>
+    ensures { IfOk result (λ flags. flags.items ≡ suppressions (value_at cells.now) rows.now) }
+{
+    let mut flags = Vec::new(alloc);
+    for row in rows {
+        flags.push(is_suppressed(cells, row))?;
+    }
+    Ok(flags)
+}
+
+/// What a scan gives to the alarms that leaves these cells. Fails if allocation fails.
+fn given(
+    alloc: Global,
+    rows: &[AlarmRow],
+    cells: &Cells,
+    moment: u64,
+) -> Result<BankEvent, AllocError>
+    ensures { IfOk result (λ event. event ≡ Scan moment (conditions (value_at cells.now) rows.now) (suppressions (value_at cells.now) rows.now)) }
+{
+    let conds = conditions(alloc, rows, cells)?;
+    let sups = suppressions(alloc, rows, cells)?;
+    Ok(BankEvent::Scan {
+        moment,
+        conds: Items::from_vec(conds),
+        sups: Items::from_vec(sups),
+    })
+}
+
+/// A reply, as a board has it.
+fn board_reply(reply: Reply) -> boards::Reply
+    ensures { result ≡ board_reply reply }
+{
+    match reply {
+        Reply::Done(change) => Ok(change),
+        Reply::Refused(fault) => Err(fault),
+    }
+}
+
+/// Lays the entry by of a scan that was made ready. Fails if allocation fails; then nothing is laid by.
+pub fn lay_scan(
+    alloc: Global,
+    board: &mut BoardWriter,
+    engine: &Engine,
+    prepared: &Prepared,
+) -> Result<(), AllocError>
+    requires shows { ShowsHistory engine.now.plant engine.now.history board.old }
+    requires fits { Fits engine.now prepared.now }
+    ensures { MatchResult result (λ _. HasNext engine.now.plant engine.now.history prepared.now.event board.new) (λ _. ShowsHistory engine.now.plant engine.now.history board.new) }
+{
+    engine.leaves_a_state(prepared);
+    let rows = engine.plant().alarm_rows();
+    let given = given(alloc, rows, &prepared.effect.cells, prepared.report.moment)?;
+    match board.append(Entry::Scan(given)) {
+        Ok(()) => Ok(()),
+        Err(_) => Err(AllocError),
+    }
+}
+
+/// Lays the entry by of an order that was made ready. Fails if allocation fails; then nothing is laid by.
+pub fn lay_order(
+    board: &mut BoardWriter,
+    engine: &Engine,
+    prepared: &PreparedOrder,
+) -> Result<(), AllocError>
+    requires shows { ShowsHistory engine.now.plant engine.now.history board.old }
+    requires fits { FitsOrder engine.now prepared.now }
+    ensures { MatchResult result (λ _. HasNext engine.now.plant engine.now.history (Order prepared.now.console prepared.now.order) board.new) (λ _. ShowsHistory engine.now.plant engine.now.history board.new) }
+{
+    let answer = Answer {
+        order: prepared.order,
+        reply: board_reply(prepared.reply),
+    };
+    match board.append(Entry::Order(prepared.console, answer)) {
+        Ok(()) => Ok(()),
+        Err(_) => Err(AllocError),
+    }
+}

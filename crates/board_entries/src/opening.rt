@@ -1,0 +1,55 @@
+//! How the board of a plant is made.
+
+ghost use Rattle.std.specs.Prelude.{◌≡◌, [], IfOk, All};
+ghost use Rattle.plant_system.specs.System.{opening_system};
+ghost use Rattle.board_entries.specs.Entries.{bank_of};
+ghost use Rattle.board_entries.specs.Showing.{ShowsHistory};
+
+use alarm_bank::Bank;
+use boards::{Board, BoardWriter, Tally};
+use plant_config::Plant;
+use plant_file::Console;
+use plant_system::opening_state;
+use std::alloc::{AllocError, Global};
+use std::sync::Wait;
+
+/// The alarms of a plant before the first event. Fails if allocation fails.
+fn opening_bank(alloc: Global, plant: &Plant) -> Result<Bank, AllocError>
+    ensures { IfOk result (λ bank. bank ≡ bank_of (opening_system plant.now)) }
+{
+    let state = opening_state(alloc, plant)?;
+    Ok(state.bank)
+}
+
+/// A tally for each console, with no order yet. Fails if allocation fails.
+fn tallies_of(alloc: Global, consoles: &[Console]) -> Result<Vec<Tally>, AllocError>
+    ensures { IfOk result (λ tallies. All (λ t. t.orders ≡ 0) tallies.items) }
+{
+    let mut tallies = Vec::new(alloc);
+    for console in consoles {
+        tallies.push(Tally {
+            console: console.number,
+            orders: 0,
+        })?;
+    }
+    Ok(tallies)
+}
+
+/// A board of a plant before the first event, which counts the orders of its consoles. Fails if allocation fails.
+fn opening_board(alloc: Global, plant: &Plant) -> Result<Board, AllocError>
+    ensures { IfOk result (λ board. (board.opening.value ≡ bank_of (opening_system plant.now)) × (board.list ≡ [])) }
+{
+    let bank = opening_bank(alloc, plant)?;
+    let tallies = tallies_of(alloc, plant.consoles())?;
+    Ok(Board::new(bank, tallies))
+}
+
+/// The writer of a board of a plant before the first event, with a place for a reader for each console of the plant. Fails if allocation fails.
+pub fn open_board<R: Wait>(rt: &R, alloc: Global, plant: &Plant) -> Result<BoardWriter, AllocError>
+    ensures { IfOk result (ShowsHistory plant.now []) }
+{
+    let readers = plant.consoles().len() + 1;
+    let first = opening_board(alloc, plant)?;
+    let second = opening_board(alloc, plant)?;
+    BoardWriter::new(rt, alloc, first, second, readers)
+}
