@@ -1,0 +1,3 @@
+pub mod Numbered
+pub mod Pages
+pub mod Crews

@@ -1,0 +1,120 @@
+//! One event in two engines: a station's own and its book's.
+
+ghost use Rattle.std.specs.Prelude.{◌≡◌, ◌+◌, ◌<◌, ◌++◌, [], ◌∷◌, Ok, IfOk, IfErr};
+ghost use Rattle.event_history.specs.declared.event.Event.TheVariants as event;
+ghost use Rattle.plant_system.specs.Faults.{faults_by};
+ghost use Rattle.plant_system.specs.States.{IsReport};
+ghost use Rattle.plant_system.specs.System.{scan_event, order_event, reply_to};
+ghost use Rattle.engine.specs.Engines.{state_of, Fits, FitsOrder};
+ghost use Rattle.archive.specs.Refusals.{IsDueInBoth};
+
+use crate::book::Book;
+use engine::{
+    Crew, Done, Engine, EngineFault, Job, Order, Pair, Prepared, PreparedOrder, Reply, Report,
+    Start,
+};
+use std::alloc::Global;
+use std::sync::ledger::{Ledger, Share};
+
+/// A scan that was made ready in an engine and in a book.
+#[derive(Drop)]
+pub struct ReadyScan {
+    /// In the engine.
+    pub own: Prepared,
+    /// In the book.
+    pub kept: Prepared,
+}
+
+/// An order that was made ready in an engine and in a book.
+#[derive(Drop)]
+pub struct ReadyOrder {
+    /// In the engine.
+    pub own: PreparedOrder,
+    /// In the book.
+    pub kept: PreparedOrder,
+}
+
+/// Makes a scan ready in both: in the engine with this crew, in the book by the caller alone. A refusal, of the one or the other, changes neither but for
+/// room.
+pub fn ready_scan<L: Ledger, C: Crew<Job, Start, Done, H>, H>(
+    rt: &H,
+    alloc: Global,
+    engine: &mut Engine,
+    crew: &mut C,
+    book: &mut Book<L>,
+    pairs: &[Pair],
+    moment: u64,
+) -> Result<ReadyScan, EngineFault>
+    requires asked { C.asks }
+    ensures engine { (engine.new.plant ≡ engine.old.plant) × (engine.new.history ≡ engine.old.history) }
+    ensures book { (book.new.plant ≡ book.old.plant) × (book.new.history ≡ book.old.history) }
+    ensures own { IfOk result (λ r. Fits engine.new r.own × (scan_event (state_of engine.old) pairs.now moment ≡ Ok r.own.event)) }
+    ensures kept { IfOk result (λ r. Fits book.new r.kept × (scan_event (state_of book.old) pairs.now moment ≡ Ok r.kept.event)) }
+    ensures err { IfErr result (λ e. IsDueInBoth e (scan_event (state_of engine.old) pairs.now moment) (scan_event (state_of book.old) pairs.now moment)) }
+    ensures crew { C.faulted crew.new ≡ faults_by (C.faulted crew.old) result }
+{
+    let own = engine.prepare(rt, alloc, crew, pairs, moment)?;
+    let kept = book.prepare(rt, alloc, pairs, moment)?;
+    Ok(ReadyScan { own, kept })
+}
+
+/// Commits a scan that was made ready in both, adds one to the share, and returns what the scan did in the engine. It allocates nothing and can't fail.
+pub fn commit_scan<L: Ledger>(
+    engine: &mut Engine,
+    book: &mut Book<L>,
+    share: &mut Share<L>,
+    ready: ReadyScan,
+) -> Report
+    requires own { Fits engine.old ready.own }
+    requires kept { Fits book.old ready.kept }
+    requires part { 0 < share.old.parts }
+    ensures plants { (engine.new.plant ≡ engine.old.plant) × (book.new.plant ≡ book.old.plant) }
+    ensures engine { engine.new.history ≡ engine.old.history ++ ready.own.event ∷ [] }
+    ensures book { book.new.history ≡ book.old.history ++ ready.kept.event ∷ [] }
+    ensures share { (share.new.amount ≡ share.old.amount + 1) × (share.new.parts ≡ share.old.parts) }
+    ensures report { IsReport (state_of engine.old) ready.own.event result }
+{
+    let ReadyScan { own, kept } = ready;
+    book.commit(kept, share);
+    engine.commit(own)
+}
+
+/// Makes an order of the console of a number ready in both. A refusal, of the one or the other, changes neither but for room.
+pub fn ready_order<L: Ledger>(
+    alloc: Global,
+    engine: &mut Engine,
+    book: &mut Book<L>,
+    console: u32,
+    order: Order,
+) -> Result<ReadyOrder, EngineFault>
+    ensures engine { (engine.new.plant ≡ engine.old.plant) × (engine.new.history ≡ engine.old.history) }
+    ensures book { (book.new.plant ≡ book.old.plant) × (book.new.history ≡ book.old.history) }
+    ensures own { IfOk result (λ r. FitsOrder engine.new r.own × (order_event (state_of engine.old) console order ≡ Ok (event.Order console order)) × (r.own.console ≡ console) × (r.own.order ≡ order)) }
+    ensures kept { IfOk result (λ r. FitsOrder book.new r.kept × (r.kept.console ≡ console) × (r.kept.order ≡ order)) }
+    ensures err { IfErr result (λ e. IsDueInBoth e (order_event (state_of engine.old) console order) (order_event (state_of book.old) console order)) }
+{
+    let own = engine.prepare_order(alloc, console, order)?;
+    let kept = book.prepare_order(alloc, console, order)?;
+    Ok(ReadyOrder { own, kept })
+}
+
+/// Commits an order that was made ready in both, adds one to the share, and returns the engine's reply. It allocates nothing and can't fail.
+pub fn commit_order<L: Ledger>(
+    engine: &mut Engine,
+    book: &mut Book<L>,
+    share: &mut Share<L>,
+    ready: ReadyOrder,
+) -> Reply
+    requires own { FitsOrder engine.old ready.own }
+    requires kept { FitsOrder book.old ready.kept }
+    requires part { 0 < share.old.parts }
+    ensures plants { (engine.new.plant ≡ engine.old.plant) × (book.new.plant ≡ book.old.plant) }
+    ensures engine { engine.new.history ≡ engine.old.history ++ event.Order ready.own.console ready.own.order ∷ [] }
+    ensures book { book.new.history ≡ book.old.history ++ event.Order ready.kept.console ready.kept.order ∷ [] }
+    ensures share { (share.new.amount ≡ share.old.amount + 1) × (share.new.parts ≡ share.old.parts) }
+    ensures reply { result ≡ reply_to (state_of engine.old) ready.own.console ready.own.order }
+{
+    let ReadyOrder { own, kept } = ready;
+    book.commit_order(kept, share);
+    engine.commit_order(own)
+}

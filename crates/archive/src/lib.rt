@@ -1,0 +1,18 @@
+//! The archive of a station: a second engine under a lock, which other threads may read.
+//!
+//! Contracts see a book as its engine. Its type keeps that a ledger's total is the engine's number of events, and only `Book::commit` and
+//! `Book::commit_order` raise that total: each raises a share of the ledger with it. So whoever keeps a share that is as great as its own number of
+//! events has put each of them into the book.
+//!
+//! An event is first made ready in both engines, which may be refused and changes neither of them but for room, and then committed in both, which
+//! can't fail. A page of the book is the text of the rows of its journal that have these numbers.
+#![tactic(auto)]
+
+mod book;
+mod both;
+mod lock;
+mod page;
+
+pub use book::Book;
+pub use both::{ReadyOrder, ReadyScan, commit_order, commit_scan, ready_order, ready_scan};
+pub use lock::Archive;
