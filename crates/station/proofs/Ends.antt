@@ -1,5 +1,5 @@
 -- Consoles that end.
-use Rattle.std.proofs.Common.{◌≡◌, ℕ, ◌==◌, nat_eq, Bool, true, false, ◌||◌, List, [], ◌∷◌, ◌++◌, All, MatchBool, Option, Some, None, ap, refl, sym, ◌∙◌, subst, eq-eqb, ne_eqb, eqb-true, true≢false, inl, inr, if◌then◌else◌}
+use Rattle.std.proofs.Common.{◌≡◌, ℕ, ◌==◌, nat_eq, Bool, true, false, ◌||◌, List, [], ◌∷◌, ◌++◌, All, MatchBool, Option, Some, None, ap, refl, sym, ◌∙◌, subst, eq-eqb, ne_eqb, eqb-true, true≢false, inl, inr, if◌then◌else◌, nat_le}
 use mathlib.Core.List.{IsPrefix}
 use Rattle.std.specs.List.{list_any}
 use Rattle.std.proofs.lemmas.List.Elements.{All-head, All-tail}
@@ -9,7 +9,7 @@ use Rattle.console_link.specs.declared.answer.Answer.{Answer}
 use Rattle.console_link.specs.declared.console.Console.{Console}
 use Rattle.console_link.specs.declared.console.Finished.{Finished}
 use Rattle.console_link.specs.declared.lane.Lane.{Lane}
-use Rattle.console_link.specs.Seats.{SameConsole, SameLane, Ends, IsConsoleOf, IsEndOf, left_of, orders_taken, answers_given, all_taken}
+use Rattle.console_link.specs.Seats.{SameConsole, SameLane, Ends, IsConsoleOf, IsEndOf, left_of, seen_by, orders_taken, answers_given, all_taken}
 use Rattle.event_history.specs.declared.event.Event.{Event}
 use Rattle.event_history.specs.declared.event.Order.{Order}
 use Rattle.plant_file.specs.Lists.{repeats}
@@ -17,7 +17,7 @@ use Rattle.plant_config.specs.Plants.{PlainPlant}
 use Rattle.plant_system.specs.declared.event.Reply.{Reply}
 use Rattle.station.specs.Parts.{answers_of, orders_in}
 use Rattle.station.specs.Turns.{TookParts}
-use Rattle.station.specs.Stations.{numbers_in, HasNoTwin, AgreesWith, IsConsoleIn, IsEndIn, KeepsConsoles, finished_of, left_in, IsClosed}
+use Rattle.station.specs.Stations.{numbers_in, HasNoTwin, AgreesWith, IsConsoleIn, IsEndIn, KeepsConsoles, finished_of, left_in, saw_within, is_within, has_seen_within, IsClosed}
 use Rattle.station.specs.Closings.{Joined, EndedOne, IsEnded, AreEnded}
 use Rattle.station.proofs.Takes.{same_lanes, same_lane}
 
@@ -167,7 +167,7 @@ ended_none (a ∷ ds) = (refl, ended_none ds)
 -- a lane that is joined anew
 joined_anew : (f : F) (o : Option F) (a b c : L) → IsEnded o a b → Joined f b c → Joined f a c
 joined_anew f None a b c e j = subst (λ (l : L). Joined f l c) e j
-joined_anew f (Some g) a b c e j = record { lane = same_lanes a b c e.lane j.lane; taken = j.taken ∙ e.taken; given = j.given ∙ e.given; orders = j.orders; answers = j.answers }
+joined_anew f (Some g) a b c e j = record { lane = same_lanes a b c e.lane j.lane; taken = j.taken ∙ e.taken; given = j.given ∙ e.given; orders = j.orders; answers = j.answers; seen = j.seen }
 
 -- a console in front that no lane of these has doesn't matter
 ended_past : (f : F) (fs : List F) (ds bs : List L) → list_any (nat_eq f.number) (numbers_in ds) ≡ false → AreEnded fs ds bs → AreEnded (f ∷ fs) ds bs
@@ -275,6 +275,49 @@ closed plant history fs ds bs n agree ends h = by (finished_of n fs) refl
     by (Some f) e =
         let found = found_in (IsEndIn ds) n fs f ends e in
         some_closed plant history fs ds bs n f e found.1 found.0 agree h
+
+-- no end was handed in: then nothing is known of what it saw
+none_within : (plant : PlainPlant) (history : List Event) (fs : List F) (ds bs : List L) (n events : ℕ) → finished_of n fs ≡ None → All (AgreesWith plant history) ds → AreEnded fs ds bs → is_within n events bs ≡ false
+none_within plant history fs [] [] n events e agree h = refl
+none_within plant history fs [] (b ∷ bs) n events e agree h = absurd h
+none_within plant history fs (a ∷ ds) [] n events e agree h = absurd h
+none_within plant history fs (a ∷ ds) (b ∷ bs) n events e agree h =
+    let same : b.number ≡ a.number = (ended_one (finished_of a.number fs) a b h.0).0 in
+    elim (cases_Bool (b.number == n)) [
+      | inl yes' ↦
+          let m : a.number ≡ n = sym same ∙ eqb-true b.number n yes' in
+          let kept : b ≡ a = subst (λ (o : Option F). IsEnded o a b) (ap (λ (k : ℕ). finished_of k fs) m ∙ e) h.0 in
+          ap (λ (t : Bool). if t then saw_within events (seen_by b) else is_within n events bs) yes'
+          ∙ (ap (λ (l : L). saw_within events (seen_by l)) kept ∙ ap (λ (t : Bool). saw_within events (if t then Some a.seen else None)) (All-head (AgreesWith plant history) a ds agree).is_open)
+      | inr no' ↦
+          ap (λ (t : Bool). if t then saw_within events (seen_by b) else is_within n events bs) no'
+          ∙ none_within plant history fs ds bs n events e (All-tail (AgreesWith plant history) a ds agree) h.1
+    ]
+
+some_within : (fs : List F) (ds bs : List L) (n events : ℕ) (f : F) → finished_of n fs ≡ Some f → f.number ≡ n → IsEndIn ds f → AreEnded fs ds bs → is_within n events bs ≡ nat_le f.seen events
+some_within fs [] bs n events f e is ends h = absurd ends
+some_within fs (a ∷ ds) [] n events f e is ends h = absurd h
+some_within fs (a ∷ ds) (b ∷ bs) n events f e is ends h =
+    let same : b.number ≡ a.number = (ended_one (finished_of a.number fs) a b h.0).0 in
+    elim (cases_Bool (b.number == n)) [
+      | inl yes' ↦
+          let m : a.number ≡ n = sym same ∙ eqb-true b.number n yes' in
+          let j : Joined f a b = subst (λ (o : Option F). IsEnded o a b) (ap (λ (k : ℕ). finished_of k fs) m ∙ e) h.0 in
+          ap (λ (t : Bool). if t then saw_within events (seen_by b) else is_within n events bs) yes' ∙ ap (λ (o : Option ℕ). saw_within events o) j.seen
+      | inr no' ↦
+          let away : (a.number == f.number) ≡ false = ne_eqb a.number f.number (λ (k : a.number ≡ f.number). eqb-false b.number n no' (same ∙ (k ∙ is))) in
+          ap (λ (t : Bool). if t then saw_within events (seen_by b) else is_within n events bs) no'
+          ∙ some_within fs ds bs n events f e is (subst (λ (t : Bool). MatchBool t (IsEndOf f a) (IsEndIn ds f)) away ends) h.1
+    ]
+
+-- what is known of how many events each console saw, once its lane was joined
+pub closed_within : (plant : PlainPlant) (history : List Event) (fs : List F) (ds bs : List L) (n events : ℕ) → All (AgreesWith plant history) ds → All (IsEndIn ds) fs → AreEnded fs ds bs
+    → is_within n events bs ≡ has_seen_within events (finished_of n fs)
+closed_within plant history fs ds bs n events agree ends h = by (finished_of n fs) refl
+  where
+    by : (o : Option F) → finished_of n fs ≡ o → is_within n events bs ≡ has_seen_within events o
+    by None e = none_within plant history fs ds bs n events e agree h
+    by (Some f) e = let found = found_in (IsEndIn ds) n fs f ends e in some_within fs ds bs n events f e found.1 found.0 h
 
 -- the console that ends is that of the first lane
 pub end_first : (f : F) (a b : L) (ls : List L) → a.number ≡ f.number → Joined f a b → EndedOne f (a ∷ ls) (b ∷ ls)

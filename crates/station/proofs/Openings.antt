@@ -1,24 +1,33 @@
 -- Rings that were made for the consoles of a plant.
-use Rattle.std.proofs.Common.{◌≡◌, ◌≢◌, ℕ, ◌==◌, nat_eq, Bool, true, false, ◌||◌, List, [], ◌∷◌, ◌++◌, All, MatchBool, refl, sym, ◌∙◌, subst, eq-eqb, ne_eqb, true≢false, inl, inr}
+use Rattle.std.proofs.Common.{◌≡◌, ◌≢◌, ℕ, ◌==◌, nat_eq, Bool, true, false, ◌||◌, List, [], ◌∷◌, ◌++◌, All, MatchBool, ap, refl, sym, ◌∙◌, subst, eq-eqb, ne_eqb, true≢false, inl, inr, Ok, Err, IfOk}
 use Rattle.std.specs.List.{list_any}
+use Rattle.std.specs.declared.result.Result.{Result}
 use Rattle.std.proofs.lemmas.List.{map-append}
 use Rattle.std.proofs.lemmas.List.Elements.{All-nil, All-cons, All-weaker, All-push}
 use Rattle.std.proofs.lemmas.Bool.{cases_Bool}
 use Rattle.console_link.specs.declared.console.Console.{Console}
 use Rattle.console_link.specs.declared.lane.Lane.{Lane}
 use Rattle.console_link.specs.Seats.{IsConsoleOf}
+use Rattle.event_history.specs.declared.event.Event.{Event}
 use Rattle.event_history.specs.declared.event.Order.{Order}
+use Rattle.board_entries.specs.Entries.{history_story}
+use Rattle.operator_console.specs.Sights.{BoardStory}
+use Rattle.plant_file.specs.declared.console.Console.{Console as Listed}
+use Rattle.operator_console.specs.declared.console.Console.{Console as Operator}
 use Rattle.plant_file.specs.Lists.{repeats}
-use Rattle.plant_config.specs.Plants.{PlainPlant}
+use Rattle.plant_config.specs.Plants.{PlainPlant, IsPlant}
 use Rattle.plant_system.specs.declared.event.Reply.{Reply}
 use Rattle.station.specs.Parts.{answers_of}
-use Rattle.station.specs.Stations.{numbers_in, HasNoTwin, AgreesWith, ArePairs, AreOpened, IsConsoleIn, IsFresh, IsUnused}
+use Rattle.station.specs.Stations.{numbers_in, HasNoTwin, AgreesWith, ArePairs, AreOpened, IsConsoleIn, IsFresh, IsUnused, links_of, numbers_of, HasNotLooked, AreConsolesOf}
 
 abbrev L : Type 0
 L = Lane Order Reply
 
 abbrev C : Type 0
 C = Console Order Reply
+
+abbrev O : Type 0
+O = Operator Order Reply
 
 pub pairs_push : (cs : List C) (ls : List L) (c : C) (l : L) → ArePairs cs ls → IsConsoleOf c l → ArePairs (cs ++ c ∷ []) (ls ++ l ∷ [])
 pairs_push [] [] c l h k = (k, tt)
@@ -76,3 +85,21 @@ opened_more numbers cs ls n c l h pair c_number l_number fresh unused = record {
   fresh = All-push IsFresh cs c h.fresh fresh;
   unused = All-push IsUnused ls l h.unused unused;
 }
+
+-- one more console that looks at a board, and its lane
+pub operators_more : (numbers : List ℕ) (os : List O) (ls : List L) (n : ℕ) (o : O) (c : C) (l : L) → AreOpened numbers (links_of os) ls → o.link ≡ c → IsConsoleOf c l → c.number ≡ n → l.number ≡ n → IsFresh c → IsUnused l
+    → AreOpened (numbers ++ n ∷ []) (links_of (os ++ o ∷ [])) (ls ++ l ∷ [])
+operators_more numbers os ls n o c l h same pair c_number l_number fresh unused =
+    let links : links_of (os ++ o ∷ []) ≡ links_of os ++ c ∷ [] = map-append (λ (x : O). x.link) os (o ∷ []) ∙ ap (λ (x : C). links_of os ++ x ∷ []) same in
+    subst (λ (cs : List C). AreOpened (numbers ++ n ∷ []) cs (ls ++ l ∷ [])) (sym links) (opened_more numbers (links_of os) ls n c l h pair c_number l_number fresh unused)
+
+-- consoles and lanes that were opened for a plant whose history a board shows
+pub consoles_opened : {T E : Type 0} (r : Result T E) (os : T → List O) (ls : T → List L) (plant : PlainPlant) (history : List Event) (listed : List Listed) (story : BoardStory)
+    → listed ≡ plant.consoles → IsPlant plant → story ≡ history_story plant history
+    → IfOk r (λ x. AreOpened (numbers_of listed) (links_of (os x)) (ls x)) → IfOk r (λ x. All (HasNotLooked story) (os x)) → IfOk r (λ x. AreConsolesOf plant history (os x) (ls x))
+consoles_opened (Ok x) os ls plant history listed story same is shows h k = record {
+  opened = subst (λ (cs : List Listed). AreOpened (numbers_of cs) (links_of (os x)) (ls x)) same h;
+  looks = subst (λ (s : BoardStory). All (HasNotLooked s) (os x)) shows k;
+  is_plant = is;
+}
+consoles_opened (Err e) os ls plant history listed story same is shows h k = tt

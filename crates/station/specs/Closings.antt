@@ -3,18 +3,19 @@ use Rattle.std.specs.Prelude.{◌≡◌, ◌==◌, List, [], ◌∷◌, ◌++◌
 use mathlib.Core.List.{IsPrefix}
 use Rattle.console_link.specs.declared.console.Finished.{Finished}
 use Rattle.console_link.specs.declared.lane.Lane.{Lane}
-use Rattle.console_link.specs.Seats.{orders_taken, answers_given, SameLane, left_of, all_submitted, all_taken}
+use Rattle.console_link.specs.Seats.{orders_taken, answers_given, SameLane, left_of, seen_by, all_submitted, all_taken}
 use Rattle.event_history.specs.declared.event.Order.{Order}
 use Rattle.plant_system.specs.declared.event.Reply.{Reply}
 use Rattle.station.specs.Stations.{finished_of}
 
--- the lane was joined with a console that has ended: what was taken and what is left is all that it submitted, and it took the first of the answers that were given
+-- the lane was joined with a console that has ended: what was taken and what is left is all that it submitted, and it took the first of the answers that were given, and how many events it saw is known
 pub record Joined (f : Finished Order Reply) (a b : Lane Order Reply) : Type 0 where
   pub lane : SameLane a b
   pub taken : orders_taken b ≡ orders_taken a
   pub given : answers_given b ≡ answers_given a
   pub orders : orders_taken b ++ left_of b ≡ all_submitted f
   pub answers : IsPrefix (all_taken f) (answers_given b)
+  pub seen : seen_by b ≡ Some f.seen
 
 -- the lane of the console's number was joined with it, and no other changed
 abbrev pub EndedOne : Finished Order Reply → List (Lane Order Reply) → List (Lane Order Reply) → Type 0

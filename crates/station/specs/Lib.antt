@@ -1,4 +1,5 @@
 pub mod Closings
 pub mod Parts
+pub mod Records
 pub mod Stations
 pub mod Turns

@@ -1,15 +1,19 @@
 -- What a contract sees of a station: its plant, its history, and its lanes, each of which agrees with the history.
-use Rattle.std.specs.Prelude.{◌≡◌, ℕ, ◌==◌, Bool, false, List, [], ◌∷◌, ◌++◌, map, nat_eq, Option, Some, None, Ok, All, MatchBool, if◌then◌else◌}
+use Rattle.std.specs.Prelude.{◌≡◌, ℕ, ◌==◌, Bool, false, List, [], ◌∷◌, ◌++◌, map, nat_eq, nat_le, Option, Some, None, Ok, All, MatchBool, if◌then◌else◌}
 use mathlib.Core.List.{IsPrefix}
 use Rattle.plant_types.specs.Pairs.{PlainPair}
 use Rattle.console_link.specs.declared.answer.Answer.{Answer}
 use Rattle.console_link.specs.declared.console.Console.{Console}
 use Rattle.console_link.specs.declared.console.Finished.{Finished}
 use Rattle.console_link.specs.declared.lane.Lane.{Lane}
-use Rattle.console_link.specs.Seats.{orders_taken, answers_given, submitted, taken as answers_taken, known_room, IsConsoleOf, IsEndOf, IsOpen, left_of, all_submitted, all_taken}
+use Rattle.console_link.specs.Seats.{orders_taken, answers_given, submitted, taken as answers_taken, known_room, IsConsoleOf, IsEndOf, IsOpen, left_of, seen_by, all_submitted, all_taken}
 use Rattle.event_history.specs.declared.event.Event.{Event}
 use Rattle.event_history.specs.declared.event.Order.{Order}
-use Rattle.plant_config.specs.Plants.{PlainPlant}
+use Rattle.plant_config.specs.Plants.{PlainPlant, IsPlant}
+use Rattle.board_entries.specs.Entries.{history_story}
+use Rattle.operator_console.specs.declared.console.Console.{Console as Operator}
+use Rattle.operator_console.specs.Sights.{BoardStory}
+use Rattle.operator_console.specs.Consoles.{story_seen, story_told}
 use Rattle.plant_file.specs.Lists.{repeats}
 use Rattle.plant_file.specs.declared.console.Console.{Console as Listed}
 use Rattle.plant_system.specs.declared.event.Reply.{Reply}
@@ -87,6 +91,36 @@ pub record IsTurn (old new : PlainEngine) (before after : List (Lane Order Reply
   pub report_is : IsReport (state_of old) scan report
   pub plant_is : new.plant ≡ old.plant
   pub parts : TookParts old.plant before after (old.history ++ scan ∷ []) new.history taken stopped
+
+-- the ends of the consoles' rings
+abbrev pub links_of : List (Operator Order Reply) → List (Console Order Reply)
+links_of consoles = map (λ (c : Operator Order Reply). c.link) consoles
+
+-- a console that has seen nothing of the board, and was told what it shows
+pub record HasNotLooked (story : BoardStory) (c : Operator Order Reply) : Type 0 where
+  pub none_seen : story_seen c ≡ None
+  pub told_is : story_told c ≡ Some story
+
+-- a console and a lane for each that a plant lists, in order, before the first order; the consoles are told of the history
+pub record AreConsolesOf (plant : PlainPlant) (history : List Event) (consoles : List (Operator Order Reply)) (lanes : List (Lane Order Reply)) : Type 0 where
+  pub opened : AreOpened (numbers_of plant.consoles) (links_of consoles) lanes
+  pub looks : All (HasNotLooked (history_story plant history)) consoles
+  pub is_plant : IsPlant plant
+
+-- whether an ended console saw at most so many events; none that hasn't ended
+abbrev pub saw_within : ℕ → Option ℕ → Bool
+saw_within events None = false
+saw_within events (Some seen) = nat_le seen events
+
+-- and the console of the lane of this number
+abbrev pub is_within : ℕ → ℕ → List (Lane Order Reply) → Bool
+is_within number events [] = false
+is_within number events (lane ∷ lanes) = if lane.number == number then saw_within events (seen_by lane) else is_within number events lanes
+
+-- and a console that has ended, if it has
+abbrev pub has_seen_within : ℕ → Option (Finished Order Reply) → Bool
+has_seen_within events None = false
+has_seen_within events (Some f) = nat_le f.seen events
 
 -- the first of a list of ended consoles that has this number
 abbrev pub finished_of : ℕ → List (Finished Order Reply) → Option (Finished Order Reply)

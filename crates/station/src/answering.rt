@@ -3,9 +3,12 @@
 ghost use Rattle.std.specs.Prelude.{◌≡◌, ◌≤◌, ◌*◌, ◌<◌, ◌^◌, [], ◌∷◌, length, MatchBool, MatchResult};
 ghost use Rattle.station.specs.Turns.{HasNoneToTake, HasOneToTake, Took, TookPart, TookParts};
 
+use crate::recorder::Recorder;
 use console_link::Lane;
-use engine::{Engine, EngineFault, Order, Reply};
+use engine::{EngineFault, Order, Reply};
 use std::alloc::Global;
+use std::sync::Wait;
+use std::sync::ledger::Ledger;
 
 /// How many orders of one console a turn takes at most.
 const MOST_ORDERS: u32 = 64;
@@ -21,31 +24,38 @@ pub(crate) struct Part {
 
 /// Takes the order that waits first at a console and answers it, where there is one and a place for its answer; tells whether it did. The order
 /// stays in its ring where it is refused as an event.
-fn take_order(
+fn take_order<L: Ledger, H: Wait>(
+    rt: &H,
     alloc: Global,
-    engine: &mut Engine,
+    recorder: &mut Recorder<L>,
     lane: &mut Lane<Order, Reply>,
 ) -> Result<bool, EngineFault>
-    ensures plant { engine.new.plant ≡ engine.old.plant }
-    ensures took { MatchResult result (λ took. MatchBool took ((order : Order) × Took engine.old.plant lane.old lane.new engine.old.history engine.new.history (order ∷ [])) (Took engine.old.plant lane.old lane.new engine.old.history engine.new.history [] × HasNoneToTake lane.new)) (λ _. Took engine.old.plant lane.old lane.new engine.old.history engine.new.history [] × HasOneToTake lane.new) }
+    ensures plant { recorder.new.engine.plant ≡ recorder.old.engine.plant }
+    ensures share { recorder.new.share.parts ≡ recorder.old.share.parts }
+    ensures took { MatchResult result (λ took. MatchBool took ((order : Order) × Took recorder.old.engine.plant lane.old lane.new recorder.old.engine.history recorder.new.engine.history (order ∷ [])) (Took recorder.old.engine.plant lane.old lane.new recorder.old.engine.history recorder.new.engine.history [] × HasNoneToTake lane.new)) (λ _. Took recorder.old.engine.plant lane.old lane.new recorder.old.engine.history recorder.new.engine.history [] × HasOneToTake lane.new) }
 {
     let Some(order) = lane.waiting() else {
         return Ok(false);
     };
-    let prepared = engine.prepare_order(alloc, lane.number(), order)?;
-    let reply = engine.commit_order(prepared);
+    let reply = recorder.order(rt, alloc, lane.number(), order)?;
     lane.take(reply);
     Ok(true)
 }
 
 /// Takes and answers the orders that wait at a console, at most 64.
-fn take_part(alloc: Global, engine: &mut Engine, lane: &mut Lane<Order, Reply>) -> Part
-    ensures plant { engine.new.plant ≡ engine.old.plant }
-    ensures part { TookPart engine.old.plant lane.old lane.new engine.old.history engine.new.history result.taken result.stopped }
+fn take_part<L: Ledger, H: Wait>(
+    rt: &H,
+    alloc: Global,
+    recorder: &mut Recorder<L>,
+    lane: &mut Lane<Order, Reply>,
+) -> Part
+    ensures plant { recorder.new.engine.plant ≡ recorder.old.engine.plant }
+    ensures share { recorder.new.share.parts ≡ recorder.old.share.parts }
+    ensures part { TookPart recorder.old.engine.plant lane.old lane.new recorder.old.engine.history recorder.new.engine.history result.taken result.stopped }
 {
     let mut taken = 0u32;
     for _ in 0..MOST_ORDERS {
-        match take_order(alloc, engine, lane) {
+        match take_order(rt, alloc, recorder, lane) {
             Ok(true) => taken += 1,
             Ok(false) => {
                 return Part {
@@ -68,14 +78,16 @@ fn take_part(alloc: Global, engine: &mut Engine, lane: &mut Lane<Order, Reply>) 
 }
 
 /// Takes and answers the orders that wait, console by console, until it is stopped.
-pub(crate) fn take_parts(
+pub(crate) fn take_parts<L: Ledger, H: Wait>(
+    rt: &H,
     alloc: Global,
-    engine: &mut Engine,
+    recorder: &mut Recorder<L>,
     lanes: &mut [Lane<Order, Reply>],
 ) -> Part
     requires { length lanes.old ≤ 32 }
-    ensures plant { engine.new.plant ≡ engine.old.plant }
-    ensures parts { TookParts engine.old.plant lanes.old lanes.new engine.old.history engine.new.history result.taken result.stopped }
+    ensures plant { recorder.new.engine.plant ≡ recorder.old.engine.plant }
+    ensures share { recorder.new.share.parts ≡ recorder.old.share.parts }
+    ensures parts { TookParts recorder.old.engine.plant lanes.old lanes.new recorder.old.engine.history recorder.new.engine.history result.taken result.stopped }
     ensures most { result.taken ≤ 64 * length lanes.old }
 {
     let Some((lane, others)) = lanes.split_first_mut() else {
@@ -84,11 +96,11 @@ pub(crate) fn take_parts(
             stopped: false,
         };
     };
-    let part = take_part(alloc, engine, lane);
+    let part = take_part(rt, alloc, recorder, lane);
     if part.stopped {
         return part;
     }
-    let rest = take_parts(alloc, engine, others);
+    let rest = take_parts(rt, alloc, recorder, others);
     Part {
         taken: part.taken + rest.taken,
         stopped: rest.stopped,

@@ -1,7 +1,7 @@
 //! What is left once a station is closed.
 
-ghost use Rattle.std.specs.Prelude.{◌≡◌, ◌≢◌, ℕ, [], ◌∷◌, All, IfSome, IfNone};
-ghost use Rattle.station.specs.Stations.{left_in, numbers_in, HasNoTwin, IsEndIn};
+ghost use Rattle.std.specs.Prelude.{◌≡◌, ◌≢◌, ℕ, [], ◌∷◌, length, All, IfSome, IfNone};
+ghost use Rattle.station.specs.Stations.{left_in, is_within, numbers_in, HasNoTwin, IsEndIn};
 ghost use Rattle.station.specs.Closings.{EndedOne, AreEnded};
 
 use console_link::{Finished, Lane};
@@ -55,6 +55,22 @@ fn next_left_in(lanes: &mut [Lane<Order, Reply>], console: u32) -> Option<Order>
     }
 }
 
+/// Whether the console of a number has ended, and saw at most so many events.
+fn is_within(lanes: &[Lane<Order, Reply>], console: u32, events: u64) -> bool
+    ensures { result ≡ is_within console events lanes.now }
+{
+    let Some((lane, others)) = lanes.split_first() else {
+        return false;
+    };
+    if lane.number() != console {
+        return is_within(others, console, events);
+    }
+    match lane.seen() {
+        Some(seen) => seen <= events,
+        None => false,
+    }
+}
+
 impl<C: Drop> Closing<C> {
     /// The engine.
     pub fn engine(&self) -> &Engine
@@ -71,6 +87,13 @@ impl<C: Drop> Closing<C> {
         ensures engine { self.new.engine ≡ self.old.engine }
     {
         next_left_in(self.lanes.as_mut_slice(), console)
+    }
+
+    /// Whether the console of a number saw no more events on the board than the history has; `false` where that console's end wasn't handed in.
+    pub fn within(&self, console: u32) -> bool
+        ensures { result ≡ is_within console (length self.now.engine.history) self.now.lanes.items }
+    {
+        is_within(self.lanes.as_slice(), console, self.engine.events())
     }
 
     /// Gives the crew back.

@@ -1,26 +1,31 @@
-//! A station: an engine with consoles in threads of their own.
+//! A station: an engine with consoles in threads of their own, a board that they look at, and an archive that other threads read.
 //!
 //! The thread that owns a station calls `turn`: a scan, and then the orders that wait in the consoles' rings. Each of them is an event of the one
-//! history, and its reply goes into its console's ring. No console waits for the owner, and the owner waits for no console.
+//! history and of the archive's, is shown on the board, and its reply goes into its console's ring. No console waits for the owner. The owner waits, at
+//! each event, for who reads the archive, and for a console that holds a view of the board while two events are shown.
 //!
-//! Contracts see a station as its engine and its lanes, the owner's ends of the consoles' rings. Each lane has taken just the orders that the
-//! history has of its console, and has given their replies; `close` says so of what each console submitted and took.
+//! Contracts see a station as its recorder and its lanes, the owner's ends of the consoles' rings. The recorder has the engine, a share of a ledger,
+//! which counts the events of the engine and of the archive, and the board, which shows the engine's history. Each lane has taken just the orders that
+//! the history has of its console, and has given their replies; `close` says so of what each console submitted and took.
 #![tactic(auto)]
 
 mod answering;
 mod closing;
 mod laws;
 mod opening;
+mod recorder;
 mod station;
 
+pub use archive::{Archive, Book};
 pub use closing::Closing;
 pub use console_link::Answer;
 pub use laws::consoles_stay;
 pub use opening::StationFault;
+pub use operator_console::BoardView;
 pub use station::{Station, Turn};
 
 /// An operator's console, which may go to a thread of its own.
-pub type Console = console_link::Console<engine::Order, engine::Reply>;
+pub type Console = operator_console::Console<engine::Order, engine::Reply>;
 
 /// A console that has ended.
 pub type Finished = console_link::Finished<engine::Order, engine::Reply>;

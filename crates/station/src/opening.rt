@@ -1,18 +1,21 @@
-//! How the rings of a plant's consoles are made.
+//! How a plant's consoles are made.
 
-ghost use Rattle.std.specs.Prelude.{IfOk};
-ghost use Rattle.station.specs.Stations.{numbers_of, AreOpened};
+ghost use Rattle.std.specs.Prelude.{◌≡◌, IfOk, All};
+ghost use Rattle.boards.specs.Readers.{published, pending};
+ghost use Rattle.station.specs.Stations.{numbers_of, links_of, AreOpened, HasNotLooked};
 
-use console_link::{Console, Lane, open};
+use boards::BoardWriter;
+use console_link::{Lane, open};
 use engine::{Order, Reply};
-use std::alloc::{AllocError, Global};
+use operator_console::Console;
+use std::alloc::{AllocError, AllocFailed, Global};
 
 /// Why there is no station.
 #[derive(Clone, Copy, Debug, PartialEq, Eq)]
 pub enum StationFault {
     /// Allocation failed.
     Memory,
-    /// A ring or a reader of the board wasn't given.
+    /// A console's reader of the board wasn't given.
     Ends,
 }
 
@@ -27,24 +30,41 @@ impl From<AllocError> for StationFault {
     }
 }
 
+impl<T: Drop> From<AllocFailed<T>> for StationFault {
+    ghost use Rattle.std.specs.Prelude.{◌≡◌};
+    ghost use Rattle.station.specs.declared.opening.StationFault.TheVariants.{Memory};
+
+    ghost from_gives = { λ _ e. e ≡ Memory };
+
+    fn from(_refused: AllocFailed<T>) -> StationFault {
+        StationFault::Memory
+    }
+}
+
 /// A plant's consoles, in order.
-type Consoles = Vec<Console<Order, Reply>>;
+pub(crate) type Consoles = Vec<Console<Order, Reply>>;
 
 /// The owner's ends of their rings, in the same order.
-type Lanes = Vec<Lane<Order, Reply>>;
+pub(crate) type Lanes = Vec<Lane<Order, Reply>>;
 
-/// A console and a lane for each that a plant lists, in order. Fails if allocation fails.
+/// A console and a lane for each that a plant lists, in order. Each console's reader is told of the board as it is.
 pub(crate) fn open_lanes(
     alloc: Global,
     listed: &[engine::Console],
-) -> Result<(Consoles, Lanes), AllocError>
-    ensures { IfOk result (λ r. AreOpened (numbers_of listed.now) r.0.items r.1.items) }
+    board: &mut BoardWriter,
+) -> Result<(Consoles, Lanes), StationFault>
+    ensures same { (published board.new ≡ published board.old) × (pending board.new ≡ pending board.old) }
+    ensures opened { IfOk result (λ r. AreOpened (numbers_of listed.now) (links_of r.0.items) r.1.items) }
+    ensures looks { IfOk result (λ r. All (HasNotLooked (published board.old)) r.0.items) }
 {
     let mut consoles = Vec::new(alloc);
     let mut lanes = Vec::new(alloc);
     for row in listed {
-        let (console, lane) = open(alloc, row.number)?;
-        consoles.push(console)?;
+        let (link, lane) = open(alloc, row.number)?;
+        let Ok(reader) = board.reader() else {
+            return Err(StationFault::Ends);
+        };
+        consoles.push(Console::new(link, reader))?;
         lanes.push(lane)?;
     }
     Ok((consoles, lanes))

@@ -1,19 +1,23 @@
 //! The station: its public calls.
 
-ghost use Rattle.std.specs.Prelude.{◌≡◌, ◌≤◌, ℕ, [], length, map, All, IfOk, IfErr, OnErr};
+ghost use Rattle.std.specs.Prelude.{◌≡◌, ◌<◌, ◌≤◌, ℕ, [], length, map, All, IfOk, IfErr, OnErr};
 ghost use Rattle.plant_system.specs.Faults.{faults_by};
-ghost use Rattle.plant_system.specs.Image.{IsDue};
-ghost use Rattle.plant_system.specs.System.{scan_event};
-ghost use Rattle.engine.specs.Engines.{state_of};
 ghost use Rattle.station.specs.Parts.{answers_of};
-ghost use Rattle.station.specs.Stations.{numbers_of, numbers_in, left_in, finished_of, HasNoTwin, AgreesWith, IsConsoleIn, IsEndIn, IsFresh, IsTurn, IsClosed, KeepsConsoles};
+ghost use Rattle.station.specs.Records.{IsScanDue};
+ghost use Rattle.station.specs.Stations.{numbers_of, numbers_in, left_in, finished_of, HasNoTwin, AgreesWith, IsConsoleIn, IsEndIn, IsFresh, IsTurn, IsClosed, KeepsConsoles, HasNotLooked, links_of, is_within, has_seen_within};
+ghost use Rattle.board_entries.specs.Entries.{history_story};
 
 use crate::answering::take_parts;
 use crate::closing::{Closing, end_lanes};
-use crate::opening::{StationFault, open_lanes};
-use console_link::{Console, Finished, Lane};
+use crate::opening::StationFault;
+use crate::recorder::Recorder;
+use archive::Archive;
+use console_link::{Finished, Lane};
 use engine::{Crew, Done, Engine, EngineFault, Job, Order, Pair, Plant, Reply, Report, Start};
+use operator_console::Console;
 use std::alloc::Global;
+use std::sync::ledger::{Blank, Ledger};
+use std::sync::{Arc, Wait};
 
 /// What a turn did.
 #[derive(Drop)]
@@ -26,64 +30,82 @@ pub struct Turn {
     pub stopped: bool,
 }
 
-/// An engine, the crew that runs its programs, and the owner's ends of the rings of its consoles.
-#[derive(Drop)]
-pub struct Station<C> {
-    engine: Engine,
+/// An engine whose events are recorded in an archive, the crew that runs its programs, and the owner's ends of the rings of its consoles. `L` is the ledger
+/// that counts the events.
+///
+/// It is not `Drop`: end it by `close`.
+pub struct Station<L: Ledger, C> {
+    recorder: Recorder<L>,
     crew: C,
     lanes: Vec<Lane<Order, Reply>>,
-    ghost listed: { numbers_in lanes.items ≡ numbers_of engine.plant.consoles },
+    ghost listed: { numbers_in lanes.items ≡ numbers_of recorder.engine.plant.consoles },
     ghost once: { HasNoTwin (numbers_in lanes.items) },
     ghost few: { length lanes.items ≤ 32 },
-    ghost agree: { All (AgreesWith engine.plant engine.history) lanes.items },
+    ghost agree: { All (AgreesWith recorder.engine.plant recorder.engine.history) lanes.items },
 }
 
-impl<C: Drop> Station<C> {
-    /// The station of a plant before the first event, and a console for each that the plant lists, in the same order. Fails if allocation fails;
-    /// the plant and the crew are then gone.
-    pub fn new<H>(
-        _rt: &H,
+impl<L: Ledger, C: Drop> Station<L, C> {
+    /// The station of a plant before the first event, and a console for each that the plant lists, in the same order. Its archive is before the
+    /// first event too. The blank is that of the ledger `L`. Each console has a reader of the board, which
+    /// shows the plant before the first event. Fails if allocation fails, or a reader isn't given; the plant and the crew are then gone.
+    pub fn new<H: Wait>(
+        rt: &H,
         alloc: Global,
         plant: Plant,
         crew: C,
-    ) -> Result<(Station<C>, Vec<Console<Order, Reply>>), StationFault>
-        ensures engine { IfOk result (λ r. (r.0.engine.plant ≡ plant) × (r.0.engine.history ≡ [])) }
-        ensures listed { IfOk result (λ r. map (λ c. c.number) r.1.items ≡ numbers_of plant.consoles) }
-        ensures consoles { IfOk result (λ r. All (IsConsoleIn r.0.lanes.items) r.1.items) }
-        ensures fresh { IfOk result (λ r. All IsFresh r.1.items) }
+        blank: Blank,
+    ) -> Result<(Station<L, C>, Vec<Console<Order, Reply>>), StationFault>
+        requires name { blank.name ≡ L.name }
+        requires parts { (blank.parts ≡ L.parts) × (0 < L.parts) }
+        ensures engine { IfOk result (λ r. (r.0.recorder.engine.plant ≡ plant) × (r.0.recorder.engine.history ≡ [])) }
+        ensures whole { IfOk result (λ r. r.0.recorder.share.parts ≡ L.parts) }
+        ensures listed { IfOk result (λ r. map (λ c. c.number) (links_of r.1.items) ≡ numbers_of plant.consoles) }
+        ensures consoles { IfOk result (λ r. All (IsConsoleIn r.0.lanes.items) (links_of r.1.items)) }
+        ensures fresh { IfOk result (λ r. All IsFresh (links_of r.1.items)) }
+        ensures looks { IfOk result (λ r. All (HasNotLooked (history_story plant [])) r.1.items) }
     {
-        let opened = open_lanes(alloc, plant.consoles());
-        let Ok((consoles, lanes)) = opened else {
-            drop(plant);
+        let Ok(mut recorder) = Recorder::new(rt, alloc, plant, blank) else {
             return Err(StationFault::Memory);
         };
-        match Engine::new(alloc, plant) {
-            Ok(engine) => Ok((
+        match recorder.open_lanes(alloc) {
+            Ok((consoles, lanes)) => Ok((
                 Station {
-                    engine,
+                    recorder,
                     crew,
                     lanes,
                 },
                 consoles,
             )),
-            Err(_) => Err(StationFault::Memory),
+            Err(fault) => {
+                drop(recorder.into_engine(rt));
+                Err(fault)
+            }
         }
     }
 
     /// The engine.
     pub fn engine(&self) -> &Engine
-        ensures { result.now ≡ self.now.engine }
+        ensures { result.now ≡ self.now.recorder.engine }
     {
-        &self.engine
+        &self.recorder.engine
+    }
+
+    /// The archive, which other threads may read. Its book has as many events as the engine whenever nobody has its lock.
+    pub fn archive(&self) -> &Arc<Archive<L>> {
+        self.recorder.archive()
     }
 
     /// A scan, and then the orders that wait, console by console as the plant lists them, at most 64 of each. The scan is refused as the engine
-    /// refuses it, and then no order is taken and nothing changes.
+    /// refuses it, or where the archive refuses it, and then no order is taken and nothing changes.
+    ///
+    /// For each event, the scan too, the archive's lock is taken; the event is made ready in the engine and in the archive, and its entry laid by for the
+    /// board; then it is committed in both, the lock is given back, and the board is shown. An answer goes into its ring after that. A console that
+    /// holds a view of the board keeps the turn waiting once two events were shown since.
     ///
     /// Each order that is taken is an event of the history, also where it is refused by its reply, and its answer goes into its console's ring. A
     /// console's part ends where no order is known to wait or no place for an answer is known to be free. An order for which memory is
     /// refused, or which finds the history full, stays in its ring, unanswered and no event; then the turn is over, and `stopped`.
-    pub fn turn<H>(
+    pub fn turn<H: Wait>(
         &mut self,
         rt: &H,
         alloc: Global,
@@ -93,14 +115,17 @@ impl<C: Drop> Station<C> {
     where
         C: Crew<Job, Start, Done, H>,
         requires asked { C.asks }
-        ensures ok { IfOk result (λ t. IsTurn self.old.engine self.new.engine self.old.lanes.items self.new.lanes.items pairs.now moment t.report t.taken t.stopped) }
-        ensures err { IfErr result (λ e. IsDue e (scan_event (state_of self.old.engine) pairs.now moment)) }
-        ensures kept { OnErr result ((self.new.engine.plant ≡ self.old.engine.plant) × (self.new.engine.history ≡ self.old.engine.history) × (self.new.lanes ≡ self.old.lanes)) }
+        ensures ok { IfOk result (λ t. IsTurn self.old.recorder.engine self.new.recorder.engine self.old.lanes.items self.new.lanes.items pairs.now moment t.report t.taken t.stopped) }
+        ensures err { IfErr result (λ e. IsScanDue (self.old.recorder.share.parts ≡ L.parts) e self.old.recorder.engine pairs.now moment) }
+        ensures kept { OnErr result ((self.new.recorder.engine.plant ≡ self.old.recorder.engine.plant) × (self.new.recorder.engine.history ≡ self.old.recorder.engine.history) × (self.new.lanes ≡ self.old.lanes)) }
         ensures crew { C.faulted self.new.crew ≡ faults_by (C.faulted self.old.crew) result }
         ensures consoles { KeepsConsoles self.old.lanes.items self.new.lanes.items }
+        ensures share { self.new.recorder.share.parts ≡ self.old.recorder.share.parts }
     {
-        let report = self.engine.scan(rt, alloc, &mut self.crew, pairs, moment)?;
-        let part = take_parts(alloc, &mut self.engine, self.lanes.as_mut_slice());
+        let report = self
+            .recorder
+            .scan(rt, alloc, &mut self.crew, pairs, moment)?;
+        let part = take_parts(rt, alloc, &mut self.recorder, self.lanes.as_mut_slice());
         Ok(Turn {
             report,
             taken: part.taken,
@@ -111,20 +136,21 @@ impl<C: Drop> Station<C> {
     /// Ends the station, once its consoles have ended: the orders that the history has of a console, followed by those that are left, are all that it
     /// submitted, each once and in order, and the answers that it took are the first of those that the history has of it. Of two
     /// ended consoles of one number, which no station has, the first counts.
-    pub fn close<H>(self, _rt: &H, finished: Vec<Finished<Order, Reply>>) -> Closing<C>
+    pub fn close<H: Wait>(self, rt: &H, finished: Vec<Finished<Order, Reply>>) -> Closing<C>
         requires { All (IsEndIn self.lanes.items) finished.items }
-        ensures engine { result.engine ≡ self.engine }
+        ensures engine { result.engine ≡ self.recorder.engine }
         ensures crew { result.crew ≡ self.crew }
-        ensures closed { (n : ℕ) → IsClosed (answers_of n self.engine.plant self.engine.history) (left_in n result.lanes.items) (finished_of n finished.items) }
+        ensures closed { (n : ℕ) → IsClosed (answers_of n self.recorder.engine.plant self.recorder.engine.history) (left_in n result.lanes.items) (finished_of n finished.items) }
+        ensures within { (n : ℕ) → is_within n (length self.recorder.engine.history) result.lanes.items ≡ has_seen_within (length self.recorder.engine.history) (finished_of n finished.items) }
     {
         let Station {
-            engine,
+            recorder,
             crew,
             mut lanes,
         } = self;
         end_lanes(lanes.as_mut_slice(), finished);
         Closing {
-            engine,
+            engine: recorder.into_engine(rt),
             crew,
             lanes,
         }

@@ -4,6 +4,7 @@ use Rattle.station.specs.Turns.{Took}
 use Rattle.station.proofs.answering.take_part.Given as goal
 
 abbrev pub invariant-loop : goal.invariant-loop
-invariant-loop l =
-    (orders : List Order) × Took l.fn.engine.plant l.fn.lane l.lane l.fn.engine.history l.engine.history orders × (length orders ≡ l.taken) × (l.taken ≡ l.counter)
-    × (l.engine.plant ≡ l.fn.engine.plant)
+invariant-loop g l =
+    (orders : List Order) × Took l.fn.recorder.engine.plant l.fn.lane l.lane l.fn.recorder.engine.history l.recorder.engine.history orders × (length orders ≡ l.taken) × (l.taken ≡ l.counter)
+    × (l.recorder.engine.plant ≡ l.fn.recorder.engine.plant)
+    × (l.recorder.share.parts ≡ l.fn.recorder.share.parts)

@@ -1,0 +1,15 @@
+use Rattle.std.proofs.Common.{◌≡◌, ap, ◌∙◌, subst}
+use Rattle.plant_config.specs.Plants.{PlainPlant, IsPlant}
+use Rattle.plant_system.proofs.Systems.{system_keeps_its_plant}
+use Rattle.boards.specs.Readers.{published}
+use Rattle.station.proofs.Openings.{consoles_opened}
+use Rattle.station.proofs.recorder.Recorder.open_lanes.Goals as goal
+
+pub returns-clause-opened : goal.returns-clause-opened
+returns-clause-opened g c =
+    let s = c.args.self.now in
+    let e = s.engine in
+    let own : c.plant.result.now ≡ e.plant = c.plant.ensures ∙ system_keeps_its_plant e.plant e.history in
+    let is : IsPlant e.plant = subst (λ (p : PlainPlant). IsPlant p) own c.consoles.ensures.plant in
+    consoles_opened c.open_lanes.result (λ r. r.0.items) (λ r. r.1.items) e.plant e.history c.consoles.result.now (published s.board) (c.consoles.ensures.consoles ∙ ap (λ (p : PlainPlant). p.consoles) own) is s.shown.published_is
+    c.open_lanes.ensures.opened c.open_lanes.ensures.looks
