@@ -1,0 +1,39 @@
+-- Worked examples: what rows tell, and where a record ends.
+use Rattle.std.proofs.Common.{◌≡◌, ℕ, true, false, List, [], ◌∷◌, ◌++◌, map, refl, None}
+use Rattle.std.specs.Prelude.{codes}
+use Rattle.alarm_machine.specs.declared.states.Code.TheVariants.{Norm, Unack, Acked, Oos}
+use Rattle.alarm_machine.specs.declared.states.Verb.TheVariants as verb
+use Rattle.engine.specs.Journal.{NamedRow, ChangeOf, OrderBy, rows_from}
+use Rattle.serving.specs.Requests.{Request, requests_of}
+use Rattle.history_laws.specs.Told.{last_code}
+use Rattle.history_laws.specs.Records.{ends_at_line}
+
+-- alarm 0 comes, an order acknowledges it, and alarm 1 is taken out of service
+abbrev rows : List NamedRow
+rows =
+    rows_from 1 7
+    (ChangeOf 0 (record { from = Norm; to = Unack })
+    ∷ OrderBy 1 (record { verb = verb.Ack; target = None }) None
+    ∷ ChangeOf 0 (record { from = Unack; to = Acked })
+    ∷ ChangeOf 1 (record { from = Norm; to = Oos })
+    ∷ [])
+
+codes_of_rows : map (λ n. last_code n rows) (0 ∷ 1 ∷ 2 ∷ []) ≡ Acked ∷ Oos ∷ Norm ∷ []
+codes_of_rows = refl
+
+-- a line with its LF ends there, one without doesn't
+whole : ends_at_line (codes "list" ++ 10 ∷ []) ≡ true
+whole = refl
+
+torn : ends_at_line (codes "list") ≡ false
+torn = refl
+
+-- so what follows a torn line belongs to it
+abbrev asked : List ℕ → List (List ℕ)
+asked input = map (λ (r : Request). r.line) (requests_of input)
+
+cut_at_line : asked ((codes "list" ++ 10 ∷ []) ++ codes "ack") ≡ codes "list" ∷ codes "ack" ∷ []
+cut_at_line = refl
+
+cut_within : asked (codes "li" ++ (codes "st" ++ 10 ∷ [])) ≡ codes "list" ∷ []
+cut_within = refl
