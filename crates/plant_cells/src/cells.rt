@@ -41,6 +41,15 @@ impl Cells {
         Cells { values, clocks }
     }
 
+    /// The values and the clocks. It copies nothing.
+    pub fn into_parts(self) -> (Vec<i64>, Vec<Clock>)
+        ensures values { result.0.items ≡ self.values }
+        ensures clocks { result.1.items ≡ self.clocks }
+    {
+        let Cells { values, clocks } = self;
+        (values, clocks)
+    }
+
     /// The number of values.
     pub fn len(&self) -> usize
         ensures { result ≡ length self.now.values }
