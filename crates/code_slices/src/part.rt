@@ -99,12 +99,14 @@ pub fn relocate(
     })
 }
 
-/// The values of slots in a row of them. Fails if memory was refused.
-fn picked_values(alloc: Global, slots: &[u32], values: &[i64]) -> Result<Vec<i64>, AllocError>
+/// The values of slots in a row of them, in the room of other values. Fails if memory was refused.
+fn picked_values(slots: &[u32], values: &[i64], room: Vec<i64>) -> Result<Vec<i64>, AllocError>
     requires { (i s : ℕ) → slice_get slots.now i ≡ Some s → s < length values.now }
     ensures { IfOk result (λ v. v.items ≡ map (λ s. slice_index_or values.now s (pos 0)) slots.now) }
 {
-    let mut picked = Vec::with_capacity(alloc, slots.len())?;
+    let mut picked = room;
+    picked.clear();
+    picked.reserve(slots.len())?;
     for slot in slots {
         picked.push(values[*slot as usize])?;
     }
@@ -120,12 +122,18 @@ fn picked_clock(clocks: &[Clock], number: u32) -> Clock
     clocks[number as usize]
 }
 
-/// The clocks of numbers in a row of them. Fails if memory was refused.
-fn picked_clocks(alloc: Global, numbers: &[u32], clocks: &[Clock]) -> Result<Vec<Clock>, AllocError>
+/// The clocks of numbers in a row of them, in the room of other clocks. Fails if memory was refused.
+fn picked_clocks(
+    numbers: &[u32],
+    clocks: &[Clock],
+    room: Vec<Clock>,
+) -> Result<Vec<Clock>, AllocError>
     requires { (i k : ℕ) → slice_get numbers.now i ≡ Some k → k < length clocks.now }
     ensures { IfOk result (λ v. v.items ≡ map (λ k. slice_index_or clocks.now k (clock_of Standard.Ton [])) numbers.now) }
 {
-    let mut picked = Vec::with_capacity(alloc, numbers.len())?;
+    let mut picked = room;
+    picked.clear();
+    picked.reserve(numbers.len())?;
     for number in numbers {
         picked.push(picked_clock(clocks, *number))?;
     }
@@ -162,13 +170,15 @@ impl Part {
         self.clocks.as_slice()
     }
 
-    /// The part's cells, with the values and clocks that they have among all of them. Fails if memory was refused.
-    pub fn load(&self, alloc: Global, values: &[i64], clocks: &[Clock]) -> Result<Cells, AllocError>
+    /// The part's cells, with the values and clocks that they have among all of them, in the room of other cells. It allocates nothing where that
+    /// is large enough. Fails if memory was refused.
+    pub fn load(&self, values: &[i64], clocks: &[Clock], room: Cells) -> Result<Cells, AllocError>
         requires { HasPart self.now (record { values = values.now; clocks = clocks.now }) }
         ensures { IfOk result (λ cells. cells ≡ loaded self.now (record { values = values.now; clocks = clocks.now })) }
     {
-        let values = picked_values(alloc, self.slots(), values)?;
-        let clocks = picked_clocks(alloc, self.clocks(), clocks)?;
+        let (values_room, clocks_room) = room.into_parts();
+        let values = picked_values(self.slots(), values, values_room)?;
+        let clocks = picked_clocks(self.clocks(), clocks, clocks_room)?;
         Ok(Cells::new(values, clocks))
     }
 

@@ -198,7 +198,10 @@ impl Done {
             result: _,
             stack,
         } = self;
-        drop(start);
-        Spare { cells, stack }
+        Spare {
+            start: Some(start),
+            cells,
+            stack,
+        }
     }
 }

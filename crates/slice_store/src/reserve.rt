@@ -4,13 +4,17 @@ ghost use Rattle.std.specs.Prelude.{◌≡◌, ◌≤◌, [], length, IfOk};
 
 use crate::done::Done;
 use crate::matching::Out;
+use crate::start::Start;
 use plant_cells::Cells;
 use std::alloc::{AllocError, Global};
 use std::mem::{replace, swap};
+use std::sync::Arc;
 
 /// Memory of a job that has ended. What it holds doesn't matter.
 #[derive(Drop)]
 pub(crate) struct Spare {
+    /// For where a job starts.
+    pub(crate) start: Option<Arc<Start>>,
     /// For the cells of a run.
     pub(crate) cells: Cells,
     /// For the stack of a run.
@@ -29,6 +33,7 @@ pub struct Reserve {
 /// No memory yet.
 fn empty_spare(alloc: Global) -> Spare {
     Spare {
+        start: None,
         cells: Cells::new(Vec::new(alloc), Vec::new(alloc)),
         stack: Vec::new(alloc),
     }

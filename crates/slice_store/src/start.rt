@@ -73,6 +73,20 @@ impl Start {
         &self.cells
     }
 
+    /// The part's cells as they were. It copies nothing.
+    pub(crate) fn into_cells(self) -> Cells
+        ensures { result ≡ self.cells }
+    {
+        let Start {
+            number: _,
+            part,
+            moment: _,
+            cells,
+        } = self;
+        drop(part);
+        cells
+    }
+
     /// Whether another start is the same.
     pub fn same(&self, other: &Start) -> bool
         ensures { IsTrue result ↔ (self.now ≡ other.now) }

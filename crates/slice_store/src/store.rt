@@ -66,16 +66,56 @@ fn start_of(number: u32, part: &Arc<Part>, moment: u64, cells: Cells) -> Result<
     Ok(Start::new(number, part, moment, cells))
 }
 
-/// The job that starts there, in the memory of an earlier one. Fails if memory was refused.
-fn begin(alloc: Global, start: Start, spare: Spare) -> Result<Job, AllocError>
-    ensures { IfOk result (λ job. job ≡ start) }
+/// Puts a start in the place of an earlier one, whose cells it returns; if somebody else holds that too, the start comes back.
+fn put_in_place(place: &mut Arc<Start>, start: Start) -> Result<Cells, Start>
+    ensures put { OnOk result (arc_value place.new ≡ start) }
+    ensures back { IfErr result (λ same. same ≡ start) }
 {
-    let Spare { cells, stack } = spare;
-    let stack = widened(stack, start.part().code().stack())?;
-    let own = copied(alloc, start.cells(), cells)?;
+    match Arc::get_mut(place) {
+        Some(there) => Ok(replace(there, start).into_cells()),
+        None => Err(start),
+    }
+}
+
+/// A start that threads may share, and room for cells, none yet. Fails if memory was refused.
+fn shared_anew(alloc: Global, start: Start) -> Result<(Arc<Start>, Cells), AllocError>
+    ensures { IfOk result (λ r. arc_value r.0 ≡ start) }
+{
     let Ok(start) = Arc::new(alloc, start) else {
         return Err(AllocError);
     };
+    Ok((start, Cells::new(Vec::new(alloc), Vec::new(alloc))))
+}
+
+/// A start that threads may share, in the place of an earlier one that nobody else holds, and room for cells. Fails if memory was refused.
+fn shared_start(
+    alloc: Global,
+    start: Start,
+    place: Option<Arc<Start>>,
+) -> Result<(Arc<Start>, Cells), AllocError>
+    ensures { IfOk result (λ r. arc_value r.0 ≡ start) }
+{
+    let Some(mut place) = place else {
+        return shared_anew(alloc, start);
+    };
+    match put_in_place(&mut place, start) {
+        Ok(room) => Ok((place, room)),
+        Err(start) => shared_anew(alloc, start),
+    }
+}
+
+/// The job that starts there, in the place of an earlier start and with the stack of an earlier run. Fails if memory was refused.
+fn begin(
+    alloc: Global,
+    start: Start,
+    place: Option<Arc<Start>>,
+    stack: Vec<i64>,
+) -> Result<Job, AllocError>
+    ensures { IfOk result (λ job. job ≡ start) }
+{
+    let stack = widened(stack, start.part().code().stack())?;
+    let (start, room) = shared_start(alloc, start, place)?;
+    let own = copied(alloc, start.cells(), room)?;
     Ok(Job::new(start, own, stack))
 }
 
@@ -102,6 +142,23 @@ fn no_ticks(many: usize, room: Vec<bool>) -> Result<Vec<bool>, AllocError>
 }
 
 impl Store {
+    /// A store of the values and clocks of all programs, and of which programs are faulted, at a moment in milliseconds. No job is out. It
+    /// allocates nothing.
+    pub fn of(alloc: Global, cells: Cells, faulted: Vec<bool>, moment: u64) -> Store
+        ensures { result ≡ record { cells = cells; faulted = faulted.items; moment = moment; out = [] } }
+    {
+        let (values, clocks) = cells.into_parts();
+        Store {
+            values,
+            clocks,
+            faulted,
+            moment,
+            out: Vec::new(alloc),
+            ticks: Vec::new(alloc),
+            reserve: Reserve::new(alloc),
+        }
+    }
+
     /// A store that holds a copy of the values and clocks of all programs, and of which programs are faulted, at a moment in milliseconds. No job
     /// is out. Fails if memory was refused.
     pub fn new(
@@ -112,18 +169,9 @@ impl Store {
     ) -> Result<Store, AllocError>
         ensures { IfOk result (λ store. store ≡ record { cells = cells.now; faulted = faulted.now; moment = moment; out = [] }) }
     {
-        let values = Vec::from_slice(alloc, cells.as_slice())?;
-        let clocks = Vec::from_slice(alloc, cells.clocks())?;
-        let faulted = Vec::from_slice(alloc, faulted)?;
-        Ok(Store {
-            values,
-            clocks,
-            faulted,
-            moment,
-            out: Vec::new(alloc),
-            ticks: Vec::new(alloc),
-            reserve: Reserve::new(alloc),
-        })
+        let copy = cells.copy(alloc)?;
+        let flags = Vec::from_slice(alloc, faulted)?;
+        Ok(Store::of(alloc, copy, flags, moment))
     }
 
     /// Lends the store memory of earlier jobs.
@@ -214,10 +262,14 @@ impl Store {
         ensures { IfOk result (λ job. job ≡ begun (program + 1) (arc_value part.now) self.now.moment self.now.cells) }
     {
         let number = program as u32 + 1;
-        let spare = reserve.take(alloc, number)?;
-        let cells = part.load(alloc, self.values(), self.clocks())?;
+        let Spare {
+            start: place,
+            cells: room,
+            stack,
+        } = reserve.take(alloc, number)?;
+        let cells = part.load(self.values(), self.clocks(), room)?;
         let start = start_of(number, part, self.moment(), cells)?;
-        let job = begin(alloc, start, spare)?;
+        let job = begin(alloc, start, place, stack)?;
         Ok(job)
     }
 
