@@ -2,7 +2,9 @@
 """count.py PROGRAM [LINES]: how many allocations the built program takes for a line of each kind, on its built-in plant; and for a scan by workers, on plants of many programs.
 
 Each kind of line is given to the program so many times and twice as often; the difference of the two counts, divided by the number of lines, is what one line takes. So what the program
-takes at its beginning is not in it, and vectors that grow (history, journal) show as a part of an allocation. Scans by workers are a tenth as many. Needs gcc."""
+takes at its beginning is not in it, and vectors that grow (history, journal) show as a part of an allocation. Scans by workers are a tenth as many. Needs gcc.
+
+Allocations are counted by a library in the place of malloc (count.c), so the program has to be linked with the C library as a shared one, as LLVM's builds are. Of any other it counts none, and says so."""
 import os
 import subprocess
 import sys
@@ -56,8 +58,16 @@ def plant(folder, programs, turns):
 def count(program, preload, lines, words=()):
     """The allocations of a run on lines, with these words behind the program's name."""
     given = "".join(f"{line}\n" for line in lines).encode()
-    ran = subprocess.run([program, *words], input=given, stdout=subprocess.DEVNULL, stderr=subprocess.PIPE, env={**os.environ, "LD_PRELOAD": preload}, check=True)
-    return int(ran.stderr.rsplit(b"allocations ", 1)[1])
+    with tempfile.NamedTemporaryFile() as counter:
+        counter.write(bytes(8))
+        counter.flush()
+        counted = {**os.environ, "LD_PRELOAD": preload, "COUNT_FILE": counter.name}
+        subprocess.run([program, *words], input=given, stdout=subprocess.DEVNULL, env=counted, check=True)
+        with open(counter.name, "rb") as file:
+            number = int.from_bytes(file.read(8), sys.byteorder)
+    if number == 0:
+        sys.exit(f"{program} doesn't allocate by the C library's malloc, or is linked with it statically: nothing can be counted")
+    return number
 
 
 def main():
