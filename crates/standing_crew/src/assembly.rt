@@ -5,19 +5,19 @@ ghost use Rattle.standing_crew.specs.Assembled.{HasStranger, HasDouble, IsTicked
 
 use crate::Begun;
 use crew::{CrewFault, Work};
-use std::alloc::Global;
 
 /// The runs that came back, where there is one of each job that was handed out, in any order. `Misfit` where one is of no job that was handed
-/// out, or comes twice; else `Lost` where one is missing.
+/// out, or comes twice; else `Lost` where one is missing. It ticks them off in a list, whatever that holds.
 pub fn assemble<J: Work<S, D>, S, D: Drop>(
-    alloc: Global,
     starts: &[Begun<S>],
     got: Vec<D>,
+    ticks: &mut Vec<bool>,
 ) -> Result<Vec<D>, CrewFault>
     requires { IsDistinct starts.now }
     ensures { MatchResult result (λ runs. (runs ≡ got) × IsEachOnce starts.now (map J.ended_from got.items)) (λ fault. IsCollectFault starts.now (map J.ended_from got.items) fault) }
 {
-    let Ok(mut ticks) = vec![in alloc; false; starts.len()] else {
+    ticks.clear();
+    let Ok(()) = ticks.resize(starts.len(), false) else {
         return Err(CrewFault::Memory);
     };
     match match_up::<J, S, D>(starts, got.as_slice(), ticks.as_mut_slice()) {

@@ -13,6 +13,7 @@ use crew::{Crew, CrewFault, Gate, Work};
 use crossbeam_channel::{Receiver, SendError, Sender};
 use std::alloc::Global;
 use std::marker::Model;
+use std::mem::replace;
 use std::sync::{Arc, Wait};
 use std::thread;
 use std::thread::{JoinHandle, Threads};
@@ -32,6 +33,7 @@ pub struct Standing<J, S, D, G> {
     gate: Arc<G>,
     least: u64,
     starts: Vec<Begun<S>>,
+    ticks: Vec<bool>,
     round: u64,
     lost: bool,
     faults: u64,
@@ -114,6 +116,7 @@ impl<
             gate,
             least,
             starts: Vec::new(alloc),
+            ticks: Vec::new(alloc),
             round: 0,
             lost: false,
             faults: 0,
@@ -250,12 +253,13 @@ impl<J: Work<S, D>, S: Drop, D: Drop, G: Gate> Standing<J, S, D, G> {
             return self.run_alone(alloc, jobs);
         }
         self.round += 1;
-        let Ok(starts) = starts_of::<J, S, D>(alloc, jobs.as_slice()) else {
+        let room = replace(&mut self.starts, Vec::new(alloc));
+        let Ok(starts) = starts_of::<J, S, D>(jobs.as_slice(), room) else {
             return Err(CrewFault::Memory);
         };
         self.starts = starts;
         let answer = match self.exchange(rt, alloc, jobs) {
-            Ok(got) => assemble::<J, S, D>(alloc, self.starts.as_slice(), got),
+            Ok(got) => assemble::<J, S, D>(self.starts.as_slice(), got, &mut self.ticks),
             Err(fault) => Err(fault),
         };
         self.starts.clear();

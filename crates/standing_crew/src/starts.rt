@@ -3,7 +3,7 @@ ghost use Rattle.std.specs.Prelude.{◌≡◌, IfOk, map};
 ghost use Rattle.std.specs.Arc.{arc_value};
 
 use crew::Work;
-use std::alloc::{AllocError, Global};
+use std::alloc::AllocError;
 use std::marker::Model;
 use std::sync::Arc;
 
@@ -37,14 +37,16 @@ impl<S> Begun<S> {
     }
 }
 
-/// What jobs start from, in their order.
+/// What jobs start from, in their order, in the room of another list. Fails if memory was refused.
 pub fn starts_of<J: Work<S, D>, S: Drop, D>(
-    alloc: Global,
     jobs: &[J],
+    room: Vec<Begun<S>>,
 ) -> Result<Vec<Begun<S>>, AllocError>
     ensures { IfOk result (λ starts. starts.items ≡ map J.start_of jobs.now) }
 {
-    let mut starts = Vec::with_capacity(alloc, jobs.len())?;
+    let mut starts = room;
+    starts.clear();
+    starts.reserve(jobs.len())?;
     for job in jobs {
         starts.push(Begun::new(job.start().clone()?))?;
     }
