@@ -1,5 +1,5 @@
 -- Where the instances of a routine lie, by a table of what is known of each block type.
-use Rattle.std.specs.Prelude.{ℕ, ◌+◌, Bool, true, false, List, [], ◌∷◌, slice_get}
+use Rattle.std.specs.Prelude.{ℕ, ◌+◌, ◌<◌, ◌^◌, Bool, true, false, List, [], ◌∷◌, slice_get}
 use Rattle.std.specs.List.{list_any}
 use Rattle.std.specs.Option.{option_map_or}
 use Rattle.plant_logic.specs.declared.logic.Instance.{Instance}
@@ -15,6 +15,12 @@ use Rattle.block_seats.specs.declared.seats.Callee.{Callee}
 -- so many values, clocks and path numbers
 abbrev pub extent : (values clocks paths : ℕ) → Extent
 extent values clocks paths = record { values = values; clocks = clocks; paths = paths }
+
+-- each number fits the type that it is kept in
+pub record Fits (e : Extent) : Type 0 where
+  pub values : e.values < 2 ^ 64
+  pub clocks : e.clocks < 2 ^ 64
+  pub paths : e.paths < 2 ^ 32
 
 abbrev pub plus : Extent → Extent → Extent
 plus a b = extent (a.values + b.values) (a.clocks + b.clocks) (a.paths + b.paths)

@@ -1,8 +1,8 @@
 //! Where the instances of a routine lie.
 
-ghost use Rattle.std.specs.Prelude.{◌≡◌, ◌+◌, ◌==◌, ◌||◌, not, length, IfOk};
+ghost use Rattle.std.specs.Prelude.{◌≡◌, ◌==◌, ◌||◌, not, length, IfOk};
 ghost use Rattle.word_index.specs.Names.{is_among};
-ghost use Rattle.block_seats.specs.Seats.{plus, extent_called, extent_by, starts_by, any_starts, seated_by, seat_by, seats_by, ends_by};
+ghost use Rattle.block_seats.specs.Seats.{Fits, plus, extent_called, extent_by, starts_by, any_starts, seated_by, seat_by, seats_by, ends_by};
 
 use crate::called::is_among;
 use block_walk::{Seat, SeatOf};
@@ -28,37 +28,16 @@ pub struct Callee {
     pub has_starts: bool,
 }
 
-/// The sum. Fails if no memory has room for so many.
-fn sum(a: usize, b: usize) -> Result<usize, AllocError>
-    ensures { IfOk result (λ n. n ≡ a + b) }
+/// How many values, clocks and path numbers two things have together: from an instance's first ones on, where the next instance's begin.
+fn plus(a: Extent, b: Extent) -> Extent
+    requires { Fits (plus a b) }
+    ensures { result ≡ plus a b }
 {
-    match a.checked_add(b) {
-        Some(n) => Ok(n),
-        None => Err(AllocError),
+    Extent {
+        values: a.values + b.values,
+        clocks: a.clocks + b.clocks,
+        paths: a.paths + b.paths,
     }
-}
-
-/// The sum of path numbers. Fails if there are more than fit 32 bits.
-fn sum_of_paths(a: u32, b: u32) -> Result<u32, AllocError>
-    ensures { IfOk result (λ n. n ≡ a + b) }
-{
-    match a.checked_add(b) {
-        Some(n) => Ok(n),
-        None => Err(AllocError),
-    }
-}
-
-/// How many values, clocks and path numbers two things have together: from an instance's first ones on, where the next instance's begin. Fails
-/// where a number is past the last one of its type. The instances of a source that keeps its limits don't come to that: their values and clocks
-/// are at most its slots, and their paths at most its size and one more.
-fn plus(a: Extent, b: Extent) -> Result<Extent, AllocError>
-    ensures { IfOk result (λ e. e ≡ plus a b) }
-{
-    Ok(Extent {
-        values: sum(a.values, b.values)?,
-        clocks: sum(a.clocks, b.clocks)?,
-        paths: sum_of_paths(a.paths, b.paths)?,
-    })
 }
 
 /// What an instance of a block has.
@@ -169,8 +148,8 @@ fn seat_by(
     })
 }
 
-/// The seats of a routine's instances one after another, by the names of those that it calls, and where the last ends. Fails if allocation
-/// fails, or no memory has room for so many values.
+/// The seats of a routine's instances one after another, by the names of those that it calls, and where the last ends: numbers that must fit
+/// their types. Fails if allocation fails.
 pub fn seats_by(
     alloc: Global,
     table: &[Callee],
@@ -178,6 +157,7 @@ pub fn seats_by(
     first: Extent,
     list: &[Instance],
 ) -> Result<(Vec<Seat>, Extent), AllocError>
+    requires { Fits (ends_by table.now (is_among called.now) first list.now) }
     ensures seats { IfOk result (λ made. made.0.items ≡ seats_by table.now (is_among called.now) first list.now) }
     ensures end { IfOk result (λ made. made.1 ≡ ends_by table.now (is_among called.now) first list.now) }
 {
@@ -187,7 +167,7 @@ pub fn seats_by(
         let is_called = is_among(called, &instance.name);
         let seat = seat_by(alloc, table, is_called, at, instance)?;
         seats.push(seat)?;
-        at = plus(at, extent_called(is_called, extent_by(table, instance.of)))?;
+        at = plus(at, extent_called(is_called, extent_by(table, instance.of)));
     }
     Ok((seats, at))
 }
