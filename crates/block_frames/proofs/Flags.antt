@@ -148,7 +148,7 @@ module _ (calls : Bool) (blocks : List PlainRoutine) where
   IsBack [] = Unit {0}
   IsBack (n ∷ ns) = ((r : PlainRoutine) (b : ℕ) → slice_get blocks n ≡ Some r → Declares r b → Among (n ∷ ns) b → ⊥) × IsBack ns
 
-  onward_by : (o : Option PlainRoutine) (n : ℕ) (flags : List Bool) → slice_get blocks n ≡ o → (b : Bool) → flagged flags n ≡ b → (P : List Bool → Type 0) → P flags → ((r : PlainRoutine) → o ≡ Some r → b ≡ true → P (flag_asked calls flags r)) → P (flag_onward calls blocks n flags)
+  pub onward_by : (o : Option PlainRoutine) (n : ℕ) (flags : List Bool) → slice_get blocks n ≡ o → (b : Bool) → flagged flags n ≡ b → (P : List Bool → Type 0) → P flags → ((r : PlainRoutine) → o ≡ Some r → b ≡ true → P (flag_asked calls flags r)) → P (flag_onward calls blocks n flags)
   onward_by o n flags at false is P same more = rw is same
   onward_by None n flags at true is P same more = rw (is, at) same
   onward_by (Some r) n flags at true is P same more = rw (is, at) (more r refl refl)

@@ -5,7 +5,7 @@ use Rattle.st_tree.specs.declared.tree.Stmt.{Stmt}
 use Rattle.st_tree.specs.declared.tree.Branch.{Branch}
 use Rattle.st_tree.specs.declared.tree.Choice.{Choice}
 use Rattle.st_tree.specs.declared.tree.Label.{Label}
-use Rattle.st_tree.specs.Plain.{PlainExpr, PlainBody, done, next, Branches, no_branch, branch, Choices, no_choice, choice}
+use Rattle.st_tree.specs.Plain.{PlainExpr, PlainStmt, empty, assign, call, choose, select, repeat, PlainBody, done, next, Branches, no_branch, branch, Choices, no_choice, choice}
 use Rattle.st_tree.specs.Numbers.{count_stmt, count_body, count_branches, count_choices}
 use Rattle.st_tree.specs.View.{view_stmt, view_body, view_branch, view_branches, view_choice, view_choices}
 use Rattle.block_frames.specs.declared.scope.Scope.{Scope}
@@ -47,6 +47,15 @@ push_choices : {V : Type 0} (xs : List (Choice V)) (x : Choice V) (b : Choices V
 push_choices [] x b = refl
 push_choices (y ∷ ys) x b = ap (choice (view_choice y).0 (view_choice y).1) (push_choices ys x b)
 
+-- a statement is one at least
+pub one_at_least : {V : Type 0} (s : PlainStmt V) → 1 ≤ count_stmt s
+one_at_least (empty number) = omega arith
+one_at_least (assign number v e) = omega arith
+one_at_least (call number instance arguments) = omega arith
+one_at_least (choose number branches last) = omega arith
+one_at_least (select number e choices last) = omega arith
+one_at_least (repeat number v from to by body) = omega arith
+
 module _ (scope : Scope) where
   -- what was resolved, and what is still to be resolved from a number on, are the whole; so are their counts
   pub record Body (whole : PlainBody ℕ) (all : ℕ) (body : List (Stmt (List ℕ))) (i : ℕ) (number : ℕ) (resolved : List (Stmt ℕ)) : Type 0 where
@@ -65,6 +74,14 @@ module _ (scope : Scope) where
             ∙ ap (λ l. joined (view_body resolved) (flat_body scope number (view_body l))) (sym split) ∙ before.are;
         tally = omega arith;
       }
+
+  -- the number behind the next statement is no greater than that behind all
+  pub body_next : (whole : PlainBody ℕ) (all : ℕ) (body : List (Stmt (List ℕ))) (i : ℕ) (s : Stmt (List ℕ)) (number : ℕ) (resolved : List (Stmt ℕ)) → i < length body → s ≡ get_or body i s → Body whole all body i number resolved → number + count_stmt (view_stmt s) ≤ all
+  body_next whole all body i s number resolved within is before =
+      let rest = drop (i + 1) body in
+      let split : drop i body ≡ s ∷ rest = drop_more body i s within ∙ ap (λ (x : Stmt (List ℕ)). x ∷ rest) (sym is) in
+      let sum : number + (count_stmt (view_stmt s) + count_body (view_body rest)) ≡ all = ap (λ l. number + count_body (view_body l)) (sym split) ∙ before.tally in
+      omega (arith, sum)
 
   pub body_whole : (whole : PlainBody ℕ) (all : ℕ) (body : List (Stmt (List ℕ))) (i : ℕ) (number : ℕ) (resolved : List (Stmt ℕ)) → length body ≤ i → Body whole all body i number resolved → (view_body resolved ≡ whole) × (number ≡ all)
   body_whole whole all body i number resolved past before =
@@ -90,6 +107,15 @@ module _ (scope : Scope) where
         tally = omega arith;
       }
 
+  pub branches_next : (whole : Branches ℕ) (all : ℕ) (branches : List (Branch (List ℕ))) (i : ℕ) (b : Branch (List ℕ)) (number : ℕ) (resolved : List (Branch ℕ)) (test : PlainExpr (List ℕ)) (body : PlainBody (List ℕ)) → i < length branches → b ≡ get_or branches i b
+      → BranchesAre whole all branches i number resolved → view_branch b ≡ (test, body) → number + count_body body ≤ all
+  branches_next whole all branches i b number resolved test body within is before seen =
+      let rest = drop (i + 1) branches in
+      let split : drop i branches ≡ b ∷ rest = drop_more branches i b within ∙ ap (λ (x : Branch (List ℕ)). x ∷ rest) (sym is) in
+      let parts : view_branches (drop i branches) ≡ branch test body (view_branches rest) = ap view_branches split ∙ ap (λ (p : PlainExpr (List ℕ) × PlainBody (List ℕ)). branch p.0 p.1 (view_branches rest)) seen in
+      let sum : number + (count_body body + count_branches (view_branches rest)) ≡ all = ap (λ l. number + count_branches l) (sym parts) ∙ before.tally in
+      omega (arith, sum)
+
   pub branches_whole : (whole : Branches ℕ) (all : ℕ) (branches : List (Branch (List ℕ))) (i : ℕ) (number : ℕ) (resolved : List (Branch ℕ)) → length branches ≤ i → BranchesAre whole all branches i number resolved → (view_branches resolved ≡ whole) × (number ≡ all)
   branches_whole whole all branches i number resolved past before =
       let none = drop_all i branches past in
@@ -113,6 +139,15 @@ module _ (scope : Scope) where
             ∙ ap (λ l. joined_choices (view_choices resolved) (flat_choices scope number l)) (sym parts) ∙ before.are;
         tally = omega arith;
       }
+
+  pub choices_next : (whole : Choices ℕ) (all : ℕ) (choices : List (Choice (List ℕ))) (i : ℕ) (b : Choice (List ℕ)) (number : ℕ) (resolved : List (Choice ℕ)) (labels : List Label) (body : PlainBody (List ℕ)) → i < length choices → b ≡ get_or choices i b
+      → ChoicesAre whole all choices i number resolved → view_choice b ≡ (labels, body) → number + count_body body ≤ all
+  choices_next whole all choices i b number resolved labels body within is before seen =
+      let rest = drop (i + 1) choices in
+      let split : drop i choices ≡ b ∷ rest = drop_more choices i b within ∙ ap (λ (x : Choice (List ℕ)). x ∷ rest) (sym is) in
+      let parts : view_choices (drop i choices) ≡ choice labels body (view_choices rest) = ap view_choices split ∙ ap (λ (p : List Label × PlainBody (List ℕ)). choice p.0 p.1 (view_choices rest)) seen in
+      let sum : number + (count_body body + count_choices (view_choices rest)) ≡ all = ap (λ l. number + count_choices l) (sym parts) ∙ before.tally in
+      omega (arith, sum)
 
   pub choices_whole : (whole : Choices ℕ) (all : ℕ) (choices : List (Choice (List ℕ))) (i : ℕ) (number : ℕ) (resolved : List (Choice ℕ)) → length choices ≤ i → ChoicesAre whole all choices i number resolved → (view_choices resolved ≡ whole) × (number ≡ all)
   choices_whole whole all choices i number resolved past before =

@@ -42,7 +42,7 @@ use Rattle.block_frames.proofs.Initials.{starts_known, passes_among, initial_var
 
 -- what is so of the globals of each unit is so of all globals
 module _ (bad_globals : List PlainSection → Bool) (bad_pou : PlainPou → Bool) (test : PlainDeclared → Bool) (good : (sections : List PlainSection) → bad_globals sections ≡ false → list_all test (declared_in sections) ≡ true) where
-  each_global : (source : ℕ) (units : List PlainUnit) → first_unit bad_globals bad_pou source units ≡ None → list_all test (declared_globals units) ≡ true
+  pub each_global : (source : ℕ) (units : List PlainUnit) → first_unit bad_globals bad_pou source units ≡ None → list_all test (declared_globals units) ≡ true
   each_global source [] e = refl
   each_global source (unit ∷ units) e =
       let parts = none_if (bad_globals unit.globals) (record { source = source; pou = None }) (or_place (first_pou bad_globals bad_pou source 0 unit.pous) (first_unit bad_globals bad_pou (suc source) units)) e in
@@ -94,7 +94,7 @@ are_variables units own (d ∷ ds) stand fit =
     and_from (is_variable d) (list_all is_variable ds) (variable_by units own d d.sort first.0 second.0) (are_variables units own ds first.1 second.1)
 
 module _ (units : List PlainUnit) where
-  globals_fit : (ss : List PlainSection) → globals_misfit units ss ≡ false → (list_all is_global ss ≡ true) × (list_all (declared_fits units []) (declared_in ss) ≡ true)
+  pub globals_fit : (ss : List PlainSection) → globals_misfit units ss ≡ false → (list_all is_global ss ≡ true) × (list_all (declared_fits units []) (declared_in ss) ≡ true)
   globals_fit ss fits = and_parts (list_all is_global ss) (list_all (declared_fits units []) (declared_in ss)) (not_false (list_all is_global ss && list_all (declared_fits units []) (declared_in ss)) fits)
 
   variables_only : (ss : List PlainSection) → globals_misfit units ss ≡ false → list_all is_variable (declared_in ss) ≡ true

@@ -15,6 +15,8 @@ mod Joined
 mod Scopes
 mod Built
 mod Tables
+mod Least
+mod Sizes
 mod Programs
 mod Typed
 mod Shown

@@ -45,7 +45,7 @@ paths_same f g r (i ∷ is) same =
     let rest = paths_same f g r is (λ j n here of_is. same j n (inr here) of_is) in
     λ k. (if is_called r i.name then first k else []) ++ rest k
 
-paths_ask : AsksDeclared paths_rule
+pub paths_ask : AsksDeclared paths_rule
 paths_ask f g r same = λ k. [] ∷ paths_same f g r r.instances (λ i n here of_is. same n (i, here, of_is)) k
 
 module _ (blocks : List PlainRoutine) (order : List ℕ) (r : PlainRoutine) where

@@ -279,7 +279,7 @@ place_there order k n once at =
     let is : nat_lt (position_or_len (nat_eq n) order) (length order) ≡ true = grind (arith, nat_tests) in
     rw is same
 
-among_last : (xs : List ℕ) (x n : ℕ) → Among (xs ++ x ∷ []) n → Among xs n ⊎ (x ≡ n)
+pub among_last : (xs : List ℕ) (x n : ℕ) → Among (xs ++ x ∷ []) n → Among xs n ⊎ (x ≡ n)
 among_last [] x n (inl is) = inr is
 among_last [] x n (inr none) = elim none [ ]
 among_last (y ∷ ys) x n (inl is) = inl (inl is)
@@ -289,12 +289,12 @@ among_last (y ∷ ys) x n (inr later) =
       | inr is ↦ inr is
     ]
 
-set_here : (table : List Callee) (a : ℕ) (p : Callee) → a < length table → slice_get (set table a p) a ≡ Some p
+pub set_here : (table : List Callee) (a : ℕ) (p : Callee) → a < length table → slice_get (set table a p) a ≡ Some p
 set_here table a p within =
     let long = length-set table a p in
     slice_get-get_or (set table a p) a p (omega arith) ∙ ap Some (get_or-set_same table a p p within)
 
-set_there : (table : List Callee) (a n : ℕ) (p known : Callee) → n ≢ a → slice_get table n ≡ Some known → slice_get (set table a p) n ≡ Some known
+pub set_there : (table : List Callee) (a n : ℕ) (p known : Callee) → n ≢ a → slice_get table n ≡ Some known → slice_get (set table a p) n ≡ Some known
 set_there table a n p known other is =
     let long = length-set table a p in
     let within = slice_get_within table n known is in

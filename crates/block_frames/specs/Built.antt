@@ -1,24 +1,26 @@
 -- What the code builds of a routine by a table of what it knows of each block type.
 use Rattle.std.specs.Prelude.{◌≡◌, ◌<◌, ◌^◌, ℕ, ◌+◌, ◌==◌, ◌||◌, not, Bool, true, false, List, [], length, take, slice_get, Some}
 use Rattle.st_tree.specs.Plain.{PlainBody}
+use Rattle.st_tree.specs.Numbers.{count_body}
 use Rattle.st_tree.specs.View.{view_body}
 use Rattle.block_order.specs.Chains.{Among}
 use Rattle.st_tree.specs.Mapping.{mapped_body}
 use Rattle.plant_logic.specs.Source.{PlainRoutine, Source}
 use Rattle.plant_logic.specs.Names.{meant_in}
-use Rattle.plant_logic.specs.Paths.{is_called}
+use Rattle.plant_logic.specs.Paths.{is_called, type_paths}
 use Rattle.plant_logic.specs.Blocks.{HasItsTypes}
 use Rattle.plant_logic.specs.Layout.{cells_per_type, clocks_per_type}
 use Rattle.block_walk.specs.declared.frame.Frame.{Frame}
 use Rattle.block_walk.specs.Frames.{frame_paths, AreInTurn}
 use Rattle.block_walk.specs.Starts.{frame_has_starts, StartsAreMarked}
 use Rattle.block_walk.specs.Standards.{frame_standards, ClocksAreCounted}
-use Rattle.block_seats.specs.Seats.{extent, any_starts, seats_by, ends_by}
+use Rattle.block_seats.specs.Seats.{Fits, extent, any_starts, seats_by, ends_by}
 use Rattle.block_seats.specs.declared.seats.Extent.{Extent}
 use Rattle.block_seats.specs.declared.seats.Callee.{Callee}
 use Rattle.block_frames.specs.declared.names.Variables.{Variables}
 use Rattle.block_frames.specs.Numbers.{numbers}
 use Rattle.block_frames.specs.Reached.{flagged, AreReached}
+use Rattle.block_frames.specs.Small.{HasFewCells, HasFewSteps}
 use Rattle.block_frames.specs.Frames.{place_in, IsFrame, framed, IsBlank}
 use Rattle.block_frames.specs.declared.scope.Scope.{Scope}
 use Rattle.block_frames.specs.Scoped.{AreVariables, AreMembers, IsNumberedIn, global_names, global_kinds}
@@ -31,6 +33,28 @@ first_of r = extent (length r.locals) 0 1
 pub record AreOf (source : Source) (globals : Variables) (members : List Variables) : Type 0 where
   pub globals_are : AreVariables (global_names source.globals) (global_kinds source.globals) globals
   pub members_are : AreMembers source.blocks members
+
+-- the flags are those of what a source's programs reach, by instances and by calls, and what is flagged is little; names and kinds are the source's
+pub record IsMeasured (source : Source) (globals : Variables) (members : List Variables) (used run : List Bool) : Type 0 where
+  pub of : AreOf source globals members
+  pub are_used : AreReached false source used
+  pub are_run : AreReached true source run
+  pub few_used : (n : ℕ) (r : PlainRoutine) → slice_get source.blocks n ≡ Some r → flagged used n ≡ true → HasFewCells source.blocks r
+  pub few_run : (n : ℕ) (r : PlainRoutine) → slice_get source.blocks n ≡ Some r → flagged run n ≡ true → HasFewSteps source.blocks r
+
+-- a table tells how much an instance of a block type has: its values and its standard blocks, and its paths if something comes to call it
+pub record IsSized (blocks : List PlainRoutine) (run : List Bool) (table : List Callee) (n : ℕ) : Type 0 where
+  pub callee : Callee
+  pub at : slice_get table n ≡ Some callee
+  pub values_is : callee.extent.values ≡ cells_per_type blocks n
+  pub clocks_is : callee.extent.clocks ≡ clocks_per_type blocks n
+  pub paths_is : flagged run n ≡ true → callee.extent.paths ≡ length (type_paths blocks n)
+
+-- the numbers of a routine's frame fit, by a table: those of its seats and of its statements
+pub record IsFitting (table : List Callee) (r : PlainRoutine) : Type 0 where
+  pub seats : Fits (ends_by table (is_called r) (first_of r) r.instances)
+  pub starts : 1 + count_body r.starts < 2 ^ 32
+  pub statements : 1 + count_body r.body < 2 ^ 32
 
 -- a table knows a block type: how much it has, and the frame at its place
 pub record IsKnown (blocks : List PlainRoutine) (order : List ℕ) (frames : List Frame) (table : List Callee) (n : ℕ) : Type 0 where

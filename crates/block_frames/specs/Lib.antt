@@ -1,5 +1,6 @@
 pub mod Numbers
 pub mod Reached
+pub mod Small
 pub mod Frames
 pub mod Stands
 pub mod Opening

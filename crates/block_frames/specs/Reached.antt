@@ -12,6 +12,11 @@ use Rattle.plant_logic.specs.Paths.{is_called}
 abbrev pub AsksFor : (calls : Bool) → PlainRoutine → ℕ → Type 0
 AsksFor calls r n = (i : Instance) × Among r.instances i × (i.of ≡ Declared n) × (calls ≡ true → is_called r i.name ≡ true)
 
+-- programs reach a block type: one of them asks for it, or a block type does that they reach
+pub data Reaches (calls : Bool) (source : Source) : ℕ → Type 0 where
+  by_program : (k n : ℕ) (p : PlainRoutine) → slice_get source.programs k ≡ Some p → AsksFor calls p n → Reaches calls source n
+  by_block : (a n : ℕ) (r : PlainRoutine) → Reaches calls source a → slice_get source.blocks a ≡ Some r → AsksFor calls r n → Reaches calls source n
+
 -- a number is flagged
 abbrev pub flagged : List Bool → ℕ → Bool
 flagged flags n = get_or flags n false

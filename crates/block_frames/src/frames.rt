@@ -1,16 +1,19 @@
 //! The frames of a source.
 
-ghost use Rattle.std.specs.Prelude.{◌≡◌, ◌<◌, ◌^◌, true, false, map, IfOk, length};
+ghost use Rattle.std.specs.Prelude.{◌≡◌, ◌<◌, ◌+◌, ◌^◌, ℕ, true, false, map, IfOk, length};
 ghost use Rattle.std.specs.List.{All};
+ghost use Rattle.st_tree.specs.Numbers.{count_body};
 ghost use Rattle.st_tree.specs.View.{view_body};
-ghost use Rattle.plant_logic.specs.Source.{view_routine, source_of};
+ghost use Rattle.plant_logic.specs.Source.{Source, view_routine, source_of};
 ghost use Rattle.plant_logic.specs.Paths.{is_called};
 ghost use Rattle.plant_logic.specs.Blocks.{AreBelow, DeclaresThere, HasItsTypes};
 ghost use Rattle.plant_logic.specs.Layout.{AreNamedApart, IsDistinctlyNamed};
 ghost use Rattle.block_frames.specs.Scoped.{AreInstances, AreMembers, AreVariables, IsNumberedIn, local_kinds, local_names};
+ghost use Rattle.block_frames.specs.Reached.{flagged};
+ghost use Rattle.block_frames.specs.Small.{IsSmall};
 ghost use Rattle.block_frames.specs.Frames.{framed, IsBlank, IsFrames, IsStart};
-ghost use Rattle.block_seats.specs.Seats.{seats_by, ends_by};
-ghost use Rattle.block_frames.specs.Built.{first_of, AreOf, AllMade, AllBuilt, AllBegun, IsStartIn};
+ghost use Rattle.block_seats.specs.Seats.{Fits, seats_by, ends_by};
+ghost use Rattle.block_frames.specs.Built.{first_of, AreOf, IsMeasured, IsSized, IsFitting, AllMade, AllBuilt, AllBegun, IsStartIn};
 
 use crate::names::{
     Variables, global_variables, instances_of, no_instances, no_variables, own_variables,
@@ -50,6 +53,7 @@ fn number_body(
     scope: &Scope<'_>,
     body: &[Stmt<Text>],
 ) -> Result<Vec<Stmt<usize>>, AllocError>
+    requires { 1 + count_body (view_body body.now) < 2 ^ 32 }
     ensures { IfOk result (λ numbered. IsNumberedIn scope.now (view_body body.now) (view_body numbered.items)) }
 {
     let mut number = 1;
@@ -72,6 +76,7 @@ fn seats_of(
     routine: &Routine,
     is_run: bool,
 ) -> Result<(Vec<Seat>, Extent), AllocError>
+    requires { Fits (ends_by table.now (is_called (framed is_run (view_routine routine.now))) (first_of (view_routine routine.now)) (view_routine routine.now).instances) }
     ensures seats { IfOk result (λ made. made.0.items ≡ seats_by table.now (is_called (framed is_run (view_routine routine.now))) (first_of (view_routine routine.now)) (view_routine routine.now).instances) }
     ensures end { IfOk result (λ made. made.1 ≡ ends_by table.now (is_called (framed is_run (view_routine routine.now))) (first_of (view_routine routine.now)) (view_routine routine.now).instances) }
 {
@@ -94,6 +99,7 @@ fn frame_in(
 ) -> Result<(Frame, Extent), AllocError>
     requires own { AreVariables (local_names (view_routine routine.now).locals) (local_kinds (view_routine routine.now).locals) scope.now.own.now }
     requires instances { AreInstances (view_routine routine.now).instances scope.now.instances.now }
+    requires fitting { IsFitting table.now (framed is_run (view_routine routine.now)) }
     ensures few { IfOk result (λ made. made.1.paths < 2 ^ 32) }
     ensures made { IfOk result (λ made. AllMade scope.now.globals.now scope.now.members.now table.now (framed is_run (view_routine routine.now)) made.0 made.1) }
 {
@@ -121,7 +127,8 @@ fn frame_of(
     routine: &Routine,
     is_run: bool,
 ) -> Result<(Frame, Extent), AllocError>
-    requires { AreNamedApart (view_routine routine.now) }
+    requires apart { AreNamedApart (view_routine routine.now) }
+    requires fitting { IsFitting table.now (framed is_run (view_routine routine.now)) }
     ensures few { IfOk result (λ made. made.1.paths < 2 ^ 32) }
     ensures made { IfOk result (λ made. AllMade globals.now members.now table.now (framed is_run (view_routine routine.now)) made.0 made.1) }
 {
@@ -146,7 +153,8 @@ fn frame_of_block(
     is_used: bool,
     is_run: bool,
 ) -> Result<(Frame, Extent), AllocError>
-    requires { AreNamedApart (view_routine block.now) }
+    requires apart { AreNamedApart (view_routine block.now) }
+    requires fitting { is_used ≡ true → IsFitting table.now (framed is_run (view_routine block.now)) }
     ensures few { IfOk result (λ made. made.1.paths < 2 ^ 32) }
     ensures used { IfOk result (λ made. is_used ≡ true → AllMade globals.now members.now table.now (framed is_run (view_routine block.now)) made.0 made.1) }
     ensures unused { IfOk result (λ made. is_used ≡ false → IsBlank made.0) }
@@ -190,7 +198,9 @@ fn frames_of_blocks(
     requires below { AreBelow (map view_routine blocks.now) order.now }
     requires types { All (DeclaresThere (map view_routine blocks.now)) (map view_routine blocks.now) }
     requires apart { All AreNamedApart (map view_routine blocks.now) }
-    ensures { IfOk result (λ made. AllBuilt globals.now members.now (map view_routine blocks.now) order.now used.now run.now (length order.now) made.0.items made.1.items) }
+    requires measured { (source : Source) × (source.blocks ≡ map view_routine blocks.now) × IsMeasured source globals.now members.now used.now run.now }
+    ensures built { IfOk result (λ made. AllBuilt globals.now members.now (map view_routine blocks.now) order.now used.now run.now (length order.now) made.0.items made.1.items) }
+    ensures sized { IfOk result (λ made. (n : ℕ) → n < length blocks.now → flagged used.now n ≡ true → IsSized (map view_routine blocks.now) run.now made.1.items n) }
 {
     block_type_has_values();
     block_type_has_clocks();
@@ -224,7 +234,8 @@ fn add_programs(
     table: &[Callee],
     frames: &mut Vec<Frame>,
 ) -> Result<(), AllocError>
-    requires { All AreNamedApart (map view_routine programs.now) }
+    requires apart { All AreNamedApart (map view_routine programs.now) }
+    requires fitting { All (IsFitting table.now) (map view_routine programs.now) }
     ensures { IfOk result (λ _. AllBegun globals.now members.now (map view_routine programs.now) table.now frames.old.items (length programs.now) frames.new.items) }
 {
     for program in programs {
@@ -255,6 +266,7 @@ fn frames_by(
     requires types { HasItsTypes (source_of logic.now) }
     requires named { IsDistinctlyNamed (source_of logic.now) }
     requires known { AreOf (source_of logic.now) globals.now members.now }
+    requires small { IsSmall (source_of logic.now) }
     ensures { IfOk result (λ frames. IsFrames (source_of logic.now) order.now frames.items) }
 {
     let blocks = logic.blocks.as_slice();
@@ -271,12 +283,12 @@ fn frames_by(
 /// The frames of a source: one for each block type in the order, and then one for each program, as `block_walk` runs them. The order lists
 /// each block type after those that it declares. Each body is gone through once, whatever the number of its instances.
 ///
-/// Fails if allocation fails. So it does where the values of one instance, or the statements of one body, are more than any memory has
-/// room for, and where a program has more than 2^32 - 1 paths.
+/// Fails if allocation fails. The source must be small: no more of anything than its numbers have room for.
 pub fn frames_of(alloc: Global, logic: &Logic, order: &[usize]) -> Result<Vec<Frame>, AllocError>
     requires below { AreBelow (source_of logic.now).blocks order.now }
     requires types { HasItsTypes (source_of logic.now) }
     requires named { IsDistinctlyNamed (source_of logic.now) }
+    requires small { IsSmall (source_of logic.now) }
     ensures { IfOk result (λ frames. IsFrames (source_of logic.now) order.now frames.items) }
 {
     let (globals, members) = variables_of(alloc, logic)?;
@@ -285,6 +297,7 @@ pub fn frames_of(alloc: Global, logic: &Logic, order: &[usize]) -> Result<Vec<Fr
 
 /// The frame of initial values in the scope of their names. Fails if allocation fails.
 fn start_in(alloc: Global, scope: &Scope<'_>, starts: &[Stmt<Text>]) -> Result<Frame, AllocError>
+    requires { 1 + count_body (view_body starts.now) < 2 ^ 32 }
     ensures { IfOk result (λ frame. IsStartIn scope.now (view_body starts.now) frame) }
 {
     let starts = number_body(alloc, scope, starts)?;
@@ -305,7 +318,8 @@ fn start_by(
     globals: &Variables,
     members: &[Variables],
 ) -> Result<Frame, AllocError>
-    requires { AreOf (source_of logic.now) globals.now members.now }
+    requires known { AreOf (source_of logic.now) globals.now members.now }
+    requires few { 1 + count_body (source_of logic.now).starts < 2 ^ 32 }
     ensures { IfOk result (IsStart (source_of logic.now)) }
 {
     let own = no_variables(alloc);
@@ -321,7 +335,8 @@ fn start_by(
 
 /// The frame of the globals' initial values, as `block_walk` assigns them. Fails if allocation fails.
 pub fn start_of(alloc: Global, logic: &Logic) -> Result<Frame, AllocError>
-    requires { IsDistinctlyNamed (source_of logic.now) }
+    requires named { IsDistinctlyNamed (source_of logic.now) }
+    requires few { 1 + count_body (source_of logic.now).starts < 2 ^ 32 }
     ensures { IfOk result (IsStart (source_of logic.now)) }
 {
     let (globals, members) = variables_of(alloc, logic)?;

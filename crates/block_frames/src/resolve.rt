@@ -1,9 +1,9 @@
 //! Turns a body over names into one over numbers: it numbers the statements, and chooses the operators of TIME by the kinds of their
 //! operands. Each function fails only if memory was refused.
 
-ghost use Rattle.std.specs.Prelude.{◌≡◌, ◌+◌, IfOk, map};
+ghost use Rattle.std.specs.Prelude.{◌≡◌, ◌<◌, ◌+◌, ◌^◌, IfOk, map};
 ghost use Rattle.st_tree.specs.View.{view_expr, view_option, view_argument, view_stmt, view_body, view_branches, view_choices};
-ghost use Rattle.st_tree.specs.Kinds.{unary_result, binary_result, kind_in, resolved_argument};
+ghost use Rattle.st_tree.specs.Kinds.{kind_in, resolved_argument};
 ghost use Rattle.st_tree.specs.Mapping.{mapped_argument};
 ghost use Rattle.st_tree.specs.Numbers.{count_stmt, count_body, count_branches, count_choices};
 ghost use Rattle.block_frames.specs.Scoped.{scope_kind, scope_output_kind, mapping_of, flat_expr, flat_option, flat_argument, flat_stmt, flat_body, flat_branches, flat_choices};
@@ -11,33 +11,10 @@ ghost use Rattle.block_frames.specs.Scoped.{scope_kind, scope_output_kind, mappi
 use crate::scope::Scope;
 use plant_types::{Kind, Text};
 use st_tree::{
-    Argument, Binary, Branch, Choice, Expr, Stmt, Unary, copy_labels, resolved_binary,
-    resolved_unary,
+    Argument, Branch, Choice, Expr, Stmt, binary_result, copy_labels, resolved_binary,
+    resolved_unary, unary_result,
 };
 use std::alloc::{AllocError, Global};
-
-/// The kind of an operator's result, for an operand that it takes.
-fn unary_result(op: Unary, a: Kind) -> Kind
-    ensures { result ≡ unary_result op a }
-{
-    match op {
-        Unary::Not => Kind::Bool,
-        Unary::Negate => a,
-        Unary::NegateTime => Kind::Time,
-    }
-}
-
-/// The kind of an operator's result, for operands that it takes, by the kind of the left one.
-fn binary_result(op: Binary, a: Kind) -> Kind
-    ensures { result ≡ binary_result op a }
-{
-    match op {
-        Binary::Add | Binary::Subtract => a,
-        Binary::AddTime | Binary::SubtractTime => Kind::Time,
-        Binary::Multiply | Binary::Divide | Binary::Mod => Kind::Dint,
-        _ => Kind::Bool,
-    }
-}
 
 /// Resolves an expression. Returns its kind too, which is right if its operators take their operands.
 fn resolve_kinded(
@@ -161,19 +138,15 @@ fn resolve_arguments(
     Ok(resolved)
 }
 
-/// Takes the next statement's number, and counts it. Fails after 2^32 - 1 statements, for which no memory has room.
-fn next_number(number: &mut u32) -> Result<u32, AllocError>
-    ensures own { IfOk result (λ own. own ≡ number.old) }
-    ensures next { IfOk result (λ own. number.new ≡ number.old + 1) }
+/// Takes the next statement's number, and counts it.
+fn next_number(number: &mut u32) -> u32
+    requires { number.old + 1 < 2 ^ 32 }
+    ensures own { result ≡ number.old }
+    ensures next { number.new ≡ number.old + 1 }
 {
     let own = *number;
-    match own.checked_add(1) {
-        Some(next) => {
-            *number = next;
-            Ok(own)
-        }
-        None => Err(AllocError),
-    }
+    *number += 1;
+    own
 }
 
 /// Resolves a statement. `number` is that of its first statement, and then that after its last.
@@ -184,10 +157,11 @@ fn resolve_stmt(
     stmt: &Stmt<Text>,
     number: &mut u32,
 ) -> Result<Stmt<usize>, AllocError>
+    requires { number.old + count_stmt (view_stmt stmt.now) < 2 ^ 32 }
     ensures stmt { IfOk result (λ s. view_stmt s ≡ flat_stmt scope.now number.old (view_stmt stmt.now)) }
     ensures count { IfOk result (λ s. number.new ≡ number.old + count_stmt (view_stmt stmt.now)) }
 {
-    let own = next_number(number)?;
+    let own = next_number(number);
     match stmt {
         Stmt::Empty(_) => Ok(Stmt::Empty(own)),
         Stmt::Assign(_, variable, expr) => {
@@ -240,6 +214,7 @@ fn resolve_branches(
     branches: &[Branch<Text>],
     number: &mut u32,
 ) -> Result<Vec<Branch<usize>>, AllocError>
+    requires { number.old + count_branches (view_branches branches.now) < 2 ^ 32 }
     ensures branches { IfOk result (λ r. view_branches r.items ≡ flat_branches scope.now number.old (view_branches branches.now)) }
     ensures count { IfOk result (λ r. number.new ≡ number.old + count_branches (view_branches branches.now)) }
 {
@@ -260,6 +235,7 @@ fn resolve_choices(
     choices: &[Choice<Text>],
     number: &mut u32,
 ) -> Result<Vec<Choice<usize>>, AllocError>
+    requires { number.old + count_choices (view_choices choices.now) < 2 ^ 32 }
     ensures choices { IfOk result (λ r. view_choices r.items ≡ flat_choices scope.now number.old (view_choices choices.now)) }
     ensures count { IfOk result (λ r. number.new ≡ number.old + count_choices (view_choices choices.now)) }
 {
@@ -280,6 +256,7 @@ pub fn resolve_body(
     body: &[Stmt<Text>],
     number: &mut u32,
 ) -> Result<Vec<Stmt<usize>>, AllocError>
+    requires { number.old + count_body (view_body body.now) < 2 ^ 32 }
     ensures body { IfOk result (λ r. view_body r.items ≡ flat_body scope.now number.old (view_body body.now)) }
     ensures count { IfOk result (λ r. number.new ≡ number.old + count_body (view_body body.now)) }
 {

@@ -4,17 +4,24 @@ use Rattle.plant_logic.specs.Source.{view_routine}
 use Rattle.plant_logic.specs.Blocks.{DeclaresThere}
 use Rattle.plant_logic.specs.Layout.{AreNamedApart}
 use Rattle.plant_logic.proofs.Layouts.{all_at}
-use Rattle.block_frames.specs.Built.{AreBegun}
+use Rattle.block_frames.specs.Built.{IsFitting, AreBegun}
 use Rattle.block_frames.proofs.Built.{routine_at}
 use Rattle.block_frames.proofs.Programs.{begun_more}
 use Rattle.block_frames.proofs.frames.add_programs.Goals as goal
 
-pub frame_of-requires : goal.frame_of-requires
-frame_of-requires c =
+pub frame_of-requires-clause-apart : goal.frame_of-requires-clause-apart
+frame_of-requires-clause-apart c =
     let programs = c.args.programs.now in
     let program = c.program-item.result in
     let k = c.loop-program.program-index in
-    all_at AreNamedApart (map view_routine programs) k (view_routine program) c.requires (routine_at programs k program c.loop-program-test.true c.program-item.is)
+    all_at AreNamedApart (map view_routine programs) k (view_routine program) c.requires.apart (routine_at programs k program c.loop-program-test.true c.program-item.is)
+
+pub frame_of-requires-clause-fitting : goal.frame_of-requires-clause-fitting
+frame_of-requires-clause-fitting c =
+    let programs = c.args.programs.now in
+    let program = c.program-item.result in
+    let k = c.loop-program.program-index in
+    all_at (IsFitting c.args.table.now) (map view_routine programs) k (view_routine program) c.requires.fitting (routine_at programs k program c.loop-program-test.true c.program-item.is)
 
 pub loop-program-preserved : goal.loop-program-preserved
 loop-program-preserved c = λ source order used run same of types are_used none.

@@ -1,14 +1,25 @@
-use Rattle.std.proofs.Common.{◌∙◌, ap, refl, length}
+use Rattle.std.proofs.Common.{◌∙◌, ◌<◌, ◌+◌, ◌^◌, ap, sym, subst, refl, length}
 use Rattle.std.specs.Prelude.{◌==◌, ◌||◌, not}
 use Rattle.st_tree.specs.Mapping.{mapped_body}
+use Rattle.st_tree.specs.Numbers.{count_body}
 use Rattle.st_tree.specs.View.{view_body}
 use Rattle.plant_logic.specs.Source.{view_routine}
 use Rattle.plant_logic.specs.Names.{meant_in}
 use Rattle.block_walk.specs.declared.frame.Frame.{Frame}
 use Rattle.block_frames.specs.Numbers.{numbers}
 use Rattle.block_seats.specs.Seats.{any_starts}
+use Rattle.block_frames.proofs.Sizes.{seats_fit, starts_fit}
 use Rattle.block_frames.proofs.Tables.{made_framed}
 use Rattle.block_frames.proofs.frames.frame_in.Goals as goal
+
+pub seats_of-requires : goal.seats_of-requires
+seats_of-requires c = seats_fit c.args.table.now c.args.is_run (view_routine c.args.routine.now) c.requires.fitting.seats
+
+pub number_body-requires : goal.number_body-requires
+number_body-requires c = subst (λ l. 1 + count_body (view_body l) < 2 ^ 32) (sym c.deref.ensures.value) (starts_fit c.args.table.now c.args.is_run (view_routine c.args.routine.now) c.requires.fitting)
+
+pub number_body-requires-2 : goal.number_body-requires-2
+number_body-requires-2 c = subst (λ b. 1 + count_body b < 2 ^ 32) (sym c.statements_of-statements.ensures) c.requires.fitting.statements
 
 pub returns-clause-made : goal.returns-clause-made
 returns-clause-made c = λ source of few.

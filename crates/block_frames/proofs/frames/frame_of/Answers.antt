@@ -8,9 +8,9 @@ use Rattle.block_frames.proofs.frames.frame_of.Goals as goal
 pub own_variables-requires : goal.own_variables-requires
 own_variables-requires c =
     let r = c.args.routine.now in
-    ap (λ l. repeats (own_words l)) c.deref.ensures.value ∙ earlier_apart (own_words r.locals.items) (instance_words r.instances.items) c.requires
+    ap (λ l. repeats (own_words l)) c.deref.ensures.value ∙ earlier_apart (own_words r.locals.items) (instance_words r.instances.items) c.requires.apart
 
 pub instances_of-requires : goal.instances_of-requires
 instances_of-requires c =
     let r = c.args.routine.now in
-    ap (λ l. repeats (instance_words l)) c.deref-2.ensures.value ∙ later_apart (own_words r.locals.items) (instance_words r.instances.items) c.requires
+    ap (λ l. repeats (instance_words l)) c.deref-2.ensures.value ∙ later_apart (own_words r.locals.items) (instance_words r.instances.items) c.requires.apart

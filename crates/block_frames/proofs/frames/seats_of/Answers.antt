@@ -1,4 +1,4 @@
-use Rattle.std.proofs.Common.{◌≡◌, ◌∙◌, ap, length, arith}
+use Rattle.std.proofs.Common.{◌≡◌, ◌∙◌, ap, sym, subst, length, arith}
 use Rattle.std.specs.List.{list_any}
 use Rattle.std.proofs.lemmas.Result.{IfOk-weaker}
 use Rattle.plant_types.specs.Words.{same_word}
@@ -6,8 +6,15 @@ use Rattle.word_index.specs.Names.{is_among}
 use Rattle.plant_logic.specs.Source.{view_routine}
 use Rattle.plant_logic.specs.Paths.{called_in, is_called}
 use Rattle.block_frames.specs.Frames.{framed}
-use Rattle.block_seats.specs.Seats.{extent, seats_by, ends_by}
+use Rattle.block_seats.specs.Seats.{Fits, extent, seats_by, ends_by}
 use Rattle.block_frames.proofs.frames.seats_of.Goals as goal
+
+pub seats_by-requires : goal.seats_by-requires
+seats_by-requires c =
+    let r = view_routine c.args.routine.now in
+    let calls : is_among c.in_ok-called.called ≡ is_called (framed c.args.is_run r) = (λ i n. (c.in_ok-called.ensures n ∙ ap (λ b. list_any (same_word n) (called_in b)) c.statements_of.ensures) i) in
+    let many : c.len.result ≡ length r.locals = let e = c.len.ensures in let ok = c.args.routine.now.locals.ok.0 in omega (arith, e, ok) in
+    subst Fits (sym (λ i. ends_by c.args.table.now (calls i) (extent (many i) 0 1) (c.deref.ensures.value i))) c.requires
 
 pub returns-clause-seats : goal.returns-clause-seats
 returns-clause-seats c =

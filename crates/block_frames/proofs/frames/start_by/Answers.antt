@@ -1,7 +1,8 @@
-use Rattle.std.proofs.Common.{◌∙◌, ap, sym}
+use Rattle.std.proofs.Common.{◌∙◌, ◌<◌, ◌+◌, ◌^◌, ap, sym, subst}
 use Rattle.std.proofs.Math.Bool.{or-false}
 use Rattle.std.proofs.lemmas.Result.{IfOk-weaker}
 use Rattle.st_tree.specs.Mapping.{mapped_body}
+use Rattle.st_tree.specs.Numbers.{count_body}
 use Rattle.st_tree.specs.View.{view_body}
 use Rattle.plant_logic.specs.Source.{source_of}
 use Rattle.plant_logic.specs.Names.{meant_in}
@@ -12,11 +13,14 @@ use Rattle.block_frames.specs.Built.{IsStartIn}
 use Rattle.block_frames.proofs.Programs.{start_made}
 use Rattle.block_frames.proofs.frames.start_by.Goals as goal
 
+pub start_in-requires : goal.start_in-requires
+start_in-requires c = subst (λ l. 1 + count_body (view_body l) < 2 ^ 32) (sym c.deref.ensures.value) c.requires.few
+
 pub returns : goal.returns
 returns c =
     let source = source_of c.args.logic.now in
     let r = globals_routine source in
-    let of = c.requires in
+    let of = c.requires.known in
     IfOk-weaker c.start_in.result (IsStartIn _ (view_body c.deref.result.now)) (IsStart source) (λ frame made.
     start_made source frame made.seats_are
     (made.starts_are source r (record { globals_are = of.globals_are; own_are = c.no_variables-own.ensures; instances_are = c.no_instances-instances.ensures; members_are = of.members_are }) ∙ ap (λ b. mapped_body (numbers source r) (meant_in source r (view_body b))) c.deref.ensures.value)

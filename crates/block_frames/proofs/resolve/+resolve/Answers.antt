@@ -45,7 +45,7 @@ resolve_choices-returns-clause-choices t c = (choices_whole c.args.scope.now _ _
 pub resolve_stmt-returns-in_ok-arguments-in-Call-clause-stmt : goal.resolve_stmt-returns-in_ok-arguments-in-Call-clause-stmt
 resolve_stmt-returns-in_ok-arguments-in-Call-clause-stmt t c =
     let scope = c.args.scope.now in
-    let own = c.in_ok-own.ensures.own in
+    let own = c.next_number-own.ensures.own in
     let called = c.instance-called.ensures ∙ ap (scope_instance scope) c.as_str-in-Call.ensures in
     let arguments = c.in_ok-arguments-in-Call.ensures ∙ ap (λ a. map (mapped_argument (mapping_of scope) c.in-Call.instance) (map (resolved_argument (scope_kind scope) (scope_output_kind scope)) (map view_argument a))) c.deref.ensures.value in
     view_stmt-Call _ _ _ ∙ (λ i. call (own i) (called i) (arguments i)) ∙ ap (flat_stmt scope c.args.number.now) (sym (view_stmt-Call _ _ _) ∙ ap view_stmt (sym c.in-Call.is))
