@@ -9,8 +9,8 @@ use Rattle.plant_cells.specs.Runs.{Path}
 use Rattle.block_walk.specs.declared.frame.Frame.{Frame}
 use Rattle.block_walk.specs.Frames.{of_frame, of_first, routine_paths, frame_paths}
 use Rattle.code_sizes.specs.declared.counts.Count.{Count}
-use Rattle.code_sizes.specs.Sizes.{routine_lines, routine_words, routine_cost, frame_lines, frame_words, frame_cost}
-use Rattle.code_sizes.specs.Counts.{capped, lines_at, words_at, cost_at, paths_at, IsCountOf, AreFirst}
+use Rattle.code_sizes.specs.Sizes.{routine_lines, routine_words, frame_lines, frame_words}
+use Rattle.code_sizes.specs.Counts.{capped, lines_at, words_at, paths_at, IsCountOf, AreFirst}
 use Rattle.code_sizes.proofs.Stopping.{Same}
 use Rattle.code_sizes.proofs.Alike.{routine_alike}
 
@@ -55,26 +55,22 @@ module _ (frames : List Frame) (table : List Count) (frame : Frame) (count : Cou
   unfolding frame_lines
   lines_more = first_more (λ n. n) 0 routine_lines (λ (c : Count). c.lines) frames table frame count there before.lines (is.lines ∙ ap (λ f. routine_lines f frame) (λ i k. sym (before.lines k) i))
 
-  words_more : (k : ℕ) → frame_words frames (suc (length table)) k ≡ words_at (table ++ count ∷ []) k
+  -- the words of the frames before, as far as they are counted
+  words_before : (k : ℕ) → Same 18446744073709551615 (words_at table k) (frame_words frames (length table) k)
+  words_before k = let e = before.words k in omega arith
+
+  words_more : (k : ℕ) → capped (frame_words frames (suc (length table)) k) ≡ words_at (table ++ count ∷ []) k
   unfolding frame_words
-  words_more = first_more (λ n. n) 0 routine_words (λ (c : Count). c.words) frames table frame count there before.words (is.words ∙ ap (λ f. routine_words f frame) (λ i k. sym (before.words k) i))
+  words_more = first_more capped 0 routine_words (λ (c : Count). c.words) frames table frame count there before.words (is.words ∙ routine_alike 18446744073709551615 (words_at table) (frame_words frames (length table)) words_before frame)
 
-  -- the costs of the frames before, as far as they are counted
-  cost_before : (k : ℕ) → Same 4294967295 (cost_at table k) (frame_cost frames (length table) k)
-  cost_before k = let e = before.cost k in omega arith
-
-  cost_more : (k : ℕ) → capped (frame_cost frames (suc (length table)) k) ≡ cost_at (table ++ count ∷ []) k
-  unfolding frame_cost
-  cost_more = first_more capped 0 routine_cost (λ (c : Count). c.cost) frames table frame count there before.cost (is.cost ∙ routine_alike 4294967295 (cost_at table) (frame_cost frames (length table)) cost_before frame)
-
-  paths_more : (k : ℕ) → length (frame_paths frames (suc (length table)) k) ≡ paths_at (table ++ count ∷ []) k
+  paths_more : (k : ℕ) → capped (length (frame_paths frames (suc (length table)) k)) ≡ paths_at (table ++ count ∷ []) k
   unfolding frame_paths
-  paths_more = first_more (λ (p : List Path). length p) [] (λ paths (f : Frame). routine_paths paths f.seats.items) (λ (c : Count). c.paths) frames table frame count there before.paths (is.paths (frame_paths frames (length table)) before.paths)
+  paths_more = first_more (λ (p : List Path). capped (length p)) [] (λ paths (f : Frame). routine_paths paths f.seats.items) (λ (c : Count). c.paths) frames table frame count there before.paths (is.paths (frame_paths frames (length table)) before.paths)
 
   many_more : (n : ℕ) → n ≡ suc (length table) → AreFirst frames n (table ++ count ∷ [])
   many_more n e =
       let long = length-append table (count ∷ []) in
-      rw e (record { many = omega arith; lines = lines_more; words = words_more; cost = cost_more; paths = paths_more })
+      rw e (record { many = omega arith; lines = lines_more; words = words_more; paths = paths_more })
 
 pub first_pushed : (frames : List Frame) (table after : List Count) (frame : Frame) (count : Count) (n : ℕ) → slice_get frames n ≡ Some frame → AreFirst frames n table → IsCountOf table frame count → after ≡ table ++ count ∷ []
     → AreFirst frames (n + 1) after
@@ -85,5 +81,5 @@ first_pushed frames table after frame count n there before is pushed =
     rw pushed (many_more frames table frame count there' before' is (n + 1) (omega arith))
 
 pub first_none : (frames : List Frame) (table : List Count) → table ≡ [] → AreFirst frames 0 table
-unfolding frame_lines frame_words frame_cost frame_paths
-first_none frames table e = rw e (record { many = refl; lines = λ k. refl; words = λ k. refl; cost = λ k. refl; paths = λ k. refl })
+unfolding frame_lines frame_words frame_paths
+first_none frames table e = rw e (record { many = refl; lines = λ k. refl; words = λ k. refl; paths = λ k. refl })

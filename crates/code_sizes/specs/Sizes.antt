@@ -105,6 +105,11 @@ abbrev pub for_lines : (turns body : ℕ) → ℕ
 for_lines zero body = 0
 for_lines (suc n) body = body + 2
 
+-- and needs no word of stack; one of some turns needs two beside its body's
+abbrev pub for_words : (turns body : ℕ) → ℕ
+for_words zero body = 0
+for_words (suc n) body = 2 + body
+
 -- a choice: a jump for each label, one past its body, the body, and one to the end; a choice without a label is no instruction
 abbrev pub choice_lines : List Label → (body rest : ℕ) → ℕ
 choice_lines [] body rest = rest
@@ -162,7 +167,7 @@ module _ (seats : List Seat) (inner : ℕ → ℕ) where
     stmt_words (call number instance arguments) = max (inputs_words arguments) (entered 0 inner (slice_get seats instance))
     stmt_words (choose number branches last) = max (branches_words branches) (body_words last)
     stmt_words (select number e choices last) = max (expr_words e) (max (choices_words choices) (body_words last))
-    stmt_words (repeat number v from to by body) = 2 + body_words body
+    stmt_words (repeat number v from to by body) = for_words (frame_turns from to by) (body_words body)
 
     -- the words of stack of a body
     pub body_words : PlainBody ℕ → ℕ

@@ -1,17 +1,16 @@
 //! Counts the paths below a routine.
 
-ghost use Rattle.std.specs.Prelude.{◌≡◌, ℕ, length, List, [], ◌++◌, ◌∷◌, IfOk};
+ghost use Rattle.std.specs.Prelude.{◌≡◌, ℕ, length, List, [], ◌++◌, ◌∷◌};
 ghost use Rattle.plant_cells.specs.Runs.{Path};
 ghost use Rattle.block_walk.specs.Frames.{routine_paths, paths_below};
-ghost use Rattle.code_sizes.specs.Counts.{paths_at};
+ghost use Rattle.code_sizes.specs.Counts.{capped, paths_at};
 
-use crate::adding::add;
+use crate::capping::add;
 use crate::counts::Count;
 use block_walk::{Seat, SeatOf};
-use std::alloc::AllocError;
 
 /// The paths of the frame of a number, by a table; 0 past its end.
-fn paths_at(table: &[Count], k: usize) -> u32
+fn paths_at(table: &[Count], k: usize) -> usize
     ensures { result ≡ paths_at table.now k }
 {
     match table.get(k) {
@@ -21,8 +20,8 @@ fn paths_at(table: &[Count], k: usize) -> u32
 }
 
 /// The paths below an instance.
-fn paths_below(table: &[Count], seat: &Seat) -> u32
-    ensures { (paths : ℕ → List Path) → ((k : ℕ) → length (paths k) ≡ paths_at table.now k) → result ≡ length (paths_below paths seat.now) }
+fn paths_below(table: &[Count], seat: &Seat) -> usize
+    ensures { (paths : ℕ → List Path) → ((k : ℕ) → capped (length (paths k)) ≡ paths_at table.now k) → result ≡ capped (length (paths_below paths seat.now)) }
 {
     if !seat.is_called {
         return 0;
@@ -34,12 +33,12 @@ fn paths_below(table: &[Count], seat: &Seat) -> u32
 }
 
 /// The paths of a routine, by its instances and the counts of the frames before its own.
-pub(crate) fn routine_paths(table: &[Count], seats: &[Seat]) -> Result<u32, AllocError>
-    ensures { IfOk result (λ n. (paths : ℕ → List Path) → ((k : ℕ) → length (paths k) ≡ paths_at table.now k) → n ≡ length (routine_paths paths seats.now)) }
+pub(crate) fn routine_paths(table: &[Count], seats: &[Seat]) -> usize
+    ensures { (paths : ℕ → List Path) → ((k : ℕ) → capped (length (paths k)) ≡ paths_at table.now k) → result ≡ capped (length (routine_paths paths seats.now)) }
 {
     let mut total = 1;
     for seat in seats {
-        total = add(total, paths_below(table, seat))?;
+        total = add(total, paths_below(table, seat));
     }
-    Ok(total)
+    total
 }

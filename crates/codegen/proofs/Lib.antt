@@ -14,6 +14,7 @@ pub mod Ends
 pub mod Places
 pub mod Within
 pub mod Sound
+pub mod Words
 pub mod Made
 pub mod Sizes
 mod Examples

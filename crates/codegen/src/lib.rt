@@ -21,4 +21,4 @@ mod program;
 mod scope;
 
 pub use laws::frame_code_is_as_long;
-pub use program::{compile, compile_counted};
+pub use program::compile_counted;

@@ -4,7 +4,7 @@ use crate::alarms::{push_alarm, push_changes, push_ends, push_held, push_texts};
 use crate::banks::push_bank;
 use crate::blocks::{push_edges, push_off_delay, push_on_delay};
 use crate::choices::{push_chosen, push_statuses};
-use crate::codes::{push_cells, push_code, push_counts};
+use crate::codes::{push_cells, push_counts};
 use crate::commands::{push_command, push_lines};
 use crate::journals::{push_row, push_stamp};
 use crate::printing::{parts_of, push_all};
@@ -48,7 +48,6 @@ fn push_other(alloc: Global, text: &mut String, word: &str, rest: &str) -> Resul
         "labels" => push_labels(alloc, text),
         "named_sum" => push_named_sum(alloc, text),
         "named_body" => push_named_body(alloc, text),
-        "code" => push_code(alloc, text, rest),
         "cells" => push_cells(alloc, text),
         "counts" => push_counts(alloc, text),
         "look" | "cost" | "judge" | "walk" | "count" => push_source(alloc, text, word, rest),

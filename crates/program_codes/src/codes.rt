@@ -6,10 +6,9 @@ ghost use Rattle.code_sizes.specs.Sizes.{frame_cost};
 ghost use Rattle.code_sizes.specs.Counts.{AreCounts};
 ghost use Rattle.codegen.specs.Codes.{code_of, AreSteady};
 ghost use Rattle.program_codes.specs.Folded.{AreFolded};
-ghost use Rattle.program_codes.specs.Codes.{IsCodeOf, AreCodes, CostNoMore};
+ghost use Rattle.program_codes.specs.Codes.{IsCodeOf, AreCodes, CostNoMore, AreCheap};
 
 use crate::folding::fold_frames;
-use crate::running::STACK_WORDS;
 use acc_vm::Code;
 use block_walk::Frame;
 use code_sizes::{FrameCounts, count_frames};
@@ -37,13 +36,11 @@ fn code_of(
     requires in_turn { AreInTurn folded.now }
     requires steady { AreSteady folded.now }
     requires cost { frame_cost folded.now (length folded.now) first ≤ cost }
+    requires cheap { cost ≤ 2000000 }
     ensures runs { IfOk result (IsCodeOf folded.now globals first (record { values = values; clocks = clocks }) cost) }
     ensures is { IfOk result (λ code. code ≡ code_of globals folded.now first (record { values = values; clocks = clocks }) cost) }
 {
     let code = compile_counted(alloc, folded, counts, globals, first, values, clocks, cost)?;
-    if code.stack() > STACK_WORDS {
-        return Err(AllocError);
-    }
     Ok(code)
 }
 
@@ -51,8 +48,8 @@ fn code_of(
 /// and the clocks of each program begin, and behind them where those of the last one end. The costs are told by the codes: no program costs more
 /// before its constants are folded.
 ///
-/// Fails if allocation fails; and if a code can't be numbered in 32 bits, or needs more words than a stack has, which is answered as refused
-/// memory too: no accepted source has such a program.
+/// Fails if allocation fails; and if a code can't be numbered in 32 bits, which is answered as refused memory too: no accepted source has such
+/// a program.
 pub fn codes_of(
     alloc: Global,
     frames: &[Frame],
@@ -69,6 +66,7 @@ pub fn codes_of(
     requires costs { length costs.now + 1 ≡ length values.now }
     requires there { first ≤ length frames.now }
     requires enough { CostNoMore frames.now first costs.now }
+    requires cheap { AreCheap costs.now }
     ensures { IfOk result (λ codes. AreCodes frames.now globals first values.now clocks.now costs.now codes.items) }
 {
     folded_body_does_same::<usize, Cells>();

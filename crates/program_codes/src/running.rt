@@ -12,9 +12,9 @@ use std::alloc::{AllocError, Global};
 use std::marker::Model;
 
 /// How many words of stack there are for a run.
-pub(crate) const STACK_WORDS: usize = 8_192;
+const STACK_WORDS: usize = 1_000_000;
 
-/// Memory for the stack of runs, one after another: 8,192 words. What a run leaves in it doesn't matter. Contracts see how many words it has.
+/// Memory for the stack of runs, one after another: 1,000,000 words. What a run leaves in it doesn't matter. Contracts see how many words it has.
 #[derive(Drop)]
 pub struct Stack {
     words: Vec<i64>,
