@@ -83,6 +83,13 @@ module _ (blocks : List PlainRoutine) where
   clocks_at zero n path = omega arith
   clocks_at (suc d) n path = clocks_by d (slice_get blocks n) (clocks_at d) path
 
+  -- a routine has no more values and no more standard blocks than slots
+  pub routine_values_few : (r : PlainRoutine) (path : Path) → length (values_rule (routine_values blocks) r path) ≤ routine_slots (type_slots blocks) r
+  routine_values_few r path = values_few (routine_values blocks) (type_slots blocks) (values_at (length blocks)) r path
+
+  pub routine_clocks_few : (r : PlainRoutine) (path : Path) → length (clocks_rule (routine_clocks blocks) r path) ≤ routine_slots (type_slots blocks) r
+  routine_clocks_few r path = clocks_few (routine_clocks blocks) (type_slots blocks) (clocks_at (length blocks)) r path
+
   values_before : (ps : List PlainRoutine) (k : ℕ) → program_values_before blocks ps k ≤ sum_by (routine_slots (type_slots blocks)) ps
   values_before [] k = omega arith
   values_before (p ∷ ps) zero = omega arith

@@ -31,7 +31,7 @@ use Rattle.plant_walk.specs.Bases.{program_paths_before, program_paths_base}
 use Rattle.plant_walk.proofs.Small.{sound_named, few_programs, word_found}
 
 -- what names weigh together
-abbrev weight_of : (List ℕ → ℕ) → List (List ℕ) → ℕ
+abbrev pub weight_of : (List ℕ → ℕ) → List (List ℕ) → ℕ
 weight_of w [] = 0
 weight_of w (x ∷ xs) = w x + weight_of w xs
 
@@ -66,7 +66,7 @@ module _ (called : List ℕ → ℕ) where
         omega (arith, sum, first, rest)
     stmt_heavy (repeat number v from to by body) = let inside = body_heavy body in omega (arith, inside)
 
-    body_heavy : (body : PlainBody (List ℕ)) → weight_of heavy (called_in body) ≤ weight_all (λ a b. a + b) (λ from to by. 1) called body
+    pub body_heavy : (body : PlainBody (List ℕ)) → weight_of heavy (called_in body) ≤ weight_all (λ a b. a + b) (λ from to by. 1) called body
     body_heavy done = omega arith
     body_heavy (next s rest) =
         let sum = weight_append heavy (called_in_stmt s) (called_in rest) in
@@ -144,7 +144,7 @@ place_of (a ∷ xs) x (inl is) = (0, ap Some is)
 place_of (a ∷ xs) x (inr later) = let rest = place_of xs x later in (suc rest.0, rest.1)
 
 -- an instance is found by each word that is its name
-named : (r : PlainRoutine) (x : List ℕ) (i : Instance) → repeats (instance_words r.instances) ≡ false → Among r.instances i → same_word i.name x ≡ true → block_named r x ≡ Some i.of
+pub named : (r : PlainRoutine) (x : List ℕ) (i : Instance) → repeats (instance_words r.instances) ≡ false → Among r.instances i → same_word i.name x ≡ true → block_named r x ≡ Some i.of
 named r x i apart here is =
     let at = place_of r.instances i here in
     let same : folded i.name ≡ folded x = (bytes_decides (folded i.name) (folded x)).0 is in
@@ -202,7 +202,7 @@ behind_apart : (xs ys : List (List ℕ)) → repeats (xs ++ ys) ≡ false → re
 behind_apart [] ys apart = apart
 behind_apart (x ∷ xs) ys apart = behind_apart xs ys (or_parts (is_among (xs ++ ys) x) (repeats (xs ++ ys)) apart).1
 
-instances_apart : (r : PlainRoutine) → AreNamedApart r → repeats (instance_words r.instances) ≡ false
+pub instances_apart : (r : PlainRoutine) → AreNamedApart r → repeats (instance_words r.instances) ≡ false
 instances_apart r apart = behind_apart (own_words r.locals) (instance_words r.instances) apart
 
 module _ (blocks : List PlainRoutine) (apart : All AreNamedApart blocks) where
@@ -214,6 +214,9 @@ module _ (blocks : List PlainRoutine) (apart : All AreNamedApart blocks) where
   types_few : (d n : ℕ) → length (levels [] paths_rule blocks d n) ≤ 1 + levels 0 routine_size blocks d n
   types_few zero n = omega arith
   types_few (suc d) n = types_by d n (slice_get blocks n) refl (types_few d)
+
+  pub routine_paths_few : (r : PlainRoutine) → AreNamedApart r → length (paths_rule (type_paths blocks) r) ≤ 1 + routine_size (type_size blocks) r
+  routine_paths_few r named = routine_few (type_paths blocks) (type_size blocks) (types_few (length blocks)) r (instances_apart r named)
 
   programs_few : (ps : List PlainRoutine) → All AreNamedApart ps → (k : ℕ) → program_paths_before blocks ps k ≤ k + sum_by (routine_size (type_size blocks)) ps
   programs_few [] each k = omega arith

@@ -5,6 +5,8 @@ mod Counted
 mod Bases
 mod Few
 mod FewPaths
+mod FewStarts
+mod Little
 mod Numbered
 mod Placed
 mod Spots

@@ -11,6 +11,7 @@ ghost use Rattle.plant_logic.specs.Paths.{paths_of, path_text};
 ghost use Rattle.plant_limits.specs.Counts.{program_costs};
 ghost use Rattle.plant_limits.specs.Limits.{KeepsLimits, IsLimitFault};
 ghost use Rattle.block_frames.specs.Frames.{IsFrames};
+ghost use Rattle.block_frames.specs.Small.{IsSmall};
 ghost use Rattle.block_frames.specs.Stands.{StandFor};
 ghost use Rattle.plant_walk.specs.Framed.{HasStart, IsFramed};
 ghost use Rattle.plant_walk.specs.Sound.{IsSound};
@@ -84,7 +85,8 @@ struct Made {
 
 /// The frame of a source's initial values, in a table of its own. Fails if allocation fails.
 fn start_table(alloc: Global, logic: &Logic) -> Result<Vec<Frame>, AllocError>
-    requires { IsDistinctlyNamed (source_of logic.now) }
+    requires named { IsDistinctlyNamed (source_of logic.now) }
+    requires small { IsSmall (source_of logic.now) }
     ensures { IfOk result (λ start. HasStart (source_of logic.now) start.items) }
 {
     let mut start = Vec::new(alloc);
@@ -101,6 +103,7 @@ fn tables_of(
     requires below { AreBelow (source_of logic.now).blocks order.now }
     requires types { HasItsTypes (source_of logic.now) }
     requires named { IsDistinctlyNamed (source_of logic.now) }
+    requires small { IsSmall (source_of logic.now) }
     ensures frames { IfOk result (λ tables. IsFrames (source_of logic.now) order.now tables.0.items) }
     ensures start { IfOk result (λ tables. HasStart (source_of logic.now) tables.1.items) }
 {

@@ -10,6 +10,7 @@ use Rattle.program_codes.specs.Codes.{CostNoMore, AreCheap}
 use Rattle.plant_walk.specs.Framed.{global_names}
 use Rattle.plant_walk.proofs.Coded.{sound_steady, codes_same}
 use Rattle.plant_walk.proofs.Small.{sound_named, sound_types}
+use Rattle.plant_walk.proofs.Little.{sound_small}
 use Rattle.plant_walk.proofs.Costs.{costs_listed}
 use Rattle.plant_walk.proofs.framed.made_of.Goals as goal
 
@@ -21,6 +22,12 @@ tables_of-requires-clause-types c = sound_types (source_of c.args.logic.now) c.r
 
 pub tables_of-requires-clause-named : goal.tables_of-requires-clause-named
 tables_of-requires-clause-named c = sound_named (source_of c.args.logic.now) c.requires.sound
+
+pub tables_of-requires-clause-small : goal.tables_of-requires-clause-small
+tables_of-requires-clause-small c =
+    let source = source_of c.args.logic.now in
+    let order = c.args.order.now in
+    sound_small source c.requires.sound (c.block_type_counts.ensures.slots source.blocks order c.requires.below) (c.block_type_counts.ensures.size source.blocks order c.requires.below)
 
 pub standards_of-requires-clause-types : goal.standards_of-requires-clause-types
 standards_of-requires-clause-types c = sound_types (source_of c.args.logic.now) c.requires.sound

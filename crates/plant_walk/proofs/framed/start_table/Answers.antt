@@ -1,6 +1,9 @@
 use Rattle.plant_walk.proofs.Started.{one_frame}
 use Rattle.plant_walk.proofs.framed.start_table.Goals as goal
 
+pub start_of-requires-clause-few : goal.start_of-requires-clause-few
+start_of-requires-clause-few c = c.requires.small.starts
+
 pub returns : goal.returns
 returns c = record {
   start = c.in_ok-start_of.field-0;
