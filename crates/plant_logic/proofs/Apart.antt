@@ -11,10 +11,12 @@ use Rattle.st_names.specs.declared.place.UnitPlace.{UnitPlace}
 use Rattle.st_names.specs.DeclaredNames.{PlainDeclared, declared_in, declared_words}
 use Rattle.st_names.specs.Shared.{Shared, global, pou, shared_name, shared_in, is_block}
 use Rattle.st_names.specs.Taken as taken
-use Rattle.st_names.specs.Taken.{is_standard, is_among, repeats, is_taken, one_taken, or_place, first_taken_pou, first_taken_of, first_taken, pou_words}
+use Rattle.st_names.specs.Taken.{is_standard, is_among, repeats, is_taken, or_place, first_taken, pou_words}
+use Rattle.st_names.specs.Scanned.{one_taken, first_taken_pou, first_taken_of, first_taken_after}
 use Rattle.st_names.specs.Asked.{repeats_after}
 use Rattle.st_names.specs.Known.{globals_misnamed, pou_misnamed}
 use Rattle.st_names.specs.Faults.{first_unit, is_earlier, earlier, first_misnamed}
+use Rattle.st_names.proofs.Scanned.{first_after}
 use Rattle.st_names.proofs.Twice.{repeats_first}
 use Rattle.st_typing.specs.Faults.{AreTyped}
 use Rattle.plant_logic.specs.Pous.{pous_of, block_pous, pou_word}
@@ -34,8 +36,10 @@ none_earlier (Some a) None e = absurd (cc)
 none_earlier (Some a) (Some b) e = absurd (let parts = none_if (is_earlier b a) b (Some a) e in cc)
 
 -- what holds where no unit is at fault: no name is taken, and no unit is misnamed
-pub none_misnamed : (units : List PlainUnit) → first_misnamed units ≡ None → (first_taken 0 [] units ≡ None) × (first_unit (globals_misnamed units) (pou_misnamed units) 0 units ≡ None)
-none_misnamed units e = none_earlier (first_taken 0 [] units) (first_unit (globals_misnamed units) (pou_misnamed units) 0 units) e
+pub none_misnamed : (units : List PlainUnit) → first_misnamed units ≡ None → (first_taken_after 0 [] units ≡ None) × (first_unit (globals_misnamed units) (pou_misnamed units) 0 units ≡ None)
+none_misnamed units e =
+    let parts = none_earlier (first_taken units) (first_unit (globals_misnamed units) (pou_misnamed units) 0 units) e in
+    (first_after units ∙ parts.0, parts.1)
 
 -- no word of a list is taken where none of its two parts is
 free_append : (before xs ys : List (List ℕ)) → one_taken before xs ≡ false → one_taken (before ++ xs) ys ≡ false → one_taken before (xs ++ ys) ≡ false
@@ -76,13 +80,13 @@ words_of unit units =
     map-append shared_word (globals ++ pous) (shared_in units)
     ∙ ap (λ ws. ws ++ map shared_word (shared_in units)) (map-append shared_word globals pous ∙ (λ i. words_of_globals (declared_in unit.globals) i ++ words_of_pous unit.pous i))
 
-free_units : (source : ℕ) (before : List (List ℕ)) (units : List PlainUnit) → first_taken source before units ≡ None → one_taken before (map shared_word (shared_in units)) ≡ false
+free_units : (source : ℕ) (before : List (List ℕ)) (units : List PlainUnit) → first_taken_after source before units ≡ None → one_taken before (map shared_word (shared_in units)) ≡ false
 free_units source before [] e = refl
 free_units source before (unit ∷ units) e =
     let globals = taken.global_words unit in
     let pous = pou_words unit in
     let rest = map shared_word (shared_in units) in
-    let parts = none_or (first_taken_of source before unit) (first_taken (suc source) (before ++ globals ++ pous) units) e in
+    let parts = none_or (first_taken_of source before unit) (first_taken_after (suc source) (before ++ globals ++ pous) units) e in
     let later : one_taken (before ++ (globals ++ pous)) rest ≡ false = ap (λ w. one_taken w rest) (sym (append_assoc before globals pous)) ∙ free_units (suc source) (before ++ globals ++ pous) units parts.1 in
     ap (one_taken before) (words_of unit units) ∙ free_append before (globals ++ pous) rest (free_unit source before unit parts.0) later
 

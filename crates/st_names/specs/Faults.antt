@@ -35,4 +35,4 @@ earlier (Some a) (Some b) = if is_earlier b a then Some b else Some a
 
 -- the first unit with a fault of names (C6): it declares a name that is taken, declares one of its own twice, names what isn't there, or gives an input or takes an output of a call twice
 abbrev pub first_misnamed : List PlainUnit → Option UnitPlace
-first_misnamed units = earlier (first_taken 0 [] units) (first_unit (globals_misnamed units) (pou_misnamed units) 0 units)
+first_misnamed units = earlier (first_taken units) (first_unit (globals_misnamed units) (pou_misnamed units) 0 units)

@@ -5,6 +5,7 @@ pub mod Shared
 pub mod BlockTypes
 pub mod Scopes
 pub mod Taken
+pub mod Scanned
 pub mod Known
 pub mod Faults
 pub mod Code

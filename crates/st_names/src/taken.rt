@@ -4,7 +4,8 @@ ghost use Rattle.std.specs.Prelude.{◌≡◌, ◌++◌, IfOk, map, Some, None};
 ghost use Rattle.plant_types.specs.Words.{folded};
 ghost use Rattle.st_parser.specs.Units.{view_pou, view_unit};
 ghost use Rattle.st_names.specs.DeclaredNames.{declared_words};
-ghost use Rattle.st_names.specs.Taken.{is_taken, one_taken, first_taken_pou, first_taken_of, first_taken, global_words, pou_words};
+ghost use Rattle.st_names.specs.Taken.{is_taken, first_taken, global_words, pou_words};
+ghost use Rattle.st_names.specs.Scanned.{one_taken, first_taken_pou, first_taken_of};
 ghost use Rattle.st_names.specs.Asked.{Added, AddedPous};
 ghost use Rattle.std.specs.Prelude.{◌∷◌, []};
 
@@ -79,7 +80,7 @@ fn first_taken_of(
 
 /// The first unit, in order of text, that declares a name which an earlier declaration of all sources has, or a standard block. Fails if allocation fails.
 pub fn first_taken(alloc: Global, units: &[Unit]) -> Result<Option<UnitPlace>, AllocError>
-    ensures { IfOk result (λ place. place ≡ first_taken 0 [] (map view_unit units.now)) }
+    ensures { IfOk result (λ place. place ≡ first_taken (map view_unit units.now)) }
 {
     let mut names = Names::new(alloc);
     for i in 0..units.len() {

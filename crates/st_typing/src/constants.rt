@@ -6,7 +6,7 @@ ghost use Rattle.plant_types.specs.declared.values.Kind.{Kind as PlainKind};
 ghost use Rattle.st_parser.specs.declared.unit.SectionKind.{SectionKind};
 ghost use Rattle.st_tree.specs.View.{view_expr, view_option, view_argument, view_stmt, view_body};
 ghost use Rattle.st_tree.specs.Constants.{constant_of};
-ghost use Rattle.st_tree.specs.Kinds.{resolved_expr, kind_in, unary_result, binary_result};
+ghost use Rattle.st_tree.specs.Kinds.{resolved_expr, kind_in};
 ghost use Rattle.st_tree.specs.Meaning.{then_one, then_two};
 ghost use Rattle.st_tree.specs.Operators.{eval_unary, eval_binary};
 ghost use Rattle.st_parser.specs.Units.{view_declaration, view_section, view_pou};
@@ -17,36 +17,13 @@ use plant_types::{Kind, Text, Trap, same_word};
 use st_names::{Rule, Scope, every};
 use st_parser::{Declaration, Pou, Section};
 use st_tree::{
-    Argument, Binary, Expr, Stmt, Unary, count_turns, eval_binary, eval_unary, resolved_binary,
-    resolved_unary, span_of,
+    Argument, Binary, Expr, Stmt, Unary, binary_result, count_turns, eval_binary, eval_unary,
+    resolved_binary, resolved_unary, span_of, unary_result,
 };
 use std::alloc::{AllocError, Global};
 
 /// The most turns that a FOR may have (this profile).
 const TURNS: u128 = 10000;
-
-/// The kind of an operator's result, for an operand that it takes.
-fn unary_result(op: Unary, a: Kind) -> Kind
-    ensures { result ≡ unary_result op a }
-{
-    match op {
-        Unary::Not => Kind::Bool,
-        Unary::Negate => a,
-        Unary::NegateTime => Kind::Time,
-    }
-}
-
-/// The kind of an operator's result, for operands that it takes, by the kind of the left one.
-fn binary_result(op: Binary, a: Kind) -> Kind
-    ensures { result ≡ binary_result op a }
-{
-    match op {
-        Binary::Add | Binary::Subtract => a,
-        Binary::AddTime | Binary::SubtractTime => Kind::Time,
-        Binary::Multiply | Binary::Divide | Binary::Mod => Kind::Dint,
-        _ => Kind::Bool,
-    }
-}
 
 /// The outcome of an operator, by that of its operand.
 fn apply_unary(op: Unary, x: Result<i64, Trap>) -> Result<i64, Trap>

@@ -1,7 +1,7 @@
 use Rattle.std.proofs.Common.{◌≡◌, ◌++◌, drop, map}
 use Rattle.plant_types.specs.Words.{folded}
 use Rattle.st_parser.specs.Units.{view_pou}
-use Rattle.st_names.specs.Taken.{first_taken_pou}
+use Rattle.st_names.specs.Scanned.{first_taken_pou}
 use Rattle.st_names.proofs.taken.first_taken_pou.Given as goal
 
 abbrev pub invariant-loop-i : goal.invariant-loop-i

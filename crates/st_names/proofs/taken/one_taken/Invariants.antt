@@ -1,7 +1,7 @@
 use Rattle.std.proofs.Common.{◌≡◌, ◌++◌, drop, map}
 use Rattle.plant_types.specs.Words.{folded}
 use Rattle.st_names.specs.DeclaredNames.{declared_words}
-use Rattle.st_names.specs.Taken.{one_taken}
+use Rattle.st_names.specs.Scanned.{one_taken}
 use Rattle.st_names.proofs.taken.one_taken.Given as goal
 
 abbrev pub invariant-loop-declared : goal.invariant-loop-declared
