@@ -9,13 +9,14 @@ use crate::states::{AlarmState, OrderFault, Verb};
 use std::marker::Model;
 
 /// One alarm: whether it latches, its longest shelving, its state, and the condition and suppression of the last scan.
+// The fields stand in this order, and the longest shelving in 32 bits, so that an alarm takes 24 bytes: a plant has many.
 #[derive(Clone, Copy, Debug, PartialEq, Eq, Drop)]
 pub struct Alarm {
     latching: bool,
-    max_shelve_ms: u64,
-    state: AlarmState,
     condition: bool,
     suppressed: bool,
+    max_shelve_ms: u32,
+    state: AlarmState,
 }
 
 impl Model for Alarm {
@@ -77,7 +78,7 @@ impl Alarm {
     {
         Alarm {
             latching,
-            max_shelve_ms,
+            max_shelve_ms: max_shelve_ms as u32,
             state: AlarmState::Norm,
             condition: false,
             suppressed: false,
@@ -103,7 +104,7 @@ impl Alarm {
         ensures time { result ≡ self.now.max_shelve_ms }
         ensures in_range { result ≤ LONGEST_SHELVE_MS }
     {
-        self.max_shelve_ms
+        u64::from(self.max_shelve_ms)
     }
 
     /// The condition of the last scan, FALSE before the first.
@@ -167,7 +168,7 @@ impl Alarm {
             (Verb::Reset, AlarmState::Latak) => Ok(AlarmState::Norm),
             (Verb::Shelve(_), AlarmState::Suppr | AlarmState::Oos) => Err(OrderFault::WrongState),
             (Verb::Shelve(time), _) => {
-                if 1 <= time && time <= self.max_shelve_ms {
+                if 1 <= time && time <= u64::from(self.max_shelve_ms) {
                     Ok(AlarmState::Shelved(last + time))
                 } else {
                     Err(OrderFault::ShelveTime)
