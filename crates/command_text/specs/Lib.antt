@@ -5,3 +5,4 @@ pub mod Given
 pub mod Commands
 pub mod Laws
 pub mod Lines
+pub mod Placing

@@ -30,6 +30,10 @@ trap_text trap.DivZero = codes "DIVZERO"
 unfoldable pub fault_line : ℕ → List ℕ → ℕ → Trap → List ℕ
 fault_line moment path statement trap = line_of (codes "FAULT") (decimal moment ∷ path ∷ decimal statement ∷ trap_text trap ∷ [])
 
+-- what the lines of a moment begin with that tell of alarms
+abbrev pub alarm_front : ℕ → List ℕ
+alarm_front moment = codes "ALARM " ++ decimal moment ++ 32 ∷ []
+
 -- the line for an alarm whose code changed
 unfoldable pub alarm_line : ℕ → List ℕ → PlainChange → List ℕ
 alarm_line moment tag change = line_of (codes "ALARM") (decimal moment ∷ tag ∷ code_text change.from ∷ code_text change.to ∷ [])

@@ -9,6 +9,7 @@ mod laws;
 mod lines;
 mod numbers;
 mod parse;
+mod placing;
 mod pool;
 mod words;
 
@@ -19,4 +20,5 @@ pub use lines::{
     push_row, push_state,
 };
 pub use parse::read_command;
+pub use placing::{AlarmFront, put_alarm};
 pub use pool::Pool;
