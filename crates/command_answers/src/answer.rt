@@ -12,8 +12,8 @@ ghost use Rattle.command_text.specs.Commands.{command_of};
 
 use alarm_machine::{Change, Verb};
 use command_text::{
-    Command, Pool, push_alarm, push_done, push_fault, push_out, push_refused, push_reply,
-    read_command,
+    AlarmFront, Command, Pool, push_alarm, push_done, push_fault, push_out, push_refused,
+    push_reply, put_alarm, read_command,
 };
 use engine::{
     Crew, Done, Engine, EngineFault, Job, Order, Reply, Report, Start, system_keeps_its_plant,
@@ -37,20 +37,44 @@ fn tag_for(plant: &Plant, order: Order) -> &str
     }
 }
 
-/// Appends an ALARM line for each change. The moment is given by its digits.
-fn push_alarms(
+/// Appends an ALARM line for each change. What they begin with is made once, and they are written one after another into the text's room.
+fn put_alarms(
     text: &mut Vec<u8>,
     plant: &Plant,
-    moment: &str,
+    moment: u64,
     changes: &[(u32, Change)],
 ) -> Result<(), AllocError>
     requires { All (λ c. c.0 < length plant.now.alarms) changes.now }
-    ensures { (t : ℕ) → moment.now ≡ decimal t → OnOk result (text.new.items ≡ text.old.items ++ alarm_lines plant.now t changes.now) }
+    ensures { OnOk result (text.new.items ≡ text.old.items ++ alarm_lines plant.now moment changes.now) }
 {
+    let front = AlarmFront::new(moment);
+    let mut end = text.len();
     for (alarm, change) in changes {
-        push_alarm(text, moment, plant.tag(*alarm), *change)?;
+        end = put_alarm(text, end, &front, plant.tag(*alarm), *change)?;
     }
+    text.truncate(end);
     Ok(())
+}
+
+/// Appends an ALARM line for each change. The moment is given with its digits, in which a line stands that is alone.
+fn push_alarms(
+    text: &mut Vec<u8>,
+    plant: &Plant,
+    moment: u64,
+    digits: &str,
+    changes: &[(u32, Change)],
+) -> Result<(), AllocError>
+    requires digits { digits.now ≡ decimal moment }
+    requires alarms { All (λ c. c.0 < length plant.now.alarms) changes.now }
+    ensures { OnOk result (text.new.items ≡ text.old.items ++ alarm_lines plant.now moment changes.now) }
+{
+    let Some(((alarm, change), others)) = changes.split_first() else {
+        return Ok(());
+    };
+    if others.is_empty() {
+        return push_alarm(text, digits, plant.tag(*alarm), *change);
+    }
+    put_alarms(text, plant, moment, changes)
 }
 
 /// The path of a place: the names that lead to it, with points between them. Fails if allocation fails.
@@ -114,12 +138,12 @@ fn push_report(
     let changes = report.changes.as_slice();
     let outs = report.outs.as_slice();
     let mut digits = Buffer::new();
-    let moment = digits.format(report.moment);
-    push_faults(alloc, text, plant, moment, faults)?;
-    push_alarms(text, plant, moment, changes)?;
-    push_outs(text, plant, moment, outs)?;
+    let digits = digits.format(report.moment);
+    push_faults(alloc, text, plant, digits, faults)?;
+    push_alarms(text, plant, report.moment, digits, changes)?;
+    push_outs(text, plant, digits, outs)?;
     let lines = faults.len() as u64 + changes.len() as u64 + outs.len() as u64;
-    push_done(text, moment, lines)
+    push_done(text, digits, lines)
 }
 
 /// Does a scan, its programs run by the crew, and appends its answer. It fails where the crew failed, before the scan took effect, and where an
