@@ -2,6 +2,7 @@ ghost use Rattle.std.specs.Prelude.{◌≡◌, ◌<◌, ◌≤◌, ◌||◌, ℕ
 ghost use Rattle.std.specs.Io.KnownBytes.{ReadConsumes, WriteAppends};
 
 use std::io::{Read, Write};
+use std::marker::Model;
 
 /// The error of a read or a write that failed.
 #[derive(Clone, Copy, Debug, PartialEq, Eq, Drop)]
@@ -51,8 +52,16 @@ pub trait Sink {
 /// A reader of std, as a feed.
 #[derive(Drop)]
 pub struct Reading<R: Read + Drop> {
-    pub from: R,
-    pub broken: bool,
+    from: R,
+    broken: bool,
+}
+
+impl<R: Read + Drop> Model for Reading<R> {
+    ghost use Rattle.byte_streams.specs.Streams.{PlainReading};
+
+    ghost Value = { PlainReading R };
+
+    ghost view = { λ s. record { from = s.from; broken = s.broken } };
 }
 
 impl<R: Read + Drop> Reading<R> {
@@ -65,6 +74,13 @@ impl<R: Read + Drop> Reading<R> {
             from,
             broken: false,
         }
+    }
+
+    /// Returns the reader.
+    pub fn get_ref(&self) -> &R
+        ensures { result.now ≡ self.now.from }
+    {
+        &self.from
     }
 }
 
@@ -91,8 +107,16 @@ impl<R: Read + Drop> Feed for Reading<R> {
 /// A writer of std, as a sink. A write of 0 bytes of a buffer that isn't empty is an error.
 #[derive(Drop)]
 pub struct Writing<W: Write + Drop> {
-    pub to: W,
-    pub broken: bool,
+    to: W,
+    broken: bool,
+}
+
+impl<W: Write + Drop> Model for Writing<W> {
+    ghost use Rattle.byte_streams.specs.Streams.{PlainWriting};
+
+    ghost Value = { PlainWriting W };
+
+    ghost view = { λ s. record { to = s.to; broken = s.broken } };
 }
 
 impl<W: Write + Drop> Writing<W> {
@@ -102,6 +126,20 @@ impl<W: Write + Drop> Writing<W> {
         ensures whole { result.broken ≡ false }
     {
         Writing { to, broken: false }
+    }
+
+    /// Returns the writer.
+    pub fn get_ref(&self) -> &W
+        ensures { result.now ≡ self.now.to }
+    {
+        &self.to
+    }
+
+    /// Gives the writer back.
+    pub fn into_inner(self) -> W
+        ensures { result ≡ self.to }
+    {
+        self.to
     }
 }
 

@@ -29,7 +29,7 @@ fn served<H: Wait, C: Crew<Job, Start, Done, H>>(
     if feed.failed() || sink.failed() {
         return Err(ServeFault::Read);
     }
-    Ok(sink.to)
+    Ok(sink.into_inner())
 }
 
 /// What an input is answered. Over memory a session stops only where memory was refused.

@@ -21,7 +21,7 @@ fn checked<R: Files + Threads + Sync>(
 ) -> Result<Vec<u8>, ServeFault> {
     let mut sink = Writing::new(Vec::new(alloc));
     check_from(rt, alloc, &Disk { files: rt }, path, &mut sink)?;
-    Ok(sink.to)
+    Ok(sink.into_inner())
 }
 
 /// What the plant of a plant file's path is answered on the commands of a file.
@@ -41,7 +41,7 @@ fn served<R: Files + Threads + Wait + Sync, C: Crew<Job, Start, Done, R>>(
     let mut sink = Writing::new(Vec::new(alloc));
     let disk = Disk { files: rt };
     run_from(rt, alloc, crew, &disk, path, &mut feed, &mut sink)?;
-    Ok(sink.to)
+    Ok(sink.into_inner())
 }
 
 /// Adds what an example is answered: `check PLANT`, or `run PLANT COMMANDS`. A session whose commands can't be read has no answers but

@@ -55,7 +55,7 @@ pub fn push_checked<H: Threads + Sync>(
     if check_from(rt, alloc, &shelf, PATH, &mut sink).is_err() {
         return Err(AllocError);
     }
-    text.extend_from_slice(sink.to.as_slice())
+    text.extend_from_slice(sink.get_ref().as_slice())
 }
 
 /// Runs the plant of a folder to the end of a feed: from its files, or from the texts of its plant file, of `p.st` and of its alarms.
@@ -113,8 +113,8 @@ pub fn push_ran<H: Threads + Wait + Sync, C: Crew<Job, Start, Done, H>>(
         Ok(RunEnd::Refused) => "REFUSED",
         Err(_) => return Err(AllocError),
     };
-    text.extend_from_slice(sink.to.as_slice())?;
-    let (left, bytes) = (feed.from.len(), plan.lines.len());
+    text.extend_from_slice(sink.get_ref().as_slice())?;
+    let (left, bytes) = (feed.get_ref().len(), plan.lines.len());
     push_line(
         text,
         format!(in alloc; "{end}, {left} of {bytes} bytes left")?.as_str(),
