@@ -1,7 +1,6 @@
-//! The events of a plant, and its history: the events so far, in little memory.
+//! The events of a plant, and its history: the events so far, as contracts see them.
 //!
-//! An event is a scan with its image, or an operator's order. A history keeps all images one behind another in one vector, so that an event
-//! takes no allocation of its own.
+//! An event is a scan with its image, or an operator's order. A history takes no memory: its events are for contracts alone.
 #![tactic(auto)]
 
 mod event;
