@@ -20,9 +20,9 @@ use Rattle.engine.specs.Engines.{PlainEngine, Fits, FitsOrder, IsEngine, state_o
 use Rattle.engine.proofs.Journals.{journal_empty}
 use Rattle.engine.proofs.Lawful.{lawful_none}
 
--- a scan that was made ready from what an engine holds fits that engine, where it has room
-pub scan_fits : (e : PlainEngine) (p : PlainPrepared) (old : PlainState) (events : ℕ) (pairs : List PlainPair) (t : ℕ) → IsPlant e.plant → IsState (state_of e) old → IsPreparedScan e.plant old events pairs t p → events ≡ length e.history → 0 < e.room → length p.report.faults + length p.report.changes ≤ e.row_room → Fits e p
-scan_fits e p old events pairs t begun held scan counted there rows_there =
+-- a scan that was made ready from what an engine holds fits that engine, where there is room for its rows
+pub scan_fits : (e : PlainEngine) (p : PlainPrepared) (old : PlainState) (events : ℕ) (pairs : List PlainPair) (t : ℕ) → IsPlant e.plant → IsState (state_of e) old → IsPreparedScan e.plant old events pairs t p → events ≡ length e.history → length p.report.faults + length p.report.changes ≤ e.row_room → Fits e p
+scan_fits e p old events pairs t begun held scan counted rows_there =
     let sys = state_of e in
     let own : e.plant ≡ sys.plant = sym (system_keeps_its_plant e.plant e.history) in
     let image = scan.image in
@@ -34,7 +34,6 @@ scan_fits e p old events pairs t begun held scan counted there rows_there =
     let within = taken_within (globals_of sys.plant) sys.moment sys.events pairs t t image taken in
     let after = scan_agrees sys old new image t p.report plant_is within held made in
     record {
-      room = there;
       image = image;
       event_is = is ∙ ap (event.Scan image) (sym made.reported_at);
       row_room = rows_there;
@@ -52,9 +51,9 @@ order_agrees e p old held fits =
     subst (λ (s : System). IsState s (record old { faulted = faulted_by p.done old.faulted; alarms = alarms_by p.done old.alarms })) (sym next)
     (order_steps (state_of e) old p.console p.order p.done fits.done_is held)
 
--- an order that was made ready from what an engine holds fits that engine, where it has room
-pub order_fits : (e : PlainEngine) (k : PlainState) (console : ℕ) (order : Order) (p : PlainPreparedOrder) → IsState (state_of e) k → IsPreparedOrder e.plant k console order p → length e.history < MOST_EVENTS → 0 < e.room → 2 ≤ e.row_room → FitsOrder e p
-order_fits e k console order p held made few there rows_there =
+-- an order that was made ready from what an engine holds fits that engine, where there is room for its rows
+pub order_fits : (e : PlainEngine) (k : PlainState) (console : ℕ) (order : Order) (p : PlainPreparedOrder) → IsState (state_of e) k → IsPreparedOrder e.plant k console order p → length e.history < MOST_EVENTS → 2 ≤ e.row_room → FitsOrder e p
+order_fits e k console order p held made few rows_there =
     let sys = state_of e in
     let own : e.plant ≡ sys.plant = sym (system_keeps_its_plant e.plant e.history) in
     let is : p.done ≡ ordered sys p.console p.order =
@@ -62,7 +61,6 @@ order_fits e k console order p held made few there rows_there =
     ∙ (λ i. order_outcome (own i) (held.alarms_are i) (held.faulted_is i) (held.moment_is i) console order)
     ∙ (λ i. ordered sys (sym made.console_is i) (sym made.order_is i)) in
     record {
-      room = there;
       row_room = rows_there;
       done_is = is;
       reply_is = made.reply_is ∙ ap (λ a. reply_by p.done a) held.alarms_are ∙ ap (λ d. reply_by d sys.alarms) is;

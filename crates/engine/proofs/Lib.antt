@@ -6,4 +6,3 @@ mod Journals
 mod OrderRows
 mod Commits
 mod Fitting
-mod Rooms

@@ -1,33 +1,26 @@
 -- What an engine shows and keeps, when something made ready fits it, and what a scan that is taken does to it.
-use Rattle.std.specs.Prelude.{◌≡◌, ℕ, ◌+◌, ◌<◌, ◌≤◌, nat_le, List, [], ◌∷◌, ◌++◌, length, All, Ok, refl, if◌then◌else◌}
+use Rattle.std.specs.Prelude.{◌≡◌, ℕ, ◌+◌, ◌≤◌, List, [], ◌∷◌, ◌++◌, length, All, Ok, refl}
 use Rattle.std.specs.Coded.{Coded, code_by, coded×, coded_list, coded_ℕ}
 use Rattle.plant_types.specs.Pairs.{PlainPair}
 use Rattle.plant_types.specs.declared.values.Value.{Value}
 use Rattle.journal_core.specs.declared.row.Row.{Row}
 use Rattle.plant_config.specs.Plants.{PlainPlant, IsPlant}
 use Rattle.plant_config.specs.Code.{plant_code}
-use Rattle.plant_config.specs.Names.{globals_of}
 use Rattle.alarm_machine.specs.declared.limits.TheConstants.{LAST_MOMENT}
 use Rattle.event_history.specs.declared.event.Event.{Event}
 use Rattle.event_history.specs.declared.event.Event.TheVariants as event
 use Rattle.event_history.specs.contracts.event.Event as event_row
-use Rattle.event_history.specs.Histories.{PlainHistory}
 use Rattle.plant_system.specs.Reports.{PlainReport}
 use Rattle.plant_system.specs.States.{PlainState, PlainPrepared, PlainPreparedOrder, IsState, IsReport, after_effect}
 use Rattle.plant_system.specs.System.{System, system, after_event, scan_event, ordered, reply_to}
 use Rattle.engine.specs.Lawful.{IsTaken, IsLawfulHistory}
 use Rattle.engine.specs.Journal.{IsJournal}
 
--- the plant with which it began, the events so far, for how many more there is room, and for how many rows of the journal
+-- the plant with which it began, the events so far, and for how many more rows of the journal there is room
 pub record PlainEngine : Type 0 where
   pub plant : PlainPlant
   pub history : List Event
-  pub room : ℕ
   pub row_room : ℕ
-
--- for how many more events a plant's history has room, whatever their images: for none before it has room for images of as many values as the plant has globals
-abbrev pub room_for : PlainPlant → PlainHistory → ℕ
-room_for plant history = if nat_le (length (globals_of plant)) history.width then history.room else 0
 
 -- the state of an engine's system
 abbrev pub state_of : PlainEngine → System
@@ -36,8 +29,8 @@ state_of e = system e.plant e.history
 -- a code of what an engine shows
 abbrev pub engine_code : Coded PlainEngine
 engine_code =
-    code_by (PlainPlant × (List Event × (ℕ × ℕ))) (coded× plant_code (coded× (coded_list event_row.the_row.coded) (coded× coded_ℕ coded_ℕ)))
-    (λ e. (e.plant, (e.history, (e.room, e.row_room)))) (λ p. record { plant = p.0; history = p.1.0; room = p.1.1.0; row_room = p.1.1.1 }) (λ _. refl)
+    code_by (PlainPlant × (List Event × ℕ)) (coded× plant_code (coded× (coded_list event_row.the_row.coded) coded_ℕ))
+    (λ e. (e.plant, (e.history, e.row_room))) (λ p. record { plant = p.0; history = p.1.0; row_room = p.1.1 }) (λ _. refl)
 
 -- a scan was taken: its event is the last of the history, and the report is what it did
 pub record TakesScan (old new : PlainEngine) (pairs : List PlainPair) (t : ℕ) (r : PlainReport) : Type 0 where
@@ -46,9 +39,8 @@ pub record TakesScan (old new : PlainEngine) (pairs : List PlainPair) (t : ℕ) 
   pub history_is : new.history ≡ old.history ++ event ∷ []
   pub report_is : IsReport (state_of old) event r
 
--- an engine may commit a scan that was made ready: there is room, for its rows too, its event is a scan at the moment of its report, it is what that event makes of this engine's state, and the event was taken there
+-- an engine may commit a scan that was made ready: there is room for its rows, its event is a scan at the moment of its report, it is what that event makes of this engine's state, and the event was taken there
 pub record Fits (e : PlainEngine) (p : PlainPrepared) : Type 0 where
-  pub room : 0 < e.room
   pub image : List (ℕ × Value)
   pub event_is : p.event ≡ event.Scan image p.report.moment
   pub effect_is : (k : PlainState) → IsState (state_of e) k → IsState (after_event (state_of e) p.event) (after_effect p.effect k)
@@ -63,9 +55,8 @@ pub record LeavesState (e : PlainEngine) (p : PlainPrepared) : Type 0 where
   pub state_is : IsState (after_event (state_of e) p.event) state
   pub cells_are : state.cells ≡ p.effect.cells
 
--- an engine may commit an order that was made ready: there is room, for two rows too, that is what the order does in this engine's state, and the order was taken there
+-- an engine may commit an order that was made ready: there is room for two rows, that is what the order does in this engine's state, and the order was taken there
 pub record FitsOrder (e : PlainEngine) (p : PlainPreparedOrder) : Type 0 where
-  pub room : 0 < e.room
   pub done_is : p.done ≡ ordered (state_of e) p.console p.order
   pub reply_is : p.reply ≡ reply_to (state_of e) p.console p.order
   pub taken : IsTaken (state_of e) (event.Order p.console p.order)

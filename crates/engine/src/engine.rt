@@ -20,9 +20,9 @@ use journal_core::Log;
 use plant_config::Plant;
 use plant_system::{
     Before, EngineFault, MOST_EVENTS, Prepared, PreparedOrder, Reply, Report, Room, RunRoom, State,
-    alarm_state, apply, apply_scan, opening_state, prepared_order, prepared_scan, widest_image,
+    alarm_state, apply, apply_scan, opening_state, prepared_order, prepared_scan,
 };
-use plant_types::{Pair, Value};
+use plant_types::{Items, Pair, Value};
 use scan_logic::{Levelled, Workspace, plan_levels};
 use slice_store::{Done, Job, Start};
 use std::alloc::{AllocError, Global};
@@ -42,18 +42,18 @@ pub struct Engine {
 impl Model for Engine {
     ghost use Rattle.std.specs.Prelude.{IfSome};
     ghost use Rattle.scan_logic.specs.Levels.{AreLevelsOf};
-    ghost use Rattle.engine.specs.Engines.{PlainEngine, IsEngine, engine_code, room_for};
+    ghost use Rattle.engine.specs.Engines.{PlainEngine, IsEngine, engine_code};
 
     ghost Value = { PlainEngine };
 
     ghost coded = { engine_code };
 
-    ghost view = { λ e. record { plant = e.plant; history = e.history.events; room = room_for e.plant e.history; row_room = e.log.room } };
+    ghost view = { λ e. record { plant = e.plant; history = e.history; row_room = e.log.room } };
 
-    ghost invariant = { λ e. IsEngine e.plant e.history.events e.log.rows e.state × IfSome e.levels (AreLevelsOf e.plant.source) };
+    ghost invariant = { λ e. IsEngine e.plant e.history e.log.rows e.state × IfSome e.levels (AreLevelsOf e.plant.source) };
 }
 
-/// The state before the first event, and room for events. Fails if allocation fails.
+/// The state before the first event, and memory for scans. Fails if allocation fails.
 fn opening(alloc: Global, plant: &Plant) -> Result<(State, Room), AllocError>
     ensures { IfOk result (λ made. IsEngine plant.now [] [] made.0) }
 {
@@ -73,6 +73,19 @@ fn opening(alloc: Global, plant: &Plant) -> Result<(State, Room), AllocError>
     Ok((state, room))
 }
 
+/// Adds a scan to a history. Returns the list of its image, whose memory is used again.
+fn push_taken(history: &mut History, image: Vec<(u32, Value)>, moment: u64) -> Vec<(u32, Value)>
+    requires { length history.old < 18446744073709551615 }
+    ensures { history.new ≡ history.old ++ Event.Scan image.items moment ∷ [] }
+{
+    let event = Event::Scan(Items::from_vec(image), moment);
+    history.push(&event);
+    match event {
+        Event::Scan(image, _) => image.into_vec(),
+        Event::Order(..) => unreachable!(),
+    }
+}
+
 impl Engine {
     /// The engine of a plant before the first event: each variable has its initial value, no program is faulted, and each alarm is
     /// normal. Fails if allocation fails.
@@ -82,7 +95,7 @@ impl Engine {
         let (state, room) = opening(alloc, &plant)?;
         Ok(Engine {
             plant,
-            history: History::new(alloc),
+            history: History::new(),
             log: Log::new(alloc),
             state,
             room,
@@ -183,7 +196,6 @@ impl Engine {
         requires asked { C.asks }
         ensures plant { self.new.plant ≡ self.old.plant }
         ensures history { self.new.history ≡ self.old.history }
-        ensures room { self.old.room ≤ self.new.room }
         ensures row_room { self.old.row_room ≤ self.new.row_room }
         ensures ok { IfOk result (λ p. Fits self.new p × (scan_event (state_of self.old) pairs.now moment ≡ Ok p.event)) }
         ensures err { IfErr result (λ e. IsDue e (scan_event (state_of self.old) pairs.now moment)) }
@@ -201,17 +213,14 @@ impl Engine {
         let room = &mut self.room;
         let prepared = prepared_scan(rt, alloc, crew, &before, room, pairs, moment)?;
         self.log.reserve(row_count(&prepared.report))?;
-        self.history.reserve(widest_image(&self.plant))?;
         Ok(prepared)
     }
 
     /// Adds a scan that was made ready to the history and its rows to the journal, and returns what it did. It allocates nothing and can't fail.
-    #[tactic(auto, using(crate::proofs::Rooms::room_taken))]
     pub fn commit(&mut self, prepared: Prepared) -> Report
         requires { Fits self.old prepared }
         ensures plant { self.new.plant ≡ self.old.plant }
         ensures history { self.new.history ≡ self.old.history ++ prepared.event ∷ [] }
-        ensures room { self.new.room + 1 ≡ self.old.room }
         ensures row_room { self.new.row_room + (length result.faults + length result.changes) ≡ self.old.row_room }
         ensures report { IsReport (state_of self.old) prepared.event result }
     {
@@ -222,8 +231,7 @@ impl Engine {
             report,
         } = prepared;
         push_scan(&mut self.log, &report);
-        self.history.push_scan(image.as_slice(), moment);
-        self.room.image = image;
+        self.room.image = push_taken(&mut self.history, image, moment);
         self.room.run.spare = Some(apply_scan(effect, &mut self.state));
         report
     }
@@ -254,7 +262,6 @@ impl Engine {
     ) -> Result<PreparedOrder, EngineFault>
         ensures plant { self.new.plant ≡ self.old.plant }
         ensures history { self.new.history ≡ self.old.history }
-        ensures room { self.old.room ≤ self.new.room }
         ensures row_room { self.old.row_room ≤ self.new.row_room }
         ensures ok { IfOk result (λ p. FitsOrder self.new p × (order_event (state_of self.old) console order ≡ Ok (Event.Order p.console p.order)) × (p.console ≡ console) × (p.order ≡ order)) }
         ensures err { IfErr result (λ e. IsDue e (order_event (state_of self.old) console order)) }
@@ -265,19 +272,16 @@ impl Engine {
         }
         let prepared = prepared_order(&self.plant, &self.state, console, order);
         self.log.reserve(2)?;
-        self.history.reserve(widest_image(&self.plant))?;
         Ok(prepared)
     }
 
     /// Adds an order that was made ready to the history, does it, and returns the reply: the change of the alarm's code if there is one,
     /// or the refusal (O1 to O5). The order has a row in the journal, and so has that change. A refused order is in the history too, and
     /// changes no alarm and no program. It allocates nothing and can't fail.
-    #[tactic(auto, using(crate::proofs::Rooms::room_taken))]
     pub fn commit_order(&mut self, prepared: PreparedOrder) -> Reply
         requires { FitsOrder self.old prepared }
         ensures plant { self.new.plant ≡ self.old.plant }
         ensures history { self.new.history ≡ self.old.history ++ Event.Order prepared.console prepared.order ∷ [] }
-        ensures room { self.new.room + 1 ≡ self.old.room }
         ensures row_room { self.new.row_room + length (added_entries (state_of self.old) (Event.Order prepared.console prepared.order)) ≡ self.old.row_room }
         ensures reply { result ≡ reply_to (state_of self.old) prepared.console prepared.order }
     {
@@ -289,7 +293,7 @@ impl Engine {
         } = prepared;
         push_order(&mut self.log, &self.state, console, order, &done);
         apply(&done, &mut self.state);
-        self.history.push_order(console, order);
+        self.history.push(&Event::Order(console, order));
         reply
     }
 
@@ -307,7 +311,6 @@ impl Engine {
         ensures ok { IfOk result (λ r. TakesScan self.old self.new pairs.now moment r) }
         ensures err { IfErr result (λ e. IsDue e (scan_event (state_of self.old) pairs.now moment)) }
         ensures kept { OnErr result (self.new.history ≡ self.old.history) }
-        ensures room { OnErr result (self.old.room ≤ self.new.room) }
         ensures row_room { OnErr result (self.old.row_room ≤ self.new.row_room) }
         ensures crew { C.faulted crew.new ≡ faults_by (C.faulted crew.old) result }
     {
@@ -324,7 +327,6 @@ impl Engine {
         ensures err { IfErr result (λ e. IsDue e (order_event (state_of self.old) console order)) }
         ensures no_crew { IsNoCrews result }
         ensures kept { OnErr result (self.new.history ≡ self.old.history) }
-        ensures room { OnErr result (self.old.room ≤ self.new.room) }
         ensures row_room { OnErr result (self.old.row_room ≤ self.new.row_room) }
     {
         let prepared = self.prepare_order(alloc, console, order)?;
@@ -349,7 +351,6 @@ impl Engine {
         ensures err { IfErr result (λ e. IsDue e (order_event (state_of self.old) console (restart_of program))) }
         ensures no_crew { IsNoCrews result }
         ensures kept { OnErr result (self.new.history ≡ self.old.history) }
-        ensures room { OnErr result (self.old.room ≤ self.new.room) }
         ensures row_room { OnErr result (self.old.row_room ≤ self.new.row_room) }
     {
         let verb = Verb::Restart;

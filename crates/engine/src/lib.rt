@@ -1,8 +1,8 @@
 //! The engine of a plant: one event, a scan or an order, is one step of the system.
 //!
-//! Contracts see an engine as its plant, its history, and its room for more events and for more rows of the journal. All else that it keeps
-//! is what the system, a fold over that history, has, and the journal, the rows that its events added. An event is first made ready, which
-//! may be refused and changes nothing but the room, and then committed, which allocates nothing and can't fail.
+//! Contracts see an engine as its plant, its history, and its room for more rows of the journal. All else that it keeps is what the system, a
+//! fold over that history, has, and the journal, the rows that its events added; of the events themselves it keeps the number alone. An event is
+//! first made ready, which may be refused and changes nothing but the room, and then committed, which allocates nothing and can't fail.
 //!
 //! The programs of a scan are run by any crew: what follows from a scan is the same for each.
 #![tactic(auto)]

@@ -7,6 +7,5 @@ pub mod Systems
 pub mod Twins
 pub mod InRange
 pub mod Shown
-pub mod FewValues
 mod Watches
 mod Follows

@@ -26,11 +26,11 @@ pub struct Input {
     pub given: Given,
 }
 
-/// How many values an image has at most: one for each global.
-pub fn widest_image(plant: &Plant) -> u32
+/// How many globals a plant has.
+fn global_count(plant: &Plant) -> usize
     ensures { result ≡ length (globals_of plant.now) }
 {
-    plant.logic().globals().len() as u32
+    plant.logic().globals().len()
 }
 
 /// The input that a pair names, with what is given for it; `None` for a name of no input.
@@ -138,7 +138,7 @@ fn image_of(
     if !list_inputs(plant, pairs, &mut room.inputs)? {
         return Err(EngineFault::ImageName);
     }
-    if has_twin(alloc, widest_image(plant) as usize, room.inputs.as_slice())? {
+    if has_twin(alloc, global_count(plant), room.inputs.as_slice())? {
         return Err(EngineFault::ImageName);
     }
     if !list_values(room.inputs.as_slice(), &mut room.image)? {

@@ -10,14 +10,14 @@ use Rattle.engine.proofs.engine.Engine.line.Goals as goal
 
 pub row-row-requires-clause-last : goal.row-row-requires-clause-last
 row-row-requires-clause-last c =
-    let many = as_many_rows c.self.inside.plant c.self.inside.history.events c.self.inside.log.rows c.self.invariant.0.journal in
+    let many = as_many_rows c.self.inside.plant c.self.inside.history c.self.inside.log.rows c.self.invariant.0.journal in
     let last = rw (← c.self.view_is) at c.requires.last in
     omega (arith, many, last)
 
 pub returns : goal.returns
 returns c =
     let plant = c.self.inside.plant in
-    let history = c.self.inside.history.events in
+    let history = c.self.inside.history in
     let rows = c.self.inside.log.rows in
     let journal = c.self.invariant.0.journal in
     let row = c.row-row.result in

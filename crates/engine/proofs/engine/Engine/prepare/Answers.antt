@@ -2,10 +2,7 @@ use Rattle.std.proofs.Common.{◌≡◌, ◌+◌, ◌≤◌, length, Result, IfE
 use Rattle.event_history.specs.declared.event.Event.{Event}
 use Rattle.plant_system.specs.declared.event.EngineFault.{EngineFault}
 use Rattle.plant_system.specs.Image.{IsDue}
-use Rattle.plant_system.specs.System.{system}
-use Rattle.plant_system.specs.States.{IsState}
 use Rattle.engine.proofs.Ready.{ready}
-use Rattle.engine.proofs.Rooms.{room_made}
 use Rattle.plant_system.proofs.Systems.{scan_event_is}
 use Rattle.engine.proofs.Fitting.{scan_fits}
 use Rattle.engine.proofs.engine.Engine.prepare.Goals as goal
@@ -15,15 +12,14 @@ prepared_scan-requires-clause-ready g c = ready _ _ _ _ c.self.invariant.0
 
 pub returns-in_err-prepared-clause-err : goal.returns-in_err-prepared-clause-err
 returns-in_err-prepared-clause-err g c =
-    let len : c.len-events.result ≡ length c.self.inside.history.events = search rules in
-    let due = scan_event_is c.self.inside.plant c.self.inside.history.events c.self.inside.state c.len-events.result c.args.pairs.now c.args.moment c.self.invariant.0.state_is len in
+    let len : c.len-events.result ≡ length c.self.inside.history = search rules in
+    let due = scan_event_is c.self.inside.plant c.self.inside.history c.self.inside.state c.len-events.result c.args.pairs.now c.args.moment c.self.invariant.0.state_is len in
     rw (← c.self.view_is) (subst (λ (x : Result Event EngineFault). IfErr c.from_residual-in_err-prepared.result (λ e. IsDue e x)) due (search rules))
 
 pub returns-clause-ok : goal.returns-clause-ok
 returns-clause-ok g c =
     let made = c.in_ok-prepared.ensures.ok in
-    let len : c.len-events.result ≡ length c.self.inside.history.events = search rules in
-    let due = scan_event_is c.self.inside.plant c.self.inside.history.events c.self.inside.state c.len-events.result c.args.pairs.now c.args.moment c.self.invariant.0.state_is len in
-    let held : IsState (system c.self.inside.plant c.reserve-2.new.self.events) c.self.inside.state = rw c.in_ok-reserve-2.ensures.events c.self.invariant.0.state_is in
+    let len : c.len-events.result ≡ length c.self.inside.history = search rules in
+    let due = scan_event_is c.self.inside.plant c.self.inside.history c.self.inside.state c.len-events.result c.args.pairs.now c.args.moment c.self.invariant.0.state_is len in
     let rows : length c.in_ok-prepared.prepared.report.faults + length c.in_ok-prepared.prepared.report.changes ≤ c.reserve.new.self.room = rw (← c.prepared.view_is) (omega (arith, c.row_count.ensures, c.in_ok-reserve.ensures.ok)) in
-    (scan_fits _ c.in_ok-prepared.prepared c.self.inside.state c.len-events.result c.args.pairs.now c.args.moment c.self.invariant.0.plant_is held made (rw c.in_ok-reserve-2.ensures.events len) (room_made c.self.inside.plant c.reserve-2.new.self c.in_ok-reserve-2.ensures.ok (omega (arith, c.in_ok-reserve-2.ensures.wide, c.widest_image.ensures))) rows, rw (← c.self.view_is) (sym due ∙ made.taken))
+    (scan_fits _ c.in_ok-prepared.prepared c.self.inside.state c.len-events.result c.args.pairs.now c.args.moment c.self.invariant.0.plant_is c.self.invariant.0.state_is made len rows, rw (← c.self.view_is) (sym due ∙ made.taken))
