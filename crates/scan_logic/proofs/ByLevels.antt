@@ -63,9 +63,6 @@ own_cells source none codes are =
 abbrev pub stored : PlainCells → List Bool → ℕ → Stored
 stored cells flags t = record { cells = cells; faulted = flags; moment = t; out = [] }
 
-pub begins : (store : Stored) (cells : PlainCells) (slice flags : List Bool) (t : ℕ) → store ≡ stored cells slice t → slice ≡ flags → store ≡ stored cells flags t
-begins store cells slice flags t is same = is ∙ ap (λ f. stored cells f t) same
-
 -- each level can be split
 pub can_split : (source : Source) → ShareNoCell source → (l : PlainLevelled) → AreLevelsOf source l → (cells : PlainCells) (flags : List Bool) (t : ℕ) → HasCells source cells → length flags ≡ length source.programs → length source.programs ≤ 512
     → (parts : List PlainPart) (levels : List ℕ) (start : Stored) → parts ≡ l.parts → levels ≡ l.levels → start ≡ stored cells flags t → (level : ℕ) → CanSplit parts levels level start.cells (length start.faulted)

@@ -22,7 +22,8 @@ use slice_store::{Done, Job, Reserve, Start, Store};
 use std::alloc::{AllocError, Global};
 use std::mem::replace;
 
-/// Runs the programs level by level by a crew, and tells the faults by their programs' own paths. Its jobs take the memory of earlier ones.
+/// Runs the programs level by level by a crew, and tells the faults by their programs' own paths. Its jobs take the memory of earlier
+/// ones, and the store that of the cells and flags.
 fn run_in_levels<C: Crew<Job, Start, Done, H>, H>(
     rt: &H,
     alloc: Global,
@@ -46,9 +47,9 @@ fn run_in_levels<C: Crew<Job, Start, Done, H>, H>(
     programs_share_no_cell();
     place_is_in_source();
     let _programs = framed.programs();
-    let Ok(mut store) = Store::new(alloc, cells, faulted.as_slice(), moment) else {
-        return Err(CrewFault::Memory);
-    };
+    let all = replace(cells, Cells::new(Vec::new(alloc), Vec::new(alloc)));
+    let flags = replace(faulted, Vec::new(alloc));
+    let mut store = Store::of(alloc, all, flags, moment);
     store.lend(replace(jobs, Reserve::new(alloc)));
     let parts = levelled.parts();
     match run_levels(rt, alloc, crew, parts, levelled.levels(), &mut store) {
