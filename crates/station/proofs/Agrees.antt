@@ -20,10 +20,11 @@ use Rattle.plant_system.specs.declared.event.EngineFault.{EngineFault}
 use Rattle.plant_system.specs.declared.event.EngineFault.TheVariants as refusal
 use Rattle.plant_system.specs.Image.{image_of}
 use Rattle.plant_system.specs.System.{System, system, taken_scan, scan_event}
-use Rattle.station.specs.Parts.{order_of_event, answer_to, answers_from, answers_of, orders_in, events_by}
-use Rattle.station.specs.Turns.{Took, TookParts}
-use Rattle.station.specs.Stations.{numbers_in, HasNoTwin, AgreesWith}
-use Rattle.station.proofs.Parts.{part_more, orders_answered, others_unanswered}
+use Rattle.order_taking.specs.Parts.{order_of_event, answer_to, answers_from, answers_of, orders_in, events_by}
+use Rattle.order_taking.specs.Turns.{Took, TookParts}
+use Rattle.station.specs.Lanes.{numbers_in, HasNoTwin}
+use Rattle.station.specs.Stations.{AgreesWith}
+use Rattle.order_taking.proofs.Parts.{part_more, orders_answered, others_unanswered}
 
 abbrev L : Type 0
 L = Lane Order Reply

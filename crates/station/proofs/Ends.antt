@@ -15,11 +15,12 @@ use Rattle.event_history.specs.declared.event.Order.{Order}
 use Rattle.plant_file.specs.Lists.{repeats}
 use Rattle.plant_config.specs.Plants.{PlainPlant}
 use Rattle.plant_system.specs.declared.event.Reply.{Reply}
-use Rattle.station.specs.Parts.{answers_of, orders_in}
-use Rattle.station.specs.Turns.{TookParts}
-use Rattle.station.specs.Stations.{numbers_in, HasNoTwin, AgreesWith, IsConsoleIn, IsEndIn, KeepsConsoles, finished_of, left_in, saw_within, is_within, has_seen_within, IsClosed}
+use Rattle.order_taking.specs.Parts.{answers_of, orders_in}
+use Rattle.order_taking.specs.Turns.{TookParts}
+use Rattle.station.specs.Lanes.{numbers_in, HasNoTwin, IsConsoleIn, IsEndIn, KeepsConsoles, finished_of, left_in, saw_within, is_within, has_seen_within}
+use Rattle.station.specs.Stations.{AgreesWith, IsClosed}
 use Rattle.station.specs.Closings.{Joined, EndedOne, IsEnded, AreEnded}
-use Rattle.station.proofs.Takes.{same_lanes, same_lane}
+use Rattle.order_taking.proofs.Takes.{same_lanes, same_lane}
 
 abbrev L : Type 0
 L = Lane Order Reply

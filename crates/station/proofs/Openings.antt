@@ -17,8 +17,9 @@ use Rattle.operator_console.specs.declared.console.Console.{Console as Operator}
 use Rattle.plant_file.specs.Lists.{repeats}
 use Rattle.plant_config.specs.Plants.{PlainPlant, IsPlant}
 use Rattle.plant_system.specs.declared.event.Reply.{Reply}
-use Rattle.station.specs.Parts.{answers_of}
-use Rattle.station.specs.Stations.{numbers_in, HasNoTwin, AgreesWith, ArePairs, AreOpened, IsConsoleIn, IsFresh, IsUnused, links_of, numbers_of, HasNotLooked, AreConsolesOf}
+use Rattle.order_taking.specs.Parts.{answers_of}
+use Rattle.station.specs.Lanes.{numbers_in, HasNoTwin, ArePairs, AreOpened, IsConsoleIn, IsFresh, IsUnused, links_of, numbers_of, HasNotLooked, AreConsolesOf}
+use Rattle.station.specs.Stations.{AgreesWith}
 
 abbrev L : Type 0
 L = Lane Order Reply

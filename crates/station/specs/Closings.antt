@@ -6,7 +6,7 @@ use Rattle.console_link.specs.declared.lane.Lane.{Lane}
 use Rattle.console_link.specs.Seats.{orders_taken, answers_given, SameLane, left_of, seen_by, all_submitted, all_taken}
 use Rattle.event_history.specs.declared.event.Order.{Order}
 use Rattle.plant_system.specs.declared.event.Reply.{Reply}
-use Rattle.station.specs.Stations.{finished_of}
+use Rattle.station.specs.Lanes.{finished_of}
 
 -- the lane was joined with a console that has ended: what was taken and what is left is all that it submitted, and it took the first of the answers that were given, and how many events it saw is known
 pub record Joined (f : Finished Order Reply) (a b : Lane Order Reply) : Type 0 where

@@ -1,5 +1,3 @@
 pub mod Closings
-pub mod Parts
-pub mod Records
+pub mod Lanes
 pub mod Stations
-pub mod Turns

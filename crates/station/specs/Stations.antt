@@ -1,40 +1,53 @@
--- What a contract sees of a station: its plant, its history, and its lanes, each of which agrees with the history.
-use Rattle.std.specs.Prelude.{◌≡◌, ℕ, ◌==◌, Bool, false, List, [], ◌∷◌, ◌++◌, map, nat_eq, nat_le, Option, Some, None, Ok, All, MatchBool, if◌then◌else◌}
+-- What a contract sees of a station: its engine, and its lanes, each of which agrees with the history.
+use Rattle.std.specs.Prelude.{◌≡◌, ℕ, ◌≤◌, Bool, List, [], ◌∷◌, ◌++◌, length, Option, Some, None, Ok, All, refl}
+use Rattle.std.specs.Coded.{Coded, code_by, coded×, coded_list, coded_ℕ}
 use mathlib.Core.List.{IsPrefix}
 use Rattle.plant_types.specs.Pairs.{PlainPair}
 use Rattle.console_link.specs.declared.answer.Answer.{Answer}
-use Rattle.console_link.specs.declared.console.Console.{Console}
 use Rattle.console_link.specs.declared.console.Finished.{Finished}
 use Rattle.console_link.specs.declared.lane.Lane.{Lane}
-use Rattle.console_link.specs.Seats.{orders_taken, answers_given, submitted, taken as answers_taken, known_room, IsConsoleOf, IsEndOf, IsOpen, left_of, seen_by, all_submitted, all_taken}
+use Rattle.console_link.specs.contracts.lane.Lane as lane_row
+use Rattle.console_link.specs.Seats.{orders_taken, answers_given, IsOpen, all_submitted, all_taken}
 use Rattle.event_history.specs.declared.event.Event.{Event}
 use Rattle.event_history.specs.declared.event.Order.{Order}
-use Rattle.plant_config.specs.Plants.{PlainPlant, IsPlant}
-use Rattle.board_entries.specs.Entries.{history_story}
-use Rattle.operator_console.specs.declared.console.Console.{Console as Operator}
-use Rattle.operator_console.specs.Sights.{BoardStory}
-use Rattle.operator_console.specs.Consoles.{story_seen, story_told}
-use Rattle.plant_file.specs.Lists.{repeats}
-use Rattle.plant_file.specs.declared.console.Console.{Console as Listed}
+use Rattle.event_history.specs.contracts.event.Order as order_row
+use Rattle.plant_config.specs.Plants.{PlainPlant}
 use Rattle.plant_system.specs.declared.event.Reply.{Reply}
+use Rattle.plant_system.specs.contracts.event.Reply as reply_row
 use Rattle.plant_system.specs.System.{scan_event}
 use Rattle.plant_system.specs.Reports.{PlainReport}
-use Rattle.engine.specs.Engines.{PlainEngine, state_of}
 use Rattle.plant_system.specs.States.{IsReport}
-use Rattle.station.specs.Parts.{answers_of, orders_in}
-use Rattle.station.specs.Turns.{TookParts}
+use Rattle.engine.specs.Engines.{PlainEngine, engine_code, state_of}
+use Rattle.order_taking.specs.Parts.{answers_of, orders_in}
+use Rattle.order_taking.specs.Turns.{TookParts}
+use Rattle.station.specs.Lanes.{numbers_of, numbers_in, HasNoTwin}
 
--- the numbers of consoles, as a plant lists them
-abbrev pub numbers_of : List Listed → List ℕ
-numbers_of consoles = map (λ (console : Listed). console.number) consoles
+-- its engine, its share of the parts of its ledger, its crew, and the owner's ends of its consoles' rings
+pub record PlainStation (C : Type 0) : Type 0 where
+  pub engine : PlainEngine
+  pub parts : ℕ
+  pub crew : C
+  pub lanes : List (Lane Order Reply)
 
--- the numbers of lanes, in order
-abbrev pub numbers_in : List (Lane Order Reply) → List ℕ
-numbers_in lanes = map (λ (lane : Lane Order Reply). lane.number) lanes
+-- a station that was closed has these left
+pub record PlainClosing (C : Type 0) : Type 0 where
+  pub engine : PlainEngine
+  pub crew : C
+  pub lanes : List (Lane Order Reply)
 
--- no number stands in the list twice
-abbrev pub HasNoTwin : List ℕ → Type 0
-HasNoTwin numbers = repeats nat_eq numbers ≡ false
+-- codes of what is seen
+abbrev lanes_code : Coded (List (Lane Order Reply))
+lanes_code = coded_list (lane_row.the_row order_row.the_row reply_row.the_row).coded
+
+abbrev pub station_code : {C : Type 0} → Coded C → Coded (PlainStation C)
+station_code {C} code =
+    code_by (PlainEngine × (ℕ × (C × List (Lane Order Reply)))) (coded× engine_code (coded× coded_ℕ (coded× code lanes_code)))
+    (λ s. (s.engine, (s.parts, (s.crew, s.lanes)))) (λ p. record { engine = p.0; parts = p.1.0; crew = p.1.1.0; lanes = p.1.1.1 }) (λ _. refl)
+
+abbrev pub closing_code : {C : Type 0} → Coded C → Coded (PlainClosing C)
+closing_code {C} code =
+    code_by (PlainEngine × (C × List (Lane Order Reply))) (coded× engine_code (coded× code lanes_code))
+    (λ s. (s.engine, (s.crew, s.lanes))) (λ p. record { engine = p.0; crew = p.1.0; lanes = p.1.1 }) (λ _. refl)
 
 -- the lane has taken and answered just the orders that the history has of its console, in order, and its console hasn't ended
 pub record AgreesWith (plant : PlainPlant) (history : List Event) (lane : Lane Order Reply) : Type 0 where
@@ -42,95 +55,27 @@ pub record AgreesWith (plant : PlainPlant) (history : List Event) (lane : Lane O
   pub given : answers_given lane ≡ answers_of lane.number plant history
   pub is_open : IsOpen lane
 
--- the lane of a console's number is the owner's end of its rings
-abbrev pub IsConsoleIn : List (Lane Order Reply) → Console Order Reply → Type 0
-IsConsoleIn [] c = ⊥
-IsConsoleIn (lane ∷ lanes) c = MatchBool (lane.number == c.number) (IsConsoleOf c lane) (IsConsoleIn lanes c)
+-- each console that the plant lists has one lane, in the same order, and each lane agrees with the history
+pub record IsStation (plant : PlainPlant) (history : List Event) (lanes : List (Lane Order Reply)) : Type 0 where
+  pub listed : numbers_in lanes ≡ numbers_of plant.consoles
+  pub once : HasNoTwin (numbers_in lanes)
+  pub few : length lanes ≤ 32
+  pub agree : All (AgreesWith plant history) lanes
 
--- and of a console that has ended
-abbrev pub IsEndIn : List (Lane Order Reply) → Finished Order Reply → Type 0
-IsEndIn [] f = ⊥
-IsEndIn (lane ∷ lanes) f = MatchBool (lane.number == f.number) (IsEndOf f lane) (IsEndIn lanes f)
+module _ {C : Type 0} where
+  -- a turn: its scan is the next event of the history, then come the orders that were taken
+  pub record IsTurn (old new : PlainStation C) (pairs : List PlainPair) (t : ℕ) (report : PlainReport) (taken : ℕ) (stopped : Bool) : Type 0 where
+    pub scan : Event
+    pub scan_is : scan_event (state_of old.engine) pairs t ≡ Ok scan
+    pub report_is : IsReport (state_of old.engine) scan report
+    pub plant_is : new.engine.plant ≡ old.engine.plant
+    pub parts : TookParts old.engine.plant old.lanes new.lanes (old.engine.history ++ scan ∷ []) new.engine.history taken stopped
 
--- each console has its lane, in the same order
-abbrev pub ArePairs : List (Console Order Reply) → List (Lane Order Reply) → Type 0
-ArePairs [] [] = Unit {0}
-ArePairs [] (lane ∷ lanes) = ⊥
-ArePairs (c ∷ consoles) [] = ⊥
-ArePairs (c ∷ consoles) (lane ∷ lanes) = IsConsoleOf c lane × ArePairs consoles lanes
-
--- a lane of which nothing was taken
-pub record IsUnused (lane : Lane Order Reply) : Type 0 where
-  pub taken : orders_taken lane ≡ []
-  pub given : answers_given lane ≡ []
-  pub is_open : IsOpen lane
-
--- a console before it submits its first order
-pub record IsFresh (c : Console Order Reply) : Type 0 where
-  pub none_submitted : submitted c ≡ []
-  pub none_taken : answers_taken c ≡ []
-  pub room : known_room c ≡ 64
-
--- a console and a lane for each of these numbers, in order, before the first order
-pub record AreOpened (numbers : List ℕ) (consoles : List (Console Order Reply)) (lanes : List (Lane Order Reply)) : Type 0 where
-  pub console_numbers : map (λ (c : Console Order Reply). c.number) consoles ≡ numbers
-  pub lane_numbers : numbers_in lanes ≡ numbers
-  pub pairs : ArePairs consoles lanes
-  pub fresh : All IsFresh consoles
-  pub unused : All IsUnused lanes
-
--- each console of the one is a console of the other, also where it has ended
-pub record KeepsConsoles (before after : List (Lane Order Reply)) : Type 0 where
-  pub consoles : (c : Console Order Reply) → IsConsoleIn before c → IsConsoleIn after c
-  pub ended : (f : Finished Order Reply) → IsEndIn before f → IsEndIn after f
-
--- a turn: its scan is the next event of the history, then come the orders that were taken
-pub record IsTurn (old new : PlainEngine) (before after : List (Lane Order Reply)) (pairs : List PlainPair) (t : ℕ) (report : PlainReport) (taken : ℕ) (stopped : Bool) : Type 0 where
-  pub scan : Event
-  pub scan_is : scan_event (state_of old) pairs t ≡ Ok scan
-  pub report_is : IsReport (state_of old) scan report
-  pub plant_is : new.plant ≡ old.plant
-  pub parts : TookParts old.plant before after (old.history ++ scan ∷ []) new.history taken stopped
-
--- the ends of the consoles' rings
-abbrev pub links_of : List (Operator Order Reply) → List (Console Order Reply)
-links_of consoles = map (λ (c : Operator Order Reply). c.link) consoles
-
--- a console that has seen nothing of the board, and was told what it shows
-pub record HasNotLooked (story : BoardStory) (c : Operator Order Reply) : Type 0 where
-  pub none_seen : story_seen c ≡ None
-  pub told_is : story_told c ≡ Some story
-
--- a console and a lane for each that a plant lists, in order, before the first order; the consoles are told of the history
-pub record AreConsolesOf (plant : PlainPlant) (history : List Event) (consoles : List (Operator Order Reply)) (lanes : List (Lane Order Reply)) : Type 0 where
-  pub opened : AreOpened (numbers_of plant.consoles) (links_of consoles) lanes
-  pub looks : All (HasNotLooked (history_story plant history)) consoles
-  pub is_plant : IsPlant plant
-
--- whether an ended console saw at most so many events; none that hasn't ended
-abbrev pub saw_within : ℕ → Option ℕ → Bool
-saw_within events None = false
-saw_within events (Some seen) = nat_le seen events
-
--- and the console of the lane of this number
-abbrev pub is_within : ℕ → ℕ → List (Lane Order Reply) → Bool
-is_within number events [] = false
-is_within number events (lane ∷ lanes) = if lane.number == number then saw_within events (seen_by lane) else is_within number events lanes
-
--- and a console that has ended, if it has
-abbrev pub has_seen_within : ℕ → Option (Finished Order Reply) → Bool
-has_seen_within events None = false
-has_seen_within events (Some f) = nat_le f.seen events
-
--- the first of a list of ended consoles that has this number
-abbrev pub finished_of : ℕ → List (Finished Order Reply) → Option (Finished Order Reply)
-finished_of number [] = None
-finished_of number (f ∷ consoles) = if f.number == number then Some f else finished_of number consoles
-
--- the orders that were left of the console of a number
-abbrev pub left_in : ℕ → List (Lane Order Reply) → List Order
-left_in number [] = []
-left_in number (lane ∷ lanes) = if lane.number == number then left_of lane else left_in number lanes
+  -- a refused turn changes neither the history nor a lane
+  pub record SameButRoom (old new : PlainStation C) : Type 0 where
+    pub plant : new.engine.plant ≡ old.engine.plant
+    pub history : new.engine.history ≡ old.engine.history
+    pub lanes : new.lanes ≡ old.lanes
 
 -- what is known of a console once its station is closed: the orders that the history has of it, followed by those that are left, are what it submitted, each once and in order; the answers that it took are the first of those that the history has of it. Nothing is left of one whose end wasn't handed in
 abbrev pub IsClosed : List (Answer Order Reply) → List Order → Option (Finished Order Reply) → Type 0

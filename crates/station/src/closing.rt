@@ -1,11 +1,12 @@
 //! What is left once a station is closed.
 
 ghost use Rattle.std.specs.Prelude.{◌≡◌, ◌≢◌, ℕ, [], ◌∷◌, length, All, IfSome, IfNone};
-ghost use Rattle.station.specs.Stations.{left_in, is_within, numbers_in, HasNoTwin, IsEndIn};
+ghost use Rattle.station.specs.Lanes.{left_in, is_within, numbers_in, HasNoTwin, IsEndIn};
 ghost use Rattle.station.specs.Closings.{EndedOne, AreEnded};
 
 use console_link::{Finished, Lane};
 use engine::{Engine, Order, Reply};
+use std::marker::Model;
 
 /// A station that was closed: its engine, its crew, and the orders that were left of the consoles that had ended.
 #[derive(Drop)]
@@ -13,6 +14,16 @@ pub struct Closing<C> {
     pub(crate) engine: Engine,
     pub(crate) crew: C,
     pub(crate) lanes: Vec<Lane<Order, Reply>>,
+}
+
+impl<C> Model for Closing<C> {
+    ghost use Rattle.station.specs.Stations.{PlainClosing, closing_code};
+
+    ghost Value = { PlainClosing C };
+
+    ghost coded = { closing_code C.code };
+
+    ghost view = { λ s. record { engine = s.engine; crew = s.crew; lanes = s.lanes.items } };
 }
 
 /// Joins the rings of a console that has ended with the lane of its number.
@@ -81,9 +92,9 @@ impl<C: Drop> Closing<C> {
 
     /// Takes the next order that was left of the console of a number; `None` where none is, or where that console's end wasn't handed in.
     pub fn next_left(&mut self, console: u32) -> Option<Order>
-        ensures some { IfSome result (λ o. left_in console self.old.lanes.items ≡ o ∷ left_in console self.new.lanes.items) }
-        ensures none { IfNone result ((left_in console self.old.lanes.items ≡ []) × (left_in console self.new.lanes.items ≡ [])) }
-        ensures others { (n : ℕ) → n ≢ console → left_in n self.new.lanes.items ≡ left_in n self.old.lanes.items }
+        ensures some { IfSome result (λ o. left_in console self.old.lanes ≡ o ∷ left_in console self.new.lanes) }
+        ensures none { IfNone result ((left_in console self.old.lanes ≡ []) × (left_in console self.new.lanes ≡ [])) }
+        ensures others { (n : ℕ) → n ≢ console → left_in n self.new.lanes ≡ left_in n self.old.lanes }
         ensures engine { self.new.engine ≡ self.old.engine }
     {
         next_left_in(self.lanes.as_mut_slice(), console)
@@ -91,7 +102,7 @@ impl<C: Drop> Closing<C> {
 
     /// Whether the console of a number saw no more events on the board than the history has; `false` where that console's end wasn't handed in.
     pub fn within(&self, console: u32) -> bool
-        ensures { result ≡ is_within console (length self.now.engine.history) self.now.lanes.items }
+        ensures { result ≡ is_within console (length self.now.engine.history) self.now.lanes }
     {
         is_within(self.lanes.as_slice(), console, self.engine.events())
     }

@@ -7,7 +7,7 @@ ghost use Rattle.console_link.specs.declared.lane.Lane.{Lane};
 ghost use Rattle.console_link.specs.Seats.{SameConsole, Ends};
 ghost use Rattle.event_history.specs.declared.event.Order.{Order};
 ghost use Rattle.plant_system.specs.declared.event.Reply.{Reply};
-ghost use Rattle.station.specs.Stations.{IsConsoleIn, IsEndIn};
+ghost use Rattle.station.specs.Lanes.{IsConsoleIn, IsEndIn};
 
 /// A console of a station is one after each of its own calls, and where it has ended it is an ended console of that station: so `close` may be
 /// called with it.

@@ -4,16 +4,15 @@
 //! history and of the archive's, is shown on the board, and its reply goes into its console's ring. No console waits for the owner. The owner waits, at
 //! each event, for who reads the archive, and for a console that holds a view of the board while two events are shown.
 //!
-//! Contracts see a station as its recorder and its lanes, the owner's ends of the consoles' rings. The recorder has the engine, a share of a ledger,
-//! which counts the events of the engine and of the archive, and the board, which shows the engine's history. Each lane has taken just the orders that
-//! the history has of its console, and has given their replies; `close` says so of what each console submitted and took.
+//! Contracts see a station as its engine, its crew, its share of the ledger that counts the events of the engine and of the archive, and its lanes, the
+//! owner's ends of the consoles' rings. Each lane has taken just the orders that the history has of its console, and has given their replies; `close`
+//! says so of what each console submitted and took. Events go through one place, the recorder of order_taking.
 #![tactic(auto)]
 
-mod answering;
 mod closing;
 mod laws;
 mod opening;
-mod recorder;
+mod recording;
 mod station;
 
 pub use archive::{Archive, Book};

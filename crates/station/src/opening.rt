@@ -2,7 +2,7 @@
 
 ghost use Rattle.std.specs.Prelude.{◌≡◌, IfOk, All};
 ghost use Rattle.boards.specs.Readers.{published, pending};
-ghost use Rattle.station.specs.Stations.{numbers_of, links_of, AreOpened, HasNotLooked};
+ghost use Rattle.station.specs.Lanes.{numbers_of, links_of, AreOpened, HasNotLooked};
 
 use boards::BoardWriter;
 use console_link::{Lane, open};

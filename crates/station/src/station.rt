@@ -1,21 +1,23 @@
 //! The station: its public calls.
 
-ghost use Rattle.std.specs.Prelude.{◌≡◌, ◌<◌, ◌≤◌, ℕ, [], length, map, All, IfOk, IfErr, OnErr};
+ghost use Rattle.std.specs.Prelude.{◌≡◌, ◌<◌, ℕ, [], length, map, All, IfOk, IfErr, OnErr};
 ghost use Rattle.plant_system.specs.Faults.{faults_by};
-ghost use Rattle.station.specs.Parts.{answers_of};
-ghost use Rattle.station.specs.Records.{IsScanDue};
-ghost use Rattle.station.specs.Stations.{numbers_of, numbers_in, left_in, finished_of, HasNoTwin, AgreesWith, IsConsoleIn, IsEndIn, IsFresh, IsTurn, IsClosed, KeepsConsoles, HasNotLooked, links_of, is_within, has_seen_within};
+ghost use Rattle.order_taking.specs.Parts.{answers_of};
+ghost use Rattle.order_taking.specs.Records.{IsScanDue};
+ghost use Rattle.station.specs.Lanes.{numbers_of, links_of, left_in, finished_of, is_within, has_seen_within, IsConsoleIn, IsEndIn, IsFresh, HasNotLooked, KeepsConsoles};
+ghost use Rattle.station.specs.Stations.{IsTurn, IsClosed, SameButRoom};
 ghost use Rattle.board_entries.specs.Entries.{history_story};
 
-use crate::answering::take_parts;
 use crate::closing::{Closing, end_lanes};
 use crate::opening::StationFault;
-use crate::recorder::Recorder;
+use crate::recording::{engine_of, open_consoles, open_recorder};
 use archive::Archive;
 use console_link::{Finished, Lane};
 use engine::{Crew, Done, Engine, EngineFault, Job, Order, Pair, Plant, Reply, Report, Start};
 use operator_console::Console;
+use order_taking::{Recorder, take_parts};
 use std::alloc::Global;
+use std::marker::Model;
 use std::sync::ledger::{Blank, Ledger};
 use std::sync::{Arc, Wait};
 
@@ -38,10 +40,18 @@ pub struct Station<L: Ledger, C> {
     recorder: Recorder<L>,
     crew: C,
     lanes: Vec<Lane<Order, Reply>>,
-    ghost listed: { numbers_in lanes.items ≡ numbers_of recorder.engine.plant.consoles },
-    ghost once: { HasNoTwin (numbers_in lanes.items) },
-    ghost few: { length lanes.items ≤ 32 },
-    ghost agree: { All (AgreesWith recorder.engine.plant recorder.engine.history) lanes.items },
+}
+
+impl<L: Ledger, C> Model for Station<L, C> {
+    ghost use Rattle.station.specs.Stations.{PlainStation, IsStation, station_code};
+
+    ghost Value = { PlainStation C };
+
+    ghost coded = { station_code C.code };
+
+    ghost view = { λ s. record { engine = s.recorder.engine; parts = s.recorder.share.parts; crew = s.crew; lanes = s.lanes.items } };
+
+    ghost invariant = { λ s. IsStation s.recorder.engine.plant s.recorder.engine.history s.lanes.items };
 }
 
 impl<L: Ledger, C: Drop> Station<L, C> {
@@ -57,17 +67,17 @@ impl<L: Ledger, C: Drop> Station<L, C> {
     ) -> Result<(Station<L, C>, Vec<Console<Order, Reply>>), StationFault>
         requires name { blank.name ≡ L.name }
         requires parts { (blank.parts ≡ L.parts) × (0 < L.parts) }
-        ensures engine { IfOk result (λ r. (r.0.recorder.engine.plant ≡ plant) × (r.0.recorder.engine.history ≡ [])) }
-        ensures whole { IfOk result (λ r. r.0.recorder.share.parts ≡ L.parts) }
+        ensures engine { IfOk result (λ r. (r.0.engine.plant ≡ plant) × (r.0.engine.history ≡ [])) }
+        ensures whole { IfOk result (λ r. r.0.parts ≡ L.parts) }
         ensures listed { IfOk result (λ r. map (λ c. c.number) (links_of r.1.items) ≡ numbers_of plant.consoles) }
-        ensures consoles { IfOk result (λ r. All (IsConsoleIn r.0.lanes.items) (links_of r.1.items)) }
+        ensures consoles { IfOk result (λ r. All (IsConsoleIn r.0.lanes) (links_of r.1.items)) }
         ensures fresh { IfOk result (λ r. All IsFresh (links_of r.1.items)) }
         ensures looks { IfOk result (λ r. All (HasNotLooked (history_story plant [])) r.1.items) }
     {
-        let Ok(mut recorder) = Recorder::new(rt, alloc, plant, blank) else {
+        let Ok(mut recorder) = open_recorder(rt, alloc, plant, blank) else {
             return Err(StationFault::Memory);
         };
-        match recorder.open_lanes(alloc) {
+        match open_consoles(alloc, &mut recorder) {
             Ok((consoles, lanes)) => Ok((
                 Station {
                     recorder,
@@ -77,7 +87,7 @@ impl<L: Ledger, C: Drop> Station<L, C> {
                 consoles,
             )),
             Err(fault) => {
-                drop(recorder.into_engine(rt));
+                drop(engine_of(rt, recorder));
                 Err(fault)
             }
         }
@@ -85,14 +95,14 @@ impl<L: Ledger, C: Drop> Station<L, C> {
 
     /// The engine.
     pub fn engine(&self) -> &Engine
-        ensures { result.now ≡ self.now.recorder.engine }
+        ensures { result.now ≡ self.now.engine }
     {
         &self.recorder.engine
     }
 
     /// The archive, which other threads may read. Its book has as many events as the engine whenever nobody has its lock.
     pub fn archive(&self) -> &Arc<Archive<L>> {
-        self.recorder.archive()
+        &self.recorder.archive
     }
 
     /// A scan, and then the orders that wait, console by console as the plant lists them, at most 64 of each. The scan is refused as the engine
@@ -115,12 +125,12 @@ impl<L: Ledger, C: Drop> Station<L, C> {
     where
         C: Crew<Job, Start, Done, H>,
         requires asked { C.asks }
-        ensures ok { IfOk result (λ t. IsTurn self.old.recorder.engine self.new.recorder.engine self.old.lanes.items self.new.lanes.items pairs.now moment t.report t.taken t.stopped) }
-        ensures err { IfErr result (λ e. IsScanDue (self.old.recorder.share.parts ≡ L.parts) e self.old.recorder.engine pairs.now moment) }
-        ensures kept { OnErr result ((self.new.recorder.engine.plant ≡ self.old.recorder.engine.plant) × (self.new.recorder.engine.history ≡ self.old.recorder.engine.history) × (self.new.lanes ≡ self.old.lanes)) }
+        ensures ok { IfOk result (λ t. IsTurn self.old self.new pairs.now moment t.report t.taken t.stopped) }
+        ensures err { IfErr result (λ e. IsScanDue (self.old.parts ≡ L.parts) e self.old.engine pairs.now moment) }
+        ensures kept { OnErr result (SameButRoom self.old self.new) }
         ensures crew { C.faulted self.new.crew ≡ faults_by (C.faulted self.old.crew) result }
-        ensures consoles { KeepsConsoles self.old.lanes.items self.new.lanes.items }
-        ensures share { self.new.recorder.share.parts ≡ self.old.recorder.share.parts }
+        ensures consoles { KeepsConsoles self.old.lanes self.new.lanes }
+        ensures share { self.new.parts ≡ self.old.parts }
     {
         let report = self
             .recorder
@@ -137,11 +147,11 @@ impl<L: Ledger, C: Drop> Station<L, C> {
     /// submitted, each once and in order, and the answers that it took are the first of those that the history has of it. Of two
     /// ended consoles of one number, which no station has, the first counts.
     pub fn close<H: Wait>(self, rt: &H, finished: Vec<Finished<Order, Reply>>) -> Closing<C>
-        requires { All (IsEndIn self.lanes.items) finished.items }
-        ensures engine { result.engine ≡ self.recorder.engine }
+        requires { All (IsEndIn self.lanes) finished.items }
+        ensures engine { result.engine ≡ self.engine }
         ensures crew { result.crew ≡ self.crew }
-        ensures closed { (n : ℕ) → IsClosed (answers_of n self.recorder.engine.plant self.recorder.engine.history) (left_in n result.lanes.items) (finished_of n finished.items) }
-        ensures within { (n : ℕ) → is_within n (length self.recorder.engine.history) result.lanes.items ≡ has_seen_within (length self.recorder.engine.history) (finished_of n finished.items) }
+        ensures closed { (n : ℕ) → IsClosed (answers_of n self.engine.plant self.engine.history) (left_in n result.lanes) (finished_of n finished.items) }
+        ensures within { (n : ℕ) → is_within n (length self.engine.history) result.lanes ≡ has_seen_within (length self.engine.history) (finished_of n finished.items) }
     {
         let Station {
             recorder,
@@ -150,7 +160,7 @@ impl<L: Ledger, C: Drop> Station<L, C> {
         } = self;
         end_lanes(lanes.as_mut_slice(), finished);
         Closing {
-            engine: recorder.into_engine(rt),
+            engine: engine_of(rt, recorder),
             crew,
             lanes,
         }

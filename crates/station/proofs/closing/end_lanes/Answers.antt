@@ -2,7 +2,7 @@ use Rattle.std.proofs.Common.{◌≡◌, ◌∷◌, [], ◌++◌, ◌∙◌, Lis
 use Rattle.console_link.specs.declared.console.Finished.{Finished}
 use Rattle.event_history.specs.declared.event.Order.{Order}
 use Rattle.plant_system.specs.declared.event.Reply.{Reply}
-use Rattle.station.specs.Stations.{IsEndIn}
+use Rattle.station.specs.Lanes.{IsEndIn}
 use Rattle.station.proofs.Ends.{ended_none, ended_keep, ended_more, last_of}
 use Rattle.station.proofs.closing.end_lanes.Goals as goal
 

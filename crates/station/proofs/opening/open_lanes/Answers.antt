@@ -4,7 +4,7 @@ use Rattle.std.proofs.lemmas.List.Elements.{All-push}
 use Rattle.plant_file.specs.declared.console.Console.{Console as Listed}
 use Rattle.operator_console.specs.Sights.{BoardStory}
 use Rattle.boards.specs.Readers.{published}
-use Rattle.station.specs.Stations.{numbers_of, IsFresh, IsUnused, HasNotLooked}
+use Rattle.station.specs.Lanes.{numbers_of, IsFresh, IsUnused, HasNotLooked}
 use Rattle.station.proofs.Openings.{operators_more}
 use Rattle.station.proofs.opening.open_lanes.Goals as goal
 

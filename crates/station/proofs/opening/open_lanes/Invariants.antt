@@ -1,6 +1,6 @@
 use Rattle.std.proofs.Common.{◌≡◌, take, All}
 use Rattle.boards.specs.Readers.{published, pending}
-use Rattle.station.specs.Stations.{numbers_of, links_of, AreOpened, HasNotLooked}
+use Rattle.station.specs.Lanes.{numbers_of, links_of, AreOpened, HasNotLooked}
 use Rattle.station.proofs.opening.open_lanes.Given as goal
 
 abbrev pub invariant-loop-row : goal.invariant-loop-row

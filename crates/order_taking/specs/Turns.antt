@@ -1,13 +1,14 @@
 -- What a turn does with the orders that wait, console by console.
-use Rattle.std.specs.Prelude.{◌≡◌, ◌⊎◌, ℕ, ◌+◌, ◌<◌, ◌≤◌, Bool, true, false, List, [], ◌∷◌, ◌++◌, length, MatchBool}
+use Rattle.std.specs.Prelude.{◌≡◌, ◌⊎◌, ℕ, ◌+◌, ◌<◌, ◌≤◌, Bool, true, false, List, [], ◌∷◌, ◌++◌, length, Result, MatchBool, MatchResult}
 use Rattle.console_link.specs.declared.lane.Lane.{Lane}
 use Rattle.console_link.specs.Seats.{orders_taken, orders_known, answers_given, answer_room, SameLane}
 use Rattle.event_history.specs.declared.event.Event.{Event}
 use Rattle.event_history.specs.declared.event.Order.{Order}
 use Rattle.plant_config.specs.Plants.{PlainPlant}
+use Rattle.plant_system.specs.declared.event.EngineFault.{EngineFault}
 use Rattle.plant_system.specs.declared.event.Reply.{Reply}
 use Rattle.plant_system.specs.System.{system}
-use Rattle.station.specs.Parts.{answers_from, events_by}
+use Rattle.order_taking.specs.Parts.{answers_from, events_by}
 
 -- no order that is known to wait can be answered: none is known, or no place for an answer is known to be free
 abbrev pub HasNoneToTake : Lane Order Reply → Type 0
@@ -24,6 +25,13 @@ pub record Took (plant : PlainPlant) (a b : Lane Order Reply) (old new : List Ev
   pub taken : orders_taken b ≡ orders_taken a ++ orders
   pub given : answers_given b ≡ answers_given a ++ answers_from a.number (system plant old) (events_by a.number orders)
   pub events : new ≡ old ++ events_by a.number orders
+
+-- the order that waits first was taken, where there is one that can be answered; or there is none to take; or one that is refused, which stays
+abbrev pub TookOne : PlainPlant → Lane Order Reply → Lane Order Reply → List Event → List Event → Result Bool EngineFault → Type 0
+TookOne plant a b old new result =
+    MatchResult result
+    (λ took. MatchBool took ((order : Order) × Took plant a b old new (order ∷ [])) (Took plant a b old new [] × HasNoneToTake b))
+    (λ _. Took plant a b old new [] × HasOneToTake b)
 
 -- how a console's part of a turn ends: it is stopped at an order that could be answered, or it has 64 orders, or there is none to take
 abbrev pub HasEnded : Lane Order Reply → ℕ → Bool → Type 0

@@ -1,9 +1,9 @@
 use Rattle.std.proofs.Common.{◌∷◌, [], ◌++◌, ◌∙◌, subst, arith, length-append}
 use Rattle.plant_config.specs.Plants.{PlainPlant}
 use Rattle.event_history.specs.declared.event.Order.{Order}
-use Rattle.station.specs.Turns.{Took, HasNoneToTake}
-use Rattle.station.proofs.Takes.{took_more, chosen}
-use Rattle.station.proofs.answering.take_part.Goals as goal
+use Rattle.order_taking.specs.Turns.{Took, HasNoneToTake}
+use Rattle.order_taking.proofs.Takes.{took_more, chosen}
+use Rattle.order_taking.proofs.answering.take_part.Goals as goal
 
 pub loop-preserved : goal.loop-preserved
 loop-preserved g c =

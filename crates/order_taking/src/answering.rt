@@ -1,7 +1,7 @@
 //! How the orders that wait are taken and answered.
 
-ghost use Rattle.std.specs.Prelude.{◌≡◌, ◌≤◌, ◌*◌, ◌<◌, ◌^◌, [], ◌∷◌, length, MatchBool, MatchResult};
-ghost use Rattle.station.specs.Turns.{HasNoneToTake, HasOneToTake, Took, TookPart, TookParts};
+ghost use Rattle.std.specs.Prelude.{◌≡◌, ◌≤◌, ◌*◌, length};
+ghost use Rattle.order_taking.specs.Turns.{TookOne, TookPart, TookParts};
 
 use crate::recorder::Recorder;
 use console_link::Lane;
@@ -14,8 +14,8 @@ use std::sync::ledger::Ledger;
 const MOST_ORDERS: u32 = 64;
 
 /// What was taken of one console, or of several.
-#[derive(Clone, Copy, Debug, PartialEq, Eq)]
-pub(crate) struct Part {
+#[derive(Clone, Copy, Drop)]
+pub struct Part {
     /// How many orders.
     pub taken: u32,
     /// Whether memory was refused for an order, or the history is full.
@@ -32,7 +32,7 @@ fn take_order<L: Ledger, H: Wait>(
 ) -> Result<bool, EngineFault>
     ensures plant { recorder.new.engine.plant ≡ recorder.old.engine.plant }
     ensures share { recorder.new.share.parts ≡ recorder.old.share.parts }
-    ensures took { MatchResult result (λ took. MatchBool took ((order : Order) × Took recorder.old.engine.plant lane.old lane.new recorder.old.engine.history recorder.new.engine.history (order ∷ [])) (Took recorder.old.engine.plant lane.old lane.new recorder.old.engine.history recorder.new.engine.history [] × HasNoneToTake lane.new)) (λ _. Took recorder.old.engine.plant lane.old lane.new recorder.old.engine.history recorder.new.engine.history [] × HasOneToTake lane.new) }
+    ensures took { TookOne recorder.old.engine.plant lane.old lane.new recorder.old.engine.history recorder.new.engine.history result }
 {
     let Some(order) = lane.waiting() else {
         return Ok(false);
@@ -78,7 +78,7 @@ fn take_part<L: Ledger, H: Wait>(
 }
 
 /// Takes and answers the orders that wait, console by console, until it is stopped.
-pub(crate) fn take_parts<L: Ledger, H: Wait>(
+pub fn take_parts<L: Ledger, H: Wait>(
     rt: &H,
     alloc: Global,
     recorder: &mut Recorder<L>,

@@ -1,7 +1,7 @@
 use Rattle.std.proofs.Common.{◌≡◌, List, length}
 use Rattle.event_history.specs.declared.event.Order.{Order}
-use Rattle.station.specs.Turns.{Took}
-use Rattle.station.proofs.answering.take_part.Given as goal
+use Rattle.order_taking.specs.Turns.{Took}
+use Rattle.order_taking.proofs.answering.take_part.Given as goal
 
 abbrev pub invariant-loop : goal.invariant-loop
 invariant-loop g l =

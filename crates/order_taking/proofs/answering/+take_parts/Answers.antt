@@ -1,5 +1,5 @@
-use Rattle.station.proofs.Takes.{parts_ended}
-use Rattle.station.proofs.answering.+take_parts.Goals as goal
+use Rattle.order_taking.proofs.Takes.{parts_ended}
+use Rattle.order_taking.proofs.answering.+take_parts.Goals as goal
 
 pub returns-then-part-clause-parts : goal.returns-then-part-clause-parts
 returns-then-part-clause-parts g t c =

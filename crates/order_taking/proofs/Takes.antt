@@ -11,9 +11,9 @@ use Rattle.event_history.specs.declared.event.Order.{Order}
 use Rattle.plant_config.specs.Plants.{PlainPlant}
 use Rattle.plant_system.specs.declared.event.Reply.{Reply}
 use Rattle.plant_system.specs.System.{system, after_event, reply_to}
-use Rattle.station.specs.Parts.{answer_to, answers_in, answers_from, events_by}
-use Rattle.station.specs.Turns.{Took, TookPart, TookParts}
-use Rattle.station.proofs.Parts.{system_more, answers_more, one_answer}
+use Rattle.order_taking.specs.Parts.{answer_to, answers_in, answers_from, events_by}
+use Rattle.order_taking.specs.Turns.{Took, TookPart, TookParts}
+use Rattle.order_taking.proofs.Parts.{system_more, answers_more, one_answer}
 
 abbrev L : Type 0
 L = Lane Order Reply

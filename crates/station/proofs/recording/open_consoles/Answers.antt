@@ -3,11 +3,11 @@ use Rattle.plant_config.specs.Plants.{PlainPlant, IsPlant}
 use Rattle.plant_system.proofs.Systems.{system_keeps_its_plant}
 use Rattle.boards.specs.Readers.{published}
 use Rattle.station.proofs.Openings.{consoles_opened}
-use Rattle.station.proofs.recorder.Recorder.open_lanes.Goals as goal
+use Rattle.station.proofs.recording.open_consoles.Goals as goal
 
 pub returns-clause-opened : goal.returns-clause-opened
 returns-clause-opened g c =
-    let s = c.args.self.now in
+    let s = c.args.recorder.now in
     let e = s.engine in
     let own : c.plant.result.now ≡ e.plant = c.plant.ensures ∙ system_keeps_its_plant e.plant e.history in
     let is : IsPlant e.plant = subst (λ (p : PlainPlant). IsPlant p) own c.consoles.ensures.plant in

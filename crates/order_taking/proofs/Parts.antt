@@ -8,7 +8,7 @@ use Rattle.event_history.specs.declared.event.Order.{Order}
 use Rattle.plant_config.specs.Plants.{PlainPlant}
 use Rattle.plant_system.specs.declared.event.Reply.{Reply}
 use Rattle.plant_system.specs.System.{System, system, after_event, opening_system}
-use Rattle.station.specs.Parts.{answer_to, answers_in, answers_from, answers_of, orders_in, events_by}
+use Rattle.order_taking.specs.Parts.{answer_to, answers_in, answers_from, answers_of, orders_in, events_by}
 
 -- the system after more events
 pub system_more : (plant : PlainPlant) (history events : List Event) → system plant (history ++ events) ≡ fold after_event (system plant history) events

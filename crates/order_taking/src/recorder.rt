@@ -1,0 +1,98 @@
+//! The engine of a station, whose events are recorded in an archive too, and shown on a board.
+
+ghost use Rattle.std.specs.Prelude.{◌≡◌, ◌<◌, ◌++◌, [], ◌∷◌, length, IfOk, IfErr, OnOk, OnErr};
+ghost use Rattle.event_history.specs.declared.event.Event.TheVariants as event;
+ghost use Rattle.plant_system.specs.Faults.{faults_by};
+ghost use Rattle.plant_system.specs.System.{reply_to};
+ghost use Rattle.engine.specs.Engines.{state_of, TakesScan};
+ghost use Rattle.board_entries.specs.Showing.{ShowsHistory};
+ghost use Rattle.order_taking.specs.Records.{IsScanDue};
+
+use archive::{Archive, commit_order, commit_scan, ready_order, ready_scan};
+use board_entries::{lay_order, lay_scan, show_next};
+use boards::BoardWriter;
+use engine::{Crew, Done, Engine, EngineFault, Job, Order, Pair, Reply, Report, Start};
+use std::alloc::Global;
+use std::sync::ledger::{Ledger, Share};
+use std::sync::{Arc, Wait};
+
+/// An engine, its archive, the share of the ledger that counts the events of both, and the board that shows them. Who owns it takes it apart to end it.
+///
+/// The share is as great as the engine's number of events, and is raised only by the book of the archive, which counts its own events by it.
+pub struct Recorder<L: Ledger> {
+    pub engine: Engine,
+    pub share: Share<L>,
+    pub archive: Arc<Archive<L>>,
+    pub board: BoardWriter,
+    pub ghost counted: { length engine.history ≡ share.amount },
+    pub ghost part: { 0 < share.parts },
+    pub ghost shown: { ShowsHistory engine.plant engine.history board },
+}
+
+impl<L: Ledger> Recorder<L> {
+    /// A scan: it is made ready in both engines, and its entry laid by for the board; then it is committed in both, under the archive's lock, and
+    /// shown.
+    pub fn scan<C, H: Wait>(
+        &mut self,
+        rt: &H,
+        alloc: Global,
+        crew: &mut C,
+        pairs: &[Pair],
+        moment: u64,
+    ) -> Result<Report, EngineFault>
+    where
+        C: Crew<Job, Start, Done, H>,
+        requires asked { C.asks }
+        ensures plant { self.new.engine.plant ≡ self.old.engine.plant }
+        ensures ok { IfOk result (λ r. TakesScan self.old.engine self.new.engine pairs.now moment r) }
+        ensures err { IfErr result (λ e. IsScanDue (self.old.share.parts ≡ L.parts) e self.old.engine pairs.now moment) }
+        ensures kept { OnErr result (self.new.engine.history ≡ self.old.engine.history) }
+        ensures crew { C.faulted crew.new ≡ faults_by (C.faulted crew.old) result }
+        ensures share { self.new.share.parts ≡ self.old.share.parts }
+    {
+        let Recorder {
+            engine,
+            share,
+            archive,
+            board,
+        } = self;
+        let mut book = archive.lock(rt);
+        book.audit(share);
+        let ready = ready_scan(rt, alloc, engine, crew, &mut *book, pairs, moment)?;
+        lay_scan(alloc, board, engine, &ready.own)?;
+        let report = commit_scan(engine, &mut *book, share, ready);
+        drop(book);
+        show_next(rt, board);
+        Ok(report)
+    }
+
+    /// An order of the console of a number: it is made ready in both engines, and its entry laid by for the board; then it is committed in both,
+    /// under the archive's lock, and shown.
+    pub fn order<H: Wait>(
+        &mut self,
+        rt: &H,
+        alloc: Global,
+        console: u32,
+        order: Order,
+    ) -> Result<Reply, EngineFault>
+        ensures plant { self.new.engine.plant ≡ self.old.engine.plant }
+        ensures ok { OnOk result (self.new.engine.history ≡ self.old.engine.history ++ event.Order console order ∷ []) }
+        ensures reply { IfOk result (λ r. r ≡ reply_to (state_of self.old.engine) console order) }
+        ensures kept { OnErr result (self.new.engine.history ≡ self.old.engine.history) }
+        ensures share { self.new.share.parts ≡ self.old.share.parts }
+    {
+        let Recorder {
+            engine,
+            share,
+            archive,
+            board,
+        } = self;
+        let mut book = archive.lock(rt);
+        let ready = ready_order(alloc, engine, &mut *book, console, order)?;
+        lay_order(board, engine, &ready.own)?;
+        let reply = commit_order(engine, &mut *book, share, ready);
+        drop(book);
+        show_next(rt, board);
+        Ok(reply)
+    }
+}

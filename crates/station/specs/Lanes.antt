@@ -1,0 +1,110 @@
+-- The lanes of a station's consoles: each is found by its number.
+use Rattle.std.specs.Prelude.{◌≡◌, ℕ, ◌==◌, Bool, false, List, [], ◌∷◌, map, nat_eq, nat_le, Option, Some, None, All, MatchBool, if◌then◌else◌}
+use Rattle.console_link.specs.declared.console.Console.{Console}
+use Rattle.console_link.specs.declared.console.Finished.{Finished}
+use Rattle.console_link.specs.declared.lane.Lane.{Lane}
+use Rattle.console_link.specs.Seats.{orders_taken, answers_given, submitted, taken as answers_taken, known_room, IsConsoleOf, IsEndOf, IsOpen, left_of, seen_by}
+use Rattle.event_history.specs.declared.event.Event.{Event}
+use Rattle.event_history.specs.declared.event.Order.{Order}
+use Rattle.plant_config.specs.Plants.{PlainPlant, IsPlant}
+use Rattle.board_entries.specs.Entries.{history_story}
+use Rattle.operator_console.specs.declared.console.Console.{Console as Operator}
+use Rattle.operator_console.specs.Sights.{BoardStory}
+use Rattle.operator_console.specs.Consoles.{story_seen, story_told}
+use Rattle.plant_file.specs.Lists.{repeats}
+use Rattle.plant_file.specs.declared.console.Console.{Console as Listed}
+use Rattle.plant_system.specs.declared.event.Reply.{Reply}
+
+-- the numbers of consoles, as a plant lists them
+abbrev pub numbers_of : List Listed → List ℕ
+numbers_of consoles = map (λ (console : Listed). console.number) consoles
+
+-- the numbers of lanes, in order
+abbrev pub numbers_in : List (Lane Order Reply) → List ℕ
+numbers_in lanes = map (λ (lane : Lane Order Reply). lane.number) lanes
+
+-- no number stands in the list twice
+abbrev pub HasNoTwin : List ℕ → Type 0
+HasNoTwin numbers = repeats nat_eq numbers ≡ false
+
+-- the lane of a console's number is the owner's end of its rings
+abbrev pub IsConsoleIn : List (Lane Order Reply) → Console Order Reply → Type 0
+IsConsoleIn [] c = ⊥
+IsConsoleIn (lane ∷ lanes) c = MatchBool (lane.number == c.number) (IsConsoleOf c lane) (IsConsoleIn lanes c)
+
+-- and of a console that has ended
+abbrev pub IsEndIn : List (Lane Order Reply) → Finished Order Reply → Type 0
+IsEndIn [] f = ⊥
+IsEndIn (lane ∷ lanes) f = MatchBool (lane.number == f.number) (IsEndOf f lane) (IsEndIn lanes f)
+
+-- each console has its lane, in the same order
+abbrev pub ArePairs : List (Console Order Reply) → List (Lane Order Reply) → Type 0
+ArePairs [] [] = Unit {0}
+ArePairs [] (lane ∷ lanes) = ⊥
+ArePairs (c ∷ consoles) [] = ⊥
+ArePairs (c ∷ consoles) (lane ∷ lanes) = IsConsoleOf c lane × ArePairs consoles lanes
+
+-- a lane of which nothing was taken
+pub record IsUnused (lane : Lane Order Reply) : Type 0 where
+  pub taken : orders_taken lane ≡ []
+  pub given : answers_given lane ≡ []
+  pub is_open : IsOpen lane
+
+-- a console before it submits its first order
+pub record IsFresh (c : Console Order Reply) : Type 0 where
+  pub none_submitted : submitted c ≡ []
+  pub none_taken : answers_taken c ≡ []
+  pub room : known_room c ≡ 64
+
+-- a console and a lane for each of these numbers, in order, before the first order
+pub record AreOpened (numbers : List ℕ) (consoles : List (Console Order Reply)) (lanes : List (Lane Order Reply)) : Type 0 where
+  pub console_numbers : map (λ (c : Console Order Reply). c.number) consoles ≡ numbers
+  pub lane_numbers : numbers_in lanes ≡ numbers
+  pub pairs : ArePairs consoles lanes
+  pub fresh : All IsFresh consoles
+  pub unused : All IsUnused lanes
+
+-- each console of the one is a console of the other, also where it has ended
+pub record KeepsConsoles (before after : List (Lane Order Reply)) : Type 0 where
+  pub consoles : (c : Console Order Reply) → IsConsoleIn before c → IsConsoleIn after c
+  pub ended : (f : Finished Order Reply) → IsEndIn before f → IsEndIn after f
+
+-- the ends of the consoles' rings
+abbrev pub links_of : List (Operator Order Reply) → List (Console Order Reply)
+links_of consoles = map (λ (c : Operator Order Reply). c.link) consoles
+
+-- a console that has seen nothing of the board, and was told what it shows
+pub record HasNotLooked (story : BoardStory) (c : Operator Order Reply) : Type 0 where
+  pub none_seen : story_seen c ≡ None
+  pub told_is : story_told c ≡ Some story
+
+-- a console and a lane for each that a plant lists, in order, before the first order; the consoles are told of the history
+pub record AreConsolesOf (plant : PlainPlant) (history : List Event) (consoles : List (Operator Order Reply)) (lanes : List (Lane Order Reply)) : Type 0 where
+  pub opened : AreOpened (numbers_of plant.consoles) (links_of consoles) lanes
+  pub looks : All (HasNotLooked (history_story plant history)) consoles
+  pub is_plant : IsPlant plant
+
+-- whether an ended console saw at most so many events; none that hasn't ended
+abbrev pub saw_within : ℕ → Option ℕ → Bool
+saw_within events None = false
+saw_within events (Some seen) = nat_le seen events
+
+-- and the console of the lane of this number
+abbrev pub is_within : ℕ → ℕ → List (Lane Order Reply) → Bool
+is_within number events [] = false
+is_within number events (lane ∷ lanes) = if lane.number == number then saw_within events (seen_by lane) else is_within number events lanes
+
+-- and a console that has ended, if it has
+abbrev pub has_seen_within : ℕ → Option (Finished Order Reply) → Bool
+has_seen_within events None = false
+has_seen_within events (Some f) = nat_le f.seen events
+
+-- the first of a list of ended consoles that has this number
+abbrev pub finished_of : ℕ → List (Finished Order Reply) → Option (Finished Order Reply)
+finished_of number [] = None
+finished_of number (f ∷ consoles) = if f.number == number then Some f else finished_of number consoles
+
+-- the orders that were left of the console of a number
+abbrev pub left_in : ℕ → List (Lane Order Reply) → List Order
+left_in number [] = []
+left_in number (lane ∷ lanes) = if lane.number == number then left_of lane else left_in number lanes
