@@ -10,5 +10,5 @@ mod spelling;
 
 pub use cause::{Cause, cause_at, cause_of, part};
 pub use grammar::{tokens_of, ungrammatical};
-pub use roles::{Role, kind_at, role_of, section_after, span_of, start_of, word_at};
+pub use roles::{Role, kind_at, kind_before, role_of, section_after, span_of, start_of, word_at};
 pub use spelling::misspelled;

@@ -1,0 +1,94 @@
+//! The kinds of operands, where one token or an output of an instance tells them.
+
+use crate::calls::block_of;
+use crate::scope::{Found, kind_named, member_named, variable_named};
+use crate::unit::Unit;
+use plant_types::Kind;
+use st_lexer::{Keyword, Symbol, TokenKind};
+
+/// The kind of a literal.
+fn literal_kind(kind: TokenKind) -> Option<Kind> {
+    match kind {
+        TokenKind::Integer(_) | TokenKind::Dint(_) => Some(Kind::Dint),
+        TokenKind::Truth(_) | TokenKind::Keyword(Keyword::True | Keyword::False) => {
+            Some(Kind::Bool)
+        }
+        TokenKind::Duration(_) => Some(Kind::Time),
+        _ => None,
+    }
+}
+
+/// The kind of an output behind an instance and a point.
+fn output_kind(unit: &Unit<'_, '_>, instance: usize, output: usize) -> Option<Kind> {
+    let block = block_of(unit, instance)?;
+    match member_named(unit.entries, block, unit.word(output), false) {
+        Found::Of(kind) => kind,
+        _ => None,
+    }
+}
+
+/// The kind of the variable that the word of a number names.
+pub fn variable_kind(unit: &Unit<'_, '_>, number: usize) -> Option<Kind> {
+    let variable = variable_named(unit.entries, unit.number, unit.word(number))?;
+    kind_named(variable.kind)
+}
+
+/// Whether a point stands at a number.
+fn is_point(kind: Option<TokenKind>) -> bool {
+    kind == Some(TokenKind::Symbol(Symbol::Point))
+}
+
+/// The kind of the operand that ends with the token of a number; `None` where it isn't known.
+pub fn kind_ending(unit: &Unit<'_, '_>, number: usize) -> Option<Kind> {
+    match unit.kind(number)? {
+        TokenKind::Word => {
+            if is_point(unit.kind_before(number, 1)) {
+                output_kind(unit, number.checked_sub(2)?, number)
+            } else {
+                variable_kind(unit, number)
+            }
+        }
+        kind => literal_kind(kind),
+    }
+}
+
+/// The kind of the operand that begins with the token of a number; `None` where it isn't known.
+pub fn kind_beginning(unit: &Unit<'_, '_>, number: usize) -> Option<Kind> {
+    match unit.kind(number)? {
+        TokenKind::Word => {
+            if is_point(unit.kind(number.saturating_add(1))) {
+                output_kind(unit, number, number.saturating_add(2))
+            } else {
+                variable_kind(unit, number)
+            }
+        }
+        kind => literal_kind(kind),
+    }
+}
+
+/// How many tokens the operand has that begins with the token of a number.
+fn operand_len(unit: &Unit<'_, '_>, number: usize) -> usize {
+    if is_point(unit.kind(number.saturating_add(1))) {
+        3
+    } else {
+        1
+    }
+}
+
+/// The kind of the expression that begins with the token of a number and ends before a semicolon, a comma, a parenthesis or one of some keywords, where it is
+/// a single operand; `None` where it isn't.
+pub fn kind_alone(unit: &Unit<'_, '_>, number: usize) -> Option<Kind> {
+    let behind = number.saturating_add(operand_len(unit, number));
+    match unit.kind(behind)? {
+        TokenKind::Symbol(Symbol::Semicolon | Symbol::Comma | Symbol::Close) => {
+            kind_beginning(unit, number)
+        }
+        TokenKind::Keyword(Keyword::Then | Keyword::Of) => kind_beginning(unit, number),
+        _ => None,
+    }
+}
+
+/// Whether the token of a number is the integer 0 or 1, which may stand for a BOOL.
+pub fn is_bit(unit: &Unit<'_, '_>, number: usize) -> bool {
+    matches!(unit.kind(number), Some(TokenKind::Integer(0 | 1)))
+}
