@@ -2,7 +2,7 @@
 
 use crate::texts::{is_file, named};
 use plant_config::{ConfigFault, Plant};
-use plant_explain::{Refused, explain};
+use plant_explain::{PlantTexts, explain};
 use plant_service::{Disk, FetchFault, Fetched, Folder, fetch};
 use std::alloc::{AllocError, Global};
 use std::rt::Files;
@@ -17,7 +17,7 @@ fn told_of_texts<R: Threads + Sync>(
 ) -> Result<Option<String>, AllocError> {
     let sources = named(alloc, texts.sources.as_slice())?;
     let (plant, alarms) = (texts.plant.as_slice(), texts.alarms.as_slice());
-    let refused = Refused {
+    let refused = PlantTexts {
         path,
         plant,
         sources: sources.as_slice(),
@@ -46,7 +46,7 @@ fn told_of_plant_file<R: Files>(
     let Ok(plant) = (Disk { files: rt }).contents(alloc, path) else {
         return Ok(None);
     };
-    let refused = Refused {
+    let refused = PlantTexts {
         path,
         plant: plant.as_slice(),
         sources: &[],

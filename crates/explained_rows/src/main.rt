@@ -4,8 +4,8 @@
 //! Rows are bytes, so more of them cost no proof. Nothing here is part of the server.
 //!
 //! A plant of the table is a line `plant NAME`, its files, each a line `file NAME` and its text, and a line `run`. Where it has no `plant.toml` or
-//! `alarms.csv` of its own, one stands in its place that is right (in `src/plants.rt`). Then a line `as C6 p.st p` says how it is refused; that it is,
-//! worked_rows and typing_rows try. What is told is printed, and an empty line.
+//! `alarms.csv` of its own, one stands in its place that is right (in `src/plants.rt`). Then a line `as C6 p.st p` says how it is refused, or
+//! `as accepted` that it is accepted; that it is so, worked_rows and typing_rows try. What is told is printed, and an empty line.
 //!
 //! Where a file has a line `..`, each line `with x := 1;` after that is answered by itself: the line, and what is told with this text in place of
 //! `..`. Texts are spelled as the crate row_text says, and lines between plants that are none of these are passed over.

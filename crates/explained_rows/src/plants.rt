@@ -2,7 +2,7 @@
 
 use crate::faults::fault_of;
 use plant_config::ConfigFault;
-use plant_explain::{Refused, explain};
+use plant_explain::{PlantTexts, explain, warn};
 use row_text::Source;
 use std::alloc::{AllocError, Global};
 
@@ -48,16 +48,19 @@ fn text_of(
     Vec::from_slice(alloc, other)
 }
 
-/// What is told of a refused plant, as a text. Fails if allocation fails.
-fn told(alloc: Global, refused: &Refused<'_>, line: &str) -> Result<String, AllocError> {
+/// What is told of a plant that is refused by a line, or that is accepted, as a text. Fails if allocation fails.
+fn told(alloc: Global, texts: &PlantTexts<'_>, line: &str) -> Result<String, AllocError> {
+    if line == "accepted" {
+        return warn(alloc, texts);
+    }
     let fault = fault_of(alloc, line)?;
     match fault {
         ConfigFault::Memory => Ok(String::new(alloc)),
-        fault => explain(alloc, refused, &fault),
+        fault => explain(alloc, texts, &fault),
     }
 }
 
-/// What is told of the plant of files that is refused by a line, with another line in place of the line `..`. Fails if allocation fails.
+/// What is told of the plant of files that is refused by a line, or accepted, with another line in place of the line `..`. Fails if allocation fails.
 pub fn told_of(
     alloc: Global,
     files: &[File],
@@ -68,11 +71,11 @@ pub fn told_of(
     let alarms = text_of(alloc, files, "alarms.csv", given, ALARMS)?;
     let source = text_of(alloc, files, "p.st", given, b"")?;
     let sources = [("p.st", source.as_slice())];
-    let refused = Refused {
+    let texts = PlantTexts {
         path: "plant.toml",
         plant: plant.as_slice(),
         sources: &sources,
         alarms: alarms.as_slice(),
     };
-    told(alloc, &refused, line)
+    told(alloc, &texts, line)
 }

@@ -2,7 +2,7 @@
 
 use crate::fields::{Field, field_at, first_field, first_uneven, next_field};
 use crate::place::place_at;
-use crate::refused::Refused;
+use crate::texts::PlantTexts;
 use alarm_db::Column;
 use std::alloc::{AllocError, Global};
 use std::str;
@@ -103,7 +103,7 @@ pub fn malformed(
 }
 
 /// The bytes of a field, without the quotes around them.
-fn unquoted(text: &[u8], field: Field) -> &[u8] {
+pub fn unquoted(text: &[u8], field: Field) -> &[u8] {
     let bytes = part(text, field.from, field.until);
     match bytes {
         [b'"', inner @ .., b'"'] => inner,
@@ -160,7 +160,7 @@ fn areas_of(alloc: Global, plant: &[u8]) -> Result<String, AllocError> {
 /// The cause of an area that the plant hasn't, or of a name that is no BOOL global's. Fails if allocation fails.
 pub fn unknown(
     alloc: Global,
-    refused: &Refused<'_>,
+    refused: &PlantTexts<'_>,
     row: u32,
     column: Column,
 ) -> Result<Cause, AllocError> {

@@ -1,25 +1,46 @@
 //! What is wrong in the plant file (C1 to C3).
 
-use crate::keys::key_mark;
+use crate::keys::{key_mark, value_start};
+use crate::lists::{is_involved, strange_area, strange_key};
+use crate::place::mark_len;
 use std::alloc::{AllocError, Global};
 use std::str;
-use token_causes::{Cause, cause_at, cause_of};
+use token_causes::{Cause, cause_at, cause_of, part};
 
 /// Where the keys are described.
-const KEYS: &str = "docs/PLANT.md, \"plant.toml\"";
+pub const KEYS: &str = "docs/PLANT.md, \"plant.toml\"";
 
-/// The cause of a text that is no TOML document. Fails if allocation fails.
-pub fn not_toml(alloc: Global, bytes: &[u8]) -> Result<Cause, AllocError> {
-    match str::from_utf8(bytes) {
-        Ok(_) => {
-            let said = String::from_str(
-                alloc,
-                "the plant file is no TOML document: mostly a quote or a bracket isn't closed, or a key stands twice",
-            )?;
-            Ok(cause_of(said, KEYS))
+/// The cause of a text in UTF-8 that is no TOML document: where it isn't any more, as the reader says. Fails if allocation fails.
+fn misspelled(alloc: Global, text: &str, skipped: usize) -> Result<Cause, AllocError> {
+    let said =
+        "the plant file is no TOML document: mostly a quote or a bracket isn't closed, or a key stands twice";
+    let Err(error) = toml::table_from_str(alloc, text) else {
+        return Ok(cause_of(String::from_str(alloc, said)?, KEYS));
+    };
+    if error.is_memory() {
+        return Err(AllocError);
+    }
+    let why = error.message();
+    let said = format!(in alloc; "{said} ({why})")?;
+    match error.span() {
+        Some(span) => {
+            let mark = (
+                span.start.saturating_add(skipped),
+                span.end.saturating_add(skipped),
+            );
+            Ok(cause_at(mark, said, KEYS))
         }
+        None => Ok(cause_of(said, KEYS)),
+    }
+}
+
+/// The cause of bytes that are no TOML document. Fails if allocation fails.
+pub fn not_toml(alloc: Global, bytes: &[u8]) -> Result<Cause, AllocError> {
+    let skipped = mark_len(bytes);
+    match str::from_utf8(bytes.get(skipped..).unwrap_or(b"")) {
+        Ok(text) => misspelled(alloc, text, skipped),
         Err(error) => {
-            let at = error.valid_up_to();
+            let at = error.valid_up_to().saturating_add(skipped);
             let said = String::from_str(
                 alloc,
                 "here the plant file isn't UTF-8: an editor can save it so",
@@ -46,12 +67,50 @@ fn wrong_key(alloc: Global, bytes: &[u8], key: &str) -> Result<Option<Cause>, Al
     Ok(Some(cause_of(said, KEYS)))
 }
 
+/// What is wrong with what stands under a key, by its first byte: a text that has no quotes, or a list that has no brackets. Fails if allocation fails.
+fn wrong_value(alloc: Global, bytes: &[u8], key: &str) -> Result<Option<Cause>, AllocError> {
+    if is_involved(bytes) {
+        return Ok(None);
+    }
+    let Some(mark) = key_mark(bytes, 0, key) else {
+        return Ok(None);
+    };
+    let is_list = key == "areas" || key == "sources";
+    let (fits, form) = match (value_start(part(bytes, mark.0, mark.1)), is_list) {
+        (Some(first), true) => (first == b'[', "is a list in brackets, [..]"),
+        (Some(first), false) => (
+            first == b'"' || first == b'\'',
+            "is a text, and stands in quotes",
+        ),
+        (None, _) => return Ok(None),
+    };
+    if fits {
+        return Ok(None);
+    }
+    let said = format!(in alloc; "'{key}' {form}")?;
+    Ok(Some(cause_at(mark, said, KEYS)))
+}
+
+/// The keys that a plant has to have.
+const PLANT_KEYS: [&str; 5] = ["name", "epoch", "areas", "sources", "alarms"];
+
 /// The cause of a document that isn't that of a plant file, or of sources that aren't those that it lists. Fails if allocation fails.
 pub fn wrong_keys(alloc: Global, bytes: &[u8]) -> Result<Cause, AllocError> {
-    for key in ["name", "epoch", "sources", "alarms"] {
+    for key in PLANT_KEYS {
         if let Some(cause) = wrong_key(alloc, bytes, key)? {
             return Ok(cause);
         }
+    }
+    for key in PLANT_KEYS {
+        if let Some(cause) = wrong_value(alloc, bytes, key)? {
+            return Ok(cause);
+        }
+    }
+    if let Some(cause) = strange_key(alloc, bytes)? {
+        return Ok(cause);
+    }
+    if let Some(cause) = strange_area(alloc, bytes)? {
+        return Ok(cause);
     }
     let said = String::from_str(
         alloc,

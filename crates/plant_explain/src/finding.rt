@@ -4,15 +4,17 @@ use crate::alarms::{doubled, malformed, uneven, unknown};
 use crate::document::{no_epoch, not_toml, wrong_keys};
 use crate::limits::over_limit;
 use crate::place::{FileOf, byte_at};
-use crate::refused::{Refused, Spot};
-use crate::units::{Rule, cause_in};
-use plant_config::ConfigFault;
+use crate::texts::{PlantTexts, Spot};
+use crate::turns::too_many_turns;
+use crate::units::cause_in;
+use plant_config::{ConfigFault, Limit};
 use plant_types::Text;
 use std::alloc::{AllocError, Global};
 use token_causes::{Cause, misspelled, ungrammatical};
+use unit_causes::Rule;
 
 /// The number of the source of a name, from 0; how many there are if there is none.
-fn source_named(refused: &Refused<'_>, name: &Text) -> usize {
+fn source_named(refused: &PlantTexts<'_>, name: &Text) -> usize {
     let found = refused
         .sources
         .iter()
@@ -26,7 +28,7 @@ fn source_named(refused: &Refused<'_>, name: &Text) -> usize {
 /// The cause of a fault of spelling or grammar, at a line and a column. Fails if allocation fails.
 fn in_text(
     alloc: Global,
-    refused: &Refused<'_>,
+    refused: &PlantTexts<'_>,
     name: &Text,
     place: (usize, usize),
     is_spelling: bool,
@@ -45,22 +47,23 @@ fn in_text(
 /// The cause of a fault in a unit of a source. Fails if allocation fails.
 fn in_unit(
     alloc: Global,
-    refused: &Refused<'_>,
+    refused: &PlantTexts<'_>,
     name: &Text,
     unit: &Text,
     rule: Rule,
 ) -> Result<Spot, AllocError> {
     let number = source_named(refused, name);
-    let file = FileOf::Source(number);
-    let text = refused.text(file);
-    let cause = cause_in(alloc, text, unit.as_str(), rule)?;
-    Ok(Spot { file, cause })
+    let cause = cause_in(alloc, refused, number, unit.as_str(), rule)?;
+    Ok(Spot {
+        file: FileOf::Source(number),
+        cause,
+    })
 }
 
 /// The cause of a fault in the plant file, or in the alarm database. Fails if allocation fails.
 fn in_table(
     alloc: Global,
-    refused: &Refused<'_>,
+    refused: &PlantTexts<'_>,
     fault: &ConfigFault,
 ) -> Result<Cause, AllocError> {
     match fault {
@@ -75,8 +78,13 @@ fn in_table(
 }
 
 /// The file in which a refused plant has a fault, and its cause there. Fails if allocation fails.
-pub fn find(alloc: Global, refused: &Refused<'_>, fault: &ConfigFault) -> Result<Spot, AllocError> {
+pub fn find(
+    alloc: Global,
+    refused: &PlantTexts<'_>,
+    fault: &ConfigFault,
+) -> Result<Spot, AllocError> {
     match fault {
+        ConfigFault::Limit(Limit::Turns) => too_many_turns(alloc, refused),
         ConfigFault::Limit(limit) => over_limit(alloc, refused, *limit),
         ConfigFault::Spelling { file, line, column } => {
             in_text(alloc, refused, file, (*line, *column), true)

@@ -1,10 +1,11 @@
 //! Where the keys of a plant file stand, line by line.
 
 use crate::place::mark_len;
+use std::str;
 use token_causes::part;
 
 /// What stands behind the blanks at the front of bytes.
-fn unblanked(line: &[u8]) -> &[u8] {
+pub fn unblanked(line: &[u8]) -> &[u8] {
     for (i, byte) in line.iter().enumerate() {
         if *byte != b' ' && *byte != b'\t' {
             return part(line, i, line.len());
@@ -37,4 +38,10 @@ pub fn key_mark(text: &[u8], console: usize, key: &str) -> Option<(usize, usize)
         at = end.saturating_add(1);
     }
     None
+}
+
+/// The first byte of what a line gives its key; `None` where nothing stands there.
+pub fn value_start(line: &[u8]) -> Option<u8> {
+    let (_, value) = str::from_utf8(line).ok()?.split_once("=")?;
+    unblanked(value.as_bytes()).first().copied()
 }

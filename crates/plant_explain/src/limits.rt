@@ -2,7 +2,7 @@
 
 use crate::keys::key_mark;
 use crate::place::FileOf;
-use crate::refused::{Refused, Spot};
+use crate::texts::{PlantTexts, Spot};
 use plant_config::Limit;
 use std::alloc::{AllocError, Global};
 use token_causes::{Cause, cause_at, cause_of};
@@ -65,7 +65,11 @@ fn cause(alloc: Global, plant: &[u8], limit: Limit) -> Result<Cause, AllocError>
 }
 
 /// Where a limit isn't kept, and what is said of it. Fails if allocation fails.
-pub fn over_limit(alloc: Global, refused: &Refused<'_>, limit: Limit) -> Result<Spot, AllocError> {
+pub fn over_limit(
+    alloc: Global,
+    refused: &PlantTexts<'_>,
+    limit: Limit,
+) -> Result<Spot, AllocError> {
     let file = match limit {
         Limit::Alarms => FileOf::Alarms,
         _ => FileOf::Plant,

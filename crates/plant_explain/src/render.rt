@@ -4,7 +4,7 @@ ghost use Rattle.std.specs.Prelude.{◌≡◌, IfSome};
 ghost use Rattle.plant_explain.specs.Told.{IsPlaceIn, text_of};
 
 use crate::place::{FileOf, Place, line_around, place_at};
-use crate::refused::{Refused, Spot};
+use crate::texts::{PlantTexts, Spot};
 use plant_config::Plant;
 use plant_types::Text;
 use std::alloc::{AllocError, Global};
@@ -14,11 +14,11 @@ use token_causes::part;
 const LONGEST_LINE: usize = 200;
 
 /// The place of a spot; `None` where none can be told. It lies in the text of the spot's file.
-pub fn place_of(refused: &Refused<'_>, spot: &Spot) -> Option<Place>
-    ensures { IfSome result (IsPlaceIn (text_of refused.now spot.now.file)) }
+pub fn place_of(texts: &PlantTexts<'_>, spot: &Spot) -> Option<Place>
+    ensures { IfSome result (IsPlaceIn (text_of texts.now spot.now.file)) }
 {
     match spot.cause.mark {
-        Some(mark) => Some(place_at(refused.text(spot.file), mark.0)),
+        Some(mark) => Some(place_at(texts.text(spot.file), mark.0)),
         None => None,
     }
 }
@@ -32,14 +32,14 @@ fn alarms_name(alloc: Global, plant: &[u8]) -> Result<Text, AllocError> {
 }
 
 /// The name of a file: the plant file's path as given, another's as the plant file has it. Fails if allocation fails.
-fn name_of(alloc: Global, refused: &Refused<'_>, file: FileOf) -> Result<Text, AllocError> {
+fn name_of(alloc: Global, texts: &PlantTexts<'_>, file: FileOf) -> Result<Text, AllocError> {
     match file {
-        FileOf::Plant => Text::from_str(alloc, refused.path),
-        FileOf::Source(number) => match refused.sources.get(number) {
+        FileOf::Plant => Text::from_str(alloc, texts.path),
+        FileOf::Source(number) => match texts.sources.get(number) {
             Some(source) => Text::from_str(alloc, source.0),
             None => Text::from_str(alloc, "source"),
         },
-        FileOf::Alarms => alarms_name(alloc, refused.plant),
+        FileOf::Alarms => alarms_name(alloc, texts.plant),
     }
 }
 
@@ -105,17 +105,33 @@ fn printable(alloc: Global, text: &str) -> Result<String, AllocError> {
         .collect(alloc)
 }
 
-/// What is shown of a spot: its file and place with what is said, the line with the mark, and where to read on. Fails if allocation fails.
-pub fn shown(alloc: Global, refused: &Refused<'_>, spot: &Spot) -> Result<String, AllocError> {
-    let name = name_of(alloc, refused, spot.file)?;
-    let place = place_of(refused, spot);
+/// A spot's file and place with what is said, and the line with the mark. Fails if allocation fails.
+fn marked(alloc: Global, texts: &PlantTexts<'_>, spot: &Spot) -> Result<String, AllocError> {
+    let name = name_of(alloc, texts, spot.file)?;
+    let place = place_of(texts, spot);
     let mut text = headed(alloc, name.as_str(), place)?;
     text.push_str(spot.cause.said.as_str())?;
     text.push_str("\n")?;
     if let (Some(mark), Some(place)) = (spot.cause.mark, place) {
-        let lines = excerpt(alloc, refused.text(spot.file), place.line, mark)?;
+        let lines = excerpt(alloc, texts.text(spot.file), place.line, mark)?;
         text.push_str(lines.as_str())?;
     }
+    Ok(text)
+}
+
+/// What is shown of a spot: its file and place with what is said, and the line with the mark. Fails if allocation fails.
+pub fn shown_alone(
+    alloc: Global,
+    texts: &PlantTexts<'_>,
+    spot: &Spot,
+) -> Result<String, AllocError> {
+    let text = marked(alloc, texts, spot)?;
+    printable(alloc, text.as_str())
+}
+
+/// The same, and where to read on. Fails if allocation fails.
+pub fn shown(alloc: Global, texts: &PlantTexts<'_>, spot: &Spot) -> Result<String, AllocError> {
+    let mut text = marked(alloc, texts, spot)?;
     text.push_str("read on: ")?;
     text.push_str(spot.cause.page)?;
     text.push_str("\n")?;

@@ -6,8 +6,9 @@ ghost use Rattle.plant_config.specs.FaultLine.{config_line};
 ghost use Rattle.plant_explain.specs.Told.{BeginsWith};
 
 use crate::finding::find;
-use crate::refused::Refused;
-use crate::render::shown;
+use crate::render::{shown, shown_alone};
+use crate::texts::PlantTexts;
+use crate::warnings::find_warnings;
 use plant_config::ConfigFault;
 use std::alloc::{AllocError, Global};
 
@@ -25,7 +26,7 @@ fn under(alloc: Global, line: &str, text: &str) -> Result<String, AllocError>
 /// where to read on. Fails if allocation fails.
 pub fn explain(
     alloc: Global,
-    refused: &Refused<'_>,
+    refused: &PlantTexts<'_>,
     fault: &ConfigFault,
 ) -> Result<String, AllocError>
     requires { fault.now ≢ config_fault.Memory }
@@ -35,4 +36,16 @@ pub fn explain(
     let spot = find(alloc, refused, fault)?;
     let rest = shown(alloc, refused, &spot)?;
     under(alloc, line.as_str(), rest.as_str())
+}
+
+/// What a person is told of a plant that is accepted: what is likely to be wrong in it, each with its place and the line there; nothing where nothing is.
+/// Fails if allocation fails.
+pub fn warn(alloc: Global, texts: &PlantTexts<'_>) -> Result<String, AllocError> {
+    let mut told = String::new(alloc);
+    let found = find_warnings(alloc, texts)?;
+    for spot in found.as_slice() {
+        let text = shown_alone(alloc, texts, spot)?;
+        told.push_str(text.as_str())?;
+    }
+    Ok(told)
 }

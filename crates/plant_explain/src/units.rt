@@ -1,22 +1,12 @@
 //! What is wrong in a unit of a source (C6 to C9).
 
+use crate::place::FileOf;
+use crate::texts::PlantTexts;
 use plant_types::same_word;
 use st_lexer::{Keyword, Token, TokenKind};
 use std::alloc::{AllocError, Global};
 use token_causes::{Cause, Role, cause_at, role_of, span_of, tokens_of, word_at};
-
-/// The rule that a unit doesn't keep.
-#[derive(Clone, Copy, Debug, PartialEq, Eq, Drop)]
-pub enum Rule {
-    /// Each name is there once (C6).
-    Names,
-    /// Each thing is of the kind that it has to be (C7).
-    Kinds,
-    /// No function block holds itself (C8).
-    Blocks,
-    /// Initial values, bounds and steps are constant (C9).
-    Constants,
-}
+use unit_causes::{Rule, cause_in_unit, entries_of, sources_of};
 
 /// The numbers of the first token of a unit, by its name, and of the one that ends it; of `VAR_GLOBAL` those up to the first block or program. Of
 /// units with one name it is the last.
@@ -73,8 +63,8 @@ fn in_general(rule: Rule) -> (&'static str, &'static str) {
     }
 }
 
-/// The cause of a unit that doesn't keep a rule, in the text of its source. Fails if allocation fails.
-pub fn cause_in(alloc: Global, text: &[u8], unit: &str, rule: Rule) -> Result<Cause, AllocError> {
+/// The cause of a unit that doesn't keep a rule, where no token is certainly wrong: the unit. Fails if allocation fails.
+fn whole_unit(alloc: Global, text: &[u8], unit: &str, rule: Rule) -> Result<Cause, AllocError> {
     let tokens = tokens_of(alloc, text)?;
     let tokens = tokens.as_slice();
     let range = range_of(text, tokens, unit);
@@ -83,4 +73,22 @@ pub fn cause_in(alloc: Global, text: &[u8], unit: &str, rule: Rule) -> Result<Ca
     let head = head_of(tokens, range);
     let mark = span_of(text, tokens, head, head.saturating_add(1));
     Ok(cause_at(mark, said, page))
+}
+
+/// The cause of a unit that doesn't keep a rule: the first token that is certainly wrong, else the unit. Its source is told by its number. Fails if
+/// allocation fails.
+pub fn cause_in(
+    alloc: Global,
+    refused: &PlantTexts<'_>,
+    source: usize,
+    unit: &str,
+    rule: Rule,
+) -> Result<Cause, AllocError> {
+    let sources = sources_of(alloc, refused.sources)?;
+    let entries = entries_of(alloc, sources.as_slice())?;
+    let place = (source, unit);
+    match cause_in_unit(alloc, sources.as_slice(), entries.as_slice(), place, rule)? {
+        Some(cause) => Ok(cause),
+        None => whole_unit(alloc, refused.text(FileOf::Source(source)), unit, rule),
+    }
 }

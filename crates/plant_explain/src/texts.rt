@@ -1,4 +1,4 @@
-//! A plant that was refused.
+//! The texts of a plant.
 
 ghost use Rattle.std.specs.Prelude.{◌≡◌};
 ghost use Rattle.plant_explain.specs.Told.{text_of};
@@ -7,16 +7,16 @@ use crate::place::FileOf;
 use std::marker::Model;
 use token_causes::Cause;
 
-/// A plant that was refused: the path of its plant file, and its texts, each source with its name. Contracts see the texts.
+/// A plant that was judged: the path of its plant file, and its texts, each source with its name. Contracts see the texts.
 #[derive(Drop)]
-pub struct Refused<'a> {
+pub struct PlantTexts<'a> {
     pub path: &'a str,
     pub plant: &'a [u8],
     pub sources: &'a [(&'a str, &'a [u8])],
     pub alarms: &'a [u8],
 }
 
-impl<'a> Model for Refused<'a> {
+impl<'a> Model for PlantTexts<'a> {
     ghost use Rattle.std.specs.Prelude.{map};
     ghost use Rattle.plant_config.specs.Files.{Texts, texts_of};
 
@@ -32,7 +32,7 @@ pub struct Spot {
     pub cause: Cause,
 }
 
-impl<'a> Refused<'a> {
+impl<'a> PlantTexts<'a> {
     /// The text of a file; empty for a source that isn't there.
     pub fn text(&self, file: FileOf) -> &'a [u8]
         ensures { result.now ≡ text_of self.now file }

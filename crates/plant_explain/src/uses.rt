@@ -1,0 +1,92 @@
+//! Which of the variables of a plant are read, and which are assigned.
+
+use std::alloc::{AllocError, Global};
+use token_causes::Role;
+use unit_causes::Entry;
+use word_index::Names;
+
+/// What is done with a variable.
+#[derive(Clone, Copy, Debug, PartialEq, Eq, Drop)]
+pub struct Use {
+    pub is_read: bool,
+    pub is_assigned: bool,
+}
+
+/// What a word does with the variable that it names; `None` where it names none.
+pub fn use_by(role: Role) -> Option<Use> {
+    let (is_read, is_assigned) = match role {
+        Role::Read | Role::Callee => (true, false),
+        Role::Target | Role::Taker => (false, true),
+        Role::Control => (true, true),
+        _ => return None,
+    };
+    Some(Use {
+        is_read,
+        is_assigned,
+    })
+}
+
+/// Variables of one block or program, or globals, with what is done with each.
+#[derive(Drop)]
+pub struct Variables<'a> {
+    names: Names,
+    entries: Vec<Entry<'a>>,
+    uses: Vec<Use>,
+}
+
+impl<'a> Variables<'a> {
+    /// No variables.
+    pub fn new(alloc: Global) -> Variables<'a> {
+        Variables {
+            names: Names::new(alloc),
+            entries: Vec::new(alloc),
+            uses: Vec::new(alloc),
+        }
+    }
+
+    /// Adds a variable, with which nothing is done so far; not one of a name that is there. Fails if allocation fails.
+    pub fn add(&mut self, alloc: Global, entry: Entry<'a>) -> Result<(), AllocError> {
+        if self.names.add(alloc, entry.word)? {
+            self.entries.push(entry)?;
+            self.uses.push(Use {
+                is_read: false,
+                is_assigned: false,
+            })?;
+        }
+        Ok(())
+    }
+
+    /// Whether there is a variable of a name.
+    pub fn has(&self, word: &str) -> bool {
+        self.names.find(word).is_some()
+    }
+
+    /// Notes a use of the variable of a name; whether there is one.
+    pub fn note(&mut self, word: &str, found: Use) -> bool {
+        let Some(number) = self.names.find(word) else {
+            return false;
+        };
+        if let Some(known) = self.uses.get_mut(number) {
+            known.is_read = known.is_read || found.is_read;
+            known.is_assigned = known.is_assigned || found.is_assigned;
+        }
+        true
+    }
+
+    /// What is done with the variable of a name; `None` if there is none.
+    pub fn found(&self, word: &str) -> Option<(Entry<'a>, Use)> {
+        self.at(self.names.find(word)?)
+    }
+
+    /// The variable of a number and what is done with it; `None` if there is none.
+    pub fn at(&self, number: usize) -> Option<(Entry<'a>, Use)> {
+        let entry = self.entries.get(number)?;
+        let known = self.uses.get(number)?;
+        Some((*entry, *known))
+    }
+
+    /// The number of variables.
+    pub fn len(&self) -> usize {
+        self.entries.len()
+    }
+}
