@@ -2,14 +2,14 @@
 
 ghost use Rattle.std.specs.Prelude.{◌<◌, length};
 
-use crate::printing::{push_all, push_number, truth_text};
+use crate::printing::{push_all, push_number, trap_text, truth_text};
 use plant_cells::Cells;
 use plant_limits::LimitFault;
 use plant_walk::{Framed, Stack, Walked, run_counted, standing_cells_are_there, walk};
 use st_typing::Typed;
 use std::alloc::{AllocError, Global};
 
-/// Adds how a program ends that runs at a moment: the path, and the statement's number as many points.
+/// Adds how a program ends that runs at a moment: the path, the statement's number as many points, and the trap.
 fn push_run(
     text: &mut String,
     framed: &Framed,
@@ -20,13 +20,13 @@ fn push_run(
 {
     match walk(framed, 0, cells, moment) {
         Walked::Done => text.push_str(" done"),
-        Walked::Trapped(place, _) => {
+        Walked::Trapped(place, trap) => {
             text.push_str(" ")?;
             framed.push_path(place.path, text)?;
             for _ in 0..place.statement {
                 text.push_str(".")?;
             }
-            Ok(())
+            push_all(text, &[" ", trap_text(trap)])
         }
     }
 }

@@ -1,20 +1,12 @@
-//! A source: its logic (`plant_logic`), what it costs and the limits that it may be past (`plant_limits`), its frames (`block_frames`) and
-//! what they do over cells (`block_walk`).
+//! A source: its logic (`plant_logic`), what it costs and the limits that it may be past (`plant_limits`).
 
-ghost use Rattle.plant_logic.specs.Blocks.{AreBelow, HasItsTypes};
-ghost use Rattle.plant_logic.specs.Layout.{IsDistinctlyNamed};
+ghost use Rattle.plant_logic.specs.Blocks.{AreBelow};
 ghost use Rattle.plant_logic.specs.Source.{source_of};
 
-use crate::printing::{push_all, push_number, trap_text};
+use crate::printing::{push_all, push_number};
 use crate::runs::push_judged;
-use block_frames::{frames_of, start_of};
-use block_walk::{push_path, push_standards, start_frame, walk_frame};
-use plant_cells::Cells;
 use plant_limits::{LimitFault, costs, limits};
-use plant_logic::{
-    BlockRef, Logic, Routine, logic_of, order_is_of_source, typed_names_are_distinct,
-    typed_types_are_there,
-};
+use plant_logic::{BlockRef, Logic, Routine, logic_of, order_is_of_source};
 use plant_sources::units;
 use st_typing::{Typed, check};
 use std::alloc::{AllocError, Global};
@@ -74,39 +66,7 @@ fn push_costs(
     Ok(())
 }
 
-/// Adds where the program of two block types and two globals stops that runs at the moments 0 and 5 with its first global set: its path
-/// from the program's frame down, the statement and the trap.
-fn push_stop(
-    alloc: Global,
-    text: &mut String,
-    logic: &Logic,
-    order: &[usize],
-) -> Result<(), AllocError>
-    requires below { AreBelow (source_of logic.now).blocks order.now }
-    requires types { HasItsTypes (source_of logic.now) }
-    requires named { IsDistinctlyNamed (source_of logic.now) }
-{
-    let frames = frames_of(alloc, logic, order)?;
-    let mut first = Vec::new(alloc);
-    first.push(start_of(alloc, logic)?)?;
-    let mut standards = Vec::new(alloc);
-    push_standards(&frames, 2, &mut standards)?;
-    let mut cells = Cells::zeros(alloc, 12, &standards)?;
-    cells.set(0, 1);
-    start_frame(&first, 2, 0, 0, 0, &mut cells);
-    start_frame(&frames, 2, 2, 2, 0, &mut cells);
-    if walk_frame(&frames, 2, 2, 2, 0, &mut cells, 0).is_err() {
-        return text.push_str("?");
-    }
-    let Err(stop) = walk_frame(&frames, 2, 2, 2, 0, &mut cells, 5) else {
-        return text.push_str("-");
-    };
-    push_path(&frames, 2, stop.place.path, text)?;
-    push_number(alloc, text, i128::from(stop.place.statement))?;
-    push_all(text, &[" ", trap_text(stop.trap)])
-}
-
-/// Adds what a logic has, what its programs cost, and where they are asked for the names and the stop of its program.
+/// Adds what the programs of a logic cost, and what it has before, where that is asked for.
 fn push_seen(
     alloc: Global,
     text: &mut String,
@@ -114,17 +74,12 @@ fn push_seen(
     logic: &Logic,
     order: &[usize],
 ) -> Result<(), AllocError>
-    requires below { AreBelow (source_of logic.now).blocks order.now }
-    requires types { HasItsTypes (source_of logic.now) }
-    requires named { IsDistinctlyNamed (source_of logic.now) }
+    requires { AreBelow (source_of logic.now).blocks order.now }
 {
-    if word == "cost" {
-        return push_costs(alloc, text, logic, order);
+    if word == "look" {
+        push_logic(text, logic)?;
     }
-    push_logic(text, logic)?;
-    push_costs(alloc, text, logic, order)?;
-    text.push_str(" ")?;
-    push_stop(alloc, text, logic, order)
+    push_costs(alloc, text, logic, order)
 }
 
 /// Adds what there is to see of the logic of a source. The logic is let go here alone.
@@ -135,8 +90,6 @@ fn push_logic_of(
     typed: &Typed<'_>,
 ) -> Result<(), AllocError> {
     order_is_of_source();
-    typed_types_are_there();
-    typed_names_are_distinct();
     let _units = typed.units();
     let order = typed.order();
     let logic = logic_of(alloc, typed)?;
