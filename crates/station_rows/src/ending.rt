@@ -1,0 +1,85 @@
+//! How a station ends.
+
+ghost use Rattle.std.specs.Prelude.{List, All};
+ghost use Rattle.console_link.specs.declared.lane.Lane.{Lane};
+ghost use Rattle.event_history.specs.declared.event.Order.{Order};
+ghost use Rattle.plant_system.specs.declared.event.Reply.{Reply};
+ghost use Rattle.station.specs.Lanes.{IsEndIn};
+ghost use Rattle.station_rows.specs.Seated.{EndAll};
+
+use crate::orders::order_text;
+use engine::Alone;
+use row_text::push_line;
+use station::{Closing, Console, Finished};
+use std::alloc::{AllocError, Global};
+
+/// Keeps an ended console; where memory is refused it is let go.
+fn keep(finished: &mut Vec<Finished>, end: Finished)
+    ensures { (lanes : List (Lane Order Reply)) → All (IsEndIn lanes) finished.old.items → IsEndIn lanes end → All (IsEndIn lanes) finished.new.items }
+{
+    match finished.push(end) {
+        Ok(()) => {}
+        Err(_) => {}
+    }
+}
+
+/// Ends consoles.
+pub fn end_all(alloc: Global, mut consoles: Vec<Console>) -> Vec<Finished>
+    ensures { EndAll consoles.items result.items }
+{
+    let mut finished = Vec::new(alloc);
+    while let Some(console) = consoles.pop() {
+        if let Some(end) = console.finish() {
+            keep(&mut finished, end);
+        }
+    }
+    finished
+}
+
+/// Adds whether a console saw no more events than the history has.
+fn push_within(
+    alloc: Global,
+    closing: &Closing<Alone>,
+    text: &mut Vec<u8>,
+    console: u32,
+) -> Result<(), AllocError> {
+    let within = if closing.within(console) {
+        "TRUE"
+    } else {
+        "FALSE"
+    };
+    push_line(
+        text,
+        format!(in alloc; "WITHIN {console} {within}")?.as_str(),
+    )
+}
+
+/// Adds the orders that were left of a console, which are 64 at most.
+fn push_left(
+    alloc: Global,
+    closing: &mut Closing<Alone>,
+    text: &mut Vec<u8>,
+    console: u32,
+) -> Result<(), AllocError> {
+    for _ in 0..=64u32 {
+        let Some(order) = closing.next_left(console) else {
+            return push_line(text, format!(in alloc; "NO MORE LEFT {console}")?.as_str());
+        };
+        let order = order_text(alloc, closing.engine().plant(), order)?;
+        push_line(text, format!(in alloc; "LEFT {console} {order}")?.as_str())?;
+    }
+    Ok(())
+}
+
+/// Adds what is left once a station was closed: of consoles 1 and 2, and of 3, which the plant doesn't list.
+pub fn push_end(
+    alloc: Global,
+    closing: &mut Closing<Alone>,
+    text: &mut Vec<u8>,
+) -> Result<(), AllocError> {
+    for console in 1..4u32 {
+        push_within(alloc, &*closing, text, console)?;
+        push_left(alloc, closing, text, console)?;
+    }
+    Ok(())
+}

@@ -1,0 +1,67 @@
+//! The orders of the table, and their texts.
+
+use command_text::{Command, Pool, read_command};
+use engine::{Order, Plant, Reply, Verb};
+use std::alloc::{AllocError, Global};
+
+/// The number of what a word names as an order's target.
+fn target_of(plant: &Plant, verb: Verb, word: &[u8]) -> Option<u32> {
+    let name = str::from_utf8(word).ok()?;
+    match verb {
+        Verb::Restart => plant.program_number(name),
+        _ => plant.alarm_number(name),
+    }
+}
+
+/// The order of a line, and the number of its console; `None` where the line is no order. Fails if allocation fails.
+pub fn order_of(
+    alloc: Global,
+    plant: &Plant,
+    line: &str,
+) -> Result<Option<(u32, Order)>, AllocError> {
+    let mut pool = Pool::new(alloc);
+    match read_command(alloc, &mut pool, line.as_bytes())? {
+        Command::Order(verb, console, word) => {
+            let target = target_of(plant, verb, word);
+            Ok(Some((console, Order { verb, target })))
+        }
+        _ => Ok(None),
+    }
+}
+
+/// The name of an order's target, or `?`.
+fn target_name(plant: &Plant, order: Order) -> &str {
+    match order.target {
+        Some(program) if order.verb == Verb::Restart => {
+            if program < plant.programs() {
+                plant.program(program)
+            } else {
+                "?"
+            }
+        }
+        Some(alarm) if alarm < plant.alarms() => plant.tag(alarm),
+        _ => "?",
+    }
+}
+
+/// An order, as `ack T1`.
+pub fn order_text(alloc: Global, plant: &Plant, order: Order) -> Result<String, AllocError> {
+    let verb = order.verb.text();
+    let name = target_name(plant, order);
+    format!(in alloc; "{verb} {name}")
+}
+
+/// A reply: `DONE`, with the change of an alarm's code if there is one, or `REFUSED` and why.
+pub fn reply_text(alloc: Global, reply: Reply) -> Result<String, AllocError> {
+    match reply {
+        Reply::Done(Some(change)) => {
+            let (from, to) = (change.from().text(), change.to().text());
+            format!(in alloc; "DONE {from} {to}")
+        }
+        Reply::Done(None) => String::from_str(alloc, "DONE"),
+        Reply::Refused(fault) => {
+            let why = fault.text();
+            format!(in alloc; "REFUSED {why}")
+        }
+    }
+}

@@ -1,0 +1,53 @@
+//! The lines of the table that read the archive.
+
+use crate::rows::{cut, number};
+use engine::Engine;
+use row_text::push_line;
+use station::Archive;
+use std::alloc::{AllocError, Global};
+use std::sync::Wait;
+use std::sync::ledger::Ledger;
+
+/// Adds the page of the archive that a line asks for.
+pub fn push_page<L: Ledger, R: Wait>(
+    rt: &R,
+    alloc: Global,
+    archive: &Archive<L>,
+    text: &mut Vec<u8>,
+    words: &str,
+) -> Result<(), AllocError> {
+    let (from, n) = cut(words);
+    for line in &archive.page(rt, alloc, u64::from(number(from)), number(n))? {
+        push_line(text, line.as_str())?;
+    }
+    Ok(())
+}
+
+/// The lines of an engine's journal.
+fn journal_of(alloc: Global, engine: &Engine) -> Result<Vec<String>, AllocError> {
+    let rows = engine.journal().len() as u64;
+    let mut lines = Vec::new(alloc);
+    for before in 0..rows {
+        lines.push(engine.line(alloc, before + 1)?)?;
+    }
+    Ok(lines)
+}
+
+/// Adds whether the lines of the archive are those of the engine's journal, and how many they are.
+pub fn push_compared<L: Ledger, R: Wait>(
+    rt: &R,
+    alloc: Global,
+    archive: &Archive<L>,
+    engine: &Engine,
+    text: &mut Vec<u8>,
+) -> Result<(), AllocError> {
+    let kept = archive.page(rt, alloc, 1, u32::MAX)?;
+    let own = journal_of(alloc, engine)?;
+    let lines = own.len();
+    let word = if kept.as_slice() == own.as_slice() {
+        "ALIKE"
+    } else {
+        "APART"
+    };
+    push_line(text, format!(in alloc; "JOURNAL {lines} {word}")?.as_str())
+}

@@ -1,0 +1,70 @@
+//! The lines of a station's part of the table.
+
+ghost use Rattle.station_rows.specs.Seated.{AreOf};
+
+use crate::looking::push_asked;
+use crate::pages::{push_compared, push_page};
+use crate::turns::push_turn_of;
+use engine::Alone;
+use row_text::push_line;
+use station::{Console, Station};
+use std::alloc::{AllocError, Global};
+use std::sync::Wait;
+use std::sync::ledger::Ledger;
+
+/// The two parts of words around their first blank.
+pub fn cut(words: &str) -> (&str, &str) {
+    match words.split_once(" ") {
+        Some(parts) => parts,
+        None => (words, ""),
+    }
+}
+
+/// A number; 0 for what is none.
+pub fn number(word: &str) -> u32 {
+    word.parse::<u32>().unwrap_or(0)
+}
+
+/// Does a line, and adds what it gives.
+#[tactic(auto, using(crate::proofs::Seats::stay, crate::proofs::Seats::keep))]
+fn push_row<L: Ledger, R: Wait>(
+    rt: &R,
+    alloc: Global,
+    station: &mut Station<L, Alone>,
+    consoles: &mut [Console],
+    text: &mut Vec<u8>,
+    line: &str,
+) -> Result<(), AllocError>
+    requires { AreOf station.old.lanes consoles.old }
+    ensures { AreOf station.new.lanes consoles.new }
+{
+    let (word, words) = cut(line);
+    match word {
+        "scan" => push_turn_of(rt, alloc, station, text, line),
+        "page" => push_page(rt, alloc, &**station.archive(), text, words),
+        "journal" => push_compared(rt, alloc, &**station.archive(), station.engine(), text),
+        _ => push_asked(alloc, station.engine().plant(), consoles, text, line),
+    }
+}
+
+/// Does the lines of a part, but for the first, which is the station's name, and adds each line and what it gives.
+pub fn push_rows<L: Ledger, R: Wait>(
+    rt: &R,
+    alloc: Global,
+    station: &mut Station<L, Alone>,
+    consoles: &mut [Console],
+    text: &mut Vec<u8>,
+    part: &str,
+) -> Result<(), AllocError>
+    requires { AreOf station.old.lanes consoles.old }
+    ensures { AreOf station.new.lanes consoles.new }
+{
+    for line in part.lines().skip(1) {
+        if line.is_empty() {
+            continue;
+        }
+        push_line(text, format!(in alloc; "> {line}")?.as_str())?;
+        push_row(rt, alloc, station, consoles, text, line)?;
+    }
+    Ok(())
+}
