@@ -267,7 +267,7 @@ class Trial:
 
 def unexplained(ran):
     """A refusal without what a person is told of it on standard error, which begins with the refusal's own line."""
-    explained = ran.status == 3 and ran.out.startswith(b"CONFIG C") and ran.error.startswith(ran.out)
+    explained = ran.status == 3 and ran.out.startswith((b"CONFIG C", b"FILE ")) and ran.error.startswith(ran.out)
     return Ran(ran.out, b"", ran.status) if explained else ran
 
 

@@ -1,6 +1,7 @@
 //! What a person is told on standard error when a plant is refused.
 
-use crate::texts::{is_file, named};
+use crate::missing::why_missing;
+use crate::texts::{is_read_once, named};
 use plant_config::{ConfigFault, Plant};
 use plant_explain::{PlantTexts, explain};
 use plant_service::{Disk, FetchFault, Fetched, Folder, fetch};
@@ -61,7 +62,7 @@ fn told_of_plant_file<R: Files>(
     }
 }
 
-/// What is told of the plant of a plant file's path, where it is refused for what its files hold. They are read once more. Fails if allocation
+/// What is told of the plant of a plant file's path, where it is refused, or a file can't be read. The files are read once more. Fails if allocation
 /// fails.
 fn told<R: Files + Threads + Sync>(
     rt: &R,
@@ -72,15 +73,18 @@ fn told<R: Files + Threads + Sync>(
         Ok(texts) => told_of_texts(rt, alloc, path, &texts),
         Err(FetchFault::Config(fault)) => told_of_plant_file(rt, alloc, path, &fault),
         Err(FetchFault::Memory) => Err(AllocError),
-        Err(FetchFault::File(_)) => Ok(None),
+        Err(FetchFault::File(name)) => {
+            let text = why_missing(rt, alloc, path, name.as_str())?;
+            Ok(Some(text))
+        }
     }
 }
 
-/// Tells on standard error, where the plant of a plant file's path is refused for what its files hold, the place, what is wrong, and where to
-/// read on. A path that is no file, such as a pipe, can't be read once more, and then nothing is told; nor is it where memory is refused, or standard
+/// Tells on standard error, where the plant of a plant file's path is refused, the place, what is wrong, and where to
+/// read on; or why a file can't be read. A path that is no file, such as a pipe, can't be read once more, and then nothing is told; nor is it where memory is refused, or standard
 /// error can't be written.
 pub fn explained<R: Files + Eprint + AllocGlobal + Threads + Sync>(rt: &R, path: &str) {
-    if !is_file(rt, path) {
+    if is_read_once(rt, path) {
         return;
     }
     if let Ok(Some(text)) = told(rt, rt.alloc(), path) {

@@ -10,17 +10,21 @@ ghost use Rattle.command_line.specs.Choices.{HasWorkers};
 mod crews;
 mod example;
 mod explained;
+mod greeting;
+mod missing;
 mod plants;
 mod prints;
 mod texts;
+mod watching;
 mod words;
 
 use crate::explained::explained;
 use crate::plants::{check, serve_example, serve_files};
-use crate::prints::{help, stopped, usage};
+use crate::prints::{asked, stopped, usage};
 use crate::words::choice;
 use command_line::{Choice, Ended, UsageFault, status};
 use plant_service::ServeFault;
+use std::io::IsTerminal;
 use std::process::ExitCode;
 use std::rt::{Files, Runtime};
 use std::sync::Wait;
@@ -42,29 +46,34 @@ fn told<R: Files + Eprint + AllocGlobal + Threads + Sync>(
 fn done<R: Runtime + Threads + Wait + AllocGlobal + Send + Sync + 'static>(
     rt: &R,
     choice: &Choice,
+    is_terminal: bool,
 ) -> Ended
     requires { HasWorkers choice.now }
 {
     match choice {
-        Choice::Example => serve_example(rt),
+        Choice::Example => serve_example(rt, is_terminal),
         Choice::Check(path) => told(rt, path.as_str(), check(rt, path.as_str())),
         Choice::Run(path, workers) => {
-            let ended = serve_files(rt, path.as_str(), *workers);
+            let ended = serve_files(rt, path.as_str(), *workers, is_terminal);
             told(rt, path.as_str(), ended)
         }
     }
 }
 
-/// Does what the words ask for.
-fn ended<R: Runtime + Threads + Wait + AllocGlobal + Send + Sync + 'static>(rt: &R) -> Ended {
+/// Does what the words ask for; a person at a terminal is told more.
+fn ended<R: Runtime + Threads + Wait + AllocGlobal + Send + Sync + 'static>(
+    rt: &R,
+    is_terminal: bool,
+) -> Ended {
     match choice(rt) {
-        Ok(choice) => done(rt, &choice),
+        Ok(choice) => done(rt, &choice, is_terminal),
         Err(UsageFault::Memory) => stopped(rt, ServeFault::Memory),
-        Err(UsageFault::Help(text)) => help(rt, text.as_str()),
+        Err(UsageFault::Help(text) | UsageFault::Version(text)) => asked(rt, text.as_str()),
         Err(UsageFault::Usage(text)) => usage(rt, text.as_str()),
     }
 }
 
 fn main(rt: HostRuntime) -> ExitCode {
-    ExitCode::from(status(&ended(&rt)))
+    let is_terminal = rt.reader().is_terminal();
+    ExitCode::from(status(&ended(&rt, is_terminal)))
 }

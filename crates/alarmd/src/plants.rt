@@ -4,7 +4,9 @@ ghost use Rattle.std.specs.Prelude.{◌<◌, ◌≤◌};
 
 use crate::crews::workers;
 use crate::example::{ALARMS, PLANT, SOURCE, SOURCE_NAME};
+use crate::greeting::greet;
 use crate::prints::stopped;
+use crate::watching::Watching;
 use command_line::Ended;
 use engine::{Alone, Crew, Done, Job, Start};
 use plant_service::{Disk, Reading, RunEnd, ServeFault, Writing, check_from, run, run_from};
@@ -35,15 +37,18 @@ pub fn check<R: Files + Print + Eprint + Threads + AllocGlobal + Sync>(
     }
 }
 
-/// Serves the plant of a plant file's path over standard input and output, its programs run by the crew.
+/// Serves the plant of a plant file's path over standard input and output, its programs run by the crew. A person at a terminal is told how to begin.
 fn serve_by<
     R: Files + Input + Print + Eprint + Threads + Wait + AllocGlobal + Sync,
     C: Crew<Job, Start, Done, R>,
->(rt: &R, crew: &mut C, path: &str) -> Ended
+>(rt: &R, crew: &mut C, path: &str, is_terminal: bool) -> Ended
     requires { C.asks }
 {
+    if is_terminal {
+        greet(rt, "scan 0");
+    }
     let mut feed = Reading::new(rt.reader());
-    let mut sink = Writing::new(io::writer(rt));
+    let mut sink = Watching::new(rt, Writing::new(io::writer(rt)), is_terminal);
     let folder = Disk { files: rt };
     ended(
         rt,
@@ -56,16 +61,17 @@ pub fn serve_files<R: Runtime + Threads + Wait + AllocGlobal + Send + Sync + 'st
     rt: &R,
     path: &str,
     number: u32,
+    is_terminal: bool,
 ) -> Ended
     requires { (0 < number) × (number ≤ 64) }
 {
     if number == 1 {
-        return serve_by(rt, &mut Alone, path);
+        return serve_by(rt, &mut Alone, path, is_terminal);
     }
     match workers(rt, rt.alloc(), number) {
         Ok(workers) => {
             let mut crew = workers;
-            let ended = serve_by(rt, &mut crew, path);
+            let ended = serve_by(rt, &mut crew, path, is_terminal);
             crew.close(rt);
             ended
         }
@@ -76,9 +82,13 @@ pub fn serve_files<R: Runtime + Threads + Wait + AllocGlobal + Send + Sync + 'st
 /// Serves the example plant over standard input and output.
 pub fn serve_example<R: Input + Print + Eprint + Threads + Wait + AllocGlobal + Sync>(
     rt: &R,
+    is_terminal: bool,
 ) -> Ended {
+    if is_terminal {
+        greet(rt, "scan 0 a=5");
+    }
     let mut feed = Reading::new(rt.reader());
-    let mut sink = Writing::new(io::writer(rt));
+    let mut sink = Watching::new(rt, Writing::new(io::writer(rt)), is_terminal);
     let sources = [(SOURCE_NAME, SOURCE)];
     ended(
         rt,

@@ -23,8 +23,8 @@ pub fn usage(rt: &impl Eprint, text: &str) -> Ended
     Ended::Usage
 }
 
-/// Prints on standard output the help that was asked for.
-pub fn help(rt: &(impl Print + Eprint), text: &str) -> Ended
+/// Prints on standard output the help or the version that was asked for.
+pub fn asked(rt: &(impl Print + Eprint), text: &str) -> Ended
     ensures { (result ≡ ended.Done) ⊎ (result ≡ ended.Fault) }
 {
     match put_all(&mut Writing::new(io::writer(rt)), text.as_bytes()) {

@@ -5,10 +5,10 @@ use std::alloc::{AllocError, Global};
 use std::fs;
 use std::rt::Files;
 
-/// Whether a path leads to a file.
-pub fn is_file<R: Files>(rt: &R, path: &str) -> bool {
+/// Whether a path leads to what is neither file nor folder, as a pipe, which is read once.
+pub fn is_read_once<R: Files>(rt: &R, path: &str) -> bool {
     match fs::metadata(rt, path) {
-        Ok(found) => found.is_file(),
+        Ok(found) => !found.is_file() && !found.is_dir(),
         Err(_) => false,
     }
 }

@@ -64,6 +64,19 @@ help_of_run : faults_in (codes "run" ∷ codes "-h" ∷ []) ≡ kind.DisplayHelp
 unfolding clap_on_literals
 help_of_run = refl
 
+-- the version, which the program alone has
+version : faults_in (codes "--version" ∷ []) ≡ kind.DisplayVersion ∷ []
+unfolding clap_on_literals
+version = refl
+
+short_version : faults_in (codes "-V" ∷ []) ≡ kind.DisplayVersion ∷ []
+unfolding clap_on_literals
+short_version = refl
+
+no_version_of_run : faults_in (codes "run" ∷ codes "--version" ∷ []) ≡ kind.UnknownArgument ∷ []
+unfolding clap_on_literals
+no_version_of_run = refl
+
 -- after the word help both are left open
 help_word : faults_in (codes "help" ∷ []) ≡ kind.DisplayHelp ∷ kind.InvalidSubcommand ∷ []
 unfolding clap_on_literals

@@ -22,5 +22,7 @@ pub fault_answers : (words : List (List ℕ)) (k : ErrorKind) (f : UsageFault) �
 fault_answers words k fault.Memory may is = tt
 fault_answers words k (fault.Help text) (inl memory) is = absurd (let e : kind.DisplayHelp ≡ kind.OutOfMemory = sym is ∙ memory in cc e)
 fault_answers words k (fault.Help text) (inr among) is = subst (λ (x : ErrorKind). IsAmong x (faults_in words)) is among
+fault_answers words k (fault.Version text) (inl memory) is = absurd (let e : kind.DisplayVersion ≡ kind.OutOfMemory = sym is ∙ memory in cc e)
+fault_answers words k (fault.Version text) (inr among) is = subst (λ (x : ErrorKind). IsAmong x (faults_in words)) is among
 fault_answers words k (fault.Usage text) (inl memory) is = absurd (is.0 memory)
 fault_answers words k (fault.Usage text) (inr among) is = inl (k, is.1, among)

@@ -62,20 +62,27 @@ abbrev pub HasWorkers : Choice → Type 0
 HasWorkers (choice.Run path n) = (1 ≤ n) × (n ≤ MOST_WORKERS)
 HasWorkers _ = ⊤
 
+-- a kind of error that calls for no text of its own: neither for help nor for the version
+abbrev pub IsNoCall : ErrorKind → Type 0
+IsNoCall k = (k ≢ kind.DisplayHelp) × (k ≢ kind.DisplayVersion)
+
 -- the fault of a kind of error
 abbrev pub IsFaultOf : ErrorKind → UsageFault → Type 0
 IsFaultOf k fault.Memory = k ≡ kind.OutOfMemory
 IsFaultOf k (fault.Help text) = k ≡ kind.DisplayHelp
-IsFaultOf k (fault.Usage text) = (k ≢ kind.OutOfMemory) × (k ≢ kind.DisplayHelp)
+IsFaultOf k (fault.Version text) = k ≡ kind.DisplayVersion
+IsFaultOf k (fault.Usage text) = (k ≢ kind.OutOfMemory) × IsNoCall k
 
--- the words are no command line: `clap` finds a fault that is no call for help, or a value isn't there
+-- the words are no command line: `clap` finds a fault that is no call for help or for the version, or a value isn't there
 abbrev pub IsMisused : List (List ℕ) → Type 0
-IsMisused words = ((k : ErrorKind) × (k ≢ kind.DisplayHelp) × IsAmong k (faults_in words)) ⊎ ((faults_in words ≡ []) × (choice_of words ≡ None))
+IsMisused words = ((k : ErrorKind) × IsNoCall k × IsAmong k (faults_in words)) ⊎ ((faults_in words ≡ []) × (choice_of words ≡ None))
 
--- what may be answered to the words, by the kinds of fault that `clap` finds in them: their choice where it finds none, help where it was asked for, and else usage.
+-- what may be answered to the words, by the kinds of fault that `clap` finds in them: their choice where it finds none, help or the version where it was asked for,
+-- and else usage.
 -- After the word help it may be both, since its function leaves open whether a subcommand follows. Memory may run out in any case
 abbrev pub IsAnswer : List (List ℕ) → Result Choice UsageFault → Type 0
 IsAnswer words (Ok chosen) = (faults_in words ≡ []) × (choice_of words ≡ Some chosen)
 IsAnswer words (Err fault.Memory) = ⊤
 IsAnswer words (Err (fault.Help text)) = IsAmong kind.DisplayHelp (faults_in words)
+IsAnswer words (Err (fault.Version text)) = IsAmong kind.DisplayVersion (faults_in words)
 IsAnswer words (Err (fault.Usage text)) = IsMisused words

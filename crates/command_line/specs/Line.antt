@@ -25,9 +25,11 @@ check = with_rule (new_app (codes "check")) plant
 abbrev pub run : App
 run = with_rule (with_rule (new_app (codes "run")) plant) workers
 
--- alarmd without its subcommands, one of which has to be there; its words begin after the program's name
+-- alarmd without its subcommands, one of which has to be there; it has a version, and its words begin after the program's name
 abbrev pub bare : App
-bare = record (new_app (codes "alarmd")) { top = record (new_app (codes "alarmd")).top { no_binary_name = true; subcommand_required = true } }
+bare = record (new_app (codes "alarmd")) {
+  top = record (new_app (codes "alarmd")).top { no_binary_name = true; subcommand_required = true; has_version = true };
+}
 
 -- the whole command line
 abbrev pub alarmd : App

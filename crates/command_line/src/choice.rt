@@ -19,6 +19,8 @@ pub enum UsageFault {
     Memory,
     /// Help was asked for: its text, for the standard output.
     Help(Text),
+    /// The version was asked for: its text, for the standard output.
+    Version(Text),
     /// The words are no command line: the text for the standard error.
     Usage(Text),
 }

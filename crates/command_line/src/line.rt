@@ -6,6 +6,9 @@ ghost use Rattle.command_line.specs.Line.{alarmd, bare, check, plant, run, worke
 use clap::{Arg, Command, value_parser};
 use std::alloc::{AllocError, Global};
 
+/// The version of the program.
+const VERSION: &str = "0.1.0";
+
 /// The greatest number of workers.
 pub const MOST_WORKERS: u32 = 64;
 
@@ -75,6 +78,10 @@ fn bare<'a>(alloc: Global) -> Command<'a>
         )
         // Without a command the program doesn't come to ask for one.
         .override_usage("alarmd [COMMAND]")
+        .version(VERSION)
+        .after_help(
+            "Exit status:\n  0  done: the input has ended, the plant is accepted, help or the version was asked for\n  1  memory, the input, the output or the workers failed; a line RUN .. on the standard error tells which\n  2  the words are no command line\n  3  the plant is refused; the standard output has the line, the standard error the place and what is wrong",
+        )
         .no_binary_name(true)
         .subcommand_required(true)
 }

@@ -72,19 +72,37 @@ fn choice_in(alloc: Global, matches: &ArgMatches<'_>) -> Result<Option<Choice>, 
     }
 }
 
+/// What is said beside the text of an error: how a plant is named, where a word is no command.
+fn tip(kind: ErrorKind) -> &'static str {
+    match kind {
+        ErrorKind::InvalidSubcommand => {
+            "\n  tip: 'alarmd run PLANT' serves a plant, and 'alarmd check PLANT' tells whether it is accepted\n"
+        }
+        _ => "",
+    }
+}
+
+/// The text of an error, for people. Fails if allocation fails.
+fn text_of(alloc: Global, error: &Error) -> Result<Text, AllocError> {
+    let mut text = error.to_string(alloc)?;
+    text.push_str(tip(error.kind()))?;
+    Ok(Text::new(text))
+}
+
 /// The fault of words that are refused, with its text. Fails if allocation fails.
 fn fault(alloc: Global, error: &Error) -> Result<UsageFault, AllocError>
     ensures { IfOk result (IsFaultOf (kind_of error.now)) }
 {
-    let text = Text::new(error.to_string(alloc)?);
+    let text = text_of(alloc, error)?;
     Ok(match error.kind() {
         ErrorKind::OutOfMemory => UsageFault::Memory,
         ErrorKind::DisplayHelp => UsageFault::Help(text),
+        ErrorKind::DisplayVersion => UsageFault::Version(text),
         _ => UsageFault::Usage(text),
     })
 }
 
-/// Reads the words by the command line. Fails if they don't fit it, if they ask for help, and if allocation fails.
+/// Reads the words by the command line. Fails if they don't fit it, if they ask for help or the version, and if allocation fails.
 fn matches<'a>(alloc: Global, words: &'a [&'a str]) -> Result<ArgMatches<'a>, Error>
     ensures subcommand { IfOk result (λ m. subcommand_rows_of m ≡ subcommand_of alarmd (map (λ w. w.now) words.entry.now)) }
     ensures kinds { FailsBy (fault_of alarmd (map (λ w. w.now) words.entry.now)) result }
@@ -107,8 +125,8 @@ fn chosen<'a>(alloc: Global, words: &'a [&'a str]) -> Result<Choice, UsageFault>
     }
 }
 
-/// Chooses what the program is asked for, by the words after its name. `choose` fails if the words ask for help or are no command line; the
-/// fault then has the text to show. It also fails if allocation fails.
+/// Chooses what the program is asked for, by the words after its name. `choose` fails if the words ask for help or the version, or are no command
+/// line; the fault then has the text to show. It also fails if allocation fails.
 ///
 /// Without words the example plant is chosen. A plant is served by 1 to `MOST_WORKERS` workers.
 pub fn choose<'a>(alloc: Global, words: &'a [&'a str]) -> Result<Choice, UsageFault>

@@ -38,6 +38,10 @@ fn push_kind(text: &mut String, fault: &UsageFault, part: &str) -> Result<(), Al
             text,
             &["help ", truth_text(told.as_str().contains(part))],
         ),
+        UsageFault::Version(told) => push_all(
+            text,
+            &["version ", truth_text(told.as_str().contains(part))],
+        ),
         UsageFault::Usage(told) => push_all(
             text,
             &["usage ", truth_text(told.as_str().contains(part))],

@@ -1,0 +1,54 @@
+//! Why a file of a plant can't be read.
+
+use std::alloc::{AllocError, Global};
+use std::fs;
+use std::path::Path;
+use std::rt::Files;
+
+/// The most bytes that a file may have.
+const MOST_BYTES: u64 = 16_777_217;
+
+/// The path under which a file is sought: the plant file's own, or a name beside it. Fails if allocation fails.
+fn sought(alloc: Global, plant_path: &str, name: &str) -> Result<String, AllocError> {
+    if name == plant_path {
+        return String::from_str(alloc, name);
+    }
+    let parent = Path::new(plant_path).parent().unwrap_or(Path::new(""));
+    let path = parent.join(alloc, name)?;
+    Ok(path.into_string())
+}
+
+/// What the system says of a path. Fails if allocation fails.
+fn reason<R: Files>(rt: &R, alloc: Global, path: &str) -> Result<String, AllocError> {
+    let found = match fs::metadata(rt, path) {
+        Ok(found) => found,
+        Err(error) => return error.to_string(alloc),
+    };
+    if found.is_dir() {
+        return String::from_str(alloc, "it is a folder");
+    }
+    if found.len() > MOST_BYTES {
+        return String::from_str(alloc, "it has more than 16777217 bytes");
+    }
+    if found.is_file() {
+        if let Err(error) = fs::open(rt, path) {
+            return error.to_string(alloc);
+        }
+    }
+    String::from_str(alloc, "it can't be read to its end")
+}
+
+/// What a person is told of a file that can't be read: its name as given, the path under which it is sought, and the system's reason. Fails if allocation
+/// fails.
+pub fn why_missing<R: Files>(
+    rt: &R,
+    alloc: Global,
+    plant_path: &str,
+    name: &str,
+) -> Result<String, AllocError> {
+    let path = sought(alloc, plant_path, name)?;
+    let reason = reason(rt, alloc, path.as_str())?;
+    format!(in alloc;
+        "FILE {name}\n{path}: {reason}\nread on: docs/PLANT.md, \"Reading the files\"\n"
+    )
+}

@@ -1,0 +1,135 @@
+//! Answers that are watched on their way out.
+
+ghost use Rattle.std.specs.Prelude.{◌≡◌};
+
+use memchr::memchr_iter;
+use plant_service::{Failed, Sink};
+
+/// How many bytes of a line tell what it is.
+const HEAD: usize = 10;
+
+/// What is said of a line to whoever looks on; empty where nothing is.
+fn hint(head: &[u8]) -> &'static str {
+    match head {
+        b"REFUSED L1" => {
+            "L1: no command; these are: scan, ack, reset, shelve, unshelve, remove, return, restart, list, journal (docs/PROTOCOL.md). Ctrl-D ends\n"
+        }
+        b"REFUSED E1" => "E1: a moment is never before that of the last scan\n",
+        b"REFUSED E2" => "E2: a moment is at most 4000000000000\n",
+        b"REFUSED E3" => { "E3: a name is none of the plant's inputs, or is there twice\n" }
+        b"REFUSED E4" => {
+            "E4: a value doesn't fit its input: TRUE or FALSE for a BOOL, a number for a DINT, milliseconds for a TIME\n"
+        }
+        _ => "",
+    }
+}
+
+/// What is said of so many events; empty where nothing is.
+fn warning(events: u32) -> &'static str {
+    match events {
+        900_000 => {
+            "warning: 900000 of 1000000 events; after these each scan and each order is REFUSED E6 (docs/OPERATION.md, \"A million events, then a new record\")\n"
+        }
+        990_000 => {
+            "warning: 990000 of 1000000 events; after these each scan and each order is REFUSED E6 (docs/OPERATION.md, \"A million events, then a new record\")\n"
+        }
+        _ => "",
+    }
+}
+
+/// The answers so far: the beginning of the last line, and how many events there were.
+#[derive(Drop)]
+struct Answers {
+    head: [u8; HEAD],
+    len: usize,
+    events: u32,
+    /// Whether somebody looks on, to whom refusals are explained.
+    is_watched: bool,
+}
+
+impl Answers {
+    /// Takes bytes of a line, of which the first tell what it is.
+    fn add(&mut self, bytes: &[u8]) {
+        for byte in bytes {
+            let Some(place) = self.head.get_mut(self.len) else {
+                return;
+            };
+            *place = *byte;
+            self.len = self.len.saturating_add(1);
+        }
+    }
+
+    /// Takes the end of a line, and returns what is said of it. Each answer of an event has one line DONE or REPLY.
+    fn end_line(&mut self) -> &'static str {
+        let head = self.head.get(..self.len).unwrap_or(b"");
+        let is_event = head.starts_with(b"DONE ") || head.starts_with(b"REPLY ");
+        let said = if self.is_watched { hint(head) } else { "" };
+        self.len = 0;
+        if is_event {
+            self.events = self.events.saturating_add(1);
+            return warning(self.events);
+        }
+        said
+    }
+
+    /// Takes bytes, and tells on standard error what there is to say of them.
+    fn take(&mut self, rt: &impl Eprint, bytes: &[u8]) {
+        let mut begun = 0usize;
+        for end in memchr_iter(b'\n', bytes) {
+            self.add(bytes.get(begun..end).unwrap_or(b""));
+            begun = end.saturating_add(1);
+            let said = self.end_line();
+            if !said.is_empty() {
+                let _ = eprint!(rt; "{said}");
+            }
+        }
+        self.add(bytes.get(begun..).unwrap_or(b""));
+    }
+}
+
+/// A sink whose answers are watched: on standard error it says when 90 and 99 of 100 events that a run may have are there, and where somebody looks
+/// on, what a refused command wanted.
+#[derive(Drop)]
+pub struct Watching<'a, R: Eprint, S: Sink + Drop> {
+    rt: &'a R,
+    pub to: S,
+    answers: Answers,
+}
+
+impl<'a, R: Eprint, S: Sink + Drop> Watching<'a, R, S> {
+    /// Watches what goes to a sink.
+    pub fn new(rt: &'a R, to: S, is_watched: bool) -> Watching<'a, R, S>
+        ensures { result.to ≡ to }
+    {
+        Watching {
+            rt,
+            to,
+            answers: Answers {
+                head: [0; HEAD],
+                len: 0,
+                events: 0,
+                is_watched,
+            },
+        }
+    }
+}
+
+impl<'a, R: Eprint, S: Sink + Drop> Sink for Watching<'a, R, S> {
+    ghost written = { λ s. S.written s.to };
+
+    ghost broken = { λ s. S.broken s.to };
+
+    fn write(&mut self, buf: &[u8]) -> Result<usize, Failed> {
+        match self.to.write(buf) {
+            Ok(n) => {
+                self.answers.take(self.rt, buf.get(..n).unwrap_or(b""));
+                Ok(n)
+            }
+            Err(failed) => Err(failed),
+        }
+    }
+
+    fn failed(&self) -> bool {
+        self.to.failed()
+    }
+}
