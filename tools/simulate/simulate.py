@@ -124,7 +124,7 @@ class Trial:
     def whole(self, workers):
         """The whole input at once."""
         words = self.words(workers)
-        ran = runs.run(words, self.given, self.bench.seconds)
+        ran = unwarned(runs.run(words, self.given, self.bench.seconds))
         self.judge("whole inputs", "", words, self.given, self.wanted, ran, ran == Ran(self.wanted, b"", 0))
 
     def paced(self):
@@ -136,7 +136,7 @@ class Trial:
             while at < self.ended and behind + len(self.parts[at]) <= high:
                 due, behind, at = due + len(self.answers[at]), behind + len(self.parts[at]), at + 1
             pieces.append((self.given[low:high], due))
-        ran = runs.paced(words, pieces, self.bench.seconds)
+        ran = unwarned(runs.paced(words, pieces, self.bench.seconds))
         self.judge("inputs in pieces", f"they end at {ends}", words, self.given, self.wanted, ran, ran == Ran(self.wanted, b"", 0))
 
     def cut(self):
@@ -145,7 +145,7 @@ class Trial:
         before, wanted = self.first(at)
         given = before + self.parts[at][: self.some.randrange(max(1, len(self.parts[at])))]
         wanted += protocol.answers(self.copies[at].copy(), given[len(before) :])
-        ran = runs.run(words, given, self.bench.seconds)
+        ran = unwarned(runs.run(words, given, self.bench.seconds))
         self.judge("cut inputs", "", words, given, wanted, ran, ran == Ran(wanted, b"", 0))
 
     def read_failed(self):
@@ -174,7 +174,7 @@ class Trial:
         if self.some.random() < 0.1:
             words = self.words(self.any_workers())
             with open("/dev/full", "wb") as out:
-                ran = runs.run(words, self.given, self.bench.seconds, out=out)
+                ran = unwarned(runs.run(words, self.given, self.bench.seconds, out=out))
             fits = ran == (Ran(b"", b"RUN WRITE\n", 1) if self.wanted else Ran(b"", b"", 0))
             self.judge("full disks", "", words, self.given, b"", ran, fits)
 
@@ -185,7 +185,7 @@ class Trial:
         if self.bench.least:
             workers = self.any_workers()
             words, env, most, detail = self.words(workers), *self.limit(12 if workers == 1 else 15)
-            ran = runs.run(words, self.given, self.bench.seconds, most, env)
+            ran = unwarned(runs.run(words, self.given, self.bench.seconds, most, env))
             self.judge_memory("inputs with little memory", detail, words, workers, ran, 0)
 
     def limit(self, most):
@@ -265,10 +265,20 @@ class Trial:
         self.count_refused(ran, refused)
 
 
+FULL = b'warning: %d of 1000000 events; after these each scan and each order is REFUSED E6 (docs/OPERATION.md, "A million events, then a new record")\n'
+
+
+def unwarned(ran):
+    """A run without the warnings that the history is nearly full, which have to be there just where it is."""
+    events = sum(line.startswith((b"DONE ", b"REPLY ")) for line in ran.out.split(b"\n")) if len(ran.out) > 900_000 else 0
+    wanted = b"".join(FULL % least for least in (900_000, 990_000) if least <= events)
+    return Ran(ran.out, ran.error[len(wanted):], ran.status) if ran.error.startswith(wanted) else ran
+
+
 def unexplained(ran):
     """A refusal without what a person is told of it on standard error, which begins with the refusal's own line."""
     explained = ran.status == 3 and ran.out.startswith((b"CONFIG C", b"FILE ")) and ran.error.startswith(ran.out)
-    return Ran(ran.out, b"", ran.status) if explained else ran
+    return Ran(ran.out, b"", ran.status) if explained else unwarned(ran)
 
 
 def is_refusal(ran):
