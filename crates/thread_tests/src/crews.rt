@@ -5,7 +5,7 @@ ghost use Rattle.std.specs.Thread.{IsSync};
 ghost use Rattle.crew.specs.Faults.{faults_after};
 ghost use Rattle.crew.specs.Runs.{AreNumbered, IsEachOnce};
 
-use crate::{Done, Job, Start};
+use crate::toy::{Done, Job, Start};
 use crew::{BoxedGate, Crew, CrewFault, Scoped, Ungated};
 use std::alloc::Global;
 use std::sync::Wait;

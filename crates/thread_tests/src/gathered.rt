@@ -2,8 +2,7 @@
 ghost use Rattle.std.specs.Prelude.{◌<◌, ◌≤◌};
 ghost use Rattle.std.specs.Thread.{IsSync};
 
-use crate::toy::jobs_to;
-use crate::{Done, Job, Start};
+use crate::toy::{Done, Job, Start, jobs_to};
 use crew::{Alone, Crew, CrewFault, Scoped, Ungated, Work};
 use standing_crew::{Standing, assemble, starts_of};
 use std::alloc::{AllocError, Global};

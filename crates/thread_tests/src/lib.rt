@@ -3,28 +3,16 @@
 //! reply); that the jobs of a crew are under way at the same time, that what is handed out comes back, and which fault comes when the workers are
 //! gone (`crew`, `standing_crew`; the jobs are toys).
 //!
-//! Each call of levels and rings that may answer that memory was refused is made again then, so those tests pass with ample memory and where one
-//! allocation fails. Those of crews want ample memory.
+//! Rings are opened again where memory was refused, so their tests pass with ample memory and where one allocation fails. The others want ample
+//! memory.
+//!
+//! All of it is for tests alone, so that it is proved once.
 #![tactic(auto)]
 
-/// Makes a call, and makes it again where memory was refused.
 #[cfg(test)]
-macro_rules! again {
-    ($call:expr) => {
-        match $call {
-            Ok(found) => Ok(found),
-            Err(_) => $call,
-        }
-    };
-}
-
 mod crews;
+#[cfg(test)]
 mod gates;
-mod toy;
-
-pub use gates::{Holding, Watch};
-pub use toy::{Done, Job, Start};
-
 #[cfg(test)]
 mod gathered;
 #[cfg(test)]
@@ -35,5 +23,7 @@ mod rings;
 mod threads;
 #[cfg(test)]
 mod together;
+#[cfg(test)]
+mod toy;
 #[cfg(test)]
 mod turns;

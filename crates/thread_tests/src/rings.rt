@@ -1,12 +1,11 @@
 //! Full rings.
-use crate::turns::{submit, take, turn};
-use console_link::open;
+use crate::turns::{opened, submit, take, turn};
 use std::process::Abort;
 use std::test::*;
 
 #[test]
 fn full_rings_hand_orders_back(rt: HostRuntime) -> Result<(), Fail> {
-    let (mut console, mut lane) = again!(open(rt.alloc(), 1)).map_err(|_| "memory")?;
+    let (mut console, mut lane) = opened(rt.alloc(), 1)?;
     assert_eq!(rt; console.room(), 64);
     assert_eq!(rt; submit(&mut console, 0, 64), 64);
     assert_eq!(rt; console.room(), 0);

@@ -1,7 +1,9 @@
 //! Consoles in threads of their own.
-use crate::turns::turn;
-use console_link::{Console, open};
+use crate::turns::{opened, turn};
+use console_link::{Console, Lane};
 use std::process::Abort;
+use std::rt::Clock;
+use std::sync::Wait;
 use std::test::*;
 use std::thread;
 use std::time::Duration;
@@ -37,10 +39,26 @@ fn submit_hundred(console: Console<u32, u8>) -> bool {
     answered == 100 && console.answer().is_none() && console.finish(0).is_some()
 }
 
+/// Takes turns of two consoles until 200 orders are taken, and tells how many were.
+fn serve<R: Wait + Clock>(rt: &R, first: &mut Lane<u32, u8>, second: &mut Lane<u32, u8>) -> u32 {
+    let mut taken = 0u32;
+    for _ in 0..TURNS {
+        if taken >= 200 {
+            break;
+        }
+        let more = turn(first).saturating_add(turn(second));
+        taken = taken.saturating_add(more);
+        if more == 0 {
+            thread::sleep(rt, Duration::from_micros(20));
+        }
+    }
+    taken
+}
+
 #[test]
 fn two_consoles_are_answered(rt: HostRuntime) -> Result<(), Fail> {
-    let (one, mut first) = again!(open(rt.alloc(), 1)).map_err(|_| "memory")?;
-    let (two, mut second) = again!(open(rt.alloc(), 2)).map_err(|_| "memory")?;
+    let (one, mut first) = opened(rt.alloc(), 1)?;
+    let (two, mut second) = opened(rt.alloc(), 2)?;
     let Ok(one) = thread::spawn(&rt, move || submit_hundred(one)) else {
         return Err("no thread".into());
     };
@@ -48,17 +66,7 @@ fn two_consoles_are_answered(rt: HostRuntime) -> Result<(), Fail> {
         one.join(&rt);
         return Err("no thread".into());
     };
-    let mut taken = 0u32;
-    for _ in 0..TURNS {
-        if taken >= 200 {
-            break;
-        }
-        let more = turn(&mut first).saturating_add(turn(&mut second));
-        taken = taken.saturating_add(more);
-        if more == 0 {
-            thread::sleep(&rt, Duration::from_micros(20));
-        }
-    }
+    let taken = serve(&rt, &mut first, &mut second);
     let each = (one.join(&rt), two.join(&rt));
     assert_eq!(rt; taken, 200);
     assert!(rt; each.0 && each.1);

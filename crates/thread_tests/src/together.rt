@@ -1,7 +1,7 @@
 //! Two jobs are under way at the same time: a gate holds one of them until the other has passed.
 
-use crate::toy::jobs_to;
-use crate::{Done, Holding, Job, Start, Watch};
+use crate::gates::{Holding, Watch};
+use crate::toy::{Done, Job, Start, jobs_to};
 use crew::{BoxedGate, Crew, Scoped};
 use standing_crew::Standing;
 use std::alloc::{AllocError, Global};

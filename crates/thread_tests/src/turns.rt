@@ -1,5 +1,14 @@
 //! A console's part of a turn.
-use console_link::{Console, Lane};
+use console_link::{Console, Lane, open};
+use std::alloc::{AllocError, Global};
+
+/// A console of a number, and the owner's ends of its rings; where memory is refused they are made once more.
+pub fn opened(alloc: Global, number: u32) -> Result<(Console<u32, u8>, Lane<u32, u8>), AllocError> {
+    match open(alloc, number) {
+        Ok(ends) => Ok(ends),
+        Err(_) => open(alloc, number),
+    }
+}
 
 /// Takes at most 64 orders, each of which is answered by 7, and tells how many.
 pub fn turn(lane: &mut Lane<u32, u8>) -> u32 {
