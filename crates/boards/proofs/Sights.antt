@@ -9,7 +9,7 @@ use Rattle.atomic_table.proofs.Lists.{at_set, at_snoc}
 use Rattle.alarm_bank.specs.Banks.{PlainBank}
 use Rattle.boards.specs.declared.entry.Entry.{Entry}
 use Rattle.boards.specs.declared.view.View.{View}
-use Rattle.boards.specs.Stories.{Story, Continues, IsSince, seen_events, may_come, grown}
+use Rattle.boards.specs.Stories.{Story, Continues, IsSince, OpensAsTold, seen_events, may_come, grown}
 use Rattle.boards.specs.Views.{Keeps, Sees, informed, newcomer}
 use Rattle.boards.proofs.Prefixes.{prefix_of_both}
 
@@ -37,6 +37,18 @@ module _ {P E : Type 0} where
   pub since_whole : (seen : Option (Story P E)) (own whole : Story P E) → IsSince seen whole → Continues own whole → seen_events seen ≤ length own.1 → IsSince seen own
   since_whole None own whole h k few = tt
   since_whole (Some a) own whole h k few = (sym k.0 ∙ h.0, prefix_of_both a.1 own.1 whole.1 h.1 k.1 few)
+
+  -- what goes on from what was told of opens as that
+  pub since_opens : (told : Option (Story P E)) (s : Story P E) → IsSince told s → OpensAsTold told (Some s)
+  since_opens None s h t u is same = absurd (cc is)
+  since_opens (Some a) s h t u is same = ap (λ (o : Option (Story P E)). elim o [ None ↦ s.0 | Some x ↦ x.0 ]) (sym same) ∙ (h.0 ∙ ap (λ (o : Option (Story P E)). elim o [ None ↦ s.0 | Some x ↦ x.0 ]) is)
+
+  pub opens_same : (told seen : Option (Story P E)) (other last : Option (Story P E)) → other ≡ told → last ≡ seen → OpensAsTold told seen → OpensAsTold other last
+  opens_same told seen other last t s h = subst (λ (o : Option (Story P E)). OpensAsTold o last) (sym t) (subst (λ (o : Option (Story P E)). OpensAsTold told o) (sym s) h)
+
+  -- who has seen nothing
+  pub opens_unseen : (told seen : Option (Story P E)) → seen ≡ None → OpensAsTold told seen
+  opens_unseen told seen none t s is same = absurd (cc (sym none ∙ same))
 
 abbrev pub Fine : Story PlainBank Entry → View → Type 0
 Fine s v = IsSince v.seen s × IsSince v.told s

@@ -38,3 +38,16 @@ module _ {P E : Type 0} where
   abbrev pub seen_events : Option (Story P E) → ℕ
   seen_events None = 0
   seen_events (Some s) = length s.1
+
+  -- whether each of the entries that were seen might come after those before it; nothing was seen: yes
+  abbrev pub is_seen_lawful : (P → E → P) → (P → E → Bool) → Option (Story P E) → Bool
+  is_seen_lawful after allows None = true
+  is_seen_lawful after allows (Some s) = is_lawful after allows s.0 s.1
+
+  -- what was seen opens as what was told of
+  abbrev pub OpensAsTold : Option (Story P E) → Option (Story P E) → Type 0
+  OpensAsTold told seen = (t s : Story P E) → told ≡ Some t → seen ≡ Some s → s.0 ≡ t.0
+
+  -- what was seen opens as what was told of, and each of its entries might come after those before it
+  abbrev pub IsSound : (P → E → P) → (P → E → Bool) → Option (Story P E) → Option (Story P E) → Type 0
+  IsSound after allows told seen = OpensAsTold told seen × (is_seen_lawful after allows seen ≡ true)

@@ -1,7 +1,8 @@
 //! A console's reader of a board.
-ghost use Rattle.std.specs.Prelude.{◌≡◌, Some};
+ghost use Rattle.std.specs.Prelude.{◌≡◌, Some, true};
 ghost use Rattle.left_right.specs.Sides.{view};
-ghost use Rattle.boards.specs.Stories.{seen_events};
+ghost use Rattle.boards.specs.Stories.{seen_events, is_seen_lawful, OpensAsTold};
+ghost use Rattle.boards.specs.Replies.{after, allows};
 
 use crate::board::Board;
 use crate::rule::Grows;
@@ -14,12 +15,15 @@ pub struct BoardReader {
     pub(crate) reader: Reader<Board, View, Grows>,
     pub(crate) events: u64,
     ghost counted: { events ≡ seen_events (view reader.place).seen },
+    ghost lawful: { is_seen_lawful after allows (view reader.place).seen ≡ true },
+    ghost opens: { OpensAsTold (view reader.place).told (view reader.place).seen },
 }
 
 /// A reader with the board that it reads. While it is held, the owner can publish once; the next time it waits until this reader has left.
 pub struct BoardReading {
     reading: Reading<Board, View, Grows>,
     ghost saw: { (view reading.place).seen ≡ Some (reading.part.value.opening.value, reading.part.value.list) },
+    ghost opens: { OpensAsTold (view reading.place).told (view reading.place).seen },
 }
 
 impl Drop for BoardReading {

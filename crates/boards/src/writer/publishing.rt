@@ -67,6 +67,7 @@ impl BoardWriter {
     }
 
     /// A reader that has seen nothing yet, and is told what is published now. Fails where no place is left for one, or if allocation fails.
+    #[tactic(auto, using(crate::proofs::Sights::opens_unseen))]
     pub fn reader(&mut self) -> Result<BoardReader, AllocError>
         ensures same { (published self.new ≡ published self.old) × (pending self.new ≡ pending self.old) }
         ensures reader { IfOk result (λ r. (seen r ≡ None) × (told r ≡ Some (published self.old))) }
