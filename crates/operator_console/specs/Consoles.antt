@@ -3,7 +3,8 @@ use Rattle.std.specs.Prelude.{◌≡◌, ℕ, List, length, Option}
 use Rattle.console_link.specs.declared.answer.Answer.{Answer}
 use Rattle.console_link.specs.declared.console.Finished.{Finished}
 use Rattle.console_link.specs.Seats.{submitted as link_submitted, taken as link_taken, known_room as link_room, all_submitted, all_taken, Ends}
-use Rattle.boards.specs.Stories.{seen_events}
+use Rattle.boards.specs.Stories.{seen_events, IsSound}
+use Rattle.boards.specs.Replies.{after, allows}
 use Rattle.operator_console.specs.declared.console.Console.{Console}
 use Rattle.operator_console.specs.Sights.{BoardStory, seen_by, told_by, GoesOn, IsSeenSince, HasOrders}
 
@@ -45,9 +46,10 @@ module _ {O R : Type 0} where
     pub since : IsSeenSince (story_seen a) (story_told a) story
     pub orders : HasOrders a.link.number (length (taken a)) story
 
-  -- the console ended as this one, which saw so many events
+  -- the console ended as this one, which saw so many events: a lawful list, which opens as what it was told of
   pub record EndsAs (c : Console O R) (f : Finished O R) : Type 0 where
     pub rings : Ends c.link f
     pub submitted_all : all_submitted f ≡ link_submitted c.link
     pub taken_all : all_taken f ≡ link_taken c.link
     pub seen : f.seen ≡ seen_events (story_seen c)
+    pub sound : IsSound after allows (story_told c) (story_seen c)

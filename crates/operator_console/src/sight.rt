@@ -1,6 +1,7 @@
 //! How a console stands to its board.
 ghost use Rattle.std.specs.Prelude.{◌≡◌, None, IsTrue};
-ghost use Rattle.boards.specs.Stories.{seen_events};
+ghost use Rattle.boards.specs.Stories.{seen_events, IsSound};
+ghost use Rattle.boards.specs.Replies.{after, allows};
 ghost use Rattle.boards.specs.Readers.{seen, told};
 ghost use Rattle.operator_console.specs.Sights.{seen_by, told_by, looked_at, state_shown, HasOrders, KnowsAs, LooksFrom};
 
@@ -85,9 +86,10 @@ impl Sight {
         }
     }
 
-    /// How many entries it saw last.
+    /// How many entries it saw last. They begin where those begin that it was told of, and each of them might come after those before it.
     pub(crate) fn seen(&self) -> u64
-        ensures { result ≡ seen_events (seen_by self.now) }
+        ensures count { result ≡ seen_events (seen_by self.now) }
+        ensures sound { IsSound after allows (told_by self.now) (seen_by self.now) }
     {
         match self {
             Sight::Looking(reading) => reading.board().events(),
