@@ -17,7 +17,13 @@ use Rattle.plant_config.specs.Plants.{PlainPlant}
 use Rattle.plant_system.specs.declared.event.Reply.{Reply}
 use Rattle.order_taking.specs.Parts.{answers_of, orders_in}
 use Rattle.order_taking.specs.Turns.{TookParts}
-use Rattle.station.specs.Lanes.{numbers_in, HasNoTwin, IsConsoleIn, IsEndIn, KeepsConsoles, finished_of, left_in, saw_within, is_within, has_seen_within}
+use Rattle.boards.specs.Stories.{is_seen_lawful, seen_events}
+use Rattle.boards.specs.Replies.{after, allows}
+use Rattle.board_entries.specs.Entries.{history_story}
+use Rattle.operator_console.specs.declared.console.Console.{Console as Operator}
+use Rattle.operator_console.specs.Sights.{BoardStory}
+use Rattle.operator_console.specs.Consoles.{story_seen, story_told, EndsAs}
+use Rattle.station.specs.Lanes.{HasSeen, numbers_in, HasNoTwin, IsConsoleIn, IsEndIn, KeepsConsoles, finished_of, left_in, saw_within, is_within, has_seen_within}
 use Rattle.station.specs.Stations.{AgreesWith, IsClosed}
 use Rattle.station.specs.Closings.{Joined, EndedOne, IsEnded, AreEnded}
 use Rattle.order_taking.proofs.Takes.{same_lanes, same_lane}
@@ -348,3 +354,11 @@ last_in P (g ∷ fs) f es h = last_in P fs f es (All-tail P g ((fs ++ f ∷ []) 
 -- the last of a list of ended consoles
 pub last_of : (P : F → Type 0) (fs : List F) (f : F) (es whole : List F) → whole ≡ (fs ++ f ∷ []) ++ es → All P whole → P f
 last_of P fs f es whole is h = last_in P fs f es (subst (λ (xs : List F). All P xs) is h)
+
+-- what an ended console saw opens as the history before the first event, of which it was told
+pub console_has_seen : (plant : PlainPlant) (c : Operator Order Reply) (f : F) (story : BoardStory) → story_told c ≡ Some (history_story plant []) → EndsAs c f → story_seen c ≡ Some story → HasSeen plant story f
+console_has_seen plant c f story told ends seen = record {
+  opening = ends.sound.0 (history_story plant []) story told seen;
+  lawful = sym (ap (λ (s : Option BoardStory). is_seen_lawful after allows s) seen) ∙ ends.sound.1;
+  events = ends.seen ∙ ap (λ (s : Option BoardStory). seen_events s) seen;
+}

@@ -1,5 +1,5 @@
 -- The lanes of a station's consoles: each is found by its number.
-use Rattle.std.specs.Prelude.{◌≡◌, ℕ, ◌==◌, Bool, false, List, [], ◌∷◌, map, nat_eq, nat_le, Option, Some, None, All, MatchBool, if◌then◌else◌}
+use Rattle.std.specs.Prelude.{◌≡◌, ℕ, ◌==◌, Bool, true, false, List, [], ◌∷◌, length, map, nat_eq, nat_le, Option, Some, None, All, MatchBool, if◌then◌else◌}
 use Rattle.console_link.specs.declared.console.Console.{Console}
 use Rattle.console_link.specs.declared.console.Finished.{Finished}
 use Rattle.console_link.specs.declared.lane.Lane.{Lane}
@@ -7,7 +7,10 @@ use Rattle.console_link.specs.Seats.{orders_taken, answers_given, submitted, tak
 use Rattle.event_history.specs.declared.event.Event.{Event}
 use Rattle.event_history.specs.declared.event.Order.{Order}
 use Rattle.plant_config.specs.Plants.{PlainPlant, IsPlant}
-use Rattle.board_entries.specs.Entries.{history_story}
+use Rattle.plant_system.specs.System.{opening_system}
+use Rattle.board_entries.specs.Entries.{bank_of, history_story}
+use Rattle.boards.specs.Stories.{is_lawful}
+use Rattle.boards.specs.Replies.{after, allows}
 use Rattle.operator_console.specs.declared.console.Console.{Console as Operator}
 use Rattle.operator_console.specs.Sights.{BoardStory}
 use Rattle.operator_console.specs.Consoles.{story_seen, story_told}
@@ -77,6 +80,12 @@ links_of consoles = map (λ (c : Operator Order Reply). c.link) consoles
 pub record HasNotLooked (story : BoardStory) (c : Operator Order Reply) : Type 0 where
   pub none_seen : story_seen c ≡ None
   pub told_is : story_told c ≡ Some story
+
+-- what an ended console saw of the board: so many events as its end says, each of which might come after those before it, from the alarms as the plant opens
+pub record HasSeen (plant : PlainPlant) (story : BoardStory) (f : Finished Order Reply) : Type 0 where
+  pub opening : story.0 ≡ bank_of (opening_system plant)
+  pub lawful : is_lawful after allows story.0 story.1 ≡ true
+  pub events : f.seen ≡ length story.1
 
 -- a console and a lane for each that a plant lists, in order, before the first order; the consoles are told of the history
 pub record AreConsolesOf (plant : PlainPlant) (history : List Event) (consoles : List (Operator Order Reply)) (lanes : List (Lane Order Reply)) : Type 0 where

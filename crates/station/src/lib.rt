@@ -18,7 +18,7 @@ mod station;
 pub use archive::{Archive, Book};
 pub use closing::Closing;
 pub use console_link::Answer;
-pub use laws::consoles_stay;
+pub use laws::{consoles_saw, consoles_stay};
 pub use opening::StationFault;
 pub use operator_console::BoardView;
 pub use station::{Station, Turn};
