@@ -1,3 +1,4 @@
 pub mod Numbered
 pub mod Pages
 pub mod Crews
+pub mod Shown

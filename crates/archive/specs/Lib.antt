@@ -1,2 +1,3 @@
 pub mod Pages
+pub mod Records
 pub mod Refusals

@@ -3,12 +3,11 @@
 ghost use Rattle.std.specs.Prelude.{◌≡◌, ◌≤◌, ◌*◌, length};
 ghost use Rattle.order_taking.specs.Turns.{TookOne, TookPart, TookParts};
 
-use crate::recorder::Recorder;
+use crate::recording::Recording;
 use console_link::Lane;
-use engine::{EngineFault, Order, Reply};
+use event_history::Order;
+use plant_system::{EngineFault, Reply};
 use std::alloc::Global;
-use std::sync::Wait;
-use std::sync::ledger::Ledger;
 
 /// How many orders of one console a turn takes at most.
 const MOST_ORDERS: u32 = 64;
@@ -24,15 +23,15 @@ pub struct Part {
 
 /// Takes the order that waits first at a console and answers it, where there is one and a place for its answer; tells whether it did. The order
 /// stays in its ring where it is refused as an event.
-fn take_order<L: Ledger, H: Wait>(
+fn take_order<T: Recording<H>, H>(
     rt: &H,
     alloc: Global,
-    recorder: &mut Recorder<L>,
+    recorder: &mut T,
     lane: &mut Lane<Order, Reply>,
 ) -> Result<bool, EngineFault>
-    ensures plant { recorder.new.engine.plant ≡ recorder.old.engine.plant }
-    ensures share { recorder.new.share.parts ≡ recorder.old.share.parts }
-    ensures took { TookOne recorder.old.engine.plant lane.old lane.new recorder.old.engine.history recorder.new.engine.history result }
+    ensures plant { T.plant_of recorder.new ≡ T.plant_of recorder.old }
+    ensures share { T.parts_of recorder.new ≡ T.parts_of recorder.old }
+    ensures took { TookOne (T.plant_of recorder.old) lane.old lane.new (T.history_of recorder.old) (T.history_of recorder.new) result }
 {
     let Some(order) = lane.waiting() else {
         return Ok(false);
@@ -43,15 +42,15 @@ fn take_order<L: Ledger, H: Wait>(
 }
 
 /// Takes and answers the orders that wait at a console, at most 64.
-fn take_part<L: Ledger, H: Wait>(
+fn take_part<T: Recording<H>, H>(
     rt: &H,
     alloc: Global,
-    recorder: &mut Recorder<L>,
+    recorder: &mut T,
     lane: &mut Lane<Order, Reply>,
 ) -> Part
-    ensures plant { recorder.new.engine.plant ≡ recorder.old.engine.plant }
-    ensures share { recorder.new.share.parts ≡ recorder.old.share.parts }
-    ensures part { TookPart recorder.old.engine.plant lane.old lane.new recorder.old.engine.history recorder.new.engine.history result.taken result.stopped }
+    ensures plant { T.plant_of recorder.new ≡ T.plant_of recorder.old }
+    ensures share { T.parts_of recorder.new ≡ T.parts_of recorder.old }
+    ensures part { TookPart (T.plant_of recorder.old) lane.old lane.new (T.history_of recorder.old) (T.history_of recorder.new) result.taken result.stopped }
 {
     let mut taken = 0u32;
     for _ in 0..MOST_ORDERS {
@@ -78,16 +77,16 @@ fn take_part<L: Ledger, H: Wait>(
 }
 
 /// Takes and answers the orders that wait, console by console, until it is stopped.
-pub fn take_parts<L: Ledger, H: Wait>(
+pub fn take_parts<T: Recording<H>, H>(
     rt: &H,
     alloc: Global,
-    recorder: &mut Recorder<L>,
+    recorder: &mut T,
     lanes: &mut [Lane<Order, Reply>],
 ) -> Part
     requires { length lanes.old ≤ 32 }
-    ensures plant { recorder.new.engine.plant ≡ recorder.old.engine.plant }
-    ensures share { recorder.new.share.parts ≡ recorder.old.share.parts }
-    ensures parts { TookParts recorder.old.engine.plant lanes.old lanes.new recorder.old.engine.history recorder.new.engine.history result.taken result.stopped }
+    ensures plant { T.plant_of recorder.new ≡ T.plant_of recorder.old }
+    ensures share { T.parts_of recorder.new ≡ T.parts_of recorder.old }
+    ensures parts { TookParts (T.plant_of recorder.old) lanes.old lanes.new (T.history_of recorder.old) (T.history_of recorder.new) result.taken result.stopped }
     ensures most { result.taken ≤ 64 * length lanes.old }
 {
     let Some((lane, others)) = lanes.split_first_mut() else {

@@ -1,13 +1,12 @@
 //! How the orders that wait are taken and answered.
 //!
-//! An order is taken of a console's lane, the owner's ends of its rings: it is an event of the engine's history and of the archive's, is shown on
-//! the board, and its reply goes into the console's ring. The recorder is where events go; each goes through all of it, or none of it.
-//!
-//! No function here owns an engine, an archive or a lane: all of it is lent.
+//! An order is taken of a console's lane, the owner's ends of its rings: it becomes the next event of a history, and its reply goes into the console's
+//! ring. What makes it an event is known by its contract alone (`Recording`), so no function here names an engine: who owns one, or a lock round
+//! one, proves how each of its parts is let go.
 #![tactic(auto)]
 
 mod answering;
-mod recorder;
+mod recording;
 
 pub use answering::{Part, take_parts};
-pub use recorder::Recorder;
+pub use recording::Recording;

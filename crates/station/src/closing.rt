@@ -4,6 +4,7 @@ ghost use Rattle.std.specs.Prelude.{◌≡◌, ◌≢◌, ℕ, [], ◌∷◌, le
 ghost use Rattle.station.specs.Lanes.{left_in, is_within, numbers_in, HasNoTwin, IsEndIn};
 ghost use Rattle.station.specs.Closings.{EndedOne, AreEnded};
 
+use archive::let_go;
 use console_link::{Finished, Lane};
 use engine::{Engine, Order, Reply};
 use std::marker::Model;
@@ -116,7 +117,7 @@ impl<C: Drop> Closing<C> {
             crew,
             lanes,
         } = self;
-        drop(engine);
+        let_go(engine);
         drop(lanes);
         crew
     }

@@ -3,19 +3,19 @@
 ghost use Rattle.std.specs.Prelude.{◌≡◌, ◌<◌, ℕ, [], length, map, All, IfOk, IfErr, OnErr};
 ghost use Rattle.plant_system.specs.Faults.{faults_by};
 ghost use Rattle.order_taking.specs.Parts.{answers_of};
-ghost use Rattle.order_taking.specs.Records.{IsScanDue};
+ghost use Rattle.archive.specs.Records.{IsScanDue};
 ghost use Rattle.station.specs.Lanes.{numbers_of, links_of, left_in, finished_of, is_within, has_seen_within, IsConsoleIn, IsEndIn, IsFresh, HasNotLooked, KeepsConsoles};
 ghost use Rattle.station.specs.Stations.{IsTurn, IsClosed, SameButRoom};
 ghost use Rattle.board_entries.specs.Entries.{history_story};
 
 use crate::closing::{Closing, end_lanes};
 use crate::opening::StationFault;
-use crate::recording::{engine_of, open_consoles, open_recorder};
-use archive::Archive;
+use crate::recording::open_consoles;
+use archive::{Archive, Recorder, let_go};
 use console_link::{Finished, Lane};
 use engine::{Crew, Done, Engine, EngineFault, Job, Order, Pair, Plant, Reply, Report, Start};
 use operator_console::Console;
-use order_taking::{Recorder, take_parts};
+use order_taking::take_parts;
 use std::alloc::Global;
 use std::marker::Model;
 use std::sync::ledger::{Blank, Ledger};
@@ -74,7 +74,7 @@ impl<L: Ledger, C: Drop> Station<L, C> {
         ensures fresh { IfOk result (λ r. All IsFresh (links_of r.1.items)) }
         ensures looks { IfOk result (λ r. All (HasNotLooked (history_story plant [])) r.1.items) }
     {
-        let Ok(mut recorder) = open_recorder(rt, alloc, plant, blank) else {
+        let Ok(mut recorder) = Recorder::open(rt, alloc, plant, blank) else {
             return Err(StationFault::Memory);
         };
         match open_consoles(alloc, &mut recorder) {
@@ -87,7 +87,7 @@ impl<L: Ledger, C: Drop> Station<L, C> {
                 consoles,
             )),
             Err(fault) => {
-                drop(engine_of(rt, recorder));
+                let_go(recorder.end(rt));
                 Err(fault)
             }
         }
@@ -160,7 +160,7 @@ impl<L: Ledger, C: Drop> Station<L, C> {
         } = self;
         end_lanes(lanes.as_mut_slice(), finished);
         Closing {
-            engine: engine_of(rt, recorder),
+            engine: recorder.end(rt),
             crew,
             lanes,
         }

@@ -5,6 +5,6 @@ use Rattle.order_taking.proofs.answering.take_part.Given as goal
 
 abbrev pub invariant-loop : goal.invariant-loop
 invariant-loop g l =
-    (orders : List Order) × Took l.fn.recorder.engine.plant l.fn.lane l.lane l.fn.recorder.engine.history l.recorder.engine.history orders × (length orders ≡ l.taken) × (l.taken ≡ l.counter)
-    × (l.recorder.engine.plant ≡ l.fn.recorder.engine.plant)
-    × (l.recorder.share.parts ≡ l.fn.recorder.share.parts)
+    (orders : List Order) × Took (g.T.Recording.plant_of l.fn.recorder) l.fn.lane l.lane (g.T.Recording.history_of l.fn.recorder) (g.T.Recording.history_of l.recorder) orders × (length orders ≡ l.taken) × (l.taken ≡ l.counter)
+    × ((g.T.Recording.plant_of l.recorder) ≡ (g.T.Recording.plant_of l.fn.recorder))
+    × ((g.T.Recording.parts_of l.recorder) ≡ (g.T.Recording.parts_of l.fn.recorder))

@@ -1,6 +1,6 @@
 use Rattle.event_history.specs.declared.event.Event.TheVariants as event
-use Rattle.order_taking.proofs.Shown.{shows_more}
-use Rattle.order_taking.proofs.recorder.Recorder.order.Goals as goal
+use Rattle.archive.proofs.Shown.{shows_more}
+use Rattle.archive.proofs.recorder.RecorderRecording.order.Goals as goal
 
 pub invariant_of-self-2-clause-shown : goal.invariant_of-self-2-clause-shown
 invariant_of-self-2-clause-shown g c =

@@ -1,17 +1,17 @@
-//! The engine of a station, whose events are recorded in an archive too, and shown on a board.
+//! The recorder: the engine of a station, whose events are recorded in its archive too, and shown on a board.
 
-ghost use Rattle.std.specs.Prelude.{◌≡◌, ◌<◌, ◌++◌, [], ◌∷◌, length, IfOk, IfErr, OnOk, OnErr};
-ghost use Rattle.event_history.specs.declared.event.Event.TheVariants as event;
+ghost use Rattle.std.specs.Prelude.{◌≡◌, ◌<◌, length, IfOk, IfErr, OnErr};
 ghost use Rattle.plant_system.specs.Faults.{faults_by};
-ghost use Rattle.plant_system.specs.System.{reply_to};
-ghost use Rattle.engine.specs.Engines.{state_of, TakesScan};
+ghost use Rattle.engine.specs.Engines.{TakesScan};
 ghost use Rattle.board_entries.specs.Showing.{ShowsHistory};
-ghost use Rattle.order_taking.specs.Records.{IsScanDue};
+ghost use Rattle.archive.specs.Records.{IsScanDue};
 
-use archive::{Archive, commit_order, commit_scan, ready_order, ready_scan};
+use crate::both::{commit_order, commit_scan, ready_order, ready_scan};
+use crate::lock::Archive;
 use board_entries::{lay_order, lay_scan, show_next};
 use boards::BoardWriter;
 use engine::{Crew, Done, Engine, EngineFault, Job, Order, Pair, Reply, Report, Start};
+use order_taking::Recording;
 use std::alloc::Global;
 use std::sync::ledger::{Ledger, Share};
 use std::sync::{Arc, Wait};
@@ -65,22 +65,24 @@ impl<L: Ledger> Recorder<L> {
         show_next(rt, board);
         Ok(report)
     }
+}
 
-    /// An order of the console of a number: it is made ready in both engines, and its entry laid by for the board; then it is committed in both,
-    /// under the archive's lock, and shown.
-    pub fn order<H: Wait>(
+/// An order of a console is made ready in both engines, and its entry laid by for the board; then it is committed in both, under the archive's lock, and
+/// shown.
+impl<L: Ledger, H: Wait> Recording<H> for Recorder<L> {
+    ghost plant_of = { λ r. r.engine.plant };
+
+    ghost history_of = { λ r. r.engine.history };
+
+    ghost parts_of = { λ r. r.share.parts };
+
+    fn order(
         &mut self,
         rt: &H,
         alloc: Global,
         console: u32,
         order: Order,
-    ) -> Result<Reply, EngineFault>
-        ensures plant { self.new.engine.plant ≡ self.old.engine.plant }
-        ensures ok { OnOk result (self.new.engine.history ≡ self.old.engine.history ++ event.Order console order ∷ []) }
-        ensures reply { IfOk result (λ r. r ≡ reply_to (state_of self.old.engine) console order) }
-        ensures kept { OnErr result (self.new.engine.history ≡ self.old.engine.history) }
-        ensures share { self.new.share.parts ≡ self.old.share.parts }
-    {
+    ) -> Result<Reply, EngineFault> {
         let Recorder {
             engine,
             share,

@@ -1,5 +1,5 @@
-use Rattle.order_taking.proofs.Shown.{shows_more}
-use Rattle.order_taking.proofs.recorder.Recorder.scan.Goals as goal
+use Rattle.archive.proofs.Shown.{shows_more}
+use Rattle.archive.proofs.recorder.Recorder.scan.Goals as goal
 
 pub invariant_of-self-2-clause-shown : goal.invariant_of-self-2-clause-shown
 invariant_of-self-2-clause-shown g c =

@@ -1,0 +1,37 @@
+//! Where orders become events.
+
+ghost use Rattle.std.specs.Prelude.{◌≡◌, ℕ, List, ◌++◌, [], ◌∷◌, IfOk, OnOk, OnErr};
+ghost use Rattle.event_history.specs.declared.event.Event.{Event};
+ghost use Rattle.event_history.specs.declared.event.Event.TheVariants as event;
+ghost use Rattle.plant_config.specs.Plants.{PlainPlant};
+ghost use Rattle.plant_system.specs.System.{system, reply_to};
+
+use event_history::Order;
+use plant_system::{EngineFault, Reply};
+use std::alloc::Global;
+
+/// What makes orders events of the history of a plant. `H` is the handle that it is lent.
+pub trait Recording<H> {
+    /// The plant.
+    ghost plant_of: { Self → PlainPlant };
+
+    /// The events so far.
+    ghost history_of: { Self → List Event };
+
+    /// The parts that it holds of the ledger that counts the events. No order changes them.
+    ghost parts_of: { Self → ℕ };
+
+    /// Makes an order of the console of a number the next event, and gives its reply. A refusal leaves the history as it was.
+    fn order(
+        &mut self,
+        rt: &H,
+        alloc: Global,
+        console: u32,
+        order: Order,
+    ) -> Result<Reply, EngineFault>
+        ensures plant { plant_of self.new ≡ plant_of self.old }
+        ensures ok { OnOk result (history_of self.new ≡ history_of self.old ++ event.Order console order ∷ []) }
+        ensures reply { IfOk result (λ r. r ≡ reply_to (system (plant_of self.old) (history_of self.old)) console order) }
+        ensures kept { OnErr result (history_of self.new ≡ history_of self.old) }
+        ensures parts { parts_of self.new ≡ parts_of self.old };
+}
