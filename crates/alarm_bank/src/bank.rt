@@ -18,13 +18,24 @@ use std::marker::Model;
 
 /// The alarms of a plant, numbered from 0, with the area and the priority of each, and the moment of the last scan. Contracts see these;
 /// beside them stand a summary of their codes and an index of the ends of shelves.
-#[derive(Drop)]
 pub struct Bank {
     sites: Vec<Site>,
     alarms: Vec<Alarm>,
     moment: u64,
     summary: Summary,
     shelf: Shelf,
+}
+
+impl Drop for Bank {
+    fn drop(self) {
+        let Bank {
+            sites: _,
+            alarms: _,
+            moment: _,
+            summary: _,
+            shelf: _,
+        } = self;
+    }
 }
 
 impl Model for Bank {

@@ -7,10 +7,15 @@ use std::alloc::{AllocError, Global};
 use std::marker::Model;
 
 /// A number for each place, and the least of them at once: a tree whose node i stands above nodes 2i and 2i + 1. Contracts see the list of numbers.
-#[derive(Drop)]
 pub struct Shelf {
     tree: Vec<u64>,
     count: usize,
+}
+
+impl Drop for Shelf {
+    fn drop(self) {
+        let Shelf { tree: _, count: _ } = self;
+    }
 }
 
 impl Model for Shelf {

@@ -10,10 +10,15 @@ use std::marker::Model;
 
 /// How many alarms of each area and priority have each code, kept as the codes change. Contracts see the alarms as they are counted, in
 /// order.
-#[derive(Drop)]
 pub struct Summary {
     rows: Vec<Counted>,
     counts: Vec<u32>,
+}
+
+impl Drop for Summary {
+    fn drop(self) {
+        let Summary { rows: _, counts: _ } = self;
+    }
 }
 
 impl Model for Summary {

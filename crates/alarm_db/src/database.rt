@@ -13,10 +13,15 @@ use std::marker::Model;
 
 /// An alarm database: a row for each alarm, in order, and an index of their tags. Contracts see the rows. They are at most 20,000, each is as
 /// its columns ask, and no two have one tag.
-#[derive(Drop)]
 pub struct AlarmDatabase {
     rows: Vec<DatabaseRow>,
     tags: Tags,
+}
+
+impl Drop for AlarmDatabase {
+    fn drop(self) {
+        let AlarmDatabase { rows: _, tags: _ } = self;
+    }
 }
 
 impl Model for AlarmDatabase {

@@ -9,9 +9,14 @@ use std::alloc::{AllocError, Global};
 use std::marker::Model;
 
 /// Tags, numbered from 0 in order; letter case counts. Contracts see a list of tags.
-#[derive(Drop)]
 pub struct Tags {
     tags: IndexSet<String>,
+}
+
+impl Drop for Tags {
+    fn drop(self) {
+        let Tags { tags: _ } = self;
+    }
 }
 
 impl Model for Tags {

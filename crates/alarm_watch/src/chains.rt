@@ -22,12 +22,17 @@ fn put_first(first: &mut Vec<u32>, global: u32, link: u32) -> Result<u32, AllocE
 }
 
 /// Chains of alarms by global; a number in them is one more than the alarm's, and 0 for none.
-#[derive(Drop)]
 pub struct Chains {
     /// For each global the last of its alarms.
     pub first: Vec<u32>,
     /// For each alarm the one before it.
     pub next: Vec<u32>,
+}
+
+impl Drop for Chains {
+    fn drop(self) {
+        let Chains { first: _, next: _ } = self;
+    }
 }
 
 /// The chains of alarms by the global of each, if it has one. Fails if allocation fails.

@@ -15,11 +15,20 @@ use std::alloc::{AllocError, Global};
 use std::marker::Model;
 
 /// What each alarm watches, in the order of the alarms, and by each global the alarms that watch it.
-#[derive(Drop)]
 pub struct Watches {
     watches: Vec<Watch>,
     conditions: Chains,
     suppressions: Chains,
+}
+
+impl Drop for Watches {
+    fn drop(self) {
+        let Watches {
+            watches: _,
+            conditions: _,
+            suppressions: _,
+        } = self;
+    }
 }
 
 impl Model for Watches {

@@ -16,10 +16,18 @@ use std::marker::Model;
 use std::sync::ledger::{Book as Tally, Ledger, Share};
 
 /// An engine, with a tally that counts its events for a ledger.
-#[derive(Drop)]
 pub struct Book<L: Ledger> {
     engine: Engine,
     tally: Tally<L>,
+}
+
+impl<L: Ledger> Drop for Book<L> {
+    fn drop(self) {
+        let Book {
+            engine: _,
+            tally: _,
+        } = self;
+    }
 }
 
 impl<L: Ledger> Model for Book<L> {

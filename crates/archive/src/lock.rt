@@ -12,9 +12,14 @@ use std::sync::ledger::Ledger;
 use std::sync::{Mutex, MutexGuard, Wait};
 
 /// A book under a lock. Threads share it by reference, as in an `Arc`.
-#[derive(Drop)]
 pub struct Archive<L: Ledger> {
     book: Mutex<Book<L>>,
+}
+
+impl<L: Ledger> Drop for Archive<L> {
+    fn drop(self) {
+        let Archive { book: _ } = self;
+    }
 }
 
 impl<L: Ledger> Archive<L> {

@@ -12,10 +12,15 @@ use std::alloc::{AllocError, Global};
 use word_index::Names;
 
 /// Names of variables as declared, and the kind of each.
-#[derive(Drop)]
 pub struct Variables {
     pub names: Names,
     pub kinds: Vec<Kind>,
+}
+
+impl Drop for Variables {
+    fn drop(self) {
+        let Variables { names: _, kinds: _ } = self;
+    }
 }
 
 impl Variables {
@@ -29,10 +34,18 @@ impl Variables {
 }
 
 /// Names of instances as declared, and of which block each is.
-#[derive(Drop)]
 pub struct Instances {
     pub names: Names,
     pub blocks: Vec<BlockRef>,
+}
+
+impl Drop for Instances {
+    fn drop(self) {
+        let Instances {
+            names: _,
+            blocks: _,
+        } = self;
+    }
 }
 
 impl Instances {

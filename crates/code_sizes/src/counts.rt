@@ -19,9 +19,14 @@ pub struct Count {
 }
 
 /// The counts of the frames of a table, by their numbers.
-#[derive(Drop)]
 pub struct FrameCounts {
     pub frames: Vec<Count>,
+}
+
+impl Drop for FrameCounts {
+    fn drop(self) {
+        let FrameCounts { frames: _ } = self;
+    }
 }
 
 /// The counts of the frame that comes after those of a table.

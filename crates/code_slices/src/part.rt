@@ -16,12 +16,22 @@ use std::alloc::{AllocError, Global};
 use std::marker::Model;
 
 /// The code of a program by the numbers of its part: from 0 on the slots that it names, those that it writes in front, and the clocks.
-#[derive(Drop)]
 pub struct Part {
     code: PrintedCode,
     slots: Vec<u32>,
     written: usize,
     clocks: Vec<u32>,
+}
+
+impl Drop for Part {
+    fn drop(self) {
+        let Part {
+            code: _,
+            slots: _,
+            written: _,
+            clocks: _,
+        } = self;
+    }
 }
 
 impl Model for Part {

@@ -14,13 +14,22 @@ const PAIR: usize = 16;
 
 /// A list of pairs that keeps its room: after `clear`, as many pairs with names as long take no memory. The room of a list of more than
 /// 16,384 bytes, of which each pair counts for 16 beside its name, is given back, so that long lines don't pile up.
-#[derive(Drop)]
 pub struct Pool {
     pairs: Vec<Pair>,
     /// How many of the pairs count; those after them are only room.
     used: usize,
     /// How many bytes these pairs count for.
     bytes: usize,
+}
+
+impl Drop for Pool {
+    fn drop(self) {
+        let Pool {
+            pairs: _,
+            used: _,
+            bytes: _,
+        } = self;
+    }
 }
 
 impl Model for Pool {

@@ -29,7 +29,6 @@ use std::alloc::{AllocError, Global};
 use std::marker::Model;
 
 /// A plant, and what the events so far made of it.
-#[derive(Drop)]
 pub struct Engine {
     plant: Plant,
     history: History,
@@ -37,6 +36,19 @@ pub struct Engine {
     state: State,
     room: Room,
     levels: Option<Levelled>,
+}
+
+impl Drop for Engine {
+    fn drop(self) {
+        let Engine {
+            plant: _,
+            history: _,
+            log: _,
+            state: _,
+            room: _,
+            levels: _,
+        } = self;
+    }
 }
 
 impl Model for Engine {

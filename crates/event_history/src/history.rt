@@ -7,10 +7,18 @@ use std::marker::Model;
 use trace::Trace;
 
 /// The events so far. No event is stored, and none takes memory: what became of them is kept by who adds them. Contracts see the list of them.
-#[derive(Drop)]
 pub struct History {
     events: Trace<Event>,
     count: usize,
+}
+
+impl Drop for History {
+    fn drop(self) {
+        let History {
+            events: _,
+            count: _,
+        } = self;
+    }
 }
 
 impl Model for History {

@@ -30,13 +30,22 @@ struct ApartRow {
 
 /// The rows of a journal, numbered from 1 in their order; their moments never go back. Contracts see the rows, and for how many more
 /// there is room.
-#[derive(Drop)]
 pub struct Log {
     rows: Vec<KeptRow>,
     /// The rows that aren't the change of an alarm's code.
     apart: Vec<ApartRow>,
     /// For how many more rows there is room, whatever their entries are.
     room: usize,
+}
+
+impl Drop for Log {
+    fn drop(self) {
+        let Log {
+            rows: _,
+            apart: _,
+            room: _,
+        } = self;
+    }
 }
 
 impl Model for Log {

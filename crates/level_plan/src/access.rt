@@ -13,10 +13,18 @@ pub struct Extent {
 }
 
 /// The globals that a program reads and those that it writes, each in one extent or more. Contracts see them as `PlainAccess`.
-#[derive(Drop)]
 pub struct Access {
     pub reads: Vec<Extent>,
     pub writes: Vec<Extent>,
+}
+
+impl Drop for Access {
+    fn drop(self) {
+        let Access {
+            reads: _,
+            writes: _,
+        } = self;
+    }
 }
 
 impl Model for Access {

@@ -10,10 +10,18 @@ use std::marker::Model;
 
 /// The values of variables, and the clocks of standard blocks' instances, in a row each. A BOOL is 0 or 1, a TIME is in milliseconds.
 /// Contracts see both lists.
-#[derive(Drop)]
 pub struct Cells {
     values: Vec<i64>,
     clocks: Vec<Clock>,
+}
+
+impl Drop for Cells {
+    fn drop(self) {
+        let Cells {
+            values: _,
+            clocks: _,
+        } = self;
+    }
 }
 
 impl Model for Cells {

@@ -38,13 +38,24 @@ use std::thread::Threads;
 
 /// An accepted plant. Its areas, alarms, globals and programs are numbered from 0: areas as the plant file lists them, alarms in the order of the
 /// database, globals and programs in the order of the sources and, in a source, of its text.
-#[derive(Drop)]
 pub struct Plant {
     file: PlantFile,
     epoch: Epoch,
     logic: Framed,
     alarms: Vec<AlarmRow>,
     tags: Tags,
+}
+
+impl Drop for Plant {
+    fn drop(self) {
+        let Plant {
+            file: _,
+            epoch: _,
+            logic: _,
+            alarms: _,
+            tags: _,
+        } = self;
+    }
 }
 
 impl Model for Plant {

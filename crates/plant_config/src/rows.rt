@@ -6,7 +6,6 @@ use plant_types::Text;
 use std::alloc::{AllocError, Global};
 
 /// An alarm of a plant. Areas and globals are named by their numbers, from 0 in the order of their declaration.
-#[derive(Drop)]
 pub struct AlarmRow {
     /// The alarm's name, in which letter case counts.
     pub tag: Text,
@@ -24,6 +23,21 @@ pub struct AlarmRow {
     pub max_shelve_ms: u64,
     /// What it says to an operator.
     pub text: Text,
+}
+
+impl Drop for AlarmRow {
+    fn drop(self) {
+        let AlarmRow {
+            tag: _,
+            area: _,
+            priority: _,
+            condition: _,
+            suppress: _,
+            latching: _,
+            max_shelve_ms: _,
+            text: _,
+        } = self;
+    }
 }
 
 impl AlarmRow {

@@ -12,12 +12,20 @@ use std::alloc::{AllocError, Global};
 use toml::{Table, Value};
 
 /// An operator's console.
-#[derive(Drop)]
 pub struct Console {
     /// Its number in the plant file, 1 to 999999999.
     pub number: u32,
     /// The areas whose alarms it may order, each by its number, from 0, in the list of the plant's areas.
     pub areas: Items<usize>,
+}
+
+impl Drop for Console {
+    fn drop(self) {
+        let Console {
+            number: _,
+            areas: _,
+        } = self;
+    }
 }
 
 impl Console {

@@ -10,7 +10,6 @@ use std::alloc::{AllocError, Global};
 use std::marker::Model;
 
 /// What a plant file says. Its lists keep the order of the file.
-#[derive(Drop)]
 pub struct PlantFile {
     pub(crate) name: Text,
     pub(crate) epoch: Text,
@@ -18,6 +17,19 @@ pub struct PlantFile {
     pub(crate) sources: Items<Text>,
     pub(crate) alarms: Text,
     pub(crate) consoles: Items<Console>,
+}
+
+impl Drop for PlantFile {
+    fn drop(self) {
+        let PlantFile {
+            name: _,
+            epoch: _,
+            areas: _,
+            sources: _,
+            alarms: _,
+            consoles: _,
+        } = self;
+    }
 }
 
 impl Model for PlantFile {

@@ -14,9 +14,14 @@ use std::marker::Model;
 use toml::Value;
 
 /// Texts, each once, numbered from 0 in the order in which they were added. Contracts see a list of texts.
-#[derive(Drop)]
 pub struct TextSet {
     index: IndexSet<String>,
+}
+
+impl Drop for TextSet {
+    fn drop(self) {
+        let TextSet { index: _ } = self;
+    }
 }
 
 impl Model for TextSet {

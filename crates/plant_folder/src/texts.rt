@@ -15,18 +15,32 @@ use std::marker::Model;
 use std::path::Path;
 
 /// A source of a plant: its name, as the plant file lists it, and its text.
-#[derive(Drop)]
 pub struct SourceText {
     pub name: Text,
     pub text: Vec<u8>,
 }
 
+impl Drop for SourceText {
+    fn drop(self) {
+        let SourceText { name: _, text: _ } = self;
+    }
+}
+
 /// The texts of a plant: of its plant file, of its sources and of its alarm database.
-#[derive(Drop)]
 pub struct Fetched {
     pub plant: Vec<u8>,
     pub sources: Vec<SourceText>,
     pub alarms: Vec<u8>,
+}
+
+impl Drop for Fetched {
+    fn drop(self) {
+        let Fetched {
+            plant: _,
+            sources: _,
+            alarms: _,
+        } = self;
+    }
 }
 
 impl Model for Fetched {

@@ -11,10 +11,18 @@ use std::alloc::{AllocError, Global};
 use word_index::Names;
 
 /// Names of instances, each once, and of which block each is.
-#[derive(Drop)]
 pub struct Instances {
     pub names: Names,
     pub blocks: Vec<BlockRef>,
+}
+
+impl Drop for Instances {
+    fn drop(self) {
+        let Instances {
+            names: _,
+            blocks: _,
+        } = self;
+    }
 }
 
 impl Instances {

@@ -4,7 +4,6 @@ use plant_types::{Kind, Region, Text};
 use st_tree::Stmt;
 
 /// The global variables, the programs and the block types of a plant.
-#[derive(Drop)]
 pub struct Logic {
     /// In order of declaration.
     pub globals: Vec<Variable>,
@@ -16,8 +15,18 @@ pub struct Logic {
     pub blocks: Vec<Routine>,
 }
 
+impl Drop for Logic {
+    fn drop(self) {
+        let Logic {
+            globals: _,
+            starts: _,
+            programs: _,
+            blocks: _,
+        } = self;
+    }
+}
+
 /// A global variable, with its name as declared.
-#[derive(Drop)]
 pub struct Variable {
     pub name: Text,
     /// The region of its address; `None` for a variable without an address.
@@ -25,11 +34,26 @@ pub struct Variable {
     pub kind: Kind,
 }
 
+impl Drop for Variable {
+    fn drop(self) {
+        let Variable {
+            name: _,
+            region: _,
+            kind: _,
+        } = self;
+    }
+}
+
 /// A routine's own variable, with its name as declared.
-#[derive(Drop)]
 pub struct Local {
     pub name: Text,
     pub kind: Kind,
+}
+
+impl Drop for Local {
+    fn drop(self) {
+        let Local { name: _, kind: _ } = self;
+    }
 }
 
 /// What an instance is of: a standard block (IEC 61131-3), or the declared block type of a number.
@@ -46,14 +70,18 @@ pub enum BlockRef {
 }
 
 /// An instance, with its name as declared.
-#[derive(Drop)]
 pub struct Instance {
     pub name: Text,
     pub of: BlockRef,
 }
 
+impl Drop for Instance {
+    fn drop(self) {
+        let Instance { name: _, of: _ } = self;
+    }
+}
+
 /// A routine: a program or a block type (IEC 61131-3), with its name as declared.
-#[derive(Drop)]
 pub struct Routine {
     pub name: Text,
     /// Its own variables in order of declaration: those of VAR, VAR_INPUT and VAR_OUTPUT.
@@ -63,4 +91,16 @@ pub struct Routine {
     /// An assignment for each initial value that is written for one of its own variables.
     pub starts: Vec<Stmt<Text>>,
     pub body: Vec<Stmt<Text>>,
+}
+
+impl Drop for Routine {
+    fn drop(self) {
+        let Routine {
+            name: _,
+            locals: _,
+            instances: _,
+            starts: _,
+            body: _,
+        } = self;
+    }
 }

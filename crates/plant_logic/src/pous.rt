@@ -10,10 +10,18 @@ use std::alloc::{AllocError, Global};
 use word_index::Names;
 
 /// The blocks, and apart from them the programs.
-#[derive(Drop)]
 pub struct Pous<'a> {
     pub blocks: Vec<&'a Pou>,
     pub programs: Vec<&'a Pou>,
+}
+
+impl Drop for Pous<'_> {
+    fn drop(self) {
+        let Pous {
+            blocks: _,
+            programs: _,
+        } = self;
+    }
 }
 
 /// Adds the blocks and programs of a unit. Fails if allocation fails.

@@ -3,9 +3,14 @@ ghost use Rattle.std.specs.Prelude.{◌≡◌};
 use std::marker::Model;
 
 /// A list of values. Contracts see only its items, and neither its capacity nor its address, so that events and reports can be compared.
-#[derive(Drop)]
 pub struct Items<T> {
     items: Vec<T>,
+}
+
+impl<T: Drop> Drop for Items<T> {
+    fn drop(self) {
+        let Items { items: _ } = self;
+    }
 }
 
 impl<T> Model for Items<T> {

@@ -2,10 +2,15 @@ use crate::values::Given;
 use std::marker::Model;
 
 /// A name and the value given for it: one part of a scan's image. Contracts see the name's bytes.
-#[derive(Drop)]
 pub struct Pair {
     pub name: String,
     pub given: Given,
+}
+
+impl Drop for Pair {
+    fn drop(self) {
+        let Pair { name: _, given: _ } = self;
+    }
 }
 
 impl Model for Pair {

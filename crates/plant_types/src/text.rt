@@ -4,9 +4,14 @@ use std::alloc::{AllocError, Global};
 use std::marker::Model;
 
 /// A text, such as a name. Contracts see its bytes.
-#[derive(Drop)]
 pub struct Text {
     text: String,
+}
+
+impl Drop for Text {
+    fn drop(self) {
+        let Text { text: _ } = self;
+    }
 }
 
 impl Model for Text {

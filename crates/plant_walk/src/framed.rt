@@ -42,7 +42,6 @@ use word_index::Names;
 
 /// The source of well-formed units that keeps the limits, with a frame for each program and each block type that is used, with where the
 /// values, the standard blocks and the paths of each program begin, and with the code of each program. Contracts see the source.
-#[derive(Drop)]
 pub struct Framed {
     logic: Logic,
     order: Vec<usize>,
@@ -54,6 +53,23 @@ pub struct Framed {
     clocks: Vec<usize>,
     paths: Vec<u32>,
     codes: Vec<Code>,
+}
+
+impl Drop for Framed {
+    fn drop(self) {
+        let Framed {
+            logic: _,
+            order: _,
+            frames: _,
+            start: _,
+            names: _,
+            standards: _,
+            values: _,
+            clocks: _,
+            paths: _,
+            codes: _,
+        } = self;
+    }
 }
 
 impl Model for Framed {

@@ -20,6 +20,12 @@ pub struct Stack {
     words: Vec<i64>,
 }
 
+impl Drop for Stack {
+    fn drop(self) {
+        let Stack { words: _ } = self;
+    }
+}
+
 impl Model for Stack {
     ghost use Rattle.std.specs.Prelude.{◌≡◌, ℕ, length};
     ghost use Rattle.program_codes.specs.Codes.{stack_words};

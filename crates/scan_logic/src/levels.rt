@@ -14,10 +14,18 @@ use std::marker::Model;
 use std::sync::Arc;
 
 /// The programs of a plant, each in its part of the cells, and the levels in which they may run together. Contracts see these.
-#[derive(Drop)]
 pub struct Levelled {
     parts: Vec<Arc<Part>>,
     levels: Levels,
+}
+
+impl Drop for Levelled {
+    fn drop(self) {
+        let Levelled {
+            parts: _,
+            levels: _,
+        } = self;
+    }
 }
 
 impl Model for Levelled {

@@ -205,11 +205,16 @@ pub enum Step {
 }
 
 /// A session with an engine: what it has read of a request that hasn't ended yet. Contracts see these bytes.
-#[derive(Drop)]
 pub struct Session {
     lines: Lines,
     /// Room for what is read at once.
     piece: Vec<u8>,
+}
+
+impl Drop for Session {
+    fn drop(self) {
+        let Session { lines: _, piece: _ } = self;
+    }
 }
 
 impl Model for Session {

@@ -20,11 +20,20 @@ use std::marker::Model;
 use std::sync::Arc;
 
 /// A job, which contracts see as its start. It owns its cells, of which its start keeps a copy, and the stack of its run.
-#[derive(Drop)]
 pub struct Job {
     start: Arc<Start>,
     cells: Cells,
     stack: Vec<i64>,
+}
+
+impl Drop for Job {
+    fn drop(self) {
+        let Job {
+            start: _,
+            cells: _,
+            stack: _,
+        } = self;
+    }
 }
 
 impl Model for Job {
@@ -42,12 +51,22 @@ impl Model for Job {
 
 /// A job's run that ended, which contracts see as its start: the code gives the result from it. It has the job's stack still, whose memory
 /// serves a later job.
-#[derive(Drop)]
 pub struct Done {
     start: Arc<Start>,
     cells: Cells,
     result: Result<(), Stop>,
     stack: Vec<i64>,
+}
+
+impl Drop for Done {
+    fn drop(self) {
+        let Done {
+            start: _,
+            cells: _,
+            result: _,
+            stack: _,
+        } = self;
+    }
 }
 
 impl Model for Done {

@@ -23,11 +23,20 @@ pub(crate) struct Spare {
 
 /// Memory of jobs that have ended, by their numbers, for later jobs of these numbers; and of the lists of what is out. What it holds doesn't
 /// matter, so contracts see nothing of it.
-#[derive(Drop)]
 pub struct Reserve {
     spares: Vec<Option<Spare>>,
     out: Vec<Out>,
     ticks: Vec<bool>,
+}
+
+impl Drop for Reserve {
+    fn drop(self) {
+        let Reserve {
+            spares: _,
+            out: _,
+            ticks: _,
+        } = self;
+    }
 }
 
 /// No memory yet.

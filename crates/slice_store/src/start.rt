@@ -11,12 +11,22 @@ use std::sync::Arc;
 
 /// Where a job starts: its number, which is 1 more than its program's, the part of the program, the moment in milliseconds, and the part's
 /// cells as they were.
-#[derive(Drop)]
 pub struct Start {
     number: u32,
     part: Arc<Part>,
     moment: u64,
     cells: Cells,
+}
+
+impl Drop for Start {
+    fn drop(self) {
+        let Start {
+            number: _,
+            part: _,
+            moment: _,
+            cells: _,
+        } = self;
+    }
 }
 
 impl Model for Start {

@@ -24,7 +24,6 @@ use std::sync::Arc;
 
 /// The values and clocks of all programs, which programs are faulted, and a scan's moment, in milliseconds; and the starts of the jobs that
 /// are out. Contracts see these. Jobs take the memory of earlier ones from a reserve.
-#[derive(Drop)]
 pub struct Store {
     values: Vec<i64>,
     clocks: Vec<Clock>,
@@ -33,6 +32,20 @@ pub struct Store {
     out: Vec<Out>,
     ticks: Vec<bool>,
     reserve: Reserve,
+}
+
+impl Drop for Store {
+    fn drop(self) {
+        let Store {
+            values: _,
+            clocks: _,
+            faulted: _,
+            moment: _,
+            out: _,
+            ticks: _,
+            reserve: _,
+        } = self;
+    }
 }
 
 impl Model for Store {

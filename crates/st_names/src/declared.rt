@@ -13,13 +13,24 @@ use std::marker::Model;
 use word_index::Names;
 
 /// A declared name, and what it is declared as.
-#[derive(Drop)]
 pub struct Declared<'a> {
     section: SectionKind,
     name: &'a Text,
     region: Option<Region>,
     sort: &'a Sort,
     initial: &'a Option<Expr<Text>>,
+}
+
+impl Drop for Declared<'_> {
+    fn drop(self) {
+        let Declared {
+            section: _,
+            name: _,
+            region: _,
+            sort: _,
+            initial: _,
+        } = self;
+    }
 }
 
 impl<'a> Model for Declared<'a> {

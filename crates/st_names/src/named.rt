@@ -10,10 +10,18 @@ use plant_types::Kind;
 use st_parser::Sort;
 
 /// The inputs and outputs of a function block, each with its kind; an instance in their place has none.
-#[derive(Drop)]
 pub struct Members {
     pub inputs: Table<Option<Kind>>,
     pub outputs: Table<Option<Kind>>,
+}
+
+impl Drop for Members {
+    fn drop(self) {
+        let Members {
+            inputs: _,
+            outputs: _,
+        } = self;
+    }
 }
 
 /// What a name that all sources share stands for.

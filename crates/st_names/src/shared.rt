@@ -21,10 +21,15 @@ use std::alloc::{AllocError, Global};
 use std::marker::Model;
 
 /// The names that all sources of a plant share, in any letter case: globals, function blocks and programs. Contracts see the sources.
-#[derive(Drop)]
 pub struct SharedNames<'a> {
     units: &'a [Unit],
     table: Table<Named<'a>>,
+}
+
+impl Drop for SharedNames<'_> {
+    fn drop(self) {
+        let SharedNames { units: _, table: _ } = self;
+    }
 }
 
 impl<'a> Model for SharedNames<'a> {

@@ -10,10 +10,18 @@ use word_index::Names;
 /// What names stand for: the value of each name, found in any letter case.
 ///
 /// Contracts see its entries in the order in which they were added, each a name and its value; none has the name of another.
-#[derive(Drop)]
 pub struct Table<T> {
     names: Names,
     values: Vec<T>,
+}
+
+impl<T: Drop> Drop for Table<T> {
+    fn drop(self) {
+        let Table {
+            names: _,
+            values: _,
+        } = self;
+    }
 }
 
 impl<T> Model for Table<T> {

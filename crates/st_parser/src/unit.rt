@@ -11,7 +11,6 @@ pub enum Sort {
 }
 
 /// Variables that are declared together.
-#[derive(Drop)]
 pub struct Declaration {
     /// In the order of the text, at least one.
     pub names: Vec<Text>,
@@ -20,6 +19,17 @@ pub struct Declaration {
     pub sort: Sort,
     /// The initial value of each, if one is written.
     pub initial: Option<Expr<Text>>,
+}
+
+impl Drop for Declaration {
+    fn drop(self) {
+        let Declaration {
+            names: _,
+            region: _,
+            sort: _,
+            initial: _,
+        } = self;
+    }
 }
 
 /// What a section of declarations is for (IEC 61131-3).
@@ -38,11 +48,19 @@ pub enum SectionKind {
 }
 
 /// A section of declarations.
-#[derive(Drop)]
 pub struct Section {
     pub kind: SectionKind,
     /// In the order of the text.
     pub declarations: Vec<Declaration>,
+}
+
+impl Drop for Section {
+    fn drop(self) {
+        let Section {
+            kind: _,
+            declarations: _,
+        } = self;
+    }
 }
 
 /// What a program organisation unit is (IEC 61131-3).
@@ -53,7 +71,6 @@ pub enum PouKind {
 }
 
 /// A function block or a program: a program organisation unit (IEC 61131-3).
-#[derive(Drop)]
 pub struct Pou {
     pub kind: PouKind,
     pub name: Text,
@@ -62,11 +79,30 @@ pub struct Pou {
     pub body: Vec<Stmt<Text>>,
 }
 
+impl Drop for Pou {
+    fn drop(self) {
+        let Pou {
+            kind: _,
+            name: _,
+            sections: _,
+            body: _,
+        } = self;
+    }
+}
+
 /// A source: its sections of global variables, then its function blocks and programs.
-#[derive(Drop)]
 pub struct Unit {
     /// In the order of the text, each `SectionKind::Global`.
     pub globals: Vec<Section>,
     /// In the order of the text.
     pub pous: Vec<Pou>,
+}
+
+impl Drop for Unit {
+    fn drop(self) {
+        let Unit {
+            globals: _,
+            pous: _,
+        } = self;
+    }
 }

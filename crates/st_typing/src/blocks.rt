@@ -10,10 +10,18 @@ use st_parser::{Pou, PouKind, Section, Sort, Unit};
 use std::alloc::{AllocError, Global};
 
 /// Function blocks in order of text, and where each is declared.
-#[derive(Drop)]
 pub struct Blocks<'a> {
     pub blocks: Vec<Block<'a>>,
     pub places: Vec<UnitPlace>,
+}
+
+impl Drop for Blocks<'_> {
+    fn drop(self) {
+        let Blocks {
+            blocks: _,
+            places: _,
+        } = self;
+    }
 }
 
 /// Adds the block types that a section's declarations name. Fails if allocation fails.

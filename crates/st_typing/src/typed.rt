@@ -12,10 +12,18 @@ use std::marker::Model;
 
 /// The sources of a plant, well formed: each name in them stands for something, each expression has the kind that it must have, no
 /// function block holds itself, initial values and the bounds of FOR are constant, and the limits are kept. Contracts see the sources.
-#[derive(Drop)]
 pub struct Typed<'a> {
     shared: SharedNames<'a>,
     order: Vec<usize>,
+}
+
+impl Drop for Typed<'_> {
+    fn drop(self) {
+        let Typed {
+            shared: _,
+            order: _,
+        } = self;
+    }
 }
 
 impl<'a> Model for Typed<'a> {

@@ -23,7 +23,6 @@ use std::thread::{JoinHandle, Threads};
 ///
 /// Each call of `run` is a round with a number of its own, which jobs and runs carry; what comes of another round is dropped. After a fault
 /// other than `Memory` each further run answers `Lost`.
-#[derive(Drop)]
 pub struct Standing<J, S, D, G> {
     parcels: Option<Sender<Parcel<J>>>,
     waiting: Receiver<Parcel<J>>,
@@ -37,6 +36,25 @@ pub struct Standing<J, S, D, G> {
     round: u64,
     lost: bool,
     faults: u64,
+}
+
+impl<J: Drop, S: Drop, D: Drop, G: Drop> Drop for Standing<J, S, D, G> {
+    fn drop(self) {
+        let Standing {
+            parcels: _,
+            waiting: _,
+            answers: _,
+            threads: _,
+            hands: _,
+            gate: _,
+            least: _,
+            starts: _,
+            ticks: _,
+            round: _,
+            lost: _,
+            faults: _,
+        } = self;
+    }
 }
 
 impl<J, S, D, G> Model for Standing<J, S, D, G> {

@@ -8,9 +8,14 @@ use std::marker::Model;
 use std::sync::Arc;
 
 /// What a job started from, which contracts see as that value.
-#[derive(Drop)]
 pub struct Begun<S> {
     start: Arc<S>,
+}
+
+impl<S: Drop> Drop for Begun<S> {
+    fn drop(self) {
+        let Begun { start: _ } = self;
+    }
 }
 
 impl<S> Model for Begun<S> {

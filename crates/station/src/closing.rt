@@ -10,11 +10,20 @@ use engine::{Engine, Order, Reply};
 use std::marker::Model;
 
 /// A station that was closed: its engine, its crew, and the orders that were left of the consoles that had ended.
-#[derive(Drop)]
 pub struct Closing<C> {
     pub(crate) engine: Engine,
     pub(crate) crew: C,
     pub(crate) lanes: Vec<Lane<Order, Reply>>,
+}
+
+impl<C: Drop> Drop for Closing<C> {
+    fn drop(self) {
+        let Closing {
+            engine: _,
+            crew: _,
+            lanes: _,
+        } = self;
+    }
 }
 
 impl<C> Model for Closing<C> {

@@ -22,7 +22,6 @@ use std::sync::ledger::{Blank, Ledger};
 use std::sync::{Arc, Wait};
 
 /// What a turn did.
-#[derive(Drop)]
 pub struct Turn {
     /// What its scan did.
     pub report: Report,
@@ -30,6 +29,16 @@ pub struct Turn {
     pub taken: u32,
     /// Whether memory was refused for an order, or the history is full. That order stays in its ring, and no other was taken after it.
     pub stopped: bool,
+}
+
+impl Drop for Turn {
+    fn drop(self) {
+        let Turn {
+            report: _,
+            taken: _,
+            stopped: _,
+        } = self;
+    }
 }
 
 /// An engine whose events are recorded in an archive, the crew that runs its programs, and the owner's ends of the rings of its consoles. `L` is the ledger

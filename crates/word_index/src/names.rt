@@ -8,9 +8,14 @@ use std::borrow::CowStr;
 use std::marker::Model;
 
 /// Names in the order in which they were added, numbered from 0, in which letter case has no meaning (IEC 61131-3).
-#[derive(Drop)]
 pub struct Names {
     words: IndexSet<Word<'static>>,
+}
+
+impl Drop for Names {
+    fn drop(self) {
+        let Names { words: _ } = self;
+    }
 }
 
 impl Model for Names {
