@@ -59,7 +59,8 @@ impl AlarmDatabase {
         ensures tags { result.1 ≡ tags_of self }
         ensures database { IsDatabase self }
     {
-        (self.rows, self.tags)
+        let AlarmDatabase { rows, tags } = self;
+        (rows, tags)
     }
 }
 

@@ -4,15 +4,13 @@ ghost use Rattle.std.specs.Prelude.{◌≡◌, ◌≤◌, if◌then◌else◌, S
 ghost use Rattle.std.specs.Str.{is_utf8};
 ghost use Rattle.std.specs.Str.Parse.{digits_value};
 ghost use Rattle.std.specs.List.{list_all};
-ghost use Rattle.plant_types.specs.Words.{is_letter, is_name, is_name_byte};
+ghost use Rattle.plant_types.specs.Words.{is_name};
 ghost use Rattle.alarm_db.specs.Forms.{has_digits, has_form, is_tag, is_tag_byte, is_text, is_text_byte, latches, latches_not};
 
 use crate::column::Column;
-use plant_types::same_word;
+use alarm_machine::LONGEST_SHELVE_MS;
+use plant_types::{is_name, same_word};
 use std::str;
-
-/// The longest time for which an alarm may be shelved, in milliseconds: 30 days (this profile).
-const LONGEST_SHELVE_MS: u64 = 2_592_000_000;
 
 /// Whether a tag may have this byte: a letter, a digit, `_`, `-` or `.`.
 fn is_tag_byte(byte: u8) -> bool
@@ -33,41 +31,6 @@ fn is_tag(field: &[u8]) -> bool
     ensures { result ≡ is_tag field.now }
 {
     !field.is_empty() && field.len() <= 32 && are_tag_bytes(field)
-}
-
-/// Whether a name may begin with this byte: a letter or an underscore.
-fn is_letter(byte: u8) -> bool
-    ensures { result ≡ is_letter byte }
-{
-    byte.is_ascii_alphabetic() || byte == b'_'
-}
-
-/// Whether a name may go on with this byte: a letter, an underscore or a digit.
-fn is_name_byte(byte: u8) -> bool
-    ensures { result ≡ is_name_byte byte }
-{
-    is_letter(byte) || byte.is_ascii_digit()
-}
-
-/// Whether a name may go on with each of these bytes. It looks at all of them, so that many can be looked at at once.
-fn are_name_bytes(word: &[u8]) -> bool
-    ensures { result ≡ list_all is_name_byte word.now }
-{
-    let mut all = true;
-    for byte in word {
-        all &= is_name_byte(*byte);
-    }
-    all
-}
-
-/// Whether a field has the form of a name.
-fn is_name(field: &[u8]) -> bool
-    ensures { result ≡ is_name field.now }
-{
-    match field.split_first() {
-        None => false,
-        Some((first, others)) => is_letter(*first) && are_name_bytes(others),
-    }
 }
 
 /// Parses a number of 1 to `most` decimal digits; `None` for any other field.

@@ -7,7 +7,7 @@ use Rattle.std.specs.Cmp.Lexicographic.{bytes_decides}
 use Rattle.std.proofs.lemmas.Bool.{and_parts, or_left, or_right}
 use Rattle.std.proofs.lemmas.List.Folds.{list_all-append}
 use Rattle.plant_types.specs.Words.{folded, same_word}
-use Rattle.st_tree.specs.Plain.{PlainExpr, literal, read, output_of, unary, binary, PlainArgument, input, output, PlainStmt, empty, assign, call, choose, select, repeat, PlainBody, done, next, Branches, no_branch, branch, Choices, no_choice, choice}
+use Rattle.st_tree.specs.Plain.{PlainExpr, literal, read, output_of, unary, binary, PlainArgument, input, output, PlainStmt, empty, assign, call, if_else, case_of, for_to, PlainBody, done, next, Branches, no_branch, branch, Choices, no_choice, choice}
 use Rattle.st_tree.specs.Mapping.{Known, expr_known, option_known, argument_known, stmt_known, body_known, branches_known, choices_known}
 use Rattle.plant_logic.specs.Source.{PlainRoutine, Source}
 use Rattle.plant_logic.specs.Paths.{called_in_stmt, called_in, called_in_branches, called_in_choices, is_called}
@@ -58,17 +58,17 @@ module _ {V : Type 0} (known : Known V) (test : V → Bool) where
         let parts = and_parts (known.has_instance instance) (list_all (argument_known known instance) arguments) is in
         let passes = and_parts (test instance) true all in
         both (known.has_instance instance && test instance) (list_all (argument_known more instance) arguments) (both (known.has_instance instance) (test instance) parts.0 passes.0) (arguments_more instance arguments ∙ parts.1)
-    stmt_more (choose number branches last) is all =
+    stmt_more (if_else number branches last) is all =
         let parts = and_parts (branches_known known branches) (body_known known last) is in
         let each = halves (called_in_branches branches) (called_in last) all in
         both (branches_known more branches) (body_known more last) (branches_more branches parts.0 each.0) (body_more last parts.1 each.1)
-    stmt_more (select number e choices last) is all =
+    stmt_more (case_of number e choices last) is all =
         let first = and_parts (expr_known known e) (choices_known known choices && body_known known last) is in
         let parts = and_parts (choices_known known choices) (body_known known last) first.1 in
         let each = halves (called_in_choices choices) (called_in last) all in
         both (expr_known more e) (choices_known more choices && body_known more last) (expr_more e ∙ first.0)
         (both (choices_known more choices) (body_known more last) (choices_more choices parts.0 each.0) (body_more last parts.1 each.1))
-    stmt_more (repeat number v from to by body) is all =
+    stmt_more (for_to number v from to by body) is all =
         let p = and_parts (known.has_variable v) (expr_known known from && (expr_known known to && (option_known known by && body_known known body))) is in
         let q = and_parts (expr_known known from) (expr_known known to && (option_known known by && body_known known body)) p.1 in
         let r = and_parts (expr_known known to) (option_known known by && body_known known body) q.1 in

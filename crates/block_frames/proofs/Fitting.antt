@@ -6,7 +6,7 @@ use Rattle.std.proofs.lemmas.Bool.{and_parts, or_cases}
 use Rattle.plant_types.specs.declared.values.Kind.{Kind}
 use Rattle.plant_types.specs.declared.values.Kind.TheVariants as kind
 use Rattle.st_tree.specs.Plain.{PlainExpr, literal, read, output_of, unary, binary, PlainArgument, input, output}
-use Rattle.st_tree.specs.Plain.{PlainStmt, empty, assign, call, choose, select, repeat, PlainBody, done, next, Branches, no_branch, branch, Choices, no_choice, choice}
+use Rattle.st_tree.specs.Plain.{PlainStmt, empty, assign, call, if_else, case_of, for_to, PlainBody, done, next, Branches, no_branch, branch, Choices, no_choice, choice}
 use Rattle.st_tree.specs.Kinds.{unary_kind, binary_kind, kind_of_expr, is_kind, is_bit, same_kind}
 use Rattle.st_tree.specs.Fits.{Context, is_of, option_is_of, fits_option, takes, argument_fits, stmt_fits, all_fit, branches_fit, choices_fit}
 use Rattle.st_tree.specs.Every.{every, every_inside, every_branch, every_choice}
@@ -27,7 +27,7 @@ both false b is also = is
 module _ {V : Type 0} (context : Context V) (known : Known V) (variables : (v : V) (k : Kind) → context.variable_kind v ≡ Some k → known.has_variable v ≡ true) (assigned : (v : V) → context.may_assign v ≡ true → known.has_variable v ≡ true)
     (instances : (v : V) → context.is_instance v ≡ true → known.has_instance v ≡ true) (inputs : (instance name : V) (k : Kind) → context.input_kind instance name ≡ Some k → known.has_input instance name ≡ true)
     (outputs : (instance name : V) (k : Kind) → context.output_kind instance name ≡ Some k → known.has_output instance name ≡ true) (rule : PlainStmt V → Bool)
-    (controlled : (number : ℕ) (v : V) (from to : PlainExpr V) (by : Option (PlainExpr V)) (body : PlainBody V) → rule (repeat number v from to by body) ≡ true → known.has_variable v ≡ true) where
+    (controlled : (number : ℕ) (v : V) (from to : PlainExpr V) (by : Option (PlainExpr V)) (body : PlainBody V) → rule (for_to number v from to by body) ≡ true → known.has_variable v ≡ true) where
   kind_known : (e : PlainExpr V) (k : Kind) → kind_of_expr context.variable_kind context.output_kind e ≡ Some k → expr_known known e ≡ true
   kind_known (literal n) k is = refl
   kind_known (read v) k is = variables v k is
@@ -91,17 +91,17 @@ module _ {V : Type 0} (context : Context V) (known : Known V) (variables : (v : 
     stmt_is (call number instance arguments) is own inside =
         let parts = and_parts (context.is_instance instance) (list_all (argument_fits context instance) arguments) is in
         both (known.has_instance instance) (list_all (argument_known known instance) arguments) (instances instance parts.0) (arguments_are instance arguments parts.1)
-    stmt_is (choose number branches last) is own inside =
+    stmt_is (if_else number branches last) is own inside =
         let parts = and_parts (branches_fit context branches) (all_fit context last) is in
         let also = and_parts (every_branch rule branches) (every rule last) inside in
         both (branches_known known branches) (body_known known last) (branches_are branches parts.0 also.0) (body_is last parts.1 also.1)
-    stmt_is (select number e choices last) is own inside =
+    stmt_is (case_of number e choices last) is own inside =
         let parts = and_parts (is_of context kind.Dint e) (choices_fit context choices && all_fit context last) is in
         let rest = and_parts (choices_fit context choices) (all_fit context last) parts.1 in
         let also = and_parts (every_choice rule choices) (every rule last) inside in
         both (expr_known known e) (choices_known known choices && body_known known last) (of_known kind.Dint e parts.0)
         (both (choices_known known choices) (body_known known last) (choices_are choices rest.0 also.0) (body_is last rest.1 also.1))
-    stmt_is (repeat number v from to by body) is own inside =
+    stmt_is (for_to number v from to by body) is own inside =
         let p = and_parts (is_of context kind.Dint from) (is_of context kind.Dint to && (option_is_of context kind.Dint by && all_fit context body)) is in
         let q = and_parts (is_of context kind.Dint to) (option_is_of context kind.Dint by && all_fit context body) p.1 in
         let r = and_parts (option_is_of context kind.Dint by) (all_fit context body) q.1 in

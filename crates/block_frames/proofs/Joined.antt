@@ -5,7 +5,7 @@ use Rattle.st_tree.specs.declared.tree.Stmt.{Stmt}
 use Rattle.st_tree.specs.declared.tree.Branch.{Branch}
 use Rattle.st_tree.specs.declared.tree.Choice.{Choice}
 use Rattle.st_tree.specs.declared.tree.Label.{Label}
-use Rattle.st_tree.specs.Plain.{PlainExpr, PlainStmt, empty, assign, call, choose, select, repeat, PlainBody, done, next, Branches, no_branch, branch, Choices, no_choice, choice}
+use Rattle.st_tree.specs.Plain.{PlainExpr, PlainStmt, empty, assign, call, if_else, case_of, for_to, PlainBody, done, next, Branches, no_branch, branch, Choices, no_choice, choice}
 use Rattle.st_tree.specs.Numbers.{count_stmt, count_body, count_branches, count_choices}
 use Rattle.st_tree.specs.View.{view_stmt, view_body, view_branch, view_branches, view_choice, view_choices}
 use Rattle.block_frames.specs.declared.scope.Scope.{Scope}
@@ -52,9 +52,9 @@ pub one_at_least : {V : Type 0} (s : PlainStmt V) → 1 ≤ count_stmt s
 one_at_least (empty number) = omega arith
 one_at_least (assign number v e) = omega arith
 one_at_least (call number instance arguments) = omega arith
-one_at_least (choose number branches last) = omega arith
-one_at_least (select number e choices last) = omega arith
-one_at_least (repeat number v from to by body) = omega arith
+one_at_least (if_else number branches last) = omega arith
+one_at_least (case_of number e choices last) = omega arith
+one_at_least (for_to number v from to by body) = omega arith
 
 module _ (scope : Scope) where
   -- what was resolved, and what is still to be resolved from a number on, are the whole; so are their counts

@@ -11,7 +11,7 @@ use Rattle.plant_types.specs.declared.values.Kind.{Kind}
 use Rattle.block_order.specs.Chains.{Among}
 use Rattle.st_tree.specs.Every.{every}
 use Rattle.st_tree.specs.Fits.{all_fit}
-use Rattle.st_tree.specs.Plain.{PlainExpr, repeat, PlainBody}
+use Rattle.st_tree.specs.Plain.{PlainExpr, for_to, PlainBody}
 use Rattle.st_tree.specs.Mapping.{body_known}
 use Rattle.st_parser.specs.declared.unit.SectionKind.{SectionKind}
 use Rattle.st_parser.specs.declared.unit.SectionKind.TheVariants as sections
@@ -25,7 +25,7 @@ use Rattle.st_names.specs.Scopes.{variable_kind, region_named, is_input, is_assi
 use Rattle.st_names.specs.Taken.{or_place}
 use Rattle.st_names.specs.Faults.{first_pou, first_unit}
 use Rattle.st_typing.specs.Kinds.{context_of, instance_fits, sort_fits, declared_fits, is_global_section, is_global, globals_misfit, pou_misfit}
-use Rattle.st_typing.specs.Constants.{initial_constant, bounds_allowed, spares, stmt_allowed, globals_inconstant, pou_inconstant}
+use Rattle.st_typing.specs.Constants.{initial_constant, bounds_allowed, never_assigns, stmt_allowed, globals_inconstant, pou_inconstant}
 use Rattle.st_typing.specs.Faults.{AreTyped}
 use Rattle.plant_logic.specs.Source.{PlainRoutine, Source}
 use Rattle.plant_logic.specs.Pous.{pous_of, block_pous, program_pous, block_names}
@@ -157,8 +157,8 @@ module _ (units : List PlainUnit) where
         by_kind name None is there = absurd (cc)
         by_kind name (Some k) is there = variable_numbered units p fits name k is
 
-    allowed_numbered : (number : ℕ) (v : List ℕ) (from to : PlainExpr (List ℕ)) (by : Option (PlainExpr (List ℕ))) (body : PlainBody (List ℕ)) → stmt_allowed own (repeat number v from to by body) ≡ true → (numbered_in source (routine p)).has_variable v ≡ true
-    allowed_numbered number v from to by body allowed = control_numbered units p fits v (and_parts (is_control own v) (bounds_allowed from to by && spares v body) allowed).0
+    allowed_numbered : (number : ℕ) (v : List ℕ) (from to : PlainExpr (List ℕ)) (by : Option (PlainExpr (List ℕ))) (body : PlainBody (List ℕ)) → stmt_allowed own (for_to number v from to by body) ≡ true → (numbered_in source (routine p)).has_variable v ≡ true
+    allowed_numbered number v from to by body allowed = control_numbered units p fits v (and_parts (is_control own v) (bounds_allowed from to by && never_assigns v body) allowed).0
 
     body_numbered : body_known (numbered_in source (routine p)) p.body ≡ true
     body_numbered =

@@ -10,7 +10,6 @@ mod Flags
 mod Callings
 mod Listed
 mod Fitting
-pub mod Growing
 mod Joined
 mod Scopes
 mod Built

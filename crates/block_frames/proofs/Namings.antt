@@ -4,7 +4,7 @@ use Rattle.std.specs.Prelude.{◌&&◌, map, option_map}
 use Rattle.std.specs.List.{list_all}
 use Rattle.plant_types.specs.declared.values.Kind.{Kind}
 use Rattle.st_tree.specs.Plain.{PlainExpr, literal, read, output_of, unary, binary, PlainArgument, input, output}
-use Rattle.st_tree.specs.Plain.{PlainStmt, empty, assign, call, choose, select, repeat, PlainBody, done, next, Branches, no_branch, branch, Choices, no_choice, choice}
+use Rattle.st_tree.specs.Plain.{PlainStmt, empty, assign, call, if_else, case_of, for_to, PlainBody, done, next, Branches, no_branch, branch, Choices, no_choice, choice}
 use Rattle.st_tree.specs.Numbers.{count_stmt, count_body, count_branches, count_choices, numbered_stmt, numbered, numbered_branches, numbered_choices}
 use Rattle.st_tree.specs.Kinds.{resolved_expr, resolved_argument, resolved_stmt, resolved_body, resolved_branches, resolved_choices, meant}
 use Rattle.st_tree.specs.Mapping.{Known, expr_known, option_known, argument_known, stmt_known, body_known, branches_known, choices_known}
@@ -15,9 +15,9 @@ module _ {V : Type 0} (known : Known V) where
     stmt_numbered n (empty number) = refl
     stmt_numbered n (assign number v e) = refl
     stmt_numbered n (call number instance arguments) = refl
-    stmt_numbered n (choose number branches last) = λ i. branches_numbered (n + 1) branches i && body_numbered (n + 1 + count_branches branches) last i
-    stmt_numbered n (select number e choices last) = λ i. expr_known known e && (choices_numbered (n + 1) choices i && body_numbered (n + 1 + count_choices choices) last i)
-    stmt_numbered n (repeat number v from to by body) = λ i. known.has_variable v && (expr_known known from && (expr_known known to && (option_known known by && body_numbered (n + 1) body i)))
+    stmt_numbered n (if_else number branches last) = λ i. branches_numbered (n + 1) branches i && body_numbered (n + 1 + count_branches branches) last i
+    stmt_numbered n (case_of number e choices last) = λ i. expr_known known e && (choices_numbered (n + 1) choices i && body_numbered (n + 1 + count_choices choices) last i)
+    stmt_numbered n (for_to number v from to by body) = λ i. known.has_variable v && (expr_known known from && (expr_known known to && (option_known known by && body_numbered (n + 1) body i)))
 
     body_numbered : (n : ℕ) (body : PlainBody V) → body_known known (numbered n body) ≡ body_known known body
     body_numbered n done = refl
@@ -56,9 +56,9 @@ module _ {V : Type 0} (known : Known V) where
       stmt_resolved (empty number) = refl
       stmt_resolved (assign number v e) = λ i. known.has_variable v && expr_resolved e i
       stmt_resolved (call number instance arguments) = λ i. known.has_instance instance && arguments_resolved instance arguments i
-      stmt_resolved (choose number branches last) = λ i. branches_resolved branches i && body_resolved last i
-      stmt_resolved (select number e choices last) = λ i. expr_resolved e i && (choices_resolved choices i && body_resolved last i)
-      stmt_resolved (repeat number v from to by body) = λ i. known.has_variable v && (expr_resolved from i && (expr_resolved to i && (option_resolved by i && body_resolved body i)))
+      stmt_resolved (if_else number branches last) = λ i. branches_resolved branches i && body_resolved last i
+      stmt_resolved (case_of number e choices last) = λ i. expr_resolved e i && (choices_resolved choices i && body_resolved last i)
+      stmt_resolved (for_to number v from to by body) = λ i. known.has_variable v && (expr_resolved from i && (expr_resolved to i && (option_resolved by i && body_resolved body i)))
 
       body_resolved : (body : PlainBody V) → body_known known (resolved_body variable_kind output_kind body) ≡ body_known known body
       body_resolved done = refl

@@ -5,14 +5,14 @@ use Rattle.plant_types.specs.Words.{same_word}
 use Rattle.st_tree.specs.Mapping.{Mapping, Known, body_known}
 use Rattle.plant_logic.specs.declared.logic.BlockRef.{BlockRef}
 use Rattle.plant_logic.specs.declared.logic.BlockRef.TheVariants.{Ton, Tof, RTrig, Declared}
-use Rattle.plant_logic.specs.Source.{PlainRoutine, Source}
+use Rattle.plant_logic.specs.Source.{PlainRoutine, Source, global_cells}
 use Rattle.plant_logic.specs.Names.{find_word, instance_words, block_named}
 use Rattle.plant_logic.specs.Worlds.{globals_routine}
 use Rattle.plant_logic.specs.Seats.{value_number, member_number}
 
 -- the number of a variable: a global's is its place among these, and those of the routine's own variables follow
 abbrev pub variable_number : Source → PlainRoutine → List ℕ → Option ℕ
-variable_number source r name = value_number source.globals r (length source.globals) name
+variable_number source r name = value_number source.globals r (global_cells source) name
 
 -- the number of an instance: its place among the routine's
 abbrev pub instance_number : PlainRoutine → List ℕ → Option ℕ

@@ -7,7 +7,7 @@ ghost use Rattle.st_tree.specs.Alike.{Agree};
 ghost use Rattle.st_tree.specs.Every.{every};
 ghost use Rattle.st_tree.specs.Fits.{Context, all_fit};
 ghost use Rattle.st_tree.specs.Mapping.{Known, body_known};
-ghost use Rattle.st_tree.specs.Plain.{PlainExpr, PlainStmt, repeat, PlainBody};
+ghost use Rattle.st_tree.specs.Plain.{PlainExpr, PlainStmt, for_to, PlainBody};
 ghost use Rattle.st_parser.specs.Units.{PlainPou, PlainUnit};
 ghost use Rattle.st_names.specs.DeclaredNames.{PlainDeclared, declared_in, sort_kind};
 ghost use Rattle.st_names.specs.Scopes.{variable_kind, instance_type, is_control};
@@ -16,7 +16,7 @@ ghost use Rattle.st_typing.specs.Kinds.{pou_misfit};
 ghost use Rattle.st_typing.specs.Faults.{AreTyped};
 ghost use Rattle.plant_logic.specs.Pous.{block_names};
 ghost use Rattle.plant_logic.specs.Units.{routine_of, source_in};
-ghost use Rattle.plant_logic.specs.Source.{PlainRoutine, Source};
+ghost use Rattle.plant_logic.specs.Source.{PlainRoutine, Source, global_cells};
 ghost use Rattle.plant_logic.specs.Blocks.{AreBelow, HasItsTypes};
 ghost use Rattle.plant_logic.specs.Paths.{paths_rule, type_paths};
 ghost use Rattle.plant_logic.specs.Layout.{ClockAt, clocks_rule, routine_clocks, IsDistinctlyNamed};
@@ -39,7 +39,7 @@ pub fn frames_agree()
         → HasItsTypes source → IsDistinctlyNamed source → HasAllNames source
         → (t n : ℕ) (p : PlainRoutine) → slice_get source.programs n ≡ Some p → (w : World) (cells : PlainCells) → StandFor source cells w
         → Agree (λ w cells. StandFor source cells w) (run_program source n t w)
-        (run_frame t (length source.globals) frames (length frames) (length order + n) (program_base source n) (p.name ∷ []) cells) }
+        (run_frame t (global_cells source) frames (length frames) (length order + n) (program_base source n) (p.name ∷ []) cells) }
 {}
 
 /// The cells before the first scan stand for the world before it: the initial values that frames assign are those of the globals, of the
@@ -60,7 +60,7 @@ pub fn fitting_names_are_known<V>()
         → ((instance name : V) (k : Kind) → context.input_kind instance name ≡ Some k → known.has_input instance name ≡ true)
         → ((instance name : V) (k : Kind) → context.output_kind instance name ≡ Some k → known.has_output instance name ≡ true)
         → (rule : PlainStmt V → Bool)
-        → ((number : ℕ) (v : V) (from to : PlainExpr V) (by : Option (PlainExpr V)) (body : PlainBody V) → rule (repeat number v from to by body) ≡ true → known.has_variable v ≡ true)
+        → ((number : ℕ) (v : V) (from to : PlainExpr V) (by : Option (PlainExpr V)) (body : PlainBody V) → rule (for_to number v from to by body) ≡ true → known.has_variable v ≡ true)
         → (body : PlainBody V) → all_fit context body ≡ true → every rule body ≡ true → body_known known body ≡ true }
 {}
 

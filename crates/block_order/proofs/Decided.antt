@@ -6,11 +6,11 @@ use Rattle.std.proofs.lemmas.Option.{same_Some, slice_get_within}
 use Rattle.plant_types.specs.Words.{folded}
 use Rattle.block_order.specs.Chains.{Among, Reaches, HoldsItself, has_chain}
 use Rattle.block_order.specs.Blocks.{PlainBlock, declared_in, BlockHoldsItself, TooDeep, NoneHoldsItself, NoneTooDeep, AreOrdered}
-use Rattle.block_order.specs.Faults.{IsOrderFault}
+use Rattle.block_order.specs.Faults.{IsNestingFault}
 use Rattle.block_order.specs.Names.{number, row_at}
 use Rattle.block_order.specs.Search.{Search, seen_all}
-use Rattle.block_order.specs.declared.faults.OrderFault.{OrderFault}
-use Rattle.block_order.specs.declared.faults.OrderFault.TheVariants as fault
+use Rattle.block_order.specs.declared.faults.NestingFault.{NestingFault}
+use Rattle.block_order.specs.declared.faults.NestingFault.TheVariants as fault
 use Rattle.block_order.proofs.Moved.{holds_moved, holds_back}
 use Rattle.block_order.proofs.Rows.{lt_or_le}
 use Rattle.block_order.proofs.Numbered.{named, first_within, number_some, one_word, row_kept, row_least}
@@ -111,7 +111,7 @@ module _ (blocks : List PlainBlock) where
       ]
 
   -- none holds itself, or one is the first that does
-  pub holder_or_none : NoneHoldsItself blocks ⊎ ((i : ℕ) × IsOrderFault blocks (fault.HoldsItself i))
+  pub holder_or_none : NoneHoldsItself blocks ⊎ ((i : ℕ) × IsNestingFault blocks (fault.HoldsItself i))
   holder_or_none = first_or_none blocks (BlockHoldsItself blocks) block_holds
 
   -- none is too deep, or one is
@@ -122,7 +122,7 @@ module _ (blocks : List PlainBlock) where
         | inr found ↦ inr (found.0, found.1.0.0, found.1.0.1, found.1.0.2)
       ]
 
-  pub some_answer : (NoneHoldsItself blocks × NoneTooDeep blocks) ⊎ ((f : OrderFault) × IsOrderFault blocks f × (f ≢ fault.Memory))
+  pub some_answer : (NoneHoldsItself blocks × NoneTooDeep blocks) ⊎ ((f : NestingFault) × IsNestingFault blocks f × (f ≢ fault.Memory))
   some_answer =
       elim holder_or_none [
         | inr found ↦ inr (fault.HoldsItself found.0, found.1, λ e. cc e)
@@ -133,10 +133,10 @@ module _ (blocks : List PlainBlock) where
             ]
       ]
 
-  pub one_holder : (i j : ℕ) → IsOrderFault blocks (fault.HoldsItself i) → IsOrderFault blocks (fault.HoldsItself j) → i ≡ j
+  pub one_holder : (i j : ℕ) → IsNestingFault blocks (fault.HoldsItself i) → IsNestingFault blocks (fault.HoldsItself j) → i ≡ j
   one_holder = one_first blocks (BlockHoldsItself blocks)
 
-  pub one_fault : (f g : OrderFault) → IsOrderFault blocks f → IsOrderFault blocks g → f ≢ fault.Memory → g ≢ fault.Memory → f ≡ g
+  pub one_fault : (f g : NestingFault) → IsNestingFault blocks f → IsNestingFault blocks g → f ≢ fault.Memory → g ≢ fault.Memory → f ≡ g
   one_fault fault.Memory g a b some other = absurd (some refl)
   one_fault (fault.HoldsItself i) fault.Memory a b some other = absurd (other refl)
   one_fault (fault.HoldsItself i) (fault.HoldsItself j) a b some other = ap (λ n. fault.HoldsItself n) (one_holder i j a b)
@@ -146,7 +146,7 @@ module _ (blocks : List PlainBlock) where
   one_fault fault.TooDeep fault.TooDeep a b some other = refl
 
   -- what is in order has no fault
-  pub apart : (order : List ℕ) (f : OrderFault) → AreOrdered blocks order → IsOrderFault blocks f → f ≡ fault.Memory
+  pub apart : (order : List ℕ) (f : NestingFault) → AreOrdered blocks order → IsNestingFault blocks f → f ≡ fault.Memory
   apart order fault.Memory ordered is = refl
   apart order (fault.HoldsItself i) ordered is = absurd (ordered.apart i is.0.0 is.0.1 is.0.2)
   apart order fault.TooDeep ordered is = absurd (ordered.shallow is.1.0 is.1.1 is.1.2 is.1.3)

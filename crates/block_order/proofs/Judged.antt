@@ -7,10 +7,10 @@ use Rattle.plant_types.specs.Words.{folded}
 use Rattle.block_order.specs.Chains.{Among, Leads, HoldsItself, has_chain}
 use Rattle.block_order.specs.Graphs.{Graph, next_of, IsNumberOrder, IsSound, IsGraphFault}
 use Rattle.block_order.specs.Blocks.{PlainBlock, declared_in, BlockHoldsItself, NoneHoldsItself, Once, IsOrder, AreOrdered}
-use Rattle.block_order.specs.Faults.{IsOrderFault}
+use Rattle.block_order.specs.Faults.{IsNestingFault}
 use Rattle.block_order.specs.Names.{number, is_first, IsGraph}
-use Rattle.block_order.specs.declared.faults.OrderFault.{OrderFault}
-use Rattle.block_order.specs.declared.faults.OrderFault.TheVariants as fault
+use Rattle.block_order.specs.declared.faults.NestingFault.{NestingFault}
+use Rattle.block_order.specs.declared.faults.NestingFault.TheVariants as fault
 use Rattle.block_order.proofs.Lists.{among_any, among_at, moved_among}
 use Rattle.block_order.proofs.Moved.{chain_moved, holds_moved, holds_back, among_mapped}
 use Rattle.block_order.proofs.Numbered.{all_from, named, first_within, number_some, one_word, first_at, first_is, next_first, kept, row_first, number_below}
@@ -127,7 +127,7 @@ module _ (blocks : List PlainBlock) (graph : Graph) (is : IsGraph blocks graph) 
   none_holds : ((b : ℕ) → b < length graph → HoldsItself (next_of graph) b → ⊥) → NoneHoldsItself blocks
   none_holds free i block at h = free (number blocks (folded block.name)) (number_below blocks graph is (folded block.name)) (holds_number (folded block.name) h)
 
-  pub fault_is : (f : OrderFault) → IsGraphFault graph f → IsOrderFault blocks f
+  pub fault_is : (f : NestingFault) → IsGraphFault graph f → IsNestingFault blocks f
   fault_is fault.Memory p = p
   fault_is (fault.HoldsItself a) p = (holder a p.1, λ j block less at h. none_before j (λ b least. p.2 b (omega (arith, least, less))) j block (omega arith) at h)
   fault_is fault.TooDeep p =

@@ -4,8 +4,8 @@ use Rattle.std.specs.Global.{Global}
 use Rattle.std.specs.List.{All}
 use Rattle.block_order.specs.Chains.{Among, HoldsItself, has_chain}
 use Rattle.block_order.specs.Blocks.{Once}
-use Rattle.block_order.specs.declared.faults.OrderFault.{OrderFault}
-use Rattle.block_order.specs.declared.faults.OrderFault.TheVariants as fault
+use Rattle.block_order.specs.declared.faults.NestingFault.{NestingFault}
+use Rattle.block_order.specs.declared.faults.NestingFault.TheVariants as fault
 
 -- a row of numbers for each number
 abbrev pub Graph : Type 0
@@ -55,7 +55,7 @@ pub record IsSound (graph : Graph) (order : List ℕ) : Type 0 where
   pub ordered : IsNumberOrder graph order
 
 -- the first number that holds itself, or else that one has a chain of 16 steps
-abbrev pub IsGraphFault : Graph → OrderFault → Type 0
+abbrev pub IsGraphFault : Graph → NestingFault → Type 0
 IsGraphFault graph fault.Memory = Unit {0}
 IsGraphFault graph (fault.HoldsItself a) = FirstHolder graph (Some a)
 IsGraphFault graph fault.TooDeep = FirstHolder graph None × IsDeep graph 16

@@ -2,7 +2,7 @@ use std::alloc::AllocError;
 
 /// Why block types can't be put in order.
 #[derive(Clone, Copy, Debug, PartialEq, Eq, Drop)]
-pub enum OrderFault {
+pub enum NestingFault {
     /// Allocation failed.
     Memory,
     /// The block type of this number holds itself, directly or through others, and none before it does.
@@ -11,13 +11,13 @@ pub enum OrderFault {
     TooDeep,
 }
 
-impl From<AllocError> for OrderFault {
+impl From<AllocError> for NestingFault {
     ghost use Rattle.std.specs.Prelude.{◌≡◌};
-    ghost use Rattle.block_order.specs.declared.faults.OrderFault.TheVariants.{Memory};
+    ghost use Rattle.block_order.specs.declared.faults.NestingFault.TheVariants.{Memory};
 
     ghost from_gives = { λ _ fault. fault ≡ Memory };
 
-    fn from(_: AllocError) -> OrderFault {
-        OrderFault::Memory
+    fn from(_: AllocError) -> NestingFault {
+        NestingFault::Memory
     }
 }

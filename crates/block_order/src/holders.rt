@@ -11,7 +11,7 @@ ghost use Rattle.block_order.specs.Components.{NeverRises};
 ghost use Rattle.block_order.specs.Graphs.{InRange, next_of, FirstHolder, IsSound, IsGraphFault};
 
 use crate::components::components;
-use crate::faults::OrderFault;
+use crate::faults::NestingFault;
 use crate::levels::order_of;
 use crate::search::leads;
 use std::alloc::{AllocError, Global};
@@ -106,15 +106,15 @@ fn first_holder(alloc: Global, graph: &[Vec<usize>]) -> Result<Option<usize>, Al
 
 /// The numbers in an order in which each stands after those to which it leads. Fails for the first that holds itself, or else where
 /// one has a chain of 16 steps, or if allocation fails.
-pub fn judge(alloc: Global, graph: &[Vec<usize>]) -> Result<Vec<usize>, OrderFault>
+pub fn judge(alloc: Global, graph: &[Vec<usize>]) -> Result<Vec<usize>, NestingFault>
     requires { InRange graph.now (length graph.now) }
     ensures { MatchResult result (λ order. IsSound graph.now order.items) (IsGraphFault graph.now) }
 {
     match order_of(alloc, graph, 16)? {
         Some(order) => Ok(order),
         None => match first_holder(alloc, graph)? {
-            Some(a) => Err(OrderFault::HoldsItself(a)),
-            None => Err(OrderFault::TooDeep),
+            Some(a) => Err(NestingFault::HoldsItself(a)),
+            None => Err(NestingFault::TooDeep),
         },
     }
 }

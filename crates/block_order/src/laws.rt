@@ -2,9 +2,9 @@
 
 ghost use Rattle.std.specs.Prelude.{◌≡◌, ◌≢◌, ◌⊎◌, ℕ, suc, List, false, nat_lt};
 ghost use Rattle.block_order.specs.Blocks.{PlainBlock, NoneHoldsItself, NoneTooDeep, AreOrdered};
-ghost use Rattle.block_order.specs.Faults.{IsOrderFault};
-ghost use Rattle.block_order.specs.declared.faults.OrderFault.{OrderFault};
-ghost use Rattle.block_order.specs.declared.faults.OrderFault.TheVariants as fault;
+ghost use Rattle.block_order.specs.Faults.{IsNestingFault};
+ghost use Rattle.block_order.specs.declared.faults.NestingFault.{NestingFault};
+ghost use Rattle.block_order.specs.declared.faults.NestingFault.TheVariants as fault;
 ghost use Rattle.block_order.specs.Chains.{has_chain, depth};
 
 /// It is deeper than so many levels exactly where there is a chain of as many steps from it.
@@ -19,11 +19,11 @@ pub fn levels_show_depth()
 
 /// Of each list of block types none holds itself and none is too deep, or the list has a fault that isn't `Memory`.
 pub fn sound_or_not()
-    ensures { (blocks : List PlainBlock) → (NoneHoldsItself blocks × NoneTooDeep blocks) ⊎ ((f : OrderFault) × IsOrderFault blocks f × (f ≢ fault.Memory)) }
+    ensures { (blocks : List PlainBlock) → (NoneHoldsItself blocks × NoneTooDeep blocks) ⊎ ((f : NestingFault) × IsNestingFault blocks f × (f ≢ fault.Memory)) }
 {}
 
 /// A list of block types has, `Memory` apart, at most one fault, and none where it has an order.
-pub fn one_order_fault()
-    ensures one { (blocks : List PlainBlock) (f g : OrderFault) → IsOrderFault blocks f → IsOrderFault blocks g → f ≢ fault.Memory → g ≢ fault.Memory → f ≡ g }
-    ensures apart { (blocks : List PlainBlock) (order : List ℕ) (f : OrderFault) → AreOrdered blocks order → IsOrderFault blocks f → f ≡ fault.Memory }
+pub fn one_nesting_fault()
+    ensures one { (blocks : List PlainBlock) (f g : NestingFault) → IsNestingFault blocks f → IsNestingFault blocks g → f ≢ fault.Memory → g ≢ fault.Memory → f ≡ g }
+    ensures apart { (blocks : List PlainBlock) (order : List ℕ) (f : NestingFault) → AreOrdered blocks order → IsNestingFault blocks f → f ≡ fault.Memory }
 {}

@@ -17,6 +17,6 @@ mod search;
 mod word;
 
 pub use blocks::Block;
-pub use faults::OrderFault;
-pub use laws::{deeper_where_chain, levels_show_depth, one_order_fault, sound_or_not};
+pub use faults::NestingFault;
+pub use laws::{deeper_where_chain, levels_show_depth, one_nesting_fault, sound_or_not};
 pub use order::order_blocks;

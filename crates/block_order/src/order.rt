@@ -1,9 +1,9 @@
 ghost use Rattle.std.specs.Prelude.{◌<◌, All, IfOk, MatchResult, length};
 ghost use Rattle.block_order.specs.Blocks.{AreOrdered};
-ghost use Rattle.block_order.specs.Faults.{IsOrderFault};
+ghost use Rattle.block_order.specs.Faults.{IsNestingFault};
 
 use crate::blocks::Block;
-use crate::faults::OrderFault;
+use crate::faults::NestingFault;
 use crate::holders::judge;
 use crate::names::{firsts, graph_of, names_of};
 use std::alloc::Global;
@@ -14,8 +14,8 @@ use std::alloc::Global;
 ///
 /// Fails for the first block type that holds itself, directly or through others, or else where one is more than 16 deep (this
 /// profile), or if allocation fails.
-pub fn order_blocks(alloc: Global, blocks: &[Block<'_>]) -> Result<Vec<usize>, OrderFault>
-    ensures order { MatchResult result (λ order. AreOrdered blocks.now order.items) (IsOrderFault blocks.now) }
+pub fn order_blocks(alloc: Global, blocks: &[Block<'_>]) -> Result<Vec<usize>, NestingFault>
+    ensures order { MatchResult result (λ order. AreOrdered blocks.now order.items) (IsNestingFault blocks.now) }
     ensures range { IfOk result (λ order. All (λ a. a < length blocks.now) order.items) }
 {
     let names = names_of(alloc, blocks)?;

@@ -6,7 +6,7 @@ use Rattle.plant_types.specs.declared.values.Trap.{Trap}
 use Rattle.st_tree.specs.View.{view_body}
 use Rattle.st_tree.specs.Operators.{Outcome}
 use Rattle.st_tree.specs.Controls.{control_values, span_of}
-use Rattle.st_tree.specs.Plain.{PlainArgument, input, output, PlainStmt, empty, assign, call, choose, select, repeat, PlainBody, done, next, Branches, no_branch, branch, Choices, no_choice, choice}
+use Rattle.st_tree.specs.Plain.{PlainArgument, input, output, PlainStmt, empty, assign, call, if_else, case_of, for_to, PlainBody, done, next, Branches, no_branch, branch, Choices, no_choice, choice}
 use Rattle.st_tree.specs.Meaning.{Space, Ran, Done, Trapped, then_run, with_value, turns, labels_fit, Chosen, Took, Passed, or_else, on_test, outcome, step_of, take_inputs, give_outputs, run, run_all, first_true, first_fit, statement_spot}
 use Rattle.plant_cells.specs.Cells.{PlainCells}
 use Rattle.plant_cells.specs.Runs.{Path}
@@ -94,11 +94,11 @@ module _ (t globals : ℕ) (inner : ℕ → Base → Path → PlainCells → Ran
         both_moved (then_run (take_inputs s number instance arguments c) (λ u. s.enter u instance)) (then_run (take_inputs r number instance arguments c) (λ u. r.enter u instance)) (λ u. Done (give_outputs s instance arguments u)) (λ u. Done (give_outputs r instance arguments u))
         (both_moved (take_inputs s number instance arguments c) (take_inputs r number instance arguments c) (λ u. s.enter u instance) (λ u. r.enter u instance) (inputs_moved number instance arguments c) (λ u. called_moved (slice_get seats instance) u))
         (λ u. ap Done (outputs_same instance arguments u))
-    stmt_moved (choose number branches last) c = else_moved (first_true s number branches c) (first_true r number branches c) (run_all s last) (run_all r last) (branches_moved branches number c) (body_moved last)
-    stmt_moved (select number e choices last) c =
+    stmt_moved (if_else number branches last) c = else_moved (first_true s number branches c) (first_true r number branches c) (run_all s last) (run_all r last) (branches_moved branches number c) (body_moved last)
+    stmt_moved (case_of number e choices last) c =
         value_moved c number (outcome r c e) (λ n. or_else (first_fit s n choices c) (run_all s last)) (λ n. or_else (first_fit r n choices c) (run_all r last))
         (λ n. else_moved (first_fit s n choices c) (first_fit r n choices c) (run_all s last) (run_all r last) (choices_moved choices n c) (body_moved last))
-    stmt_moved (repeat number v from to by body) c =
+    stmt_moved (for_to number v from to by body) c =
         value_moved c number (span_of (outcome r c from) (outcome r c to) (step_of r c by)) (λ span. turns (λ u n. s.put u v n) (run_all s body) (control_values span) c) (λ span. turns (λ u n. r.put u v n) (run_all r body) (control_values span) c)
         (λ span. turns_moved (λ u n. r.put u v n) (run_all s body) (run_all r body) (body_moved body) (control_values span) c)
 

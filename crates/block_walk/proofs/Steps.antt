@@ -10,7 +10,7 @@ use Rattle.st_tree.specs.declared.tree.Stmt.{Stmt}
 use Rattle.st_tree.specs.declared.controls.Span.{Span}
 use Rattle.st_tree.specs.View.{view_body}
 use Rattle.st_tree.specs.Controls.{control_values, span_of}
-use Rattle.st_tree.specs.Plain.{PlainExpr, PlainArgument, input, output, PlainStmt, call, repeat, PlainBody}
+use Rattle.st_tree.specs.Plain.{PlainExpr, PlainArgument, input, output, PlainStmt, call, for_to, PlainBody}
 use Rattle.st_tree.specs.Meaning.{Space, Ran, Done, Trapped, then_run, with_value, run, run_all, turns, take_inputs, give_outputs, outcome, step_of, statement_spot}
 use Rattle.plant_cells.specs.declared.clock.Standard.{Standard}
 use Rattle.plant_cells.specs.declared.stop.Stop.{Stop}
@@ -115,7 +115,7 @@ module _ (t globals limit : ℕ) (frames : List Frame) (seats : List Seat) (base
 -- what a FOR did whose bounds and step have values
 module _ (s : Space ℕ PlainCells) where
   pub for_done : (stmt : PlainStmt ℕ) (number v : ℕ) (from to : PlainExpr ℕ) (by : Option (PlainExpr ℕ)) (body : PlainBody ℕ) (o : Result Span Trap) (span : Span) (q : Ran PlainCells) (c : PlainCells)
-      → stmt ≡ repeat number v from to by body → o ≡ span_of (outcome s c from) (outcome s c to) (step_of s c by) → o ≡ Ok span → q ≡ turns (λ w n. s.put w v n) (run_all s body) (control_values span) c → q ≡ run s stmt c
+      → stmt ≡ for_to number v from to by body → o ≡ span_of (outcome s c from) (outcome s c to) (step_of s c by) → o ≡ Ok span → q ≡ turns (λ w n. s.put w v n) (run_all s body) (control_values span) c → q ≡ run s stmt c
   for_done stmt number v from to by body o span q c is bounds ok e =
       e ∙ sym (ap (λ z. with_value c (statement_spot s number) z (λ x. turns (λ w n. s.put w v n) (run_all s body) (control_values x) c)) (sym bounds ∙ ok)) ∙ ap (λ z. run s z c) (sym is)
 

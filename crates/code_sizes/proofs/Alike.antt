@@ -1,7 +1,7 @@
 -- Bodies need the same words of stack up to a last number, where what they call does.
 use Rattle.std.proofs.Common.{refl, ℕ, max, List, Bool, true, false, Option, Some, None}
 use Rattle.std.specs.Prelude.{slice_get}
-use Rattle.st_tree.specs.Plain.{PlainStmt, empty, assign, call, choose, select, repeat, PlainBody, done, next, Branches, no_branch, branch, Choices, no_choice, choice}
+use Rattle.st_tree.specs.Plain.{PlainStmt, empty, assign, call, if_else, case_of, for_to, PlainBody, done, next, Branches, no_branch, branch, Choices, no_choice, choice}
 use Rattle.st_tree.specs.View.{view_body}
 use Rattle.block_walk.specs.declared.frame.SeatOf.{SeatOf}
 use Rattle.block_walk.specs.declared.frame.SeatOf.TheVariants as seat_of
@@ -27,12 +27,12 @@ module _ (last : ℕ) (f g : ℕ → ℕ) (same : (k : ℕ) → Same last (f k) 
       stmt_alike (assign number v e) = refl
       stmt_alike (call number instance arguments) =
           greatest last (inputs_words arguments) (inputs_words arguments) (entered 0 f (slice_get seats instance)) (entered 0 g (slice_get seats instance)) refl (found_alike (slice_get seats instance))
-      stmt_alike (choose number branches last_body) =
+      stmt_alike (if_else number branches last_body) =
           greatest last (branches_words seats f branches) (branches_words seats g branches) (body_words seats f last_body) (body_words seats g last_body) (branches_alike branches) (body_alike last_body)
-      stmt_alike (select number e choices last_body) =
+      stmt_alike (case_of number e choices last_body) =
           greatest last (expr_words e) (expr_words e) (max (choices_words seats f choices) (body_words seats f last_body)) (max (choices_words seats g choices) (body_words seats g last_body)) refl
           (greatest last (choices_words seats f choices) (choices_words seats g choices) (body_words seats f last_body) (body_words seats g last_body) (choices_alike choices) (body_alike last_body))
-      stmt_alike (repeat number v from to by body) = turned last (frame_turns from to by) (body_words seats f body) (body_words seats g body) (body_alike body)
+      stmt_alike (for_to number v from to by body) = turned last (frame_turns from to by) (body_words seats f body) (body_words seats g body) (body_alike body)
 
       pub body_alike : (body : PlainBody ℕ) → Same last (body_words seats f body) (body_words seats g body)
       body_alike done = refl

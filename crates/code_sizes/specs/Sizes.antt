@@ -4,7 +4,7 @@ use Rattle.std.specs.Option.{option_map_or}
 use Rattle.st_tree.specs.declared.tree.Label.{Label}
 use Rattle.st_tree.specs.declared.controls.Span.{Span}
 use Rattle.st_tree.specs.Plain.{PlainExpr, literal, read, output_of, unary, binary, PlainArgument, input, output}
-use Rattle.st_tree.specs.Plain.{PlainStmt, empty, assign, call, choose, select, repeat, PlainBody, done, next, Branches, no_branch, branch, Choices, no_choice, choice}
+use Rattle.st_tree.specs.Plain.{PlainStmt, empty, assign, call, if_else, case_of, for_to, PlainBody, done, next, Branches, no_branch, branch, Choices, no_choice, choice}
 use Rattle.st_tree.specs.View.{view_body}
 use Rattle.st_tree.specs.Operators.{Outcome}
 use Rattle.st_tree.specs.Constants.{constant_of}
@@ -141,9 +141,9 @@ module _ (seats : List Seat) (inner : ℕ → ℕ) where
     stmt_lines (assign number v e) = expr_lines e + 1
     stmt_lines (call number instance arguments) =
         inputs_lines (slice_get seats instance) arguments + entered 2 inner (slice_get seats instance) + outputs_lines arguments
-    stmt_lines (choose number branches last) = branches_lines branches (body_lines last)
-    stmt_lines (select number e choices last) = expr_lines e + choices_lines choices (body_lines last)
-    stmt_lines (repeat number v from to by body) = for_lines (frame_turns from to by) (body_lines body)
+    stmt_lines (if_else number branches last) = branches_lines branches (body_lines last)
+    stmt_lines (case_of number e choices last) = expr_lines e + choices_lines choices (body_lines last)
+    stmt_lines (for_to number v from to by body) = for_lines (frame_turns from to by) (body_lines body)
 
     -- the instructions of a body
     pub body_lines : PlainBody ℕ → ℕ
@@ -165,9 +165,9 @@ module _ (seats : List Seat) (inner : ℕ → ℕ) where
     stmt_words (empty number) = 0
     stmt_words (assign number v e) = expr_words e
     stmt_words (call number instance arguments) = max (inputs_words arguments) (entered 0 inner (slice_get seats instance))
-    stmt_words (choose number branches last) = max (branches_words branches) (body_words last)
-    stmt_words (select number e choices last) = max (expr_words e) (max (choices_words choices) (body_words last))
-    stmt_words (repeat number v from to by body) = for_words (frame_turns from to by) (body_words body)
+    stmt_words (if_else number branches last) = max (branches_words branches) (body_words last)
+    stmt_words (case_of number e choices last) = max (expr_words e) (max (choices_words choices) (body_words last))
+    stmt_words (for_to number v from to by body) = for_words (frame_turns from to by) (body_words body)
 
     -- the words of stack of a body
     pub body_words : PlainBody ℕ → ℕ

@@ -4,7 +4,7 @@ use Rattle.st_tree.specs.declared.tree.Literal.TheVariants.{Integer}
 use Rattle.st_tree.specs.declared.tree.Binary.TheVariants.{Less, Add, Multiply}
 use Rattle.st_tree.specs.declared.tree.Label.{Label}
 use Rattle.st_tree.specs.Plain.{PlainExpr, literal, read, binary}
-use Rattle.st_tree.specs.Plain.{PlainBody, assign, choose, select, repeat, done, next, branch, no_branch, choice, no_choice}
+use Rattle.st_tree.specs.Plain.{PlainBody, assign, if_else, case_of, for_to, done, next, branch, no_branch, choice, no_choice}
 use Rattle.block_walk.specs.declared.frame.Base.{Base}
 use Rattle.acc_vm.specs.declared.instr.Instr.{Instr}
 use Rattle.acc_vm.specs.declared.instr.Instr.TheVariants as instr
@@ -23,7 +23,7 @@ code body = instrs_of (body_code 2 [] (λ k. 0) (λ k base path pc. []) base 0 b
 
 -- IF 1 < own THEN global := own * (own + 2); ELSE own := 0; END_IF
 abbrev if_body : PlainBody ℕ
-if_body = next (choose 1 (branch (binary Less (number 1) (read 2)) (next (assign 2 0 (binary Multiply (read 2) (binary Add (read 2) (number 2)))) done) no_branch) (next (assign 3 2 (number 0)) done)) done
+if_body = next (if_else 1 (branch (binary Less (number 1) (read 2)) (next (assign 2 0 (binary Multiply (read 2) (binary Add (read 2) (number 2)))) done) no_branch) (next (assign 3 2 (number 0)) done)) done
 
 if_code : code if_body ≡ instr.Literal (pos 1) ∷ instr.BinarySlot Less 10 ∷ instr.JumpUnless 10
     ∷ instr.Load 10 ∷ instr.Push ∷ instr.Load 10 ∷ instr.BinaryLiteral Add (pos 2) ∷ instr.Binary Multiply ∷ instr.Store 0 ∷ instr.Jump 12
@@ -41,7 +41,7 @@ label low high = record { low = pos low; high = pos high }
 
 -- FOR own := 1 TO 5 BY 2 DO CASE own OF 1, 3..4: global := own; END_CASE END_FOR
 abbrev for_body : PlainBody ℕ
-for_body = next (repeat 1 2 (number 1) (number 5) (Some (number 2)) (next (select 2 (read 2) (choice (label 1 1 ∷ label 3 4 ∷ []) (next (assign 3 0 (read 2)) done) no_choice) done) done)) done
+for_body = next (for_to 1 2 (number 1) (number 5) (Some (number 2)) (next (case_of 2 (read 2) (choice (label 1 1 ∷ label 3 4 ∷ []) (next (assign 3 0 (read 2)) done) no_choice) done) done)) done
 
 for_code_is : code for_body ≡ instr.Begin 10 (pos 1) (pos 2)
     ∷ instr.Load 10 ∷ instr.JumpWithin (label 1 1) 5 ∷ instr.JumpWithin (label 3 4) 5 ∷ instr.Jump 8

@@ -5,7 +5,7 @@ use Rattle.plant_types.specs.declared.values.Place.{Place}
 use Rattle.st_tree.specs.declared.tree.Binary.{Binary}
 use Rattle.st_tree.specs.declared.tree.Label.{Label}
 use Rattle.st_tree.specs.declared.controls.Span.{Span}
-use Rattle.st_tree.specs.Plain.{PlainExpr, literal, read, output_of, unary, binary, PlainArgument, input, output, PlainStmt, empty, assign, call, choose, select, repeat, PlainBody, done, next, Branches, no_branch, branch, Choices, no_choice, choice}
+use Rattle.st_tree.specs.Plain.{PlainExpr, literal, read, output_of, unary, binary, PlainArgument, input, output, PlainStmt, empty, assign, call, if_else, case_of, for_to, PlainBody, done, next, Branches, no_branch, branch, Choices, no_choice, choice}
 use Rattle.st_tree.specs.Controls.{control_values}
 use Rattle.block_walk.specs.declared.frame.SeatOf.{SeatOf}
 use Rattle.block_walk.specs.declared.frame.SeatOf.TheVariants as seat_of
@@ -131,15 +131,15 @@ module _ (globals : ℕ) (seats : List Seat) (lines : ℕ → ℕ) (inner : ℕ 
       stmt_long (empty number) pc = refl
       stmt_long (assign number v e) pc = one_more (expr_code globals seats lines inner base path (place_of path number) e) _ (expr_lines e) (expr_long (place_of path number) e)
       stmt_long (call number instance arguments) pc = call_long (place_of path number) (slice_get seats instance) arguments pc
-      stmt_long (choose number branches last) pc = branches_long (place_of path number) branches (body_code globals seats lines inner base path last) (body_lines seats lines last) (body_long last) pc
-      stmt_long (select number e choices last) pc =
+      stmt_long (if_else number branches last) pc = branches_long (place_of path number) branches (body_code globals seats lines inner base path last) (body_lines seats lines last) (body_long last) pc
+      stmt_long (case_of number e choices last) pc =
           let c = expr_code globals seats lines inner base path (place_of path number) e in
           let d = choices_code globals seats lines inner base path (place_of path number) choices (body_code globals seats lines inner base path last) (body_lines seats lines last) (pc + expr_lines e) in
           let x = length-append c d in
           let y = expr_long (place_of path number) e in
           let z = choices_long (place_of path number) choices (body_code globals seats lines inner base path last) (body_lines seats lines last) (body_long last) (pc + expr_lines e) in
           omega arith
-      stmt_long (repeat number v from to by body) pc = for_long (place_of path number) _ (constant_span from to by) (body_code globals seats lines inner base path body) (body_lines seats lines body) (body_long body) pc
+      stmt_long (for_to number v from to by body) pc = for_long (place_of path number) _ (constant_span from to by) (body_code globals seats lines inner base path body) (body_lines seats lines body) (body_long body) pc
 
       pub body_long : (body : PlainBody ℕ) → Long (body_code globals seats lines inner base path body) (body_lines seats lines body)
       body_long done pc = refl

@@ -5,7 +5,7 @@ use Rattle.std.specs.Option.{option_map_or}
 use Rattle.std.proofs.lemmas.Bool.{cases_lt}
 use Rattle.st_tree.specs.declared.tree.Label.{Label}
 use Rattle.st_tree.specs.Plain.{PlainExpr, literal, read, output_of, unary, binary, PlainArgument, input, output}
-use Rattle.st_tree.specs.Plain.{PlainStmt, empty, assign, call, choose, select, repeat, PlainBody, done, next, Branches, no_branch, branch, Choices, no_choice, choice}
+use Rattle.st_tree.specs.Plain.{PlainStmt, empty, assign, call, if_else, case_of, for_to, PlainBody, done, next, Branches, no_branch, branch, Choices, no_choice, choice}
 use Rattle.st_tree.specs.View.{view_body}
 use Rattle.st_tree.specs.Costs.{expr_cost, tests_cost, labels_cost, arguments_cost, weight, weight_all, branches_weight, choices_weight}
 use Rattle.block_walk.specs.declared.frame.SeatOf.{SeatOf}
@@ -80,9 +80,9 @@ module _ (lines sizes : ℕ → ℕ) (few : (k : ℕ) → lines k ≤ 3 * sizes 
       stmt_few (empty number) = omega arith
       stmt_few (assign number v e) = let h = expr_few e in omega arith
       stmt_few (call number instance arguments) = let h = arguments_few (slice_get seats instance) arguments in let g = enter_few (slice_get seats instance) in omega arith
-      stmt_few (choose number branches last) = let h = branches_few branches (body_lines seats lines last) (weight_all add one (called_cost sizes seats) last) (body_few last) in omega arith
-      stmt_few (select number e choices last) = let h = choices_few choices (body_lines seats lines last) (weight_all add one (called_cost sizes seats) last) (body_few last) in let g = expr_few e in omega arith
-      stmt_few (repeat number v from to by body) = for_few (frame_turns from to by) (body_lines seats lines body) (weight_all add one (called_cost sizes seats) body) (body_few body)
+      stmt_few (if_else number branches last) = let h = branches_few branches (body_lines seats lines last) (weight_all add one (called_cost sizes seats) last) (body_few last) in omega arith
+      stmt_few (case_of number e choices last) = let h = choices_few choices (body_lines seats lines last) (weight_all add one (called_cost sizes seats) last) (body_few last) in let g = expr_few e in omega arith
+      stmt_few (for_to number v from to by body) = for_few (frame_turns from to by) (body_lines seats lines body) (weight_all add one (called_cost sizes seats) body) (body_few body)
 
       pub body_few : (body : PlainBody ℕ) → body_lines seats lines body ≤ 3 * weight_all add one (called_cost sizes seats) body
       body_few done = omega arith

@@ -9,7 +9,7 @@ use Rattle.plant_types.specs.declared.values.Place.{Place}
 use Rattle.st_tree.specs.declared.tree.Binary.{Binary}
 use Rattle.st_tree.specs.declared.tree.Label.{Label}
 use Rattle.st_tree.specs.declared.controls.Span.{Span}
-use Rattle.st_tree.specs.Plain.{PlainExpr, literal, read, output_of, unary, binary, PlainArgument, input, output, PlainStmt, empty, assign, call, choose, select, repeat, PlainBody, done, next, Branches, no_branch, branch, Choices, no_choice, choice}
+use Rattle.st_tree.specs.Plain.{PlainExpr, literal, read, output_of, unary, binary, PlainArgument, input, output, PlainStmt, empty, assign, call, if_else, case_of, for_to, PlainBody, done, next, Branches, no_branch, branch, Choices, no_choice, choice}
 use Rattle.st_tree.specs.Mapping.{Known, expr_known, option_known, argument_known, stmt_known, body_known, branches_known, choices_known}
 use Rattle.st_tree.specs.View.{view_body}
 use Rattle.st_tree.specs.Controls.{control_values}
@@ -167,15 +167,15 @@ module _ (has_value has_clock : ℕ → Bool) where
           let q = pc + inputs_lines seat arguments in
           both (inputs_code globals seats lines inner base path place seat arguments) _ (inputs_in place instance arguments p.1)
           (both (enter_code globals seats lines inner base path place seat q) _ (enter_in place seat q p.0) (outputs_in place instance arguments p.1))
-      stmt_in (choose number branches last) pc h =
+      stmt_in (if_else number branches last) pc h =
           let p = and_parts (branches_known known branches) (body_known known last) h in
           branches_in (place_of path number) branches (body_code globals seats lines inner base path last) (body_lines seats lines last) p.0 (λ q. body_in last q p.1) pc
-      stmt_in (select number e choices last) pc h =
+      stmt_in (case_of number e choices last) pc h =
           let p = and_parts (expr_known known e) (choices_known known choices && body_known known last) h in
           let q = and_parts (choices_known known choices) (body_known known last) p.1 in
           both (expr_code globals seats lines inner base path (place_of path number) e) _ (expr_in (place_of path number) e p.0)
           (choices_in (place_of path number) choices (body_code globals seats lines inner base path last) (body_lines seats lines last) q.0 (λ n. body_in last n q.1) (pc + expr_lines e))
-      stmt_in (repeat number v from to by body) pc h =
+      stmt_in (for_to number v from to by body) pc h =
           let p = and_parts (known.has_variable v) (expr_known known from && (expr_known known to && (option_known known by && body_known known body))) h in
           let q = and_parts (expr_known known from) (expr_known known to && (option_known known by && body_known known body)) p.1 in
           let r = and_parts (expr_known known to) (option_known known by && body_known known body) q.1 in

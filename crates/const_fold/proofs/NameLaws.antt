@@ -3,7 +3,7 @@ use Rattle.std.proofs.Common.{◌≡◌, ◌∙◌, refl, ap, List, [], ◌∷�
 use Rattle.std.specs.Prelude.{◌&&◌, Option, Some, None}
 use Rattle.std.specs.List.{list_all}
 use Rattle.st_tree.specs.Plain.{PlainExpr, literal, read, output_of, unary, binary, PlainArgument, input, output}
-use Rattle.st_tree.specs.Plain.{PlainStmt, empty, assign, call, choose, select, repeat, PlainBody, done, next, Branches, no_branch, branch, Choices, no_choice, choice}
+use Rattle.st_tree.specs.Plain.{PlainStmt, empty, assign, call, if_else, case_of, for_to, PlainBody, done, next, Branches, no_branch, branch, Choices, no_choice, choice}
 use Rattle.st_tree.specs.Mapping.{mapped_argument, mapped_branches, mapped_choices, Known, expr_known, option_known, argument_known, stmt_known, body_known, branches_known, choices_known}
 use Rattle.const_fold.specs.Folding.{folded_node, folding, folded_expr, folded_option, folded_stmt, folded_body}
 use Rattle.const_fold.proofs.LiteralLaws.{node_holds}
@@ -36,9 +36,9 @@ module _ {V : Type 0} (known : Known V) where
     stmt_names (empty number) = refl
     stmt_names (assign number v e) = ap (λ b. known.has_variable v && b) (expr_names e)
     stmt_names (call number instance arguments) = ap (λ b. known.has_instance instance && b) (arguments_names instance arguments)
-    stmt_names (choose number branches last) = λ i. branches_names branches i && body_names last i
-    stmt_names (select number e choices last) = λ i. expr_names e i && (choices_names choices i && body_names last i)
-    stmt_names (repeat number v from to by body) = λ i. known.has_variable v && (expr_names from i && (expr_names to i && (option_names by i && body_names body i)))
+    stmt_names (if_else number branches last) = λ i. branches_names branches i && body_names last i
+    stmt_names (case_of number e choices last) = λ i. expr_names e i && (choices_names choices i && body_names last i)
+    stmt_names (for_to number v from to by body) = λ i. known.has_variable v && (expr_names from i && (expr_names to i && (option_names by i && body_names body i)))
 
     pub body_names : (body : PlainBody V) → body_known known (folded_body body) ≡ body_known known body
     body_names done = refl

@@ -7,7 +7,7 @@ use Rattle.plant_types.specs.declared.values.Kind.{Kind}
 use Rattle.plant_types.specs.declared.values.Kind.TheVariants as kind
 use Rattle.st_tree.specs.declared.tree.Label.{Label}
 use Rattle.st_tree.specs.Plain.{PlainExpr, literal, read, output_of, unary, binary, PlainArgument, input, output}
-use Rattle.st_tree.specs.Plain.{PlainStmt, empty, assign, call, choose, select, repeat, PlainBody, done, next, Branches, no_branch, branch, Choices, no_choice, choice}
+use Rattle.st_tree.specs.Plain.{PlainStmt, empty, assign, call, if_else, case_of, for_to, PlainBody, done, next, Branches, no_branch, branch, Choices, no_choice, choice}
 use Rattle.st_tree.specs.Every.{every, every_inside, every_branch, every_choice}
 use Rattle.st_tree.specs.Fits.{Context, is_of, option_is_of, fits_option, argument_fits, stmt_fits, all_fit, branches_fit, choices_fit, may_control, stmt_controls_fit, controls_fit, branches_controls_fit, choices_controls_fit}
 use Rattle.st_tree.specs.Kinds.{kind_of_expr, is_kind, same_kind, is_bit}
@@ -67,12 +67,12 @@ module _ {V : Type 0} (context : Context V) where
     stmt_kept (call number instance arguments) is =
         both (context.is_instance instance) (list_all (argument_fits context instance) arguments) (context.is_instance instance) (list_all (argument_fits context instance) (map (mapped_argument folding instance) arguments))
         (λ h. h) (arguments_kept instance arguments) is
-    stmt_kept (choose number branches last) is =
+    stmt_kept (if_else number branches last) is =
         both (branches_fit context branches) (all_fit context last) (branches_fit context (mapped_branches folding branches)) (all_fit context (folded_body last)) (branches_kept branches) (body_kept last) is
-    stmt_kept (select number e choices last) is =
+    stmt_kept (case_of number e choices last) is =
         both (is_of context kind.Dint e) (choices_fit context choices && all_fit context last) (is_of context kind.Dint (folded_expr e)) (choices_fit context (mapped_choices folding choices) && all_fit context (folded_body last))
         (of_kept kind.Dint e) (both (choices_fit context choices) (all_fit context last) (choices_fit context (mapped_choices folding choices)) (all_fit context (folded_body last)) (choices_kept choices) (body_kept last)) is
-    stmt_kept (repeat number v from to by body) is =
+    stmt_kept (for_to number v from to by body) is =
         both (is_of context kind.Dint from) (is_of context kind.Dint to && (option_is_of context kind.Dint by && all_fit context body))
         (is_of context kind.Dint (folded_expr from)) (is_of context kind.Dint (folded_expr to) && (option_is_of context kind.Dint (folded_option by) && all_fit context (folded_body body))) (of_kept kind.Dint from)
         (both (is_of context kind.Dint to) (option_is_of context kind.Dint by && all_fit context body) (is_of context kind.Dint (folded_expr to)) (option_is_of context kind.Dint (folded_option by) && all_fit context (folded_body body)) (of_kept kind.Dint to)
@@ -98,9 +98,9 @@ module _ {V : Type 0} (context : Context V) where
     stmt_controls (empty number) = refl
     stmt_controls (assign number v e) = refl
     stmt_controls (call number instance arguments) = refl
-    stmt_controls (choose number branches last) = λ i. branches_controls branches i && body_controls last i
-    stmt_controls (select number e choices last) = λ i. choices_controls choices i && body_controls last i
-    stmt_controls (repeat number v from to by body) = ap (λ b. may_control context v && b) (body_controls body)
+    stmt_controls (if_else number branches last) = λ i. branches_controls branches i && body_controls last i
+    stmt_controls (case_of number e choices last) = λ i. choices_controls choices i && body_controls last i
+    stmt_controls (for_to number v from to by body) = ap (λ b. may_control context v && b) (body_controls body)
 
     pub body_controls : (body : PlainBody V) → controls_fit context (folded_body body) ≡ controls_fit context body
     body_controls done = refl
@@ -120,9 +120,9 @@ module _ {V : Type 0} (rule : PlainStmt V → Bool) (keeps : (s : PlainStmt V) �
     inside_rules (empty number) = refl
     inside_rules (assign number v e) = refl
     inside_rules (call number instance arguments) = refl
-    inside_rules (choose number branches last) = λ i. branches_rules branches i && body_rules last i
-    inside_rules (select number e choices last) = λ i. choices_rules choices i && body_rules last i
-    inside_rules (repeat number v from to by body) = body_rules body
+    inside_rules (if_else number branches last) = λ i. branches_rules branches i && body_rules last i
+    inside_rules (case_of number e choices last) = λ i. choices_rules choices i && body_rules last i
+    inside_rules (for_to number v from to by body) = body_rules body
 
     pub body_rules : (body : PlainBody V) → every rule (folded_body body) ≡ every rule body
     body_rules done = refl
@@ -145,6 +145,6 @@ module _ {V : Type 0} (test : List Label → Bool) where
   labels_stay (empty number) = refl
   labels_stay (assign number v e) = refl
   labels_stay (call number instance arguments) = refl
-  labels_stay (choose number branches last) = refl
-  labels_stay (select number e choices last) = all_labels_stay choices
-  labels_stay (repeat number v from to by body) = refl
+  labels_stay (if_else number branches last) = refl
+  labels_stay (case_of number e choices last) = all_labels_stay choices
+  labels_stay (for_to number v from to by body) = refl

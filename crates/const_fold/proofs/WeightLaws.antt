@@ -4,7 +4,7 @@ use Rattle.std.specs.Prelude.{Option, Some, None, option_map}
 use Rattle.std.proofs.lemmas.Nat.{mul-le}
 use Rattle.st_tree.specs.Constants.{constant_of}
 use Rattle.st_tree.specs.Plain.{PlainExpr, literal, read, output_of, unary, binary, PlainArgument, input, output}
-use Rattle.st_tree.specs.Plain.{PlainStmt, empty, assign, call, choose, select, repeat, PlainBody, done, next, Branches, no_branch, branch, Choices, no_choice, choice}
+use Rattle.st_tree.specs.Plain.{PlainStmt, empty, assign, call, if_else, case_of, for_to, PlainBody, done, next, Branches, no_branch, branch, Choices, no_choice, choice}
 use Rattle.st_tree.specs.Costs.{expr_cost, tests_cost, labels_cost, arguments_cost, weight, weight_all, branches_weight, choices_weight}
 use Rattle.st_tree.specs.Mapping.{mapped_argument, mapped_branches, mapped_choices}
 use Rattle.const_fold.specs.Folding.{folded_node, folding, folded_expr, folded_option, folded_stmt, folded_body}
@@ -54,16 +54,16 @@ module _ (join : ℕ → ℕ → ℕ) (joins : (a b c d : ℕ) → a ≤ b → c
     stmt_less (empty number) = omega arith
     stmt_less (assign number v e) = let first = expr_less e in omega arith
     stmt_less (call number instance arguments) = let first = arguments_less instance arguments in omega arith
-    stmt_less (choose number branches last) =
+    stmt_less (if_else number branches last) =
         let first = tests_less branches in
         let more = joins (branches_weight join turns called (mapped_branches folding branches)) (branches_weight join turns called branches) (weight_all join turns called (folded_body last)) (weight_all join turns called last) (branches_less branches) (body_less last) in
         omega arith
-    stmt_less (select number e choices last) =
+    stmt_less (case_of number e choices last) =
         let first = expr_less e in
         let labels = labels_same choices in
         let more = joins (choices_weight join turns called (mapped_choices folding choices)) (choices_weight join turns called choices) (weight_all join turns called (folded_body last)) (weight_all join turns called last) (choices_less choices) (body_less last) in
         omega arith
-    stmt_less (repeat number v from to by body) =
+    stmt_less (for_to number v from to by body) =
         turns_less (turns (folded_expr from) (folded_expr to) (folded_option by)) (turns from to by) (weight_all join turns called (folded_body body)) (weight_all join turns called body) (counts from to by) (body_less body)
 
     pub body_less : (body : PlainBody V) → weight_all join turns called (folded_body body) ≤ weight_all join turns called body

@@ -6,7 +6,7 @@ use Rattle.st_tree.specs.declared.tree.Literal.{Literal}
 use Rattle.st_tree.specs.Constants.{constant_of}
 use Rattle.st_tree.specs.Kinds.{literal_kind, literal_in_range}
 use Rattle.st_tree.specs.Meaning.{literal_worth}
-use Rattle.st_tree.specs.Plain.{PlainExpr, literal, PlainStmt, select, Choices, no_choice, choice}
+use Rattle.st_tree.specs.Plain.{PlainExpr, literal, PlainStmt, case_of, Choices, no_choice, choice}
 
 -- an expression is a literal of this kind and of this number, which is in the kind's range
 pub record IsLiteral {V : Type 0} (k : Kind) (n : ℤ) (e : PlainExpr V) : Type 0 where
@@ -28,5 +28,5 @@ all_labels test no_choice = true
 all_labels test (choice labels body rest) = test labels && all_labels test rest
 
 abbrev pub has_labels : {V : Type 0} → (List Label → Bool) → PlainStmt V → Bool
-has_labels test (select number e choices last) = all_labels test choices
+has_labels test (case_of number e choices last) = all_labels test choices
 has_labels test _ = true

@@ -2,7 +2,7 @@
 use Rattle.std.proofs.Common.{◌≡◌, ap, refl, ℕ, ◌+◌, ◌*◌, min, List, [], ◌∷◌, length, Option, Some, None, inl, inr, arith}
 use Rattle.std.specs.List.{sum_by}
 use Rattle.std.proofs.lemmas.List.Sums.{sum_by-cons}
-use Rattle.st_tree.specs.Plain.{PlainExpr, PlainStmt, empty, assign, call, choose, select, repeat, PlainBody, done, next, Branches, no_branch, branch, Choices, no_choice, choice}
+use Rattle.st_tree.specs.Plain.{PlainExpr, PlainStmt, empty, assign, call, if_else, case_of, for_to, PlainBody, done, next, Branches, no_branch, branch, Choices, no_choice, choice}
 use Rattle.st_tree.specs.Costs.{expr_cost, tests_cost, labels_cost, arguments_cost, weight, weight_all, branches_weight, choices_weight}
 use Rattle.block_order.specs.Chains.{Among}
 use Rattle.plant_logic.specs.declared.logic.BlockRef.{BlockRef}
@@ -39,13 +39,13 @@ module _ (join : ℕ → ℕ → ℕ) (last : ℕ) (joins : (a b c d : ℕ) → 
     stmt_alike (empty number) = refl
     stmt_alike (assign number v e) = refl
     stmt_alike (call number instance arguments) = sums last (1 + arguments_cost arguments) (1 + arguments_cost arguments) (f instance) (g instance) refl (same instance)
-    stmt_alike (choose number branches last_body) =
+    stmt_alike (if_else number branches last_body) =
         sums last (1 + tests_cost branches) (1 + tests_cost branches) (join (branches_weight join turns f branches) (weight_all join turns f last_body)) (join (branches_weight join turns g branches) (weight_all join turns g last_body)) refl
         (joins (branches_weight join turns f branches) (branches_weight join turns g branches) (weight_all join turns f last_body) (weight_all join turns g last_body) (branches_alike branches) (body_alike last_body))
-    stmt_alike (select number e choices last_body) =
+    stmt_alike (case_of number e choices last_body) =
         sums last (1 + expr_cost e + labels_cost choices) (1 + expr_cost e + labels_cost choices) (join (choices_weight join turns f choices) (weight_all join turns f last_body)) (join (choices_weight join turns g choices) (weight_all join turns g last_body))
         refl (joins (choices_weight join turns f choices) (choices_weight join turns g choices) (weight_all join turns f last_body) (weight_all join turns g last_body) (choices_alike choices) (body_alike last_body))
-    stmt_alike (repeat number v from to by body) =
+    stmt_alike (for_to number v from to by body) =
         sums last 2 2 (turns from to by * (3 + weight_all join turns f body)) (turns from to by * (3 + weight_all join turns g body)) refl
         (products last (turns from to by) (turns from to by) (3 + weight_all join turns f body) (3 + weight_all join turns g body) refl (sums last 3 3 (weight_all join turns f body) (weight_all join turns g body) refl (body_alike body)))
 

@@ -4,7 +4,7 @@ use Rattle.std.specs.Prelude.{codes}
 use Rattle.plant_types.specs.declared.values.Kind.TheVariants.{Dint}
 use Rattle.st_tree.specs.declared.tree.Literal.TheVariants.{Integer}
 use Rattle.st_tree.specs.declared.tree.Binary.TheVariants.{Add}
-use Rattle.st_tree.specs.Plain.{literal, read, binary, output, PlainExpr, assign, call, repeat, PlainBody, done, next}
+use Rattle.st_tree.specs.Plain.{literal, read, binary, output, PlainExpr, assign, call, for_to, PlainBody, done, next}
 use Rattle.st_tree.proofs.Counting.{turns_up}
 use Rattle.st_typing.specs.Constants.{for_turns}
 use Rattle.plant_logic.specs.declared.logic.Local.{Local}
@@ -35,7 +35,7 @@ count_on = next (assign 0 (codes "n") (binary Add (read (codes "n")) (integer 1)
 
 -- FOR name := 1 TO last DO body END_FOR
 abbrev loop : List ℕ → ℕ → PlainBody (List ℕ) → PlainBody (List ℕ)
-loop name last body = next (repeat 0 name (integer 1) (integer last) None body) done
+loop name last body = next (for_to 0 name (integer 1) (integer last) None body) done
 
 -- from 1 to 10000, to 1000 and to 300 by 1 there are as many turns
 turns_10000 : for_turns (integer 1) (integer 10000) None ≡ 10000

@@ -7,7 +7,7 @@ use Rattle.st_typing.specs.Constants.{for_turns}
 use Rattle.plant_logic.specs.declared.logic.BlockRef.{BlockRef}
 use Rattle.plant_logic.specs.declared.logic.BlockRef.TheVariants as block
 use Rattle.plant_logic.specs.declared.logic.Instance.{Instance}
-use Rattle.plant_logic.specs.Source.{PlainRoutine, Source}
+use Rattle.plant_logic.specs.Source.{PlainRoutine, Source, global_cells}
 use Rattle.plant_logic.specs.Blocks.{by_type}
 use Rattle.plant_logic.specs.Names.{block_named}
 
@@ -53,7 +53,7 @@ type_cost blocks n = by_type 0 routine_cost blocks n
 
 -- the slots of a source: its globals and those of its programs
 abbrev pub slot_count : Source → ℕ
-slot_count source = length source.globals + sum_by (routine_slots (type_slots source.blocks)) source.programs
+slot_count source = global_cells source + sum_by (routine_slots (type_slots source.blocks)) source.programs
 
 -- how large the programs of a source are together
 abbrev pub plant_size : Source → ℕ

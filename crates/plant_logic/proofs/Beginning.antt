@@ -15,7 +15,7 @@ use Rattle.st_tree.specs.Every.{every}
 use Rattle.st_tree.specs.Fits.{Context, all_fit, fits_option}
 use Rattle.st_tree.specs.Kinds.{is_kind}
 use Rattle.st_tree.specs.Meaning.{Ran, Done, Trapped, run_all}
-use Rattle.st_tree.specs.Plain.{PlainExpr, PlainStmt, assign, repeat, PlainBody}
+use Rattle.st_tree.specs.Plain.{PlainExpr, PlainStmt, assign, for_to, PlainBody}
 use Rattle.st_tree.specs.Ranges.{Leaves}
 use Rattle.st_tree.proofs.RangeLaws.{InRange}
 use Rattle.st_parser.specs.declared.unit.SectionKind.{SectionKind}
@@ -164,7 +164,7 @@ left_holds : (Holds : World → Type 0) (r : Ran World) → Leaves Holds r → H
 left_holds Holds (Done w) h = h
 left_holds Holds (Trapped w spot trap) h = h
 
-start_controls : {P : Type 0} (number : ℕ) (v : List ℕ) (from to : PlainExpr (List ℕ)) (by : Option (PlainExpr (List ℕ))) (body : PlainBody (List ℕ)) → is_start (repeat number v from to by body) ≡ true → P
+start_controls : {P : Type 0} (number : ℕ) (v : List ℕ) (from to : PlainExpr (List ℕ)) (by : Option (PlainExpr (List ℕ))) (body : PlainBody (List ℕ)) → is_start (for_to number v from to by body) ≡ true → P
 start_controls number v from to by body is = absurd (cc)
 
 module _ (units : List PlainUnit) (typed : AreTyped units) (order : List ℕ) (below : AreBelow (source_in units).blocks order) (no_globals : (name : List ℕ) (d : PlainDeclared) → global_named units name ≡ Some d → is_some (sort_kind d.sort) ≡ true) where

@@ -10,7 +10,7 @@ use Rattle.st_tree.specs.declared.tree.Unary.TheVariants.{Not, Negate, NegateTim
 use Rattle.st_tree.specs.declared.tree.Binary.{Binary}
 use Rattle.st_tree.specs.declared.tree.Binary.TheVariants.{And, Xor, Or, Equal, Unequal, Less, Greater, AtMost, AtLeast, Add, AddTime, Subtract, SubtractTime, Multiply, Divide, Mod}
 use Rattle.st_tree.specs.Plain.{PlainExpr, literal, read, output_of, unary, binary, PlainArgument, input, output}
-use Rattle.st_tree.specs.Plain.{PlainStmt, empty, assign, call, choose, select, repeat, PlainBody, done, next, Branches, no_branch, branch, Choices, no_choice, choice}
+use Rattle.st_tree.specs.Plain.{PlainStmt, empty, assign, call, if_else, case_of, for_to, PlainBody, done, next, Branches, no_branch, branch, Choices, no_choice, choice}
 use Rattle.st_tree.specs.Every.{every, every_inside, every_branch, every_choice}
 use Rattle.st_tree.specs.Numbers.{count_stmt, count_body, count_branches, count_choices, numbered_stmt, numbered, numbered_branches, numbered_choices}
 use Rattle.st_tree.specs.Kinds.{kind_of_expr, kind_in, is_kind, same_kind, is_bit, unary_kind, binary_kind, resolved_unary, resolved_binary, resolved_expr, resolved_argument, resolved_stmt, resolved_body, resolved_branches, resolved_choices, meant}
@@ -145,14 +145,14 @@ module _ {V : Type 0} (context : Context V) (variables : V → Kind) (outputs : 
     stmt_kept n (call number instance arguments) h =
         let p = and_parts (context.is_instance instance) (list_all (argument_fits context instance) arguments) h in
         λ i. p.0 i && arguments_kept instance arguments p.1 i
-    stmt_kept n (choose number branches last) h =
+    stmt_kept n (if_else number branches last) h =
         let p = and_parts (branches_fit context branches) (all_fit context last) h in
         λ i. branches_kept (n + 1) branches p.0 i && body_kept (n + 1 + count_branches branches) last p.1 i
-    stmt_kept n (select number e choices last) h =
+    stmt_kept n (case_of number e choices last) h =
         let p = and_parts (is_of context kind.Dint e) (choices_fit context choices && all_fit context last) h in
         let q = and_parts (choices_fit context choices) (all_fit context last) p.1 in
         λ i. of_kept kind.Dint e p.0 i && (choices_kept (n + 1) choices q.0 i && body_kept (n + 1 + count_choices choices) last q.1 i)
-    stmt_kept n (repeat number v from to by body) h =
+    stmt_kept n (for_to number v from to by body) h =
         let p = and_parts (is_of context kind.Dint from) (is_of context kind.Dint to && (option_is_of context kind.Dint by && all_fit context body)) h in
         let q = and_parts (is_of context kind.Dint to) (option_is_of context kind.Dint by && all_fit context body) p.1 in
         let r = and_parts (option_is_of context kind.Dint by) (all_fit context body) q.1 in
@@ -183,19 +183,19 @@ module _ {V : Type 0} (context : Context V) (variables : V → Kind) (outputs : 
 
 -- ---- control variables that a rule of statements allows may be such in the body that is meant
 module _ {V : Type 0} (context : Context V) (variables : V → Kind) (outputs : V → V → Kind) (rule : PlainStmt V → Bool)
-    (controls : (number : ℕ) (v : V) (from to : PlainExpr V) (by : Option (PlainExpr V)) (body : PlainBody V) → rule (repeat number v from to by body) ≡ true → may_control context v ≡ true) where
+    (controls : (number : ℕ) (v : V) (from to : PlainExpr V) (by : Option (PlainExpr V)) (body : PlainBody V) → rule (for_to number v from to by body) ≡ true → may_control context v ≡ true) where
   mutual
     stmt_controls : (n : ℕ) (s : PlainStmt V) → rule s ≡ true → every_inside rule s ≡ true → stmt_controls_fit context (resolved_stmt variables outputs (numbered_stmt n s)) ≡ true
     stmt_controls n (empty number) h inside = refl
     stmt_controls n (assign number v e) h inside = refl
     stmt_controls n (call number instance arguments) h inside = refl
-    stmt_controls n (choose number branches last) h inside =
+    stmt_controls n (if_else number branches last) h inside =
         let p = and_parts (every_branch rule branches) (every rule last) inside in
         λ i. branches_control (n + 1) branches p.0 i && body_controls (n + 1 + count_branches branches) last p.1 i
-    stmt_controls n (select number e choices last) h inside =
+    stmt_controls n (case_of number e choices last) h inside =
         let p = and_parts (every_choice rule choices) (every rule last) inside in
         λ i. choices_control (n + 1) choices p.0 i && body_controls (n + 1 + count_choices choices) last p.1 i
-    stmt_controls n (repeat number v from to by body) h inside = λ i. controls number v from to by body h i && body_controls (n + 1) body inside i
+    stmt_controls n (for_to number v from to by body) h inside = λ i. controls number v from to by body h i && body_controls (n + 1) body inside i
 
     body_controls : (n : ℕ) (body : PlainBody V) → every rule body ≡ true → controls_fit context (resolved_body variables outputs (numbered n body)) ≡ true
     body_controls n done h = refl

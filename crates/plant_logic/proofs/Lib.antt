@@ -1,5 +1,5 @@
 mod Starts
-mod Growing
+pub mod Growing
 mod Picked
 pub mod Apart
 mod Made

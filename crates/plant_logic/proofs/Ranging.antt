@@ -15,7 +15,7 @@ use Rattle.st_tree.specs.Every.{every}
 use Rattle.st_tree.specs.Fits.{Context, all_fit, may_control}
 use Rattle.st_tree.specs.Kinds.{is_kind}
 use Rattle.st_tree.specs.Meaning.{Ran, Done, run_all}
-use Rattle.st_tree.specs.Plain.{PlainExpr, PlainStmt, repeat, PlainBody}
+use Rattle.st_tree.specs.Plain.{PlainExpr, PlainStmt, for_to, PlainBody}
 use Rattle.st_tree.specs.Ranges.{IsInvariant, Leaves}
 use Rattle.st_tree.proofs.RangeLaws.{InRange}
 use Rattle.st_tree.proofs.RunLaws.{run_all_keeps}
@@ -26,7 +26,7 @@ use Rattle.st_names.specs.Known.{body_known, declared_known, globals_misnamed, p
 use Rattle.st_names.specs.Scopes.{variable_kind, instance_type, input_named, input_kind, output_named, output_kind, is_external, can_control, is_control}
 use Rattle.st_names.specs.Shared.{shared_in, is_block, global_named}
 use Rattle.st_names.specs.Taken.{repeats}
-use Rattle.st_typing.specs.Constants.{initial_constant, bounds_allowed, spares, stmt_allowed, globals_inconstant, pou_inconstant}
+use Rattle.st_typing.specs.Constants.{initial_constant, bounds_allowed, never_assigns, stmt_allowed, globals_inconstant, pou_inconstant}
 use Rattle.st_typing.specs.Faults.{AreTyped}
 use Rattle.st_typing.specs.Kinds.{context_of, declared_fits, globals_misfit, pou_misfit}
 use Rattle.plant_logic.specs.declared.logic.Instance.{Instance}
@@ -204,7 +204,7 @@ module _ (units : List PlainUnit) (typed : AreTyped units) (order : List ℕ) (b
 
       -- a body that fits keeps each value in range
       pub body_keeps : (rule : PlainStmt (List ℕ) → Bool) (body : PlainBody (List ℕ)) (w : World)
-          → ((number : ℕ) (v : List ℕ) (from to : PlainExpr (List ℕ)) (by : Option (PlainExpr (List ℕ))) (body : PlainBody (List ℕ)) → rule (repeat number v from to by body) ≡ true → may_control (freely (context_of units own)) v ≡ true)
+          → ((number : ℕ) (v : List ℕ) (from to : PlainExpr (List ℕ)) (by : Option (PlainExpr (List ℕ))) (body : PlainBody (List ℕ)) → rule (for_to number v from to by body) ≡ true → may_control (freely (context_of units own)) v ≡ true)
           → every rule body ≡ true → all_fit (freely (context_of units own)) (meant_in source r body) ≡ true → Holds w → Leaves Holds (run_all (routine_space t inner r path) (meant_in source r body) w)
       body_keeps rule body w controls allowed fits holds =
           run_all_keeps (freely (context_of units own)) (routine_space t inner r path) Holds invariant (meant_in source r body) w fits
@@ -224,9 +224,9 @@ module _ (units : List PlainUnit) (typed : AreTyped units) (order : List ℕ) (b
       let parts = and_parts (not (is_external d.section)) (is_kind kind.Dint (sort_kind d.sort)) control in
       rw found parts.1
 
-  controlled : (own : List PlainDeclared) (number : ℕ) (v : List ℕ) (from to : PlainExpr (List ℕ)) (by : Option (PlainExpr (List ℕ))) (body : PlainBody (List ℕ)) → stmt_allowed own (repeat number v from to by body) ≡ true → may_control (freely (context_of units own)) v ≡ true
+  controlled : (own : List PlainDeclared) (number : ℕ) (v : List ℕ) (from to : PlainExpr (List ℕ)) (by : Option (PlainExpr (List ℕ))) (body : PlainBody (List ℕ)) → stmt_allowed own (for_to number v from to by body) ≡ true → may_control (freely (context_of units own)) v ≡ true
   controlled own number v from to by body allowed =
-      let control = (and_parts (is_control own v) (bounds_allowed from to by && spares v body) allowed).0 in
+      let control = (and_parts (is_control own v) (bounds_allowed from to by && never_assigns v body) allowed).0 in
       control_by own v (find_declared own v) refl control
 
   -- what a block or program does keeps each value in range

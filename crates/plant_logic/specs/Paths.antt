@@ -2,7 +2,7 @@
 use Rattle.std.specs.Prelude.{ℕ, Bool, if◌then◌else◌, List, [], ◌∷◌, ◌++◌, map, codes}
 use Rattle.std.specs.List.{list_any}
 use Rattle.plant_types.specs.Words.{same_word}
-use Rattle.st_tree.specs.Plain.{PlainStmt, empty, assign, call, choose, select, repeat, PlainBody, done, next, Branches, no_branch, branch, Choices, no_choice, choice}
+use Rattle.st_tree.specs.Plain.{PlainStmt, empty, assign, call, if_else, case_of, for_to, PlainBody, done, next, Branches, no_branch, branch, Choices, no_choice, choice}
 use Rattle.plant_logic.specs.declared.logic.Instance.{Instance}
 use Rattle.plant_logic.specs.declared.logic.BlockRef.{BlockRef}
 use Rattle.plant_logic.specs.declared.logic.BlockRef.TheVariants.{Ton, Tof, RTrig, Declared}
@@ -16,9 +16,9 @@ abbrev mutual
   called_in_stmt (empty number) = []
   called_in_stmt (assign number v e) = []
   called_in_stmt (call number instance arguments) = instance ∷ []
-  called_in_stmt (choose number branches last) = called_in_branches branches ++ called_in last
-  called_in_stmt (select number e choices last) = called_in_choices choices ++ called_in last
-  called_in_stmt (repeat number v from to by body) = called_in body
+  called_in_stmt (if_else number branches last) = called_in_branches branches ++ called_in last
+  called_in_stmt (case_of number e choices last) = called_in_choices choices ++ called_in last
+  called_in_stmt (for_to number v from to by body) = called_in body
 
   -- the instances that a body calls, in order of text
   pub called_in : {V : Type 0} → PlainBody V → List V

@@ -5,7 +5,7 @@ use Rattle.plant_logic.specs.declared.logic.Variable.{Variable}
 use Rattle.plant_logic.specs.declared.logic.Instance.{Instance}
 use Rattle.plant_logic.specs.declared.logic.BlockRef.{BlockRef}
 use Rattle.plant_logic.specs.declared.logic.BlockRef.TheVariants.{Ton, Tof, RTrig, Declared}
-use Rattle.plant_logic.specs.Source.{PlainRoutine, Source}
+use Rattle.plant_logic.specs.Source.{PlainRoutine, Source, global_cells}
 use Rattle.plant_logic.specs.Names.{global_words, own_words, find_word}
 use Rattle.plant_logic.specs.Layout.{block_values, values_rule, routine_values, block_clocks, clocks_rule, routine_clocks}
 
@@ -52,7 +52,7 @@ program_clocks_before blocks (p ∷ ps) (suc k) = length (clocks_rule (routine_c
 
 -- the number of the first value of a program: after the globals and the programs before it
 abbrev pub program_values_base : Source → ℕ → ℕ
-program_values_base source k = length source.globals + program_values_before source.blocks source.programs k
+program_values_base source k = global_cells source + program_values_before source.blocks source.programs k
 
 -- the number of its first standard block
 abbrev pub program_clocks_base : Source → ℕ → ℕ

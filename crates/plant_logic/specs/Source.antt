@@ -1,5 +1,5 @@
 -- A source, as contracts see it.
-use Rattle.std.specs.Prelude.{ℕ, List, map}
+use Rattle.std.specs.Prelude.{ℕ, List, length, map}
 use Rattle.plant_logic.specs.declared.logic.Logic.{Logic}
 use Rattle.plant_logic.specs.declared.logic.Routine.{Routine}
 use Rattle.plant_logic.specs.declared.logic.Variable.{Variable}
@@ -22,6 +22,10 @@ pub record Source : Type 0 where
   pub starts : PlainBody (List ℕ)
   pub programs : List PlainRoutine
   pub blocks : List PlainRoutine
+
+-- how many cells the globals of a source have, which are the first of all cells: one each
+abbrev pub global_cells : Source → ℕ
+global_cells source = length source.globals
 
 abbrev pub view_routine : Routine → PlainRoutine
 view_routine r = record { name = r.name; locals = r.locals.items; instances = r.instances.items; starts = view_body r.starts.items; body = view_body r.body.items }

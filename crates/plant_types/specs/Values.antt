@@ -1,10 +1,12 @@
 -- Values of variables, their kinds and their ranges.
-use Rattle.std.specs.Prelude.{Bool, true, false, not, ◌||◌, if◌then◌else◌, Option, Some, None, ℤ, pos, negsuc, int_lt}
+use Rattle.std.specs.Prelude.{Bool, true, false, not, ◌||◌, if◌then◌else◌, Option, Some, None, ℕ, List, ℤ, pos, negsuc, int_lt, codes}
 use Rattle.std.specs.Ordering.{int_eq}
 use Rattle.plant_types.specs.declared.values.Given.{Given}
 use Rattle.plant_types.specs.declared.values.Given.TheVariants as given
 use Rattle.plant_types.specs.declared.values.Kind.{Kind}
 use Rattle.plant_types.specs.declared.values.Kind.TheVariants as kind
+use Rattle.plant_types.specs.declared.values.Trap.{Trap}
+use Rattle.plant_types.specs.declared.values.Trap.TheVariants as trap
 use Rattle.plant_types.specs.declared.values.Value.{Value}
 use Rattle.plant_types.specs.declared.values.Value.TheVariants as value
 
@@ -52,3 +54,8 @@ fitted kind.Dint (given.Truth b) = None
 fitted kind.Dint (given.Whole n) = if is_outside (negsuc 2147483647) (pos 2147483647) n then None else Some (value.Dint n)
 fitted kind.Time (given.Truth b) = None
 fitted kind.Time (given.Whole n) = if is_outside (negsuc 9223372036854775807) (pos 9223372036854775807) n then None else Some (value.Time n)
+
+-- the word for why a program stopped
+abbrev pub trap_text : Trap → List ℕ
+trap_text trap.Overflow = codes "OVERFLOW"
+trap_text trap.DivZero = codes "DIVZERO"

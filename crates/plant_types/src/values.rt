@@ -1,5 +1,5 @@
 ghost use Rattle.std.specs.Prelude.{◌≡◌, IsTrue};
-ghost use Rattle.plant_types.specs.Values.{kind_of, worth, value_of_kind, is_in_range, fitted};
+ghost use Rattle.plant_types.specs.Values.{kind_of, worth, value_of_kind, is_in_range, fitted, trap_text};
 
 /// What a variable can hold (IEC 61131-3's BOOL, DINT and TIME).
 #[derive(Clone, Copy, Debug, PartialEq, Eq, Drop)]
@@ -36,6 +36,18 @@ pub enum Trap {
     Overflow,
     /// A division by 0.
     DivZero,
+}
+
+impl Trap {
+    /// Its word, as `OVERFLOW`.
+    pub fn text(self) -> &'static str
+        ensures { result.now ≡ trap_text self }
+    {
+        match self {
+            Trap::Overflow => "OVERFLOW",
+            Trap::DivZero => "DIVZERO",
+        }
+    }
 }
 
 /// A statement of a program: the number of its body's path of names, and its own number in that body, from 1.

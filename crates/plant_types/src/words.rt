@@ -17,7 +17,7 @@ fn is_letter(byte: u8) -> bool
 }
 
 /// Whether a name may go on with this byte: a letter, an underscore or a digit.
-fn is_name_byte(byte: u8) -> bool
+pub fn is_name_byte(byte: u8) -> bool
     ensures { result ≡ is_name_byte byte }
 {
     is_letter(byte) || byte.is_ascii_digit()

@@ -10,7 +10,7 @@ use Rattle.std.proofs.lemmas.List.{length-map, get_or-map}
 use Rattle.std.proofs.lemmas.List.Sums.{sum_by-cons}
 use Rattle.std.proofs.lemmas.Option.{slice_get_within, get_or_from_slice_get}
 use Rattle.plant_types.specs.Words.{folded, same_word}
-use Rattle.st_tree.specs.Plain.{PlainStmt, empty, assign, call, choose, select, repeat, PlainBody, done, next, Branches, no_branch, branch, Choices, no_choice, choice}
+use Rattle.st_tree.specs.Plain.{PlainStmt, empty, assign, call, if_else, case_of, for_to, PlainBody, done, next, Branches, no_branch, branch, Choices, no_choice, choice}
 use Rattle.st_tree.specs.Costs.{weight, weight_all, branches_weight, choices_weight}
 use Rattle.block_order.specs.Chains.{Among}
 use Rattle.st_names.specs.Taken.{repeats, is_among}
@@ -54,17 +54,17 @@ module _ (called : List ℕ → ℕ) where
     stmt_heavy (empty number) = omega arith
     stmt_heavy (assign number v e) = omega arith
     stmt_heavy (call number instance arguments) = omega arith
-    stmt_heavy (choose number branches last) =
+    stmt_heavy (if_else number branches last) =
         let sum = weight_append heavy (called_in_branches branches) (called_in last) in
         let first = branches_heavy branches in
         let rest = body_heavy last in
         omega (arith, sum, first, rest)
-    stmt_heavy (select number e choices last) =
+    stmt_heavy (case_of number e choices last) =
         let sum = weight_append heavy (called_in_choices choices) (called_in last) in
         let first = choices_heavy choices in
         let rest = body_heavy last in
         omega (arith, sum, first, rest)
-    stmt_heavy (repeat number v from to by body) = let inside = body_heavy body in omega (arith, inside)
+    stmt_heavy (for_to number v from to by body) = let inside = body_heavy body in omega (arith, inside)
 
     pub body_heavy : (body : PlainBody (List ℕ)) → weight_of heavy (called_in body) ≤ weight_all (λ a b. a + b) (λ from to by. 1) called body
     body_heavy done = omega arith

@@ -5,7 +5,7 @@ use Rattle.std.specs.List.{list_all}
 use Rattle.std.proofs.lemmas.Bool.{and_parts}
 use Rattle.plant_types.specs.declared.values.Kind.{Kind}
 use Rattle.st_tree.specs.Plain.{PlainExpr, literal, read, output_of, unary, binary, PlainArgument, input, output}
-use Rattle.st_tree.specs.Plain.{PlainStmt, empty, assign, call, choose, select, repeat, PlainBody, done, next, Branches, no_branch, branch, Choices, no_choice, choice}
+use Rattle.st_tree.specs.Plain.{PlainStmt, empty, assign, call, if_else, case_of, for_to, PlainBody, done, next, Branches, no_branch, branch, Choices, no_choice, choice}
 use Rattle.st_tree.specs.Numbers.{count_stmt, count_body, count_branches, count_choices, numbered_stmt, numbered, numbered_branches, numbered_choices}
 use Rattle.st_tree.specs.Kinds.{resolved_expr, resolved_argument, resolved_stmt, resolved_body, resolved_branches, resolved_choices, meant}
 use Rattle.st_tree.specs.Mapping.{Mapping, mapped_expr, mapped_option, mapped_argument, mapped_stmt, mapped_body, mapped_branches, mapped_choices, Known, expr_known, option_known, argument_known, stmt_known, body_known, branches_known, choices_known}
@@ -72,15 +72,15 @@ module _ {V W : Type 0} (m : Mapping V W) (from : Known V) (to : Known W) (node 
     stmt_goes n (call number i arguments) h =
         let p = and_parts (from.has_instance i) (list_all (argument_known from i) arguments) h in
         both (to.has_instance (m.instance i)) (list_all (argument_known to (m.instance i)) (map (mapped_argument m i) (map (resolved_argument variable_kind output_kind) arguments))) (instance i p.0) (arguments_go i arguments p.1)
-    stmt_goes n (choose number branches last) h =
+    stmt_goes n (if_else number branches last) h =
         let p = and_parts (branches_known from branches) (body_known from last) h in
         both (branches_is (n + 1) branches) (body_is (n + 1 + count_branches branches) last) (branches_go (n + 1) branches p.0) (body_goes (n + 1 + count_branches branches) last p.1)
-    stmt_goes n (select number e choices last) h =
+    stmt_goes n (case_of number e choices last) h =
         let p = and_parts (expr_known from e) (choices_known from choices && body_known from last) h in
         let q = and_parts (choices_known from choices) (body_known from last) p.1 in
         both (expr_is e) (choices_is (n + 1) choices && body_is (n + 1 + count_choices choices) last) (expr_goes e p.0)
         (both (choices_is (n + 1) choices) (body_is (n + 1 + count_choices choices) last) (choices_go (n + 1) choices q.0) (body_goes (n + 1 + count_choices choices) last q.1))
-    stmt_goes n (repeat number v low high by body) h =
+    stmt_goes n (for_to number v low high by body) h =
         let p = and_parts (from.has_variable v) (expr_known from low && (expr_known from high && (option_known from by && body_known from body))) h in
         let q = and_parts (expr_known from low) (expr_known from high && (option_known from by && body_known from body)) p.1 in
         let r = and_parts (expr_known from high) (option_known from by && body_known from body) q.1 in

@@ -12,7 +12,7 @@ use Rattle.st_tree.specs.declared.tree.Unary.TheVariants.{Not, Negate, NegateTim
 use Rattle.st_tree.specs.declared.tree.Binary.{Binary}
 use Rattle.st_tree.specs.declared.tree.Binary.TheVariants.{And, Xor, Or, Equal, Unequal, Less, Greater, AtMost, AtLeast, Add, AddTime, Subtract, SubtractTime, Multiply, Divide, Mod}
 use Rattle.st_tree.specs.Plain.{PlainExpr, literal, read, output_of, unary, binary}
-use Rattle.st_tree.specs.Plain.{PlainStmt, empty, assign, call, choose, select, repeat, PlainBody, done, next, Branches, no_branch, branch, Choices, no_choice, choice}
+use Rattle.st_tree.specs.Plain.{PlainStmt, empty, assign, call, if_else, case_of, for_to, PlainBody, done, next, Branches, no_branch, branch, Choices, no_choice, choice}
 use Rattle.st_tree.specs.View.{view_body}
 use Rattle.st_tree.specs.Operators.{Outcome, eval_unary, eval_binary}
 use Rattle.st_tree.specs.Meaning.{then_one, then_two}
@@ -28,7 +28,7 @@ use Rattle.st_tree.proofs.RangeLaws.{InRange, value_in_range}
 use Rattle.st_parser.specs.Units.{PlainPou, PlainUnit}
 use Rattle.st_names.specs.DeclaredNames.{PlainDeclared, declared_in}
 use Rattle.st_names.specs.Scopes.{is_control}
-use Rattle.st_typing.specs.Constants.{has_value, is_step, no_kind, no_output_kind, meant_constant, constant_step, bounds_allowed, spares, stmt_allowed}
+use Rattle.st_typing.specs.Constants.{has_value, is_step, no_kind, no_output_kind, meant_constant, constant_step, bounds_allowed, never_assigns, stmt_allowed}
 use Rattle.st_typing.specs.Faults.{AreTyped}
 use Rattle.st_typing.specs.Kinds.{context_of}
 use Rattle.plant_logic.specs.Source.{PlainRoutine, Source}
@@ -225,18 +225,18 @@ module _ (source : Source) (r : PlainRoutine) (context : Context Name) (own : Li
     stmt_steady n (empty number) allowed inside fits = tt
     stmt_steady n (assign number v e) allowed inside fits = tt
     stmt_steady n (call number instance arguments) allowed inside fits = tt
-    stmt_steady n (choose number branches last) allowed inside fits =
+    stmt_steady n (if_else number branches last) allowed inside fits =
         let p = and_parts (every_branch (stmt_allowed own) branches) (every (stmt_allowed own) last) inside in
         let q = and_parts (branches_fit context branches) (all_fit context last) fits in
         (branches_steady (n + 1) branches p.0 q.0, body_steady (n + 1 + count_branches branches) last p.1 q.1)
-    stmt_steady n (select number e choices last) allowed inside fits =
+    stmt_steady n (case_of number e choices last) allowed inside fits =
         let p = and_parts (every_choice (stmt_allowed own) choices) (every (stmt_allowed own) last) inside in
         let q = and_parts (is_of context kind.Dint e) (choices_fit context choices && all_fit context last) fits in
         let u = and_parts (choices_fit context choices) (all_fit context last) q.1 in
         (choices_steady (n + 1) choices p.0 u.0, body_steady (n + 1 + count_choices choices) last p.1 u.1)
-    stmt_steady n (repeat number v from to by body) allowed inside fits =
-        let a = and_parts (is_control own v) (bounds_allowed from to by && spares v body) allowed in
-        let b = and_parts (bounds_allowed from to by) (spares v body) a.1 in
+    stmt_steady n (for_to number v from to by body) allowed inside fits =
+        let a = and_parts (is_control own v) (bounds_allowed from to by && never_assigns v body) allowed in
+        let b = and_parts (bounds_allowed from to by) (never_assigns v body) a.1 in
         let p = and_parts (is_of context kind.Dint from) (is_of context kind.Dint to && (option_is_of context kind.Dint by && all_fit context body)) fits in
         let q = and_parts (is_of context kind.Dint to) (option_is_of context kind.Dint by && all_fit context body) p.1 in
         let u = and_parts (option_is_of context kind.Dint by) (all_fit context body) q.1 in

@@ -12,7 +12,7 @@ use Rattle.st_tree.specs.Kinds.{resolved_expr, resolved_argument, resolved_stmt,
 use Rattle.st_tree.specs.Mapping.{mapped_expr, mapped_option, mapped_argument, mapped_stmt, mapped_body, mapped_branches, mapped_choices, expr_known, option_known, argument_known, stmt_known, body_known, branches_known, choices_known}
 use Rattle.st_tree.specs.Numbers.{numbered_stmt, numbered, numbered_branches, numbered_choices, count_stmt, count_body, count_branches, count_choices}
 use Rattle.st_tree.specs.Plain.{PlainExpr, literal, read, output_of, unary, binary, PlainArgument, input, output}
-use Rattle.st_tree.specs.Plain.{PlainStmt, empty, assign, call, choose, select, repeat, PlainBody, done, next, Branches, no_branch, branch, Choices, no_choice, choice}
+use Rattle.st_tree.specs.Plain.{PlainStmt, empty, assign, call, if_else, case_of, for_to, PlainBody, done, next, Branches, no_branch, branch, Choices, no_choice, choice}
 use Rattle.st_typing.specs.Constants.{no_kind, no_output_kind, meant_constant, constant_step, for_turns}
 use Rattle.st_typing.specs.Constants as typing
 use Rattle.plant_logic.specs.Source.{PlainRoutine, Source}
@@ -95,7 +95,7 @@ module _ (source : Source) (r : PlainRoutine) where
   labels_same n (choice labels body rest) = ap (λ m. length labels + m) (labels_same (n + count_body body) rest)
 
   -- what is known of a FOR is known of its body
-  repeat_known : (v : Name) (from to : PlainExpr Name) (by : Option (PlainExpr Name)) (body : PlainBody Name) → stmt_known (numbered_in source r) (repeat 0 v from to by body) ≡ true → body_known (numbered_in source r) body ≡ true
+  repeat_known : (v : Name) (from to : PlainExpr Name) (by : Option (PlainExpr Name)) (body : PlainBody Name) → stmt_known (numbered_in source r) (for_to 0 v from to by body) ≡ true → body_known (numbered_in source r) body ≡ true
   repeat_known v from to by body known =
       let k = numbered_in source r in
       let a = and_parts (k.has_variable v) (expr_known k from && (expr_known k to && (option_known k by && body_known k body))) known in
@@ -125,13 +125,13 @@ module _ (source : Source) (r : PlainRoutine) where
           let inside = less instance p.0 in
           let given = arguments_same instance arguments in
           omega (arith, inside, given)
-      stmt_less n (choose number branches last) known =
+      stmt_less n (if_else number branches last) known =
           let p = and_parts (branches_known (numbered_in source r) branches) (body_known (numbered_in source r) last) known in
           let tests = tests_same (n + 1) branches in
           let inside = branches_less (n + 1) branches p.0 in
           let otherwise = body_less (n + 1 + count_branches branches) last p.1 in
           omega (arith, tests, inside, otherwise)
-      stmt_less n (select number e choices last) known =
+      stmt_less n (case_of number e choices last) known =
           let q = and_parts (expr_known (numbered_in source r) e) (choices_known (numbered_in source r) choices && body_known (numbered_in source r) last) known in
           let p = and_parts (choices_known (numbered_in source r) choices) (body_known (numbered_in source r) last) q.1 in
           let first = expr_same e in
@@ -139,7 +139,7 @@ module _ (source : Source) (r : PlainRoutine) where
           let inside = choices_less (n + 1) choices p.0 in
           let otherwise = body_less (n + 1 + count_choices choices) last p.1 in
           omega (arith, first, labels, inside, otherwise)
-      stmt_less n (repeat number v from to by body) known =
+      stmt_less n (for_to number v from to by body) known =
           turns_less _ (for_turns from to by) (body_inner (n + 1) body) (weight_all max for_turns outer body) (turns_are from to by) (body_less (n + 1) body (repeat_known v from to by body known))
 
       pub body_less : (n : ℕ) (body : PlainBody Name) → body_known (numbered_in source r) body ≡ true → body_inner n body ≤ weight_all max for_turns outer body

@@ -2,7 +2,7 @@
 use Rattle.std.proofs.Common.{◌≡◌, ◌∙◌, refl, ap, sym, subst, ℕ, ℤ, pos}
 use Rattle.std.specs.Prelude.{Option, Some, None, option_map}
 use Rattle.st_tree.specs.Plain.{PlainExpr}
-use Rattle.st_tree.specs.Plain.{PlainStmt, empty, assign, call, choose, select, repeat, PlainBody, done, next, Branches, no_branch, branch, Choices, no_choice, choice}
+use Rattle.st_tree.specs.Plain.{PlainStmt, empty, assign, call, if_else, case_of, for_to, PlainBody, done, next, Branches, no_branch, branch, Choices, no_choice, choice}
 use Rattle.st_tree.specs.Constants.{constant_of}
 use Rattle.st_tree.specs.Mapping.{mapped_branches, mapped_choices}
 use Rattle.st_tree.specs.Operators.{Outcome}
@@ -43,9 +43,9 @@ module _ (constants : KeepsConstants) where
     stmt_steady (empty number) h = tt
     stmt_steady (assign number v e) h = tt
     stmt_steady (call number instance arguments) h = tt
-    stmt_steady (choose number branches last) h = (branches_steady branches h.0, body_steady last h.1)
-    stmt_steady (select number e choices last) h = (choices_steady choices h.0, body_steady last h.1)
-    stmt_steady (repeat number v from to by body) h = (subst IsSteady (sym (span_kept from to by)) h.0, body_steady body h.1)
+    stmt_steady (if_else number branches last) h = (branches_steady branches h.0, body_steady last h.1)
+    stmt_steady (case_of number e choices last) h = (choices_steady choices h.0, body_steady last h.1)
+    stmt_steady (for_to number v from to by body) h = (subst IsSteady (sym (span_kept from to by)) h.0, body_steady body h.1)
 
     pub body_steady : (body : PlainBody ℕ) → SteadyBody body → SteadyBody (folded_body body)
     body_steady done h = tt

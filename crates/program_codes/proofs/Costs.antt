@@ -4,7 +4,7 @@ use Rattle.std.specs.Prelude.{Option, Some, None, slice_get}
 use Rattle.std.specs.Option.{option_map_or}
 use Rattle.std.proofs.lemmas.Nat.{mul-le}
 use Rattle.st_tree.specs.Plain.{PlainExpr}
-use Rattle.st_tree.specs.Plain.{PlainStmt, empty, assign, call, choose, select, repeat, PlainBody, done, next, Branches, no_branch, branch, Choices, no_choice, choice}
+use Rattle.st_tree.specs.Plain.{PlainStmt, empty, assign, call, if_else, case_of, for_to, PlainBody, done, next, Branches, no_branch, branch, Choices, no_choice, choice}
 use Rattle.st_tree.specs.Costs.{weight, weight_all, branches_weight, choices_weight}
 use Rattle.block_walk.specs.declared.frame.SeatOf.{SeatOf}
 use Rattle.block_walk.specs.declared.frame.SeatOf.TheVariants as seat_of
@@ -17,9 +17,9 @@ module _ (turns : PlainExpr ℕ → PlainExpr ℕ → Option (PlainExpr ℕ) →
     stmt_less (empty number) = omega arith
     stmt_less (assign number v e) = omega arith
     stmt_less (call number instance arguments) = let h = less instance in omega arith
-    stmt_less (choose number branches last) = let h = branches_less branches in let k = body_less last in omega arith
-    stmt_less (select number e choices last) = let h = choices_less choices in let k = body_less last in omega arith
-    stmt_less (repeat number v from to by body) =
+    stmt_less (if_else number branches last) = let h = branches_less branches in let k = body_less last in omega arith
+    stmt_less (case_of number e choices last) = let h = choices_less choices in let k = body_less last in omega arith
+    stmt_less (for_to number v from to by body) =
         let n = turns from to by in
         let h = body_less body in
         let product : n * (3 + weight_all max turns f body) ≤ n * (3 + weight_all max turns g body) = mul-le n (3 + weight_all max turns f body) n (3 + weight_all max turns g body) (omega arith) (omega arith) in

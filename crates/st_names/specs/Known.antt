@@ -4,7 +4,7 @@ use Rattle.std.specs.List.{list_all}
 use Rattle.std.specs.Option.{option_map_or}
 use Rattle.plant_types.specs.Words.{folded}
 use Rattle.st_tree.specs.Plain.{PlainExpr, literal, read, output_of, unary, binary, PlainArgument, input, output}
-use Rattle.st_tree.specs.Plain.{PlainStmt, empty, assign, call, choose, select, repeat, PlainBody}
+use Rattle.st_tree.specs.Plain.{PlainStmt, empty, assign, call, if_else, case_of, for_to, PlainBody}
 use Rattle.st_names.specs.Every.{every, tests_of}
 use Rattle.st_parser.specs.declared.unit.Sort.{Sort}
 use Rattle.st_parser.specs.declared.unit.Sort.TheVariants as sort
@@ -69,9 +69,9 @@ module _ (units : List PlainUnit) (own : List PlainDeclared) where
   stmt_known (assign number v e) = is_named v && expr_known e
   stmt_known (call number instance arguments) =
       is_named instance && list_all argument_known arguments && are_members (instance_type units own instance) arguments
-  stmt_known (choose number branches last) = list_all expr_known (tests_of branches)
-  stmt_known (select number e choices last) = expr_known e
-  stmt_known (repeat number v from to by body) = is_named v && expr_known from && expr_known to && option_known by
+  stmt_known (if_else number branches last) = list_all expr_known (tests_of branches)
+  stmt_known (case_of number e choices last) = expr_known e
+  stmt_known (for_to number v from to by body) = is_named v && expr_known from && expr_known to && option_known by
 
   -- the names of a body are there
   abbrev pub body_known : PlainBody (List ℕ) → Bool

@@ -4,7 +4,7 @@ use Rattle.std.proofs.lemmas.Bool.Decides.{nat_tests}
 use Rattle.st_lexer.specs.declared.token.Keyword.TheVariants as k
 use Rattle.st_lexer.specs.declared.token.Symbol.TheVariants as s
 use Rattle.st_tree.specs.declared.tree.Label.{Label}
-use Rattle.st_tree.specs.Plain.{PlainExpr, PlainArgument, input, output, PlainStmt, PlainBody, empty, assign, call, choose, select, repeat, done}
+use Rattle.st_tree.specs.Plain.{PlainExpr, PlainArgument, input, output, PlainStmt, PlainBody, empty, assign, call, if_else, case_of, for_to, done}
 use Rattle.st_tree.specs.View.{body_of, branches_of, choices_of}
 use Rattle.st_expressions.specs.Lexemes.{Lexeme, word, keyword, integer, symbol}
 use Rattle.st_expressions.specs.Phrases.{Each, Perhaps, After}
@@ -271,10 +271,10 @@ module _ (P : List Lexeme → PlainBody (List ℕ) → Type 0) (inner : List Lex
       let b = branches_found ts branches.0 branches.1 was_branches in
       let o = otherwise_found branches.1 last.0 last.1 was_last in
       let e1 = keyword_found k.EndIf last.1 left was_left in
-      turned (Statement P) (keyword k.If ∷ ts) (choose 0 (branches_of branches.0) last.0, left) (stmt, rest) is record {
+      turned (Statement P) (keyword k.If ∷ ts) (if_else 0 (branches_of branches.0) last.0, left) (stmt, rest) is record {
         front = keyword k.If ∷ (b.x ++ (b.y ++ (o.front ++ keyword k.EndIf ∷ [])));
         whole = ap (λ l. keyword k.If ∷ l) (b.whole ∙ ap (λ l. b.x ++ (b.y ++ l)) (o.whole ∙ ap (λ l. o.front ++ l) e1) ∙ sym (three_parts b.x b.y o.front (keyword k.EndIf) left));
-        spelled = branching b.first b.others last.0 b.x b.y o.front b.is_first b.each o.spelled refl (ap (λ l. choose 0 (branches_of l) last.0) b.is);
+        spelled = branching b.first b.others last.0 b.x b.y o.front b.is_first b.each o.spelled refl (ap (λ l. if_else 0 (branches_of l) last.0) b.is);
       }
 
   case_found : (ts : List Lexeme) (stmt : PlainStmt (List ℕ)) (rest : List Lexeme) → case_at inner ts ≡ Some (stmt, rest) → Front (Statement P) (keyword k.Case ∷ ts) stmt rest
@@ -290,10 +290,10 @@ module _ (P : List Lexeme → PlainBody (List ℕ) → Type 0) (inner : List Lex
       let b = choices_found inside choices.0 choices.1 was_choices in
       let o = otherwise_found choices.1 last.0 last.1 was_last in
       let e1 = keyword_found k.EndCase last.1 left was_left in
-      turned (Statement P) (keyword k.Case ∷ ts) (select 0 e.0 (choices_of choices.0) last.0, left) (stmt, rest) is record {
+      turned (Statement P) (keyword k.Case ∷ ts) (case_of 0 e.0 (choices_of choices.0) last.0, left) (stmt, rest) is record {
         front = keyword k.Case ∷ (d.front ++ keyword k.Of ∷ (b.x ++ (b.y ++ (o.front ++ keyword k.EndCase ∷ []))));
         whole = case_whole d.front b.x b.y o.front ts e.1 inside choices.1 last.1 left d.whole e0 b.whole o.whole e1;
-        spelled = selecting e.0 b.first b.others last.0 d.front b.x b.y o.front d.spelled b.is_first b.each o.spelled refl (ap (λ l. select 0 e.0 (choices_of l) last.0) b.is);
+        spelled = selecting e.0 b.first b.others last.0 d.front b.x b.y o.front d.spelled b.is_first b.each o.spelled refl (ap (λ l. case_of 0 e.0 (choices_of l) last.0) b.is);
       }
 
   for_found : (ts : List Lexeme) (stmt : PlainStmt (List ℕ)) (rest : List Lexeme) → for_at inner ts ≡ Some (stmt, rest) → Front (Statement P) (keyword k.For ∷ ts) stmt rest
@@ -305,7 +305,7 @@ module _ (P : List Lexeme → PlainBody (List ℕ) → Type 0) (inner : List Lex
       let b = header_found ts header.0 header.1 was_header in
       let g = finds header.1 body.0 body.1 was_body in
       let e4 = keyword_found k.EndFor body.1 left was_left in
-      turned (Statement P) (keyword k.For ∷ ts) (repeat 0 header.0.0 header.0.1.0 header.0.1.1 header.0.1.2 body.0, left) (stmt, rest) is record {
+      turned (Statement P) (keyword k.For ∷ ts) (for_to 0 header.0.0 header.0.1.0 header.0.1.1 header.0.1.2 body.0, left) (stmt, rest) is record {
         front = keyword k.For ∷ word header.0.0 ∷ symbol s.Becomes ∷ (b.w ++ keyword k.To ∷ (b.x ++ (b.y ++ keyword k.Do ∷ (g.front ++ keyword k.EndFor ∷ []))));
         whole = for_whole header.0.0 b.w b.x b.y g.front ts header.1 body.1 left b.whole g.whole e4;
         spelled = repeating header.0.0 header.0.1.0 header.0.1.1 header.0.1.2 body.0 b.w b.x b.y g.front b.is_from b.is_to b.is_by g.spelled refl refl;

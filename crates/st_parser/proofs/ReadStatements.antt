@@ -4,7 +4,7 @@ use Rattle.std.proofs.lemmas.Bool.Decides.{nat_tests}
 use Rattle.st_lexer.specs.declared.token.Keyword.TheVariants as k
 use Rattle.st_lexer.specs.declared.token.Symbol.TheVariants as s
 use Rattle.st_tree.specs.declared.tree.Label.{Label}
-use Rattle.st_tree.specs.Plain.{PlainExpr, PlainArgument, PlainStmt, PlainBody, choose, select, repeat}
+use Rattle.st_tree.specs.Plain.{PlainExpr, PlainArgument, PlainStmt, PlainBody, if_else, case_of, for_to}
 use Rattle.st_tree.specs.View.{branches_of, choices_of}
 use Rattle.st_expressions.specs.Lexemes.{Lexeme, word, keyword, integer, symbol}
 use Rattle.st_expressions.specs.Phrases.{Each, Perhaps, absent, present, After, after, Listed, listed}
@@ -134,7 +134,7 @@ module _ (P : List Lexeme → PlainBody (List ℕ) → Type 0) (inner : List Lex
   otherwise_case x rest last (instead y is inside) = (rw is refl, rw is refl)
 
   if_read : (x y z rest : List Lexeme) (first : PlainExpr (List ℕ) × PlainBody (List ℕ)) (others : List (PlainExpr (List ℕ) × PlainBody (List ℕ))) (last : PlainBody (List ℕ)) → IsBranch P x first → Each (After (keyword k.Elsif) (IsBranch P)) y others → Otherwise P z last
-      → if_at inner (x ++ (y ++ (z ++ keyword k.EndIf ∷ rest))) ≡ Some (choose 0 (branches_of (first ∷ others)) last, rest)
+      → if_at inner (x ++ (y ++ (z ++ keyword k.EndIf ∷ rest))) ≡ Some (if_else 0 (branches_of (first ∷ others)) last, rest)
   unfolding if_at branches_at
   if_read x y z rest first others last is_first each is_last =
       let tail = z ++ keyword k.EndIf ∷ rest in
@@ -145,7 +145,7 @@ module _ (P : List Lexeme → PlainBody (List ℕ) → Type 0) (inner : List Lex
       rw (branch_read x (y ++ tail) first is_first follows, all, otherwise_read z (keyword k.EndIf ∷ rest) last is_last refl refl) refl
 
   case_read : (w x y z rest : List Lexeme) (e : PlainExpr (List ℕ)) (first : List Label × PlainBody (List ℕ)) (others : List (List Label × PlainBody (List ℕ))) (last : PlainBody (List ℕ)) → IsExpression w e → IsChoice P x first → Each (IsChoice P) y others → Otherwise P z last
-      → case_at inner (w ++ keyword k.Of ∷ (x ++ (y ++ (z ++ keyword k.EndCase ∷ rest)))) ≡ Some (select 0 e (choices_of (first ∷ others)) last, rest)
+      → case_at inner (w ++ keyword k.Of ∷ (x ++ (y ++ (z ++ keyword k.EndCase ∷ rest)))) ≡ Some (case_of 0 e (choices_of (first ∷ others)) last, rest)
   unfolding case_at choices_at
   case_read w x y z rest e first others last selector is_first each is_last =
       let tail = z ++ keyword k.EndCase ∷ rest in
@@ -155,7 +155,7 @@ module _ (P : List Lexeme → PlainBody (List ℕ) → Type 0) (inner : List Lex
       rw (expression_read w (keyword k.Of ∷ (x ++ (y ++ tail))) e selector refl, choice_read x (y ++ tail) first is_first follows, all, otherwise_read z (keyword k.EndCase ∷ rest) last is_last refl refl) refl
 
   for_read : (name : List ℕ) (w x y z rest : List Lexeme) (from to : PlainExpr (List ℕ)) (by : Option (PlainExpr (List ℕ))) (body : PlainBody (List ℕ)) → IsExpression w from → IsExpression x to → Perhaps (After (keyword k.By) IsExpression) y by → P z body
-      → for_at inner (word name ∷ symbol s.Becomes ∷ (w ++ keyword k.To ∷ (x ++ (y ++ keyword k.Do ∷ (z ++ keyword k.EndFor ∷ rest))))) ≡ Some (repeat 0 name from to by body, rest)
+      → for_at inner (word name ∷ symbol s.Becomes ∷ (w ++ keyword k.To ∷ (x ++ (y ++ keyword k.Do ∷ (z ++ keyword k.EndFor ∷ rest))))) ≡ Some (for_to 0 name from to by body, rest)
   unfolding for_at header_at bounds_at
   for_read name w x y z rest from to by body is_from is_to is_by is_body =
       let after_do = keyword k.Do ∷ (z ++ keyword k.EndFor ∷ rest) in

@@ -4,7 +4,7 @@ use Rattle.std.proofs.Common.{neg_ℤ}
 use Rattle.st_lexer.specs.declared.token.Keyword.TheVariants as k
 use Rattle.st_lexer.specs.declared.token.Symbol.TheVariants as s
 use Rattle.st_tree.specs.declared.tree.Label.{Label}
-use Rattle.st_tree.specs.Plain.{PlainExpr, PlainArgument, input, output, PlainStmt, empty, assign, call, choose, select, repeat, PlainBody, done}
+use Rattle.st_tree.specs.Plain.{PlainExpr, PlainArgument, input, output, PlainStmt, empty, assign, call, if_else, case_of, for_to, PlainBody, done}
 use Rattle.st_tree.specs.View.{body_of, branches_of, choices_of}
 use Rattle.st_expressions.specs.Lexemes.{Lexeme, word, keyword, integer, symbol}
 use Rattle.st_expressions.specs.Reading.{◌>>=◌, word_at, is_symbol, is_keyword, symbol_at, keyword_at, with_first, all_at, perhaps_at, after_symbol, after_keyword, listed_at, expression_at}
@@ -98,17 +98,17 @@ module _ (inner : List Lexeme → Option (PlainBody (List ℕ) × List Lexeme)) 
 
   -- after IF
   unfoldable pub if_at : List Lexeme → Option (PlainStmt (List ℕ) × List Lexeme)
-  if_at ts = branches_at ts >>= λ branches. otherwise_at branches.1 >>= λ last. keyword_at k.EndIf last.1 >>= λ rest. Some (choose 0 (branches_of branches.0) last.0, rest)
+  if_at ts = branches_at ts >>= λ branches. otherwise_at branches.1 >>= λ last. keyword_at k.EndIf last.1 >>= λ rest. Some (if_else 0 (branches_of branches.0) last.0, rest)
 
   -- after CASE
   unfoldable pub case_at : List Lexeme → Option (PlainStmt (List ℕ) × List Lexeme)
   case_at ts =
       expression_at ts >>= λ e. keyword_at k.Of e.1 >>= λ inside. choices_at inside >>= λ choices. otherwise_at choices.1 >>= λ last. keyword_at k.EndCase last.1 >>= λ rest.
-      Some (select 0 e.0 (choices_of choices.0) last.0, rest)
+      Some (case_of 0 e.0 (choices_of choices.0) last.0, rest)
 
   -- after FOR
   unfoldable pub for_at : List Lexeme → Option (PlainStmt (List ℕ) × List Lexeme)
-  for_at ts = header_at ts >>= λ h. inner h.1 >>= λ body. keyword_at k.EndFor body.1 >>= λ rest. Some (repeat 0 h.0.0 h.0.1.0 h.0.1.1 h.0.1.2 body.0, rest)
+  for_at ts = header_at ts >>= λ h. inner h.1 >>= λ body. keyword_at k.EndFor body.1 >>= λ rest. Some (for_to 0 h.0.0 h.0.1.0 h.0.1.1 h.0.1.2 body.0, rest)
 
   unfoldable pub stmt_at : List Lexeme → Option (PlainStmt (List ℕ) × List Lexeme)
   stmt_at (word name ∷ ts) = simple_at name ts

@@ -4,7 +4,7 @@ use Rattle.std.proofs.Common.{neg_ℤ}
 use Rattle.st_lexer.specs.declared.token.Keyword.TheVariants as k
 use Rattle.st_lexer.specs.declared.token.Symbol.TheVariants as s
 use Rattle.st_tree.specs.declared.tree.Label.{Label}
-use Rattle.st_tree.specs.Plain.{PlainExpr, PlainArgument, input, output, PlainStmt, empty, assign, call, choose, select, repeat, PlainBody, done}
+use Rattle.st_tree.specs.Plain.{PlainExpr, PlainArgument, input, output, PlainStmt, empty, assign, call, if_else, case_of, for_to, PlainBody, done}
 use Rattle.st_tree.specs.View.{body_of, branches_of, choices_of}
 use Rattle.st_expressions.specs.Lexemes.{Lexeme, word, keyword, integer, symbol}
 use Rattle.st_expressions.specs.Phrases.{Each, Perhaps, After, Listed}
@@ -53,11 +53,11 @@ module _ (P : List Lexeme → PlainBody (List ℕ) → Type 0) where
     assignment : (name : List ℕ) (e : PlainExpr (List ℕ)) (x : List Lexeme) → IsExpression x e → ts ≡ word name ∷ symbol s.Becomes ∷ x → stmt ≡ assign 0 name e → Statement ts stmt
     calling : (name : List ℕ) (all : List (PlainArgument (List ℕ))) (x : List Lexeme) → Arguments x all → ts ≡ word name ∷ symbol s.Open ∷ (x ++ symbol s.Close ∷ []) → stmt ≡ call 0 name all → Statement ts stmt
     branching : (first : PlainExpr (List ℕ) × PlainBody (List ℕ)) (others : List (PlainExpr (List ℕ) × PlainBody (List ℕ))) (last : PlainBody (List ℕ)) (x y z : List Lexeme) → IsBranch x first → Each (After (keyword k.Elsif) IsBranch) y others → Otherwise z last
-        → ts ≡ keyword k.If ∷ (x ++ (y ++ (z ++ keyword k.EndIf ∷ []))) → stmt ≡ choose 0 (branches_of (first ∷ others)) last → Statement ts stmt
+        → ts ≡ keyword k.If ∷ (x ++ (y ++ (z ++ keyword k.EndIf ∷ []))) → stmt ≡ if_else 0 (branches_of (first ∷ others)) last → Statement ts stmt
     selecting : (e : PlainExpr (List ℕ)) (first : List Label × PlainBody (List ℕ)) (others : List (List Label × PlainBody (List ℕ))) (last : PlainBody (List ℕ)) (w x y z : List Lexeme) → IsExpression w e → IsChoice x first → Each IsChoice y others → Otherwise z last
-        → ts ≡ keyword k.Case ∷ (w ++ keyword k.Of ∷ (x ++ (y ++ (z ++ keyword k.EndCase ∷ [])))) → stmt ≡ select 0 e (choices_of (first ∷ others)) last → Statement ts stmt
+        → ts ≡ keyword k.Case ∷ (w ++ keyword k.Of ∷ (x ++ (y ++ (z ++ keyword k.EndCase ∷ [])))) → stmt ≡ case_of 0 e (choices_of (first ∷ others)) last → Statement ts stmt
     repeating : (name : List ℕ) (from to : PlainExpr (List ℕ)) (by : Option (PlainExpr (List ℕ))) (body : PlainBody (List ℕ)) (w x y z : List Lexeme) → IsExpression w from → IsExpression x to → Perhaps (After (keyword k.By) IsExpression) y by → P z body
-        → ts ≡ keyword k.For ∷ word name ∷ symbol s.Becomes ∷ (w ++ keyword k.To ∷ (x ++ (y ++ keyword k.Do ∷ (z ++ keyword k.EndFor ∷ [])))) → stmt ≡ repeat 0 name from to by body → Statement ts stmt
+        → ts ≡ keyword k.For ∷ word name ∷ symbol s.Becomes ∷ (w ++ keyword k.To ∷ (x ++ (y ++ keyword k.Do ∷ (z ++ keyword k.EndFor ∷ [])))) → stmt ≡ for_to 0 name from to by body → Statement ts stmt
 
 -- a statement with its semicolon
 pub data Ended (Q : List Lexeme → PlainStmt (List ℕ) → Type 0) (ts : List Lexeme) (stmt : PlainStmt (List ℕ)) : Type 0 where

@@ -4,7 +4,7 @@ ghost use Rattle.std.specs.Prelude.{◌≡◌, ◌∷◌, [], map, ◌<◌};
 ghost use Rattle.st_expressions.specs.Outcome.{Returns};
 ghost use Rattle.st_expressions.specs.Reading.{all_at, with_first, perhaps_at, is_keyword, after_keyword, expression_at};
 ghost use Rattle.st_parser.specs.ReadingStatements.{assigned_at, called_at, simple_at, branch_at, branches_at, choice_at, choices_at, otherwise_at, if_at, case_at, bounds_at, header_at, for_at, stmt_at, item_at, sequence_at, body_at, is_statement, is_label};
-ghost use Rattle.st_tree.specs.Plain.{repeat};
+ghost use Rattle.st_tree.specs.Plain.{for_to};
 ghost use Rattle.st_tree.specs.View.{view_expr, view_option, view_stmt, view_body, view_branch, view_choice};
 
 use crate::calls::arguments;
@@ -349,7 +349,7 @@ fn header(alloc: Global, reader: &mut Reader) -> Result<(Text, Bounds), Stop>
 
 /// The `FOR` of a variable and bounds over these statements.
 fn for_of(header: (Text, Bounds), body: Vec<Stmt<Text>>) -> Stmt<Text>
-    ensures { view_stmt result ≡ repeat 0 header.0 (view_expr header.1.0) (view_expr header.1.1) (view_option header.1.2) (view_body body.items) }
+    ensures { view_stmt result ≡ for_to 0 header.0 (view_expr header.1.0) (view_expr header.1.1) (view_option header.1.2) (view_body body.items) }
 {
     let (variable, (from, to, by)) = header;
     Stmt::For {

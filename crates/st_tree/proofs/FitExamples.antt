@@ -6,7 +6,7 @@ use Rattle.plant_types.specs.declared.values.Kind.TheVariants as kind
 use Rattle.plant_types.specs.declared.values.Value.TheVariants as value
 use Rattle.st_tree.specs.declared.tree.Literal.TheVariants.{Integer, Value}
 use Rattle.st_tree.specs.Plain.{literal, read, output_of, input, output}
-use Rattle.st_tree.specs.Plain.{assign, call, choose, repeat, done, next, no_branch, branch}
+use Rattle.st_tree.specs.Plain.{assign, call, if_else, for_to, done, next, no_branch, branch}
 use Rattle.st_tree.specs.Kinds.{kind_of_expr}
 use Rattle.st_tree.specs.Fits.{Context, stmt_fits, stmt_controls_fit}
 use Rattle.st_tree.specs.Meaning.{Space, Done, run_all}
@@ -89,17 +89,17 @@ variable_is_not_called : stmt_fits declared (call 1 n []) ≡ false
 variable_is_not_called = refl
 
 -- IF timer.Q fits, IF n doesn't
-output_is_a_test : stmt_fits declared (choose 1 (branch (output_of timer q_name) done no_branch) done) ≡ true
+output_is_a_test : stmt_fits declared (if_else 1 (branch (output_of timer q_name) done no_branch) done) ≡ true
 output_is_a_test = refl
 
-number_is_no_test : stmt_fits declared (choose 1 (branch (read n) done no_branch) done) ≡ false
+number_is_no_test : stmt_fits declared (if_else 1 (branch (read n) done no_branch) done) ≡ false
 number_is_no_test = refl
 
 -- FOR n := 1 TO 3 has a right control variable, FOR b := 1 TO 3 hasn't, though its kinds fit
-number_controls : stmt_controls_fit declared (repeat 1 n (literal (Integer (pos 1))) (literal (Integer (pos 3))) None done) ≡ true
+number_controls : stmt_controls_fit declared (for_to 1 n (literal (Integer (pos 1))) (literal (Integer (pos 3))) None done) ≡ true
 number_controls = refl
 
-truth_controls_not : stmt_controls_fit declared (repeat 1 b (literal (Integer (pos 1))) (literal (Integer (pos 3))) None done) ≡ false
+truth_controls_not : stmt_controls_fit declared (for_to 1 b (literal (Integer (pos 1))) (literal (Integer (pos 3))) None done) ≡ false
 truth_controls_not = refl
 
 -- one DINT and one instance, whose output is its input: the value of the one and the input of the other

@@ -7,7 +7,7 @@ use Rattle.st_tree.specs.declared.tree.Choice.{Choice}
 use Rattle.st_tree.specs.declared.tree.Label.{Label}
 use Rattle.st_tree.specs.declared.tree.Stmt.{Stmt}
 use Rattle.st_tree.specs.Plain.{PlainExpr, literal, read, output_of, unary, binary, PlainArgument, input, output}
-use Rattle.st_tree.specs.Plain.{PlainStmt, empty, assign, call, choose, select, repeat, PlainBody, done, next, Branches, no_branch, branch, Choices, no_choice, choice}
+use Rattle.st_tree.specs.Plain.{PlainStmt, empty, assign, call, if_else, case_of, for_to, PlainBody, done, next, Branches, no_branch, branch, Choices, no_choice, choice}
 use Rattle.st_tree.specs.View.{view_argument, view_stmt, view_body, view_branch, view_branches, view_choice, view_choices, body_of, branches_of, choices_of}
 use Rattle.st_tree.specs.Mapping.{Mapping, mapped_expr, mapped_option, mapped_argument, mapped_stmt, mapped_body, mapped_branches, mapped_choices, identity}
 
@@ -71,9 +71,9 @@ module _ {V : Type 0} where
     same_stmt (empty number) = refl
     same_stmt (assign number v e) = ap (assign number v) (same_expr e)
     same_stmt (call number instance arguments) = ap (call number instance) (same_arguments instance arguments)
-    same_stmt (choose number branches last) = λ i. choose number (same_branches branches i) (same_body last i)
-    same_stmt (select number e choices last) = λ i. select number (same_expr e i) (same_choices choices i) (same_body last i)
-    same_stmt (repeat number v from to by body) = λ i. repeat number v (same_expr from i) (same_expr to i) (same_option by i) (same_body body i)
+    same_stmt (if_else number branches last) = λ i. if_else number (same_branches branches i) (same_body last i)
+    same_stmt (case_of number e choices last) = λ i. case_of number (same_expr e i) (same_choices choices i) (same_body last i)
+    same_stmt (for_to number v from to by body) = λ i. for_to number v (same_expr from i) (same_expr to i) (same_option by i) (same_body body i)
 
     pub same_body : (body : PlainBody V) → mapped_body identity body ≡ body
     same_body done = refl

@@ -8,7 +8,7 @@ use Rattle.plant_types.specs.Values.{is_true}
 use Rattle.st_tree.specs.Operators.{Outcome, eval_unary, eval_binary}
 use Rattle.st_tree.specs.Controls.{control_values, span_of}
 use Rattle.st_tree.specs.Plain.{PlainExpr, literal, read, output_of, unary, binary, PlainArgument, input, output}
-use Rattle.st_tree.specs.Plain.{PlainStmt, empty, assign, call, choose, select, repeat, PlainBody, done, next, Branches, no_branch, branch, Choices, no_choice, choice}
+use Rattle.st_tree.specs.Plain.{PlainStmt, empty, assign, call, if_else, case_of, for_to, PlainBody, done, next, Branches, no_branch, branch, Choices, no_choice, choice}
 use Rattle.st_tree.specs.Meaning.{Spot, Space, Ran, Done, Trapped, then_one, then_two, then_run, with_value, turns, labels_fit, Chosen, Took, Passed, or_else, on_test, statement_spot, outcome, step_of, take_inputs, give_outputs, run, run_all, first_true, first_fit}
 use Rattle.st_tree.specs.Mapping.{Mapping, mapped_expr, mapped_option, mapped_argument, mapped_stmt, mapped_body, mapped_branches, mapped_choices}
 use Rattle.st_tree.specs.Mapping.{Known, expr_known, option_known, argument_known, stmt_known, body_known, branches_known, choices_known}
@@ -125,11 +125,11 @@ module _ {V W A B : Type 0} (known : Known V) (mapping : Mapping V W) (from : Sp
         (then_alike Matches (take_inputs from number instance arguments a) (take_inputs to number own given b) (λ u. from.enter u instance) (λ u. to.enter u own)
         (inputs_alike number instance arguments a b m parts.1) (λ u w k. laws.enter_agrees instance u w parts.0 k))
         (λ u w k. outputs_match instance arguments u w k parts.1)
-    stmt_same (choose number branches last) is a b m =
+    stmt_same (if_else number branches last) is a b m =
         let parts = and_parts (branches_known known branches) (body_known known last) is in
         else_alike Matches (first_true from number branches a) (first_true to number (mapped_branches mapping branches) b) (run_all from last) (run_all to (mapped_body mapping last))
         (branches_alike branches number parts.0 a b m) (body_same last parts.1)
-    stmt_same (select number e choices last) is a b m =
+    stmt_same (case_of number e choices last) is a b m =
         let parts = and_parts (expr_known known e) (choices_known known choices && body_known known last) is in
         let inner = and_parts (choices_known known choices) (body_known known last) parts.1 in
         valued Matches (statement_spot from number) (statement_spot to number) (outcome from a e) (outcome to b (mapped_expr mapping e)) a b
@@ -137,7 +137,7 @@ module _ {V W A B : Type 0} (known : Known V) (mapping : Mapping V W) (from : Sp
         m (at number) (expr_same e parts.0 a b m)
         (λ n. else_alike Matches (first_fit from n choices a) (first_fit to n (mapped_choices mapping choices) b) (run_all from last) (run_all to (mapped_body mapping last))
         (choices_alike choices n inner.0 a b m) (body_same last inner.1))
-    stmt_same (repeat number v low high by body) is a b m =
+    stmt_same (for_to number v low high by body) is a b m =
         let p = and_parts (known.has_variable v) (expr_known known low && (expr_known known high && (option_known known by && body_known known body))) is in
         let q = and_parts (expr_known known low) (expr_known known high && (option_known known by && body_known known body)) p.1 in
         let r = and_parts (expr_known known high) (option_known known by && body_known known body) q.1 in

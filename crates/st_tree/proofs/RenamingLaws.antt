@@ -3,7 +3,7 @@ use Rattle.std.proofs.Common.{◌≡◌, refl, ap, true}
 use Rattle.std.specs.Prelude.{◌&&◌, List, [], ◌∷◌, Option, Some, None}
 use Rattle.std.specs.List.{list_all}
 use Rattle.st_tree.specs.Plain.{PlainExpr, literal, read, output_of, unary, binary, PlainArgument, input, output}
-use Rattle.st_tree.specs.Plain.{PlainStmt, empty, assign, call, choose, select, repeat, PlainBody, done, next, Branches, no_branch, branch, Choices, no_choice, choice}
+use Rattle.st_tree.specs.Plain.{PlainStmt, empty, assign, call, if_else, case_of, for_to, PlainBody, done, next, Branches, no_branch, branch, Choices, no_choice, choice}
 use Rattle.st_tree.specs.Meaning.{Space, Ran, Done, Trapped, run_all}
 use Rattle.st_tree.specs.Mapping.{mapped_body, renaming, all_known, expr_known, option_known, argument_known, stmt_known, body_known, branches_known, choices_known}
 use Rattle.st_tree.specs.Alike.{Agree, IsLawful, renamed_space}
@@ -34,9 +34,9 @@ module _ {V : Type 0} where
     stmt_all (empty number) = refl
     stmt_all (assign number v e) = expr_all e
     stmt_all (call number instance arguments) = arguments_all instance arguments
-    stmt_all (choose number branches last) = λ i. branches_all branches i && body_all last i
-    stmt_all (select number e choices last) = λ i. expr_all e i && (choices_all choices i && body_all last i)
-    stmt_all (repeat number v from to by body) = λ i. expr_all from i && (expr_all to i && (option_all by i && body_all body i))
+    stmt_all (if_else number branches last) = λ i. branches_all branches i && body_all last i
+    stmt_all (case_of number e choices last) = λ i. expr_all e i && (choices_all choices i && body_all last i)
+    stmt_all (for_to number v from to by body) = λ i. expr_all from i && (expr_all to i && (option_all by i && body_all body i))
 
     pub body_all : (body : PlainBody V) → body_known all_known body ≡ true
     body_all done = refl

@@ -12,7 +12,7 @@ use Rattle.plant_types.specs.Values.{is_true}
 use Rattle.st_tree.specs.declared.tree.Literal.TheVariants.{Integer, Value}
 use Rattle.st_tree.specs.declared.controls.Span.{Span}
 use Rattle.st_tree.specs.Plain.{PlainExpr, literal, read, output_of, unary, binary, PlainArgument, input, output}
-use Rattle.st_tree.specs.Plain.{PlainStmt, empty, assign, call, choose, select, repeat, PlainBody, done, next, Branches, no_branch, branch, Choices, no_choice, choice}
+use Rattle.st_tree.specs.Plain.{PlainStmt, empty, assign, call, if_else, case_of, for_to, PlainBody, done, next, Branches, no_branch, branch, Choices, no_choice, choice}
 use Rattle.st_tree.specs.Operators.{Outcome}
 use Rattle.st_tree.specs.Controls.{control_values, span_of}
 use Rattle.st_tree.specs.Kinds.{same_kind, kind_of_expr, is_kind, is_bit}
@@ -142,17 +142,17 @@ module _ {V W : Type 0} (context : Context V) (space : Space V W) (Holds : W →
         after_run (then_run (take_inputs space number instance arguments w) (λ u. space.enter u instance)) (λ u. Done (give_outputs space instance arguments u))
         (after_run (take_inputs space number instance arguments w) (λ u. space.enter u instance) (inputs_keep number instance arguments w f.0 f.1 holds) (λ u h. inv.enter_keeps u instance h f.0))
         (λ u h. outputs_keep instance arguments u f.1 h)
-    run_keeps (choose number branches last) w fits may holds =
+    run_keeps (if_else number branches last) w fits may holds =
         let f = and_parts (branches_fit context branches) (all_fit context last) fits in
         let m = and_parts (branches_controls_fit context branches) (controls_fit context last) may in
         after_choice (first_true space number branches w) (run_all space last) (first_true_keeps branches number w f.0 m.0 holds) (λ u h. run_all_keeps last u f.1 m.1 h)
-    run_keeps (select number e choices last) w fits may holds =
+    run_keeps (case_of number e choices last) w fits may holds =
         let f = and_parts (is_of context kind.Dint e) (choices_fit context choices && all_fit context last) fits in
         let g = and_parts (choices_fit context choices) (all_fit context last) f.1 in
         let m = and_parts (choices_controls_fit context choices) (controls_fit context last) may in
         after_value w (statement_spot space number) (outcome space w e) (λ n. or_else (first_fit space n choices w) (run_all space last)) holds
         (λ n gives. after_choice (first_fit space n choices w) (run_all space last) (first_fit_keeps choices n w g.0 m.0 holds) (λ u h. run_all_keeps last u g.1 m.1 h))
-    run_keeps (repeat number v from to by body) w fits may holds =
+    run_keeps (for_to number v from to by body) w fits may holds =
         let f = and_parts (is_of context kind.Dint from) (is_of context kind.Dint to && (option_is_of context kind.Dint by && all_fit context body)) fits in
         let g = and_parts (is_of context kind.Dint to) (option_is_of context kind.Dint by && all_fit context body) f.1 in
         let h = and_parts (option_is_of context kind.Dint by) (all_fit context body) g.1 in

@@ -16,7 +16,7 @@ use Rattle.st_tree.specs.declared.tree.Choice.{Choice, roll-Choice, fold-roll-Ch
 use Rattle.st_tree.specs.declared.tree.Stmt.{Stmt, Call, If, Case, For, fold-roll-Stmt}
 use Rattle.st_tree.specs.declared.tree.Stmt.TheOpen.{Stmt-F}
 use Rattle.st_tree.specs.declared.tree.Stmt.TheVariants.{rolls-Call, rolls-If, rolls-Case, rolls-For}
-use Rattle.st_tree.specs.Plain.{PlainExpr, unary, binary, PlainStmt, PlainBody, call, choose, select, repeat}
+use Rattle.st_tree.specs.Plain.{PlainExpr, unary, binary, PlainStmt, PlainBody, call, if_else, case_of, for_to}
 use Rattle.st_tree.specs.View.{view_expr_step, view_step, view_branch_step, view_choice_step, view_expr, view_option, view_argument, view_stmt, view_body, view_branch, view_branches, view_choice, view_choices}
 
 module _ {V : Type 0} where
@@ -31,19 +31,19 @@ module _ {V : Type 0} where
       ap view_stmt (sym (rolls-Call number v arguments))
       ∙ fold-roll-Stmt V (PlainStmt V) (PlainExpr V × PlainBody V) (List Label × PlainBody V) view_step view_branch_step view_choice_step (Stmt-F.Call number v arguments)
 
-  pub view_stmt-If : (number : ℕ) (branches : Vec (Branch V) Global) (last : Vec (Stmt V) Global) → view_stmt (If number branches last) ≡ choose number (view_branches branches.items) (view_body last.items)
+  pub view_stmt-If : (number : ℕ) (branches : Vec (Branch V) Global) (last : Vec (Stmt V) Global) → view_stmt (If number branches last) ≡ if_else number (view_branches branches.items) (view_body last.items)
   view_stmt-If number branches last =
       ap view_stmt (sym (rolls-If number branches last))
       ∙ fold-roll-Stmt V (PlainStmt V) (PlainExpr V × PlainBody V) (List Label × PlainBody V) view_step view_branch_step view_choice_step (Stmt-F.If number branches last)
 
   pub view_stmt-Case : (number : ℕ) (selector : Expr V) (choices : Vec (Choice V) Global) (last : Vec (Stmt V) Global)
-      → view_stmt (Case number selector choices last) ≡ select number (view_expr selector) (view_choices choices.items) (view_body last.items)
+      → view_stmt (Case number selector choices last) ≡ case_of number (view_expr selector) (view_choices choices.items) (view_body last.items)
   view_stmt-Case number selector choices last =
       ap view_stmt (sym (rolls-Case number selector choices last))
       ∙ fold-roll-Stmt V (PlainStmt V) (PlainExpr V × PlainBody V) (List Label × PlainBody V) view_step view_branch_step view_choice_step (Stmt-F.Case number selector choices last)
 
   pub view_stmt-For : (number : ℕ) (v : V) (from to : Expr V) (by : Option (Expr V)) (body : Vec (Stmt V) Global)
-      → view_stmt (For number v from to by body) ≡ repeat number v (view_expr from) (view_expr to) (view_option by) (view_body body.items)
+      → view_stmt (For number v from to by body) ≡ for_to number v (view_expr from) (view_expr to) (view_option by) (view_body body.items)
   view_stmt-For number v from to by body =
       ap view_stmt (sym (rolls-For number v from to by body))
       ∙ fold-roll-Stmt V (PlainStmt V) (PlainExpr V × PlainBody V) (List Label × PlainBody V) view_step view_branch_step view_choice_step (Stmt-F.For number v from to by body)

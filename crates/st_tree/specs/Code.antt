@@ -13,7 +13,7 @@ use Rattle.st_tree.specs.declared.tree.Unary.TheVariants.{Not, Negate, NegateTim
 use Rattle.st_tree.specs.declared.tree.Binary.{Binary}
 use Rattle.st_tree.specs.declared.tree.Binary.TheVariants.{And, Xor, Or, Equal, Unequal, Less, Greater, AtMost, AtLeast, Add, AddTime, Subtract, SubtractTime, Multiply, Divide, Mod}
 use Rattle.st_tree.specs.Plain.{PlainExpr, literal, read, output_of, unary, binary, PlainArgument, input, output}
-use Rattle.st_tree.specs.Plain.{PlainStmt, empty, assign, call, choose, select, repeat, PlainBody, done, next, Branches, no_branch, branch, Choices, no_choice, choice}
+use Rattle.st_tree.specs.Plain.{PlainStmt, empty, assign, call, if_else, case_of, for_to, PlainBody, done, next, Branches, no_branch, branch, Choices, no_choice, choice}
 
 abbrev gv_code : Coded Gv
 gv_code = record { code = λ g. g; inj = λ x y p. p }
@@ -219,9 +219,9 @@ abbrev mutual
   stmt_in (empty n) = gcons (gnum 0) (gnum n)
   stmt_in (assign n v e) = gcons (gnum 1) (gcons (gnum n) (gcons (name_in v) (expr_in e)))
   stmt_in (call n v arguments) = gcons (gnum 2) (gcons (gnum n) (gcons (name_in v) (arguments_in arguments)))
-  stmt_in (choose n branches last) = gcons (gnum 3) (gcons (gnum n) (gcons (branches_in branches) (body_in last)))
-  stmt_in (select n e choices last) = gcons (gnum 4) (gcons (gnum n) (gcons (expr_in e) (gcons (choices_in choices) (body_in last))))
-  stmt_in (repeat n v from to by body) = gcons (gnum 5) (gcons (gnum n) (gcons (name_in v) (gcons (expr_in from) (gcons (expr_in to) (gcons (option_in by) (body_in body))))))
+  stmt_in (if_else n branches last) = gcons (gnum 3) (gcons (gnum n) (gcons (branches_in branches) (body_in last)))
+  stmt_in (case_of n e choices last) = gcons (gnum 4) (gcons (gnum n) (gcons (expr_in e) (gcons (choices_in choices) (body_in last))))
+  stmt_in (for_to n v from to by body) = gcons (gnum 5) (gcons (gnum n) (gcons (name_in v) (gcons (expr_in from) (gcons (expr_in to) (gcons (option_in by) (body_in body))))))
 
   body_in : PlainBody (List ℕ) → Gv
   body_in done = gnil
@@ -240,10 +240,10 @@ abbrev mutual
   stmt_out (gcons (gnum zero) n) = empty (num n)
   stmt_out (gcons (gnum (suc zero)) (gcons n (gcons v e))) = assign (num n) (name_out v) (expr_out e)
   stmt_out (gcons (gnum (suc (suc zero))) (gcons n (gcons v arguments))) = call (num n) (name_out v) (arguments_out arguments)
-  stmt_out (gcons (gnum (suc (suc (suc zero)))) (gcons n (gcons branches last))) = choose (num n) (branches_out branches) (body_out last)
-  stmt_out (gcons (gnum (suc (suc (suc (suc zero))))) (gcons n (gcons e (gcons choices last)))) = select (num n) (expr_out e) (choices_out choices) (body_out last)
+  stmt_out (gcons (gnum (suc (suc (suc zero)))) (gcons n (gcons branches last))) = if_else (num n) (branches_out branches) (body_out last)
+  stmt_out (gcons (gnum (suc (suc (suc (suc zero))))) (gcons n (gcons e (gcons choices last)))) = case_of (num n) (expr_out e) (choices_out choices) (body_out last)
   stmt_out (gcons (gnum (suc (suc (suc (suc (suc form)))))) (gcons n (gcons v (gcons from (gcons to (gcons by body)))))) =
-      repeat (num n) (name_out v) (expr_out from) (expr_out to) (option_out by) (body_out body)
+      for_to (num n) (name_out v) (expr_out from) (expr_out to) (option_out by) (body_out body)
   stmt_out _ = empty 0
 
   body_out : Gv → PlainBody (List ℕ)
@@ -263,9 +263,9 @@ mutual
   stmt_back (empty n) = refl
   stmt_back (assign n v e) = λ i. assign n (name_back v i) (expr_back e i)
   stmt_back (call n v arguments) = λ i. call n (name_back v i) (list_back argument_in argument_out argument_back arguments i)
-  stmt_back (choose n branches last) = λ i. choose n (branches_back branches i) (body_back last i)
-  stmt_back (select n e choices last) = λ i. select n (expr_back e i) (choices_back choices i) (body_back last i)
-  stmt_back (repeat n v from to by body) = λ i. repeat n (name_back v i) (expr_back from i) (expr_back to i) (option_back by i) (body_back body i)
+  stmt_back (if_else n branches last) = λ i. if_else n (branches_back branches i) (body_back last i)
+  stmt_back (case_of n e choices last) = λ i. case_of n (expr_back e i) (choices_back choices i) (body_back last i)
+  stmt_back (for_to n v from to by body) = λ i. for_to n (name_back v i) (expr_back from i) (expr_back to i) (option_back by i) (body_back body i)
 
   pub body_back : (body : PlainBody (List ℕ)) → body_out (body_in body) ≡ body
   body_back done = refl

@@ -1,7 +1,7 @@
 -- What a body costs, and how large it is, by cases on the plain tree: what the limits on a source's size and on a scan's steps count.
 use Rattle.std.specs.Prelude.{ℕ, ◌+◌, ◌*◌, max, List, [], ◌∷◌, length, Option}
 use Rattle.st_tree.specs.Plain.{PlainExpr, literal, read, output_of, unary, binary, PlainArgument, input, output}
-use Rattle.st_tree.specs.Plain.{PlainStmt, empty, assign, call, choose, select, repeat, PlainBody, done, next, Branches, no_branch, branch, Choices, no_choice, choice}
+use Rattle.st_tree.specs.Plain.{PlainStmt, empty, assign, call, if_else, case_of, for_to, PlainBody, done, next, Branches, no_branch, branch, Choices, no_choice, choice}
 
 -- an expression costs the number of its literals, reads and operators
 abbrev pub expr_cost : {V : Type 0} → PlainExpr V → ℕ
@@ -35,9 +35,9 @@ module _ {V : Type 0} (join : ℕ → ℕ → ℕ) (turns : PlainExpr V → Plai
     weight (empty number) = 1
     weight (assign number v e) = 1 + expr_cost e
     weight (call number instance arguments) = 1 + arguments_cost arguments + called instance
-    weight (choose number branches last) = 1 + tests_cost branches + join (branches_weight branches) (weight_all last)
-    weight (select number e choices last) = 1 + expr_cost e + labels_cost choices + join (choices_weight choices) (weight_all last)
-    weight (repeat number v from to by body) = 2 + turns from to by * (3 + weight_all body)
+    weight (if_else number branches last) = 1 + tests_cost branches + join (branches_weight branches) (weight_all last)
+    weight (case_of number e choices last) = 1 + expr_cost e + labels_cost choices + join (choices_weight choices) (weight_all last)
+    weight (for_to number v from to by body) = 2 + turns from to by * (3 + weight_all body)
 
     -- a body weighs the sum of its statements
     pub weight_all : PlainBody V → ℕ

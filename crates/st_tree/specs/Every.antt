@@ -1,6 +1,6 @@
 -- A rule for each statement of a body, those inside others too.
 use Rattle.std.specs.Prelude.{Bool, true, ◌&&◌, List, [], ◌∷◌}
-use Rattle.st_tree.specs.Plain.{PlainExpr, PlainStmt, empty, assign, call, choose, select, repeat, PlainBody, done, next, Branches, no_branch, branch, Choices, no_choice, choice}
+use Rattle.st_tree.specs.Plain.{PlainExpr, PlainStmt, empty, assign, call, if_else, case_of, for_to, PlainBody, done, next, Branches, no_branch, branch, Choices, no_choice, choice}
 
 -- the tests of an IF
 abbrev pub tests_of : {V : Type 0} → Branches V → List (PlainExpr V)
@@ -19,9 +19,9 @@ module _ {V : Type 0} (rule : PlainStmt V → Bool) where
     every_inside (empty number) = true
     every_inside (assign number v e) = true
     every_inside (call number instance arguments) = true
-    every_inside (choose number branches last) = every_branch branches && every last
-    every_inside (select number e choices last) = every_choice choices && every last
-    every_inside (repeat number v from to by body) = every body
+    every_inside (if_else number branches last) = every_branch branches && every last
+    every_inside (case_of number e choices last) = every_choice choices && every last
+    every_inside (for_to number v from to by body) = every body
 
     pub every_branch : Branches V → Bool
     every_branch no_branch = true

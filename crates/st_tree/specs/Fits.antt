@@ -4,7 +4,7 @@ use Rattle.std.specs.List.{list_all}
 use Rattle.plant_types.specs.declared.values.Kind.{Kind}
 use Rattle.plant_types.specs.declared.values.Kind.TheVariants as kind
 use Rattle.st_tree.specs.Plain.{PlainExpr, output_of, PlainArgument, input, output}
-use Rattle.st_tree.specs.Plain.{PlainStmt, empty, assign, call, choose, select, repeat, PlainBody, done, next, Branches, no_branch, branch, Choices, no_choice, choice}
+use Rattle.st_tree.specs.Plain.{PlainStmt, empty, assign, call, if_else, case_of, for_to, PlainBody, done, next, Branches, no_branch, branch, Choices, no_choice, choice}
 use Rattle.st_tree.specs.Kinds.{kind_of_expr, is_kind, fits_kind}
 
 -- what is declared of the variables and instances of a body
@@ -47,9 +47,9 @@ module _ {V : Type 0} (context : Context V) where
     stmt_fits (empty number) = true
     stmt_fits (assign number v e) = takes v e
     stmt_fits (call number instance arguments) = context.is_instance instance && list_all (argument_fits instance) arguments
-    stmt_fits (choose number branches last) = branches_fit branches && all_fit last
-    stmt_fits (select number e choices last) = is_of kind.Dint e && (choices_fit choices && all_fit last)
-    stmt_fits (repeat number v from to by body) = is_of kind.Dint from && (is_of kind.Dint to && (option_is_of kind.Dint by && all_fit body))
+    stmt_fits (if_else number branches last) = branches_fit branches && all_fit last
+    stmt_fits (case_of number e choices last) = is_of kind.Dint e && (choices_fit choices && all_fit last)
+    stmt_fits (for_to number v from to by body) = is_of kind.Dint from && (is_of kind.Dint to && (option_is_of kind.Dint by && all_fit body))
 
     pub all_fit : PlainBody V → Bool
     all_fit done = true
@@ -73,9 +73,9 @@ module _ {V : Type 0} (context : Context V) where
     stmt_controls_fit (empty number) = true
     stmt_controls_fit (assign number v e) = true
     stmt_controls_fit (call number instance arguments) = true
-    stmt_controls_fit (choose number branches last) = branches_controls_fit branches && controls_fit last
-    stmt_controls_fit (select number e choices last) = choices_controls_fit choices && controls_fit last
-    stmt_controls_fit (repeat number v from to by body) = may_control v && controls_fit body
+    stmt_controls_fit (if_else number branches last) = branches_controls_fit branches && controls_fit last
+    stmt_controls_fit (case_of number e choices last) = choices_controls_fit choices && controls_fit last
+    stmt_controls_fit (for_to number v from to by body) = may_control v && controls_fit body
 
     pub controls_fit : PlainBody V → Bool
     controls_fit done = true

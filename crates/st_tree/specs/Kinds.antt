@@ -11,7 +11,7 @@ use Rattle.st_tree.specs.declared.tree.Unary.TheVariants.{Not, Negate, NegateTim
 use Rattle.st_tree.specs.declared.tree.Binary.{Binary}
 use Rattle.st_tree.specs.declared.tree.Binary.TheVariants.{And, Xor, Or, Equal, Unequal, Less, Greater, AtMost, AtLeast, Add, AddTime, Subtract, SubtractTime, Multiply, Divide, Mod}
 use Rattle.st_tree.specs.Plain.{PlainExpr, literal, read, output_of, unary, binary, PlainArgument, input, output}
-use Rattle.st_tree.specs.Plain.{PlainStmt, empty, assign, call, choose, select, repeat, PlainBody, done, next, Branches, no_branch, branch, Choices, no_choice, choice}
+use Rattle.st_tree.specs.Plain.{PlainStmt, empty, assign, call, if_else, case_of, for_to, PlainBody, done, next, Branches, no_branch, branch, Choices, no_choice, choice}
 use Rattle.st_tree.specs.Numbers.{numbered}
 
 abbrev pub same_kind : Kind → Kind → Bool
@@ -161,9 +161,9 @@ module _ {V : Type 0} (variable_kind : V → Kind) (output_kind : V → V → Ki
     resolved_stmt (empty number) = empty number
     resolved_stmt (assign number v e) = assign number v (resolved_expr e)
     resolved_stmt (call number instance arguments) = call number instance (map resolved_argument arguments)
-    resolved_stmt (choose number branches last) = choose number (resolved_branches branches) (resolved_body last)
-    resolved_stmt (select number e choices last) = select number (resolved_expr e) (resolved_choices choices) (resolved_body last)
-    resolved_stmt (repeat number v from to by body) = repeat number v (resolved_expr from) (resolved_expr to) (option_map resolved_expr by) (resolved_body body)
+    resolved_stmt (if_else number branches last) = if_else number (resolved_branches branches) (resolved_body last)
+    resolved_stmt (case_of number e choices last) = case_of number (resolved_expr e) (resolved_choices choices) (resolved_body last)
+    resolved_stmt (for_to number v from to by body) = for_to number v (resolved_expr from) (resolved_expr to) (option_map resolved_expr by) (resolved_body body)
 
     -- a body with each operator resolved
     pub resolved_body : PlainBody V → PlainBody V

@@ -2,7 +2,7 @@
 use Rattle.std.specs.Prelude.{Bool, true, ◌&&◌, Option, Some, None, map}
 use Rattle.std.specs.List.{list_all}
 use Rattle.st_tree.specs.Plain.{PlainExpr, literal, read, output_of, unary, binary, PlainArgument, input, output}
-use Rattle.st_tree.specs.Plain.{PlainStmt, empty, assign, call, choose, select, repeat, PlainBody, done, next, Branches, no_branch, branch, Choices, no_choice, choice}
+use Rattle.st_tree.specs.Plain.{PlainStmt, empty, assign, call, if_else, case_of, for_to, PlainBody, done, next, Branches, no_branch, branch, Choices, no_choice, choice}
 
 -- what stands in the place of each name
 pub record Mapping (V W : Type 0) : Type 0 where
@@ -38,9 +38,9 @@ module _ {V W : Type 0} (mapping : Mapping V W) where
     mapped_stmt (empty number) = empty number
     mapped_stmt (assign number v e) = assign number (mapping.variable v) (mapped_expr e)
     mapped_stmt (call number instance arguments) = call number (mapping.instance instance) (map (mapped_argument instance) arguments)
-    mapped_stmt (choose number branches last) = choose number (mapped_branches branches) (mapped_body last)
-    mapped_stmt (select number e choices last) = select number (mapped_expr e) (mapped_choices choices) (mapped_body last)
-    mapped_stmt (repeat number v from to by body) = repeat number (mapping.variable v) (mapped_expr from) (mapped_expr to) (mapped_option by) (mapped_body body)
+    mapped_stmt (if_else number branches last) = if_else number (mapped_branches branches) (mapped_body last)
+    mapped_stmt (case_of number e choices last) = case_of number (mapped_expr e) (mapped_choices choices) (mapped_body last)
+    mapped_stmt (for_to number v from to by body) = for_to number (mapping.variable v) (mapped_expr from) (mapped_expr to) (mapped_option by) (mapped_body body)
 
     pub mapped_body : PlainBody V → PlainBody W
     mapped_body done = done
@@ -95,9 +95,9 @@ module _ {V : Type 0} (known : Known V) where
     stmt_known (empty number) = true
     stmt_known (assign number v e) = known.has_variable v && expr_known e
     stmt_known (call number instance arguments) = known.has_instance instance && list_all (argument_known instance) arguments
-    stmt_known (choose number branches last) = branches_known branches && body_known last
-    stmt_known (select number e choices last) = expr_known e && (choices_known choices && body_known last)
-    stmt_known (repeat number v from to by body) = known.has_variable v && (expr_known from && (expr_known to && (option_known by && body_known body)))
+    stmt_known (if_else number branches last) = branches_known branches && body_known last
+    stmt_known (case_of number e choices last) = expr_known e && (choices_known choices && body_known last)
+    stmt_known (for_to number v from to by body) = known.has_variable v && (expr_known from && (expr_known to && (option_known by && body_known body)))
 
     pub body_known : PlainBody V → Bool
     body_known done = true

@@ -6,7 +6,7 @@ use Rattle.st_tree.specs.declared.tree.Literal.{Literal}
 use Rattle.st_tree.specs.declared.tree.Literal.TheVariants.{Integer, Value}
 use Rattle.st_tree.specs.declared.tree.Label.{Label}
 use Rattle.st_tree.specs.Plain.{PlainExpr, literal, read, output_of, unary, binary, PlainArgument, input, output}
-use Rattle.st_tree.specs.Plain.{PlainStmt, empty, assign, call, choose, select, repeat, PlainBody, done, next, Branches, no_branch, branch, Choices, no_choice, choice}
+use Rattle.st_tree.specs.Plain.{PlainStmt, empty, assign, call, if_else, case_of, for_to, PlainBody, done, next, Branches, no_branch, branch, Choices, no_choice, choice}
 use Rattle.st_tree.specs.Operators.{Outcome, eval_unary, eval_binary}
 use Rattle.st_tree.specs.Controls.{control_values, span_of}
 
@@ -120,10 +120,10 @@ abbrev mutual
   run space (assign number v e) w = with_value w (statement_spot space number) (outcome space w e) (λ n. Done (space.put w v n))
   run space (call number instance arguments) w =
       then_run (then_run (take_inputs space number instance arguments w) (λ u. space.enter u instance)) (λ u. Done (give_outputs space instance arguments u))
-  run space (choose number branches last) w = or_else (first_true space number branches w) (run_all space last)
-  run space (select number e choices last) w =
+  run space (if_else number branches last) w = or_else (first_true space number branches w) (run_all space last)
+  run space (case_of number e choices last) w =
       with_value w (statement_spot space number) (outcome space w e) (λ n. or_else (first_fit space n choices w) (run_all space last))
-  run space (repeat number v from to by body) w =
+  run space (for_to number v from to by body) w =
       with_value w (statement_spot space number) (span_of (outcome space w from) (outcome space w to) (step_of space w by)) (λ span.
       turns (λ u n. space.put u v n) (run_all space body) (control_values span) w)
 

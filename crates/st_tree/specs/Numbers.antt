@@ -1,6 +1,6 @@
 -- The numbers of statements, in the order of their first tokens: a statement before those inside it.
 use Rattle.std.specs.Prelude.{ℕ, ◌+◌}
-use Rattle.st_tree.specs.Plain.{PlainStmt, empty, assign, call, choose, select, repeat, PlainBody, done, next, Branches, no_branch, branch, Choices, no_choice, choice}
+use Rattle.st_tree.specs.Plain.{PlainStmt, empty, assign, call, if_else, case_of, for_to, PlainBody, done, next, Branches, no_branch, branch, Choices, no_choice, choice}
 
 abbrev mutual
   -- how many statements a statement is, with those inside it
@@ -8,9 +8,9 @@ abbrev mutual
   count_stmt (empty number) = 1
   count_stmt (assign number v e) = 1
   count_stmt (call number instance arguments) = 1
-  count_stmt (choose number branches last) = 1 + count_branches branches + count_body last
-  count_stmt (select number e choices last) = 1 + count_choices choices + count_body last
-  count_stmt (repeat number v from to by body) = 1 + count_body body
+  count_stmt (if_else number branches last) = 1 + count_branches branches + count_body last
+  count_stmt (case_of number e choices last) = 1 + count_choices choices + count_body last
+  count_stmt (for_to number v from to by body) = 1 + count_body body
 
   pub count_body : {V : Type 0} → PlainBody V → ℕ
   count_body done = 0
@@ -30,9 +30,9 @@ abbrev mutual
   numbered_stmt n (empty number) = empty n
   numbered_stmt n (assign number v e) = assign n v e
   numbered_stmt n (call number instance arguments) = call n instance arguments
-  numbered_stmt n (choose number branches last) = choose n (numbered_branches (n + 1) branches) (numbered (n + 1 + count_branches branches) last)
-  numbered_stmt n (select number e choices last) = select n e (numbered_choices (n + 1) choices) (numbered (n + 1 + count_choices choices) last)
-  numbered_stmt n (repeat number v from to by body) = repeat n v from to by (numbered (n + 1) body)
+  numbered_stmt n (if_else number branches last) = if_else n (numbered_branches (n + 1) branches) (numbered (n + 1 + count_branches branches) last)
+  numbered_stmt n (case_of number e choices last) = case_of n e (numbered_choices (n + 1) choices) (numbered (n + 1 + count_choices choices) last)
+  numbered_stmt n (for_to number v from to by body) = for_to n v from to by (numbered (n + 1) body)
 
   -- a body whose statements are numbered from a number on
   pub numbered : {V : Type 0} → ℕ → PlainBody V → PlainBody V

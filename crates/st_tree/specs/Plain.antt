@@ -25,11 +25,11 @@ mutual
     assign : ℕ → V → PlainExpr V → PlainStmt V
     call : ℕ → V → List (PlainArgument V) → PlainStmt V
     -- IF
-    choose : ℕ → Branches V → PlainBody V → PlainStmt V
+    if_else : ℕ → Branches V → PlainBody V → PlainStmt V
     -- CASE
-    select : ℕ → PlainExpr V → Choices V → PlainBody V → PlainStmt V
+    case_of : ℕ → PlainExpr V → Choices V → PlainBody V → PlainStmt V
     -- FOR
-    repeat : ℕ → V → (from to : PlainExpr V) → (by : Option (PlainExpr V)) → PlainBody V → PlainStmt V
+    for_to : ℕ → V → (from to : PlainExpr V) → (by : Option (PlainExpr V)) → PlainBody V → PlainStmt V
 
   pub data PlainBody (V : Type 0) : Type 0 where
     done : PlainBody V

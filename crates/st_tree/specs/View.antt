@@ -10,7 +10,7 @@ use Rattle.st_tree.specs.declared.tree.Branch.{Branch, fold-Branch}
 use Rattle.st_tree.specs.declared.tree.Choice.{Choice, fold-Choice}
 use Rattle.st_tree.specs.declared.tree.Stmt.TheOpen.{Stmt-F, Branch-F, Choice-F}
 use Rattle.st_tree.specs.Plain.{PlainExpr, literal, read, output_of, unary, binary, PlainArgument, input, output}
-use Rattle.st_tree.specs.Plain.{PlainStmt, empty, assign, call, choose, select, repeat, PlainBody, done, next, Branches, no_branch, branch, Choices, no_choice, choice}
+use Rattle.st_tree.specs.Plain.{PlainStmt, empty, assign, call, if_else, case_of, for_to, PlainBody, done, next, Branches, no_branch, branch, Choices, no_choice, choice}
 
 module _ {V : Type 0} where
   abbrev pub view_expr_step : Expr-F V (PlainExpr V) → PlainExpr V
@@ -56,9 +56,9 @@ module _ {V : Type 0} where
   view_step (Stmt-F.Empty number) = empty number
   view_step (Stmt-F.Assign number v e) = assign number v (view_expr e)
   view_step (Stmt-F.Call number v arguments) = call number v (map view_argument arguments.items)
-  view_step (Stmt-F.If number branches last) = choose number (branches_of branches.items) (body_of last.items)
-  view_step (Stmt-F.Case number e choices last) = select number (view_expr e) (choices_of choices.items) (body_of last.items)
-  view_step (Stmt-F.For number v from to by body) = repeat number v (view_expr from) (view_expr to) (view_option by) (body_of body.items)
+  view_step (Stmt-F.If number branches last) = if_else number (branches_of branches.items) (body_of last.items)
+  view_step (Stmt-F.Case number e choices last) = case_of number (view_expr e) (choices_of choices.items) (body_of last.items)
+  view_step (Stmt-F.For number v from to by body) = for_to number v (view_expr from) (view_expr to) (view_option by) (body_of body.items)
 
   -- the plain statement of a statement
   abbrev pub view_stmt : Stmt V → PlainStmt V

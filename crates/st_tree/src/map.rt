@@ -1,7 +1,7 @@
 //! Trees with what a pass puts in the places of their names and operators. Each function fails only where memory is refused.
 
 ghost use Rattle.std.specs.Prelude.{◌≡◌, IfOk, map};
-ghost use Rattle.st_tree.specs.Plain.{repeat};
+ghost use Rattle.st_tree.specs.Plain.{for_to};
 ghost use Rattle.st_tree.specs.View.{view_expr, view_option, view_argument, view_stmt, view_body, view_branches, view_choices};
 ghost use Rattle.st_tree.specs.Mapping.{mapped_expr, mapped_option, mapped_argument, mapped_stmt, mapped_body, mapped_branches, mapped_choices};
 
@@ -86,7 +86,7 @@ fn mapped_bounds<V, W: Drop, P: Pass<V, W>>(
 
 /// The FOR of these parts.
 fn for_of<W>(number: u32, variable: W, bounds: Bounds<W>, body: Vec<Stmt<W>>) -> Stmt<W>
-    ensures { view_stmt result ≡ repeat number variable (view_expr bounds.0) (view_expr bounds.1) (view_option bounds.2) (view_body body.items) }
+    ensures { view_stmt result ≡ for_to number variable (view_expr bounds.0) (view_expr bounds.1) (view_option bounds.2) (view_body body.items) }
 {
     let (from, to, by) = bounds;
     Stmt::For {

@@ -7,7 +7,7 @@ use Rattle.plant_types.specs.Words.{same_word}
 use Rattle.plant_types.specs.declared.values.Kind.{Kind}
 use Rattle.plant_types.specs.declared.values.Kind.TheVariants as kind
 use Rattle.plant_types.specs.declared.values.Trap.{Trap}
-use Rattle.st_tree.specs.Plain.{PlainExpr, PlainArgument, input, output, PlainStmt, empty, assign, call, choose, select, repeat, PlainBody}
+use Rattle.st_tree.specs.Plain.{PlainExpr, PlainArgument, input, output, PlainStmt, empty, assign, call, if_else, case_of, for_to, PlainBody}
 use Rattle.st_names.specs.Every.{every}
 use Rattle.st_tree.specs.Operators.{Outcome}
 use Rattle.st_tree.specs.Controls.{control_values, span_of}
@@ -41,13 +41,13 @@ abbrev pub stmt_assigns : List ℕ → PlainStmt (List ℕ) → Bool
 stmt_assigns v (empty number) = false
 stmt_assigns v (assign number u e) = same_word v u
 stmt_assigns v (call number instance arguments) = outputs_assign v arguments
-stmt_assigns v (choose number branches last) = false
-stmt_assigns v (select number e choices last) = false
-stmt_assigns v (repeat number u from to by body) = same_word v u
+stmt_assigns v (if_else number branches last) = false
+stmt_assigns v (case_of number e choices last) = false
+stmt_assigns v (for_to number u from to by body) = same_word v u
 
 -- no statement of a body assigns a variable
-abbrev pub spares : List ℕ → PlainBody (List ℕ) → Bool
-spares v body = every (λ s. not (stmt_assigns v s)) body
+abbrev pub never_assigns : List ℕ → PlainBody (List ℕ) → Bool
+never_assigns v body = every (λ s. not (stmt_assigns v s)) body
 
 -- the number of turns of a span; 0 if it has a trap in its place
 abbrev pub turns_in : Result Span Trap → ℕ
@@ -84,13 +84,13 @@ bounds_allowed from to by = has_value (meant_constant from) && (has_value (meant
 
 -- a FOR's control variable is allowed, its bounds and step are constant and allowed, and nothing inside it assigns its control variable
 abbrev pub stmt_allowed : List PlainDeclared → PlainStmt (List ℕ) → Bool
-stmt_allowed own (repeat number v from to by body) =
-    is_control own v && (bounds_allowed from to by && spares v body)
+stmt_allowed own (for_to number v from to by body) =
+    is_control own v && (bounds_allowed from to by && never_assigns v body)
 stmt_allowed own _ = true
 
 -- a FOR has at most 10,000 turns
 abbrev pub stmt_short : PlainStmt (List ℕ) → Bool
-stmt_short (repeat number v from to by body) = not (nat_lt 10000 (for_turns from to by))
+stmt_short (for_to number v from to by body) = not (nat_lt 10000 (for_turns from to by))
 stmt_short _ = true
 
 -- an initial value, where one is written, is constant and doesn't trap

@@ -6,8 +6,8 @@ use Rattle.st_parser.specs.declared.unit.PouKind.{PouKind}
 use Rattle.st_parser.specs.declared.unit.PouKind.TheVariants as pou_kind
 use Rattle.st_parser.specs.Units.{PlainPou, PlainUnit}
 use Rattle.block_order.specs.Blocks.{PlainBlock, NoneHoldsItself, NoneTooDeep, TooDeep, AreOrdered}
-use Rattle.block_order.specs.Faults.{IsOrderFault}
-use Rattle.block_order.specs.declared.faults.OrderFault.TheVariants as order_fault
+use Rattle.block_order.specs.Faults.{IsNestingFault}
+use Rattle.block_order.specs.declared.faults.NestingFault.TheVariants as order_fault
 use Rattle.st_names.specs.declared.place.UnitPlace.{UnitPlace}
 use Rattle.st_names.specs.Shared.{is_block}
 use Rattle.st_names.specs.Faults.{first_unit, first_misnamed}
@@ -45,7 +45,7 @@ too_many units = nat_lt 512 (program_count units)
 
 -- the first function block that holds itself
 abbrev pub FirstToHoldItself : List PlainUnit → UnitPlace → Type 0
-FirstToHoldItself units place = (i : ℕ) × (slice_get (block_places 0 units) i ≡ Some place) × IsOrderFault (blocks_of units) (order_fault.HoldsItself i)
+FirstToHoldItself units place = (i : ℕ) × (slice_get (block_places 0 units) i ≡ Some place) × IsNestingFault (blocks_of units) (order_fault.HoldsItself i)
 
 -- each name of the sources stands for something, and none is taken
 pub record AreNamed (units : List PlainUnit) : Type 0 where

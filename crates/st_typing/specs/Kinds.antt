@@ -4,7 +4,7 @@ use Rattle.std.specs.List.{list_all}
 use Rattle.std.specs.Option.{option_map_or}
 use Rattle.plant_types.specs.declared.values.Kind.{Kind}
 use Rattle.plant_types.specs.declared.values.Kind.TheVariants as kind
-use Rattle.st_tree.specs.Plain.{PlainExpr, PlainStmt, empty, assign, call, choose, select, repeat}
+use Rattle.st_tree.specs.Plain.{PlainExpr, PlainStmt, empty, assign, call, if_else, case_of, for_to}
 use Rattle.st_tree.specs.Kinds.{is_kind}
 use Rattle.st_tree.specs.Fits.{Context, is_of, option_is_of, fits_option, takes, argument_fits, all_fit}
 use Rattle.st_parser.specs.declared.unit.SectionKind.{SectionKind}
@@ -32,9 +32,9 @@ module _ (context : Context (List ℕ)) where
   parts_fit (empty number) = true
   parts_fit (assign number v e) = takes context v e
   parts_fit (call number instance arguments) = context.is_instance instance && list_all (argument_fits context instance) arguments
-  parts_fit (choose number branches last) = list_all (is_of context kind.Bool) (tests_of branches)
-  parts_fit (select number e choices last) = is_of context kind.Dint e
-  parts_fit (repeat number v from to by body) = is_of context kind.Dint from && (is_of context kind.Dint to && option_is_of context kind.Dint by)
+  parts_fit (if_else number branches last) = list_all (is_of context kind.Bool) (tests_of branches)
+  parts_fit (case_of number e choices last) = is_of context kind.Dint e
+  parts_fit (for_to number v from to by body) = is_of context kind.Dint from && (is_of context kind.Dint to && option_is_of context kind.Dint by)
 
 -- an initial value may be assigned to its variable, where one is written
 abbrev pub initial_fits : List PlainUnit → List PlainDeclared → Option Kind → Option (PlainExpr (List ℕ)) → Bool

@@ -10,7 +10,7 @@ use crate::fault::TypeFault;
 use crate::kinds::{globals_misfit, pou_misfit};
 use crate::limits::{some_long, too_many};
 use crate::typed::Typed;
-use block_order::{OrderFault, order_blocks};
+use block_order::{NestingFault, order_blocks};
 use st_names::{BodyScope, Judge, SharedNames, first_misnamed, first_unit};
 use st_parser::{Pou, Section, Unit};
 use std::alloc::{AllocError, Global};
@@ -85,9 +85,9 @@ fn block_order(alloc: Global, units: &[Unit]) -> Result<Option<Vec<usize>>, Type
     let list = blocks_of(alloc, units)?;
     match order_blocks(alloc, &list.blocks) {
         Ok(order) => Ok(Some(order)),
-        Err(OrderFault::TooDeep) => Ok(None),
-        Err(OrderFault::HoldsItself(number)) => Err(TypeFault::HoldsItself(list.places[number])),
-        Err(OrderFault::Memory) => Err(TypeFault::Memory),
+        Err(NestingFault::TooDeep) => Ok(None),
+        Err(NestingFault::HoldsItself(number)) => Err(TypeFault::HoldsItself(list.places[number])),
+        Err(NestingFault::Memory) => Err(TypeFault::Memory),
     }
 }
 

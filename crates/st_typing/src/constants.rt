@@ -11,7 +11,7 @@ ghost use Rattle.st_tree.specs.Meaning.{then_one, then_two};
 ghost use Rattle.st_tree.specs.Operators.{eval_unary, eval_binary};
 ghost use Rattle.st_parser.specs.Units.{view_declaration, view_section, view_pou};
 ghost use Rattle.st_names.specs.DeclaredNames.{declared_together, declared_by, declared_in};
-ghost use Rattle.st_typing.specs.Constants.{has_value, is_step, outputs_assign, stmt_assigns, spares, turns_of, for_turns, meant_constant, bounds_allowed, is_initial, constant_step, initial_constant, globals_inconstant, pou_inconstant, pou_long};
+ghost use Rattle.st_typing.specs.Constants.{has_value, is_step, outputs_assign, stmt_assigns, never_assigns, turns_of, for_turns, meant_constant, bounds_allowed, is_initial, constant_step, initial_constant, globals_inconstant, pou_inconstant, pou_long};
 
 use plant_types::{Kind, Text, Trap, same_word};
 use st_names::{Rule, Scope, every};
@@ -177,8 +177,8 @@ impl<'a> Rule for Unassigned<'a> {
 }
 
 /// Whether no statement of a body assigns a variable. Fails if allocation fails.
-fn spares(alloc: Global, variable: &Text, body: &[Stmt<Text>]) -> Result<bool, AllocError>
-    ensures { IfOk result (λ kept. kept ≡ spares variable.now (view_body body.now)) }
+fn never_assigns(alloc: Global, variable: &Text, body: &[Stmt<Text>]) -> Result<bool, AllocError>
+    ensures { IfOk result (λ kept. kept ≡ never_assigns variable.now (view_body body.now)) }
 {
     every(alloc, &Unassigned { variable }, body)
 }
@@ -212,7 +212,7 @@ impl<'a, S: Scope> Rule for Allowed<'a, S> {
         if !bounds_allowed(from, to, by) {
             return Ok(false);
         }
-        spares(alloc, variable, body)
+        never_assigns(alloc, variable, body)
     }
 }
 

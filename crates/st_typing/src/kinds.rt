@@ -12,7 +12,7 @@ ghost use Rattle.st_names.specs.Scopes.{variable_kind, output_kind};
 ghost use Rattle.st_typing.specs.Kinds.{context_of, parts_fit, initial_fits, instance_fits, declared_fits, is_global, globals_misfit, pou_misfit};
 
 use plant_types::{Kind, Text};
-use st_names::{Rule, Scope, every};
+use st_names::{Rule, Scope, every, sort_kind};
 use st_parser::{Declaration, Pou, Section, SectionKind, Sort};
 use st_tree::{Argument, Branch, Expr, Stmt, binary_kind, is_bit, unary_kind};
 use std::alloc::{AllocError, Global};
@@ -161,16 +161,6 @@ fn initial_fits<S: Scope>(scope: &S, kind: Option<Kind>, initial: &Option<Expr<T
     match initial {
         Some(expr) => fits_option(scope, kind, expr),
         None => true,
-    }
-}
-
-/// The kind of a variable; an instance has none.
-fn sort_kind(sort: &Sort) -> Option<Kind>
-    ensures { result ≡ sort_kind sort.now }
-{
-    match sort {
-        Sort::Kind(kind) => Some(*kind),
-        Sort::Block(_) => None,
     }
 }
 

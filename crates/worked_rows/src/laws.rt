@@ -8,7 +8,7 @@ use block_frames::{
     fitting_names_are_known, frames_agree, frames_begin, frames_have_paths, frames_have_standards,
     instances_have_numbers, typed_names_are_known, variables_have_numbers,
 };
-use block_order::{one_order_fault, sound_or_not};
+use block_order::{one_nesting_fault, sound_or_not};
 use block_walk::{frame_runs_its_body, seats_lie_apart};
 use plant_cells::called_clock;
 use plant_config::{accepted_or_refused, one_plant, one_refusal};
@@ -59,7 +59,7 @@ fn laws_of_plants() {
     spelled_or_stopped();
     plant_sources::one_answer();
     sound_or_not();
-    one_order_fault();
+    one_nesting_fault();
     typed_or_not();
     one_type_fault();
     one_plant();

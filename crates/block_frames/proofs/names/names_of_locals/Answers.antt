@@ -1,7 +1,7 @@
 use Rattle.std.proofs.Common.{◌∙◌, ap, map}
 use Rattle.std.proofs.lemmas.List.{take_all}
 use Rattle.plant_logic.specs.declared.logic.Local.{Local}
-use Rattle.block_frames.proofs.Growing.{names_more}
+use Rattle.plant_logic.proofs.Growing.{names_more}
 use Rattle.block_frames.proofs.names.names_of_locals.Goals as goal
 
 pub loop-local-preserved : goal.loop-local-preserved

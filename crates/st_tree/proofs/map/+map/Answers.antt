@@ -1,7 +1,7 @@
 use Rattle.std.proofs.Common.{arith, ap, sym, ◌∙◌, map}
 use Rattle.std.proofs.lemmas.List.{take_all}
 use denote.Param.Weighed.{most, at_most}
-use Rattle.st_tree.specs.Plain.{call, choose, select, repeat}
+use Rattle.st_tree.specs.Plain.{call, if_else, case_of, for_to}
 use Rattle.st_tree.specs.View.{view_argument, view_stmt, view_branch, view_choice, view_body, view_branches, view_choices, body_of, branches_of, choices_of}
 use Rattle.st_tree.specs.declared.tree.Stmt.{size-Stmt}
 use Rattle.st_tree.specs.declared.tree.Branch.{size-Branch, size_is-Branch}
@@ -121,7 +121,7 @@ mapped_stmt-returns-in-Ok g t c =
     let m = g.P.Pass.mapping c.args.pass.now in
     let branches = c.in_ok-branches-in-If.ensures ∙ ap (λ b. mapped_branches m (view_branches b)) c.deref-in-If.ensures.value in
     let last = c.in-Ok.ensures ∙ ap (λ b. mapped_body m (view_body b)) c.deref-in-If-2.ensures.value in
-    view_stmt-If _ _ _ ∙ (λ i. choose c.in-If.number (branches i) (last i)) ∙ ap (mapped_stmt m) (sym (view_stmt-If _ _ _) ∙ ap view_stmt (sym c.in-If.is))
+    view_stmt-If _ _ _ ∙ (λ i. if_else c.in-If.number (branches i) (last i)) ∙ ap (mapped_stmt m) (sym (view_stmt-If _ _ _) ∙ ap view_stmt (sym c.in-If.is))
 
 pub mapped_stmt-returns-in-Ok-mapped_body : goal.mapped_stmt-returns-in-Ok-mapped_body
 mapped_stmt-returns-in-Ok-mapped_body g t c =
@@ -129,7 +129,7 @@ mapped_stmt-returns-in-Ok-mapped_body g t c =
     let selector = c.in_ok-selector-in-Case.ensures in
     let choices = c.in-Ok-mapped_choices.ensures ∙ ap (λ b. mapped_choices m (view_choices b)) c.deref-in-Case.ensures.value in
     let last = c.in-Ok-mapped_body.ensures ∙ ap (λ b. mapped_body m (view_body b)) c.deref-in-Case-2.ensures.value in
-    view_stmt-Case _ _ _ _ ∙ (λ i. select c.in-Case.number (selector i) (choices i) (last i)) ∙ ap (mapped_stmt m) (sym (view_stmt-Case _ _ _ _) ∙ ap view_stmt (sym c.in-Case.is))
+    view_stmt-Case _ _ _ _ ∙ (λ i. case_of c.in-Case.number (selector i) (choices i) (last i)) ∙ ap (mapped_stmt m) (sym (view_stmt-Case _ _ _ _) ∙ ap view_stmt (sym c.in-Case.is))
 
 pub mapped_stmt-returns-in-Ok-mapped_body-2 : goal.mapped_stmt-returns-in-Ok-mapped_body-2
 mapped_stmt-returns-in-Ok-mapped_body-2 g t c =
@@ -137,4 +137,4 @@ mapped_stmt-returns-in-Ok-mapped_body-2 g t c =
     let variable = c.in_ok-variable-in-For.ensures in
     let bounds = c.in_ok-bounds-in-For.ensures in
     let body = c.in-Ok-mapped_body-2.ensures ∙ ap (λ b. mapped_body m (view_body b)) c.deref-in-For.ensures.value in
-    c.for_of.ensures ∙ (λ i. repeat c.in-For.number (variable i) (bounds.from i) (bounds.to i) (bounds.by i) (body i)) ∙ ap (mapped_stmt m) (sym (view_stmt-For _ _ _ _ _ _) ∙ ap view_stmt (sym c.in-For.is))
+    c.for_of.ensures ∙ (λ i. for_to c.in-For.number (variable i) (bounds.from i) (bounds.to i) (bounds.by i) (body i)) ∙ ap (mapped_stmt m) (sym (view_stmt-For _ _ _ _ _ _) ∙ ap view_stmt (sym c.in-For.is))
