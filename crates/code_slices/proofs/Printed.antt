@@ -37,7 +37,7 @@ back (instr.LoadBinarySlotStore op one two three) = ap (λ o. instr.LoadBinarySl
 back (instr.LoadBinaryLiteralStore op one x two) = ap (λ o. instr.LoadBinaryLiteralStore o one x two) (binary_back op)
 back (instr.LoadBinarySlotJump op one two three) = ap (λ o. instr.LoadBinarySlotJump o one two three) (binary_back op)
 back (instr.LoadBinaryLiteralJump op one x two) = ap (λ o. instr.LoadBinaryLiteralJump o one x two) (binary_back op)
-back (instr.BinaryLiteralTwice op x other y) = λ i. instr.BinaryLiteralTwice (binary_back op i) x (binary_back other i) y
+back (instr.BinaryLiteralTwice op other x y) = λ i. instr.BinaryLiteralTwice (binary_back op i) (binary_back other i) x y
 back i = refl
 
 -- the same of lists

@@ -54,7 +54,7 @@ print_of (instr.BinaryLiteral op x) = record { number = 7; op = binary_number op
 print_of (instr.BinarySlot op one) = record { number = 8; op = binary_number op; other = 0; one = one; two = 0; three = 0; x = pos 0; y = pos 0 }
 print_of (instr.Jump one) = record { number = 9; op = 0; other = 0; one = one; two = 0; three = 0; x = pos 0; y = pos 0 }
 print_of (instr.JumpUnless one) = record { number = 10; op = 0; other = 0; one = one; two = 0; three = 0; x = pos 0; y = pos 0 }
-print_of (instr.JumpWithin label one) = record { number = 11; op = 0; other = 0; one = one; two = 0; three = 0; x = label.low; y = label.high }
+print_of (instr.JumpWithin one label) = record { number = 11; op = 0; other = 0; one = one; two = 0; three = 0; x = label.low; y = label.high }
 print_of (instr.Begin one x y) = record { number = 12; op = 0; other = 0; one = one; two = 0; three = 0; x = x; y = y }
 print_of (instr.Turn one x two) = record { number = 13; op = 0; other = 0; one = one; two = two; three = 0; x = x; y = pos 0 }
 print_of (instr.ClockQ one) = record { number = 14; op = 0; other = 0; one = one; two = 0; three = 0; x = pos 0; y = pos 0 }
@@ -68,7 +68,7 @@ print_of (instr.BinaryLiteralStore op x one) = record { number = 21; op = binary
 print_of (instr.BinaryJump op one) = record { number = 22; op = binary_number op; other = 0; one = one; two = 0; three = 0; x = pos 0; y = pos 0 }
 print_of (instr.BinarySlotJump op one two) = record { number = 23; op = binary_number op; other = 0; one = one; two = two; three = 0; x = pos 0; y = pos 0 }
 print_of (instr.BinaryLiteralJump op x one) = record { number = 24; op = binary_number op; other = 0; one = one; two = 0; three = 0; x = x; y = pos 0 }
-print_of (instr.BinaryLiteralTwice op x other y) = record { number = 25; op = binary_number op; other = binary_number other; one = 0; two = 0; three = 0; x = x; y = y }
+print_of (instr.BinaryLiteralTwice op other x y) = record { number = 25; op = binary_number op; other = binary_number other; one = 0; two = 0; three = 0; x = x; y = y }
 print_of (instr.LoadUnary op one) = record { number = 26; op = unary_number op; other = 0; one = one; two = 0; three = 0; x = pos 0; y = pos 0 }
 print_of (instr.PushLoadUnary op one) = record { number = 27; op = unary_number op; other = 0; one = one; two = 0; three = 0; x = pos 0; y = pos 0 }
 print_of (instr.LoadBinarySlotStore op one two three) = record { number = 28; op = binary_number op; other = 0; one = one; two = two; three = three; x = pos 0; y = pos 0 }
@@ -90,7 +90,7 @@ instr_of p =
     if nat_eq p.number 8 then instr.BinarySlot (binary_of p.op) p.one else (
     if nat_eq p.number 9 then instr.Jump p.one else (
     if nat_eq p.number 10 then instr.JumpUnless p.one else (
-    if nat_eq p.number 11 then instr.JumpWithin (record { low = p.x; high = p.y }) p.one else (
+    if nat_eq p.number 11 then instr.JumpWithin p.one (record { low = p.x; high = p.y }) else (
     if nat_eq p.number 12 then instr.Begin p.one p.x p.y else (
     if nat_eq p.number 13 then instr.Turn p.one p.x p.two else (
     if nat_eq p.number 14 then instr.ClockQ p.one else (
@@ -104,7 +104,7 @@ instr_of p =
     if nat_eq p.number 22 then instr.BinaryJump (binary_of p.op) p.one else (
     if nat_eq p.number 23 then instr.BinarySlotJump (binary_of p.op) p.one p.two else (
     if nat_eq p.number 24 then instr.BinaryLiteralJump (binary_of p.op) p.x p.one else (
-    if nat_eq p.number 25 then instr.BinaryLiteralTwice (binary_of p.op) p.x (binary_of p.other) p.y else (
+    if nat_eq p.number 25 then instr.BinaryLiteralTwice (binary_of p.op) (binary_of p.other) p.x p.y else (
     if nat_eq p.number 26 then instr.LoadUnary (unary_of p.op) p.one else (
     if nat_eq p.number 27 then instr.PushLoadUnary (unary_of p.op) p.one else (
     if nat_eq p.number 28 then instr.LoadBinarySlotStore (binary_of p.op) p.one p.two p.three else (

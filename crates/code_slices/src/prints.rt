@@ -123,7 +123,7 @@ fn printed(i: &Instr) -> Print
         Instr::BinarySlot(op, one) => of_binary(8, op, (one, 0, 0), 0),
         Instr::Jump(one) => of_numbers(9, one, 0),
         Instr::JumpUnless(one) => of_numbers(10, one, 0),
-        Instr::JumpWithin(label, one) => Print {
+        Instr::JumpWithin(one, label) => Print {
             number: 11,
             op: 0,
             other: 0,
@@ -164,7 +164,7 @@ fn printed(i: &Instr) -> Print
         Instr::BinaryJump(op, one) => of_binary(22, op, (one, 0, 0), 0),
         Instr::BinarySlotJump(op, one, two) => of_binary(23, op, (one, two, 0), 0),
         Instr::BinaryLiteralJump(op, x, one) => of_binary(24, op, (one, 0, 0), x),
-        Instr::BinaryLiteralTwice(op, x, other, y) => Print {
+        Instr::BinaryLiteralTwice(op, other, x, y) => Print {
             number: 25,
             op: binary_print(op),
             other: binary_print(other),

@@ -158,6 +158,10 @@ pub choice_passed : (s : Scope) (place : Place) (last : ℕ → List Line) (n at
 choice_passed s place last n at end mid start [] body rest none ends before = (ends, before)
 choice_passed s place last n at end mid start (l ∷ ls) body rest none ends before = absurd (omega arith)
 
+nothing_if : (b : Bool) (c : List Line) → c ≡ [] → (if b then c else []) ≡ []
+nothing_if true c none = none
+nothing_if false c none = refl
+
 -- what an instance is of
 module _ (s : Scope) (place : Place) (instance : ℕ) (seat : Seat) (pc : ℕ) (at : slice_get s.seats.now instance ≡ Some seat) where
   abbrev enter_by : SeatOf → List Line
@@ -168,6 +172,12 @@ module _ (s : Scope) (place : Place) (instance : ℕ) (seat : Seat) (pc : ℕ) (
 
   pub entered_none : (k : ℕ) → seat.of ≡ seat_of.Frame k → seat.is_called ≡ false → enter_code s place (slice_get s.seats.now instance) pc ≡ []
   entered_none k of off = ap (λ o. enter_code s place o pc) at ∙ ap enter_by of ∙ ap (called_if k) off
+
+  -- a frame that isn't before the routine's own has no code
+  pub entered_past : (k : ℕ) → seat.of ≡ seat_of.Frame k → s.limit ≤ k → enter_code s place (slice_get s.seats.now instance) pc ≡ []
+  entered_past k of past =
+      ap (λ o. enter_code s place o pc) at ∙ ap enter_by of
+      ∙ nothing_if seat.is_called (coders s.globals s.frames.now s.limit k (base_of s.base seat) (s.path + seat.paths) pc) (frame_uncoded s.frames.now s.limit k s.globals (base_of s.base seat) (s.path + seat.paths) pc past)
 
   pub entered_frame : (k : ℕ) (base : Base) (path : ℕ) → seat.of ≡ seat_of.Frame k → seat.is_called ≡ true → base ≡ base_of s.base seat → path ≡ s.path + seat.paths
       → coders s.globals s.frames.now s.limit k base path pc ≡ enter_code s place (slice_get s.seats.now instance) pc

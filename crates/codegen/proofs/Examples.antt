@@ -44,7 +44,7 @@ abbrev for_body : PlainBody ℕ
 for_body = next (for_to 1 2 (number 1) (number 5) (Some (number 2)) (next (case_of 2 (read 2) (choice (label 1 1 ∷ label 3 4 ∷ []) (next (assign 3 0 (read 2)) done) no_choice) done) done)) done
 
 for_code_is : code for_body ≡ instr.Begin 10 (pos 1) (pos 2)
-    ∷ instr.Load 10 ∷ instr.JumpWithin (label 1 1) 5 ∷ instr.JumpWithin (label 3 4) 5 ∷ instr.Jump 8
+    ∷ instr.Load 10 ∷ instr.JumpWithin 5 (label 1 1) ∷ instr.JumpWithin 5 (label 3 4) ∷ instr.Jump 8
     ∷ instr.Load 10 ∷ instr.Store 0 ∷ instr.Jump 8
     ∷ instr.Turn 10 (pos 2) 1 ∷ []
 for_code_is = refl

@@ -1,5 +1,5 @@
 -- What the emission of a routine's code knows, and what it appends.
-use Rattle.std.specs.Prelude.{◌≡◌, ◌≤◌, ℕ, List, [], ◌∷◌, ◌++◌, length, Option}
+use Rattle.std.specs.Prelude.{◌≡◌, ◌≤◌, ◌+◌, ◌^◌, ℕ, List, [], ◌∷◌, ◌++◌, length, Option}
 use Rattle.plant_types.specs.declared.values.Place.{Place}
 use Rattle.st_tree.specs.declared.tree.Binary.{Binary}
 use Rattle.st_tree.specs.Plain.{PlainExpr, literal, read, output_of, unary, binary, PlainArgument, PlainStmt, PlainBody, Branches, Choices}
@@ -7,7 +7,8 @@ use Rattle.st_tree.specs.Meaning.{literal_worth}
 use Rattle.block_walk.specs.declared.frame.Seat.{Seat}
 use Rattle.block_walk.specs.declared.frame.Base.{Base}
 use Rattle.block_walk.specs.declared.frame.Frame.{Frame}
-use Rattle.block_walk.specs.Walks.{slot_of}
+use Rattle.block_walk.specs.Frames.{InTurn, AreInTurn, frame_paths}
+use Rattle.block_walk.specs.Walks.{HasRoom, slot_of, paths_within}
 use Rattle.acc_vm.specs.declared.instr.Instr.TheVariants as instr
 use Rattle.code_sizes.specs.declared.counts.Count.{Count}
 use Rattle.code_sizes.specs.Sizes.{frame_lines, branches_lines, choices_lines}
@@ -22,9 +23,13 @@ pub record AreLines (frames : List Frame) (limit : ℕ) (table : List Count) : T
   pub long : length table ≡ limit
   pub lines : (k : ℕ) → frame_lines frames limit k ≡ lines_at table k
 
--- so does the table of a scope
-abbrev pub IsLaid : Scope → Type 0
-IsLaid scope = AreLines scope.frames.now scope.limit scope.table.now
+-- a scope's table has the lines of the frames before its own; each base below it stays below 2 ^ 128, and each path number at it and below it is below 2 ^ 32
+pub record IsLaid (s : Scope) : Type 0 where
+  pub lines : AreLines s.frames.now s.limit s.table.now
+  pub bases : HasRoom s.base (s.limit + 1)
+  pub paths : s.path + length (paths_within s.frames.now s.limit s.seats.now) ≤ 2 ^ 32
+  pub own : InTurn (frame_paths s.frames.now s.limit) s.seats.now
+  pub in_turn : AreInTurn s.frames.now
 
 -- the code of each of so many first frames
 abbrev pub coders : ℕ → List Frame → ℕ → ℕ → Coder

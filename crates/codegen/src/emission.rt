@@ -1,7 +1,9 @@
 //! Emits statements, and the bodies of the frames that they call.
 
-ghost use Rattle.std.specs.Prelude.{◌≡◌, ◌+◌, ◌++◌, ◌∷◌, [], ℕ, List, map, Some, slice_get, IfOk};
+ghost use Rattle.std.specs.Prelude.{◌≡◌, ◌<◌, ◌≤◌, ◌+◌, ◌^◌, ◌++◌, ◌∷◌, [], ℕ, List, length, map, Some, slice_get, IfOk};
 ghost use Rattle.st_tree.specs.View.{view_argument, view_stmt, view_body, view_branch, view_branches, view_choice, view_choices};
+ghost use Rattle.block_walk.specs.Frames.{AreInTurn, frame_paths};
+ghost use Rattle.block_walk.specs.Walks.{HasRoom};
 ghost use Rattle.acc_vm.specs.declared.instr.Instr.TheVariants.{Jump, JumpUnless};
 ghost use Rattle.codegen.specs.Codes.{Line, labels_code, for_code};
 ghost use Rattle.codegen.specs.Emission as code;
@@ -35,24 +37,24 @@ pub(crate) fn emit_frame(
     pc: u32,
     out: &mut Vec<(Instr, Place)>,
 ) -> Result<(), AllocError>
-    requires { AreLines frames.now limit table.now }
+    requires there { k < limit }
+    requires lines { AreLines frames.now limit table.now }
+    requires bases { HasRoom base limit }
+    requires paths { path + length (frame_paths frames.now limit k) ≤ 2 ^ 32 }
+    requires in_turn { AreInTurn frames.now }
     ensures { IfOk result (λ _. out.new.items ≡ out.old.items ++ coders globals frames.now limit k base path pc) }
 {
-    if k < limit {
-        let frame = &frames[k];
-        let scope = Scope {
-            frames,
-            table: &table[..k],
-            limit: k,
-            seats: &frame.seats,
-            globals,
-            base,
-            path,
-        };
-        emit_body(&scope, out, &frame.body, pc)
-    } else {
-        Ok(())
-    }
+    let frame = &frames[k];
+    let scope = Scope {
+        frames,
+        table: &table[..k],
+        limit: k,
+        seats: &frame.seats,
+        globals,
+        base,
+        path,
+    };
+    emit_body(&scope, out, &frame.body, pc)
 }
 
 /// Appends a body.
@@ -183,19 +185,17 @@ fn emit_enter(
         Some(seat) => match seat.of {
             SeatOf::Standard(of) => emit_standard(scope, out, place, seat, of),
             SeatOf::Frame(k) => {
-                if !seat.is_called {
+                if !seat.is_called || k >= scope.limit {
                     return Ok(());
                 }
-                let base = base_of(scope.base, seat)?;
-                let path = add(scope.path, seat.paths)?;
                 emit_frame(
                     scope.frames,
                     scope.table,
                     scope.limit,
                     k,
                     scope.globals,
-                    base,
-                    path,
+                    base_of(scope.base, seat),
+                    scope.path + seat.paths,
                     pc,
                     out,
                 )

@@ -30,7 +30,7 @@ pub(crate) fn emit_labels(
     ensures { IfOk result (λ _. out.new.items ≡ out.old.items ++ labels_code place labels.now to) }
 {
     for label in labels {
-        emit(out, Instr::JumpWithin(*label, to), place)?;
+        emit(out, Instr::JumpWithin(to, *label), place)?;
     }
     Ok(())
 }

@@ -1,7 +1,7 @@
-//! Numbers of slots, clocks and lines, refused from 2^32 on.
+//! Numbers of slots, clocks and lines, refused from 2^32 on, and the bases of instances.
 
-ghost use Rattle.std.specs.Prelude.{◌≡◌, ◌+◌, pos, slice_get, IfOk};
-ghost use Rattle.block_walk.specs.Walks.{slot_of, member_slot, base_of};
+ghost use Rattle.std.specs.Prelude.{◌≡◌, ℕ, ◌+◌, pos, slice_get, IfOk};
+ghost use Rattle.block_walk.specs.Walks.{HasRoom, slot_of, member_slot, base_of};
 ghost use Rattle.codegen.specs.Codes.{output_instr, pt_instr};
 
 use acc_vm::Instr;
@@ -85,12 +85,15 @@ pub(crate) fn clock_of(base: Base, seat: &Seat) -> Result<u32, AllocError>
 }
 
 /// Where the values and the clocks of an instance begin.
-pub(crate) fn base_of(base: Base, seat: &Seat) -> Result<Base, AllocError>
-    ensures { IfOk result (λ b. b ≡ base_of base seat.now) }
+pub(crate) fn base_of(base: Base, seat: &Seat) -> Base
+    requires { HasRoom base 1 }
+    ensures is { result ≡ base_of base seat.now }
+    ensures room { (calls : ℕ) → HasRoom base (calls + 1) → HasRoom result calls }
 {
-    let values = add_wide(base.values, seat.values as u128)?;
-    let clocks = add_wide(base.clocks, seat.clocks as u128)?;
-    Ok(Base { values, clocks })
+    Base {
+        values: base.values + seat.values as u128,
+        clocks: base.clocks + seat.clocks as u128,
+    }
 }
 
 /// What loads an output of an instance.

@@ -78,30 +78,30 @@ pub enum End {
     Ended(Walked),
 }
 
-/// Runs a program by walk and by code, unless it is stopped, and stops it where it traps.
+/// Runs a program by walk and by code, unless it is stopped, and stops it where it traps. Fails if allocation fails.
 fn run_program(
     framed: &Framed,
     twin: &mut Twin,
     stopped: &mut [bool],
     program: u32,
     moment: u64,
-) -> End
+) -> Result<End, AllocError>
     requires there { program < length framed.now.programs }
     requires cells { HasCells framed.now twin.old.ran }
     ensures { HasCells framed.now twin.new.ran }
 {
     let Some(is_stopped) = stopped.get_mut(program as usize) else {
-        return End::Skipped;
+        return Ok(End::Skipped);
     };
     if *is_stopped {
-        return End::Skipped;
+        return Ok(End::Skipped);
     }
-    match twin.run(framed, program, moment) {
+    match twin.run(framed, program, moment)? {
         Some(ended) => {
             *is_stopped = !matches!(ended, Walked::Done);
-            End::Ended(ended)
+            Ok(End::Ended(ended))
         }
-        None => End::Apart,
+        None => Ok(End::Apart),
     }
 }
 
@@ -119,7 +119,7 @@ pub fn run_in_order(
     sound_source_is_small();
     let mut ends = Vec::with_capacity(alloc, framed.programs().len())?;
     for program in 0..framed.programs().len() {
-        let end = run_program(framed, twin, stopped, program as u32, moment);
+        let end = run_program(framed, twin, stopped, program as u32, moment)?;
         ends.push(end)?;
     }
     Ok(ends)

@@ -99,7 +99,6 @@ module _ (view : Frame → PlainFrame) (kept : IsKept view) (fs gs : List Frame)
     runs = runs_kept globals first base code is.runs;
     paths = is.paths ∙ ap (λ (l : List Path). length l) (all_paths first);
     within = λ has_value has_clock h. is.within has_value has_clock (there_kept has_value has_clock globals first base h);
-    stack = is.stack;
     tells = is.tells;
   }
 

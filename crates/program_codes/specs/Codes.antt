@@ -1,6 +1,5 @@
 -- The codes of the programs of a table of frames.
 use Rattle.std.specs.Prelude.{◌≡◌, ◌<◌, ◌≤◌, ◌+◌, ℕ, List, length, get_or, Some, slice_get}
-use Rattle.std.specs.List.{All}
 use Rattle.block_walk.specs.declared.frame.Base.{Base}
 use Rattle.block_walk.specs.declared.frame.Frame.{Frame}
 use Rattle.block_walk.specs.Frames.{frame_paths}
@@ -10,16 +9,11 @@ use Rattle.codegen.specs.Codes.{code_of, RunsFrame}
 use Rattle.codegen.specs.Within.{NamesAsFrame}
 use Rattle.program_codes.specs.Folded.{AreFolded}
 
--- how many words of stack there are for a run: code needs at most half as many as it costs, and no program of an accepted source costs more than 2,000,000
-abbrev pub stack_words : ℕ
-stack_words = 1000000
-
--- code is that of the frame of a number as a program, at a base: it runs as the frame does, has the frame's paths, names only what is there wherever what the frame names is there, finds room on the stack, and tells a cost
+-- code is that of the frame of a number as a program, at a base: it runs as the frame does, has the frame's paths, names only what is there wherever what the frame names is there, and tells a cost
 pub record IsCodeOf (frames : List Frame) (globals first : ℕ) (base : Base) (cost : ℕ) (code : PlainCode) : Type 0 where
   pub runs : RunsFrame frames globals first base code
   pub paths : code.paths ≡ length (frame_paths frames (length frames) first)
   pub within : NamesAsFrame frames globals first base code
-  pub stack : code.stack ≤ stack_words
   pub tells : code.cost ≡ cost
 
 -- where a program begins, by the rows of where the values and the clocks of each begin
@@ -29,10 +23,6 @@ base_in values clocks n = record { values = get_or values n 0; clocks = get_or c
 -- no program costs more than is told: the programs are the frames from one on
 abbrev pub CostNoMore : (frames : List Frame) → (first : ℕ) → (costs : List ℕ) → Type 0
 CostNoMore frames first costs = (n : ℕ) → n < length costs → frame_cost frames (length frames) (first + n) ≤ get_or costs n 0
-
--- each cost is at most the limit on a program's
-abbrev pub AreCheap : (costs : List ℕ) → Type 0
-AreCheap costs = All (λ cost. cost ≤ 2000000) costs
 
 -- each of the codes is that of its program, and tells its cost
 abbrev pub EachIsCode : (frames : List Frame) → (globals first : ℕ) → (values clocks costs : List ℕ) → List PlainCode → Type 0

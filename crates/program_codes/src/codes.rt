@@ -6,7 +6,7 @@ ghost use Rattle.code_sizes.specs.Sizes.{frame_cost};
 ghost use Rattle.code_sizes.specs.Counts.{AreCounts};
 ghost use Rattle.codegen.specs.Codes.{code_of, AreSteady};
 ghost use Rattle.program_codes.specs.Folded.{AreFolded};
-ghost use Rattle.program_codes.specs.Codes.{IsCodeOf, AreCodes, CostNoMore, AreCheap};
+ghost use Rattle.program_codes.specs.Codes.{IsCodeOf, AreCodes, CostNoMore};
 
 use crate::folding::fold_frames;
 use acc_vm::Code;
@@ -36,7 +36,6 @@ fn code_of(
     requires in_turn { AreInTurn folded.now }
     requires steady { AreSteady folded.now }
     requires cost { frame_cost folded.now (length folded.now) first ≤ cost }
-    requires cheap { cost ≤ 2000000 }
     ensures runs { IfOk result (IsCodeOf folded.now globals first (record { values = values; clocks = clocks }) cost) }
     ensures is { IfOk result (λ code. code ≡ code_of globals folded.now first (record { values = values; clocks = clocks }) cost) }
 {
@@ -66,7 +65,6 @@ pub fn codes_of(
     requires costs { length costs.now + 1 ≡ length values.now }
     requires there { first ≤ length frames.now }
     requires enough { CostNoMore frames.now first costs.now }
-    requires cheap { AreCheap costs.now }
     ensures { IfOk result (λ codes. AreCodes frames.now globals first values.now clocks.now costs.now codes.items) }
 {
     folded_body_does_same::<usize, Cells>();

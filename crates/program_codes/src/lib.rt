@@ -3,7 +3,7 @@
 //! Codes are made once, when a plant is read: the constants of all bodies are folded, the frames are counted, and each program is compiled. The
 //! folded frames are not kept. What is known of a code speaks of the frames as they were given: it runs as its frame does (`specs/Codes.antt`).
 //!
-//! Runs share one stack of a fixed size, which is enough for each code that is made.
+//! Runs share one stack, which is made as long as a code needs before that code runs.
 #![tactic(auto)]
 
 mod codes;

@@ -4,18 +4,13 @@ ghost use Rattle.std.specs.Prelude.{◌≡◌, ◌≤◌, ◌<◌, ◌+◌, ◌*
 ghost use Rattle.plant_cells.specs.Runs.{Path, ended};
 ghost use Rattle.acc_vm.specs.Machine.{Over};
 ghost use Rattle.acc_vm.specs.Codes.{SameShape, run_of};
-ghost use Rattle.program_codes.specs.Codes.{stack_words};
 
 use acc_vm::{Code, Own, Shared};
 use plant_cells::{Cells, Stop};
 use std::alloc::{AllocError, Global};
 use std::marker::Model;
 
-/// How many words of stack there are for a run.
-const STACK_WORDS: usize = 1_000_000;
-
-/// Memory for the stack of runs, one after another: 1,000,000 words. What a run leaves in it doesn't matter. Contracts see how many words it has.
-#[derive(Drop)]
+/// Memory for the stack of runs, one after another. What a run leaves in it doesn't matter. Contracts see how many words it has.
 pub struct Stack {
     words: Vec<i64>,
 }
@@ -27,23 +22,32 @@ impl Drop for Stack {
 }
 
 impl Model for Stack {
-    ghost use Rattle.std.specs.Prelude.{◌≡◌, ℕ, length};
-    ghost use Rattle.program_codes.specs.Codes.{stack_words};
+    ghost use Rattle.std.specs.Prelude.{ℕ, length};
 
     ghost Value = { ℕ };
 
     ghost view = { λ stack. length stack.words.items };
-
-    ghost invariant = { λ stack. length stack.words.items ≡ stack_words };
 }
 
 impl Stack {
-    /// A stack for runs. Fails if allocation fails.
-    pub fn new(alloc: Global) -> Result<Stack, AllocError>
-        ensures { IfOk result (λ stack. stack ≡ stack_words) }
+    /// A stack of no words.
+    pub fn new(alloc: Global) -> Stack
+        ensures { result ≡ 0 }
     {
-        let words = vec![in alloc; 0; STACK_WORDS]?;
-        Ok(Stack { words })
+        Stack {
+            words: Vec::new(alloc),
+        }
+    }
+
+    /// Makes the stack so many words long, unless it has as many. Fails if memory was refused; then it has at least the words that it had.
+    pub fn reach(&mut self, words: usize) -> Result<(), AllocError>
+        ensures reached { IfOk result (λ _. words ≤ self.new) }
+        ensures kept { self.old ≤ self.new }
+    {
+        if self.words.len() < words {
+            self.words.resize(words, 0)?;
+        }
+        Ok(())
     }
 }
 
@@ -56,7 +60,7 @@ pub fn run_code_counted(
 ) -> (Result<(), Stop>, u128)
     requires values { code.now.values ≤ length cells.old.values }
     requires clocks { code.now.clocks ≤ length cells.old.clocks }
-    requires room { code.now.stack ≤ stack_words }
+    requires room { code.now.stack ≤ stack.old }
     ensures ran { (names : List Path) → run_of moment names code.now cells.old ≡ Over (ended names result.0 cells.new) (4 * code.now.cost + 4 - result.1) }
     ensures count { result.1 ≤ 4 * code.now.cost + 4 }
     ensures path { IfErr result.0 (λ stop. stop.place.path < code.now.paths) }

@@ -1,6 +1,6 @@
 -- The programs of a source in levels.
 use Rattle.std.specs.Prelude.{◌≡◌, ℕ, ◌<◌, List, length}
-use Rattle.plant_logic.specs.Source.{Source}
+use Rattle.plant_logic.specs.Source.{Source, global_cells}
 use Rattle.acc_vm.specs.Codes.{PlainCode}
 use Rattle.code_slices.specs.Parts.{PlainPart}
 use Rattle.level_runs.specs.Accesses.{ArePartsOf}
@@ -29,4 +29,4 @@ pub record AreLevelsOf (source : Source) (l : PlainLevelled) : Type 0 where
   pub codes : List PlainCode
   pub are : AreProgramCodes source codes
   pub parts : ArePartsOf codes l.parts
-  pub plan : IsPlanOf (length source.globals) codes l.levels
+  pub plan : IsPlanOf (global_cells source) codes l.levels

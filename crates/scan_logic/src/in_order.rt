@@ -13,7 +13,8 @@ use plant_types::{Place, Trap};
 use plant_walk::{Framed, Stack, Walked, run, sound_source_is_small};
 use std::alloc::AllocError;
 
-/// Runs the program of a number, from 0, unless it is faulted, and returns its fault. What it assigned before a fault is kept.
+/// Runs the program of a number, from 0, unless it is faulted, and returns its fault. What it assigned before a fault is kept. Fails if
+/// allocation fails.
 fn run_program(
     framed: &Framed,
     program: u32,
@@ -21,19 +22,19 @@ fn run_program(
     stack: &mut Stack,
     cells: &mut Cells,
     is_faulted: bool,
-) -> Option<(Place, Trap)>
+) -> Result<Option<(Place, Trap)>, AllocError>
     requires there { program < length framed.now.programs }
     requires cells { HasCells framed.now cells.old }
     ensures cells { HasCells framed.now cells.new }
-    ensures ran { (w : World) → StandFor framed.now cells.old w → Agree framed.now (run_by is_faulted framed.now program moment w) (ended_by framed.now result cells.new) }
-    ensures within { IfSome result (λ fault. fault.0.path < length (paths_of framed.now)) }
+    ensures ran { IfOk result (λ fault. (w : World) → StandFor framed.now cells.old w → Agree framed.now (run_by is_faulted framed.now program moment w) (ended_by framed.now fault cells.new)) }
+    ensures within { IfOk result (λ fault. IfSome fault (λ f. f.0.path < length (paths_of framed.now))) }
 {
     if is_faulted {
-        return None;
+        return Ok(None);
     }
-    match run(framed, program, stack, cells, moment) {
-        Walked::Done => None,
-        Walked::Trapped(place, trap) => Some((place, trap)),
+    match run(framed, program, stack, cells, moment)? {
+        Walked::Done => Ok(None),
+        Walked::Trapped(place, trap) => Ok(Some((place, trap))),
     }
 }
 
@@ -58,7 +59,7 @@ pub fn run_in_order(
     let mut faults = room;
     faults.clear();
     for at in 0..framed.programs().len() {
-        let fault = run_program(framed, at as u32, moment, stack, cells, faulted[at]);
+        let fault = run_program(framed, at as u32, moment, stack, cells, faulted[at])?;
         if let Some(fault) = fault {
             faulted[at] = true;
             faults.push(fault)?;

@@ -1,4 +1,4 @@
-use Rattle.std.proofs.Common.{◌≡◌, ◌∙◌, ap, sym, subst, arith, ℕ, ◌+◌, ◌<◌, ◌++◌, ◌∷◌, List, [], length, take, drop}
+use Rattle.std.proofs.Common.{◌≡◌, ◌∙◌, ap, sym, refl, subst, arith, ℕ, ◌+◌, ◌<◌, ◌++◌, ◌∷◌, List, [], length, take, drop}
 use Rattle.std.specs.Prelude.{IfOk}
 use denote.Param.Weighed.{most}
 use Rattle.st_tree.specs.declared.tree.Stmt.{size-Stmt}
@@ -7,6 +7,9 @@ use Rattle.st_tree.specs.declared.tree.Choice.{size-Choice}
 use Rattle.st_tree.specs.View.{view_expr, view_stmt, view_body, view_branch, view_branches, view_choice, view_choices}
 use Rattle.st_tree.proofs.Depth.{size-If, size-Case, size-For}
 use Rattle.st_tree.proofs.Views.{view_stmt-Case, view_branch_is, view_choice_is}
+use Rattle.plant_cells.specs.Runs.{Path}
+use Rattle.block_walk.specs.Frames.{InTurn, frame_paths, routine_paths}
+use Rattle.block_walk.proofs.Firsts.{paths_is}
 use Rattle.block_walk.proofs.Ranks.{frame_at, frame_less}
 use Rattle.block_walk.specs.Walks.{slot_of}
 use Rattle.acc_vm.specs.declared.instr.Instr.TheVariants as instr
@@ -16,9 +19,10 @@ use Rattle.codegen.specs.Codes as codes
 use Rattle.codegen.specs.Codes.{Line, place_of}
 use Rattle.codegen.specs.Emission as code
 use Rattle.codegen.specs.Emission.{coders, branches_long, choices_long}
-use Rattle.codegen.proofs.Emitting.{nothing, one_after, seat_at, no_seat, laid_before, frame_coded, frame_uncoded, branches_at, choices_at, no_branches, no_choices, branch_on, choice_on, choice_passed, entered_none, entered_frame, entered_standard, case_done, view_assigned}
+use Rattle.codegen.proofs.Emitting.{nothing, one_after, seat_at, no_seat, laid_before, frame_coded, branches_at, choices_at, no_branches, no_choices, branch_on, choice_on, choice_passed, entered_none, entered_past, entered_frame, entered_standard, case_done, view_assigned}
+use Rattle.codegen.proofs.Numbered.{numbers_below}
 use Rattle.codegen.proofs.emission.+code.Goals as goal
-use Rattle.codegen.proofs.emission.+code.Goals.{emit_choices-then-labels-gt0+in_ok-count+in_ok-add+in_ok-body+in_ok-inside+in_ok-add-2+in_ok-next+in_ok-emit_choice, emit_choices-else-labels-gt0}
+use Rattle.codegen.proofs.emission.+code.Goals.{emit_enter-then-not-seat-via-then-not-seat, emit_enter-then-not-seat-via-else-not-seat+then-k-scope, emit_choices-then-labels-gt0+in_ok-count+in_ok-add+in_ok-body+in_ok-inside+in_ok-add-2+in_ok-next+in_ok-emit_choice, emit_choices-else-labels-gt0}
 
 pub emit_branches-loop-branch-preserved : goal.emit_branches-loop-branch-preserved
 emit_branches-loop-branch-preserved t c = λ last n ends.
@@ -74,19 +78,43 @@ emit_choices-returns t c = λ last n ends.
 
 pub emit_enter-returns-then-not-seat : goal.emit_enter-returns-then-not-seat
 emit_enter-returns-then-not-seat t c =
-    let at = seat_at c.args.scope.now.seats.now c.args.instance c.in-Some.seat.now (sym c.in-Some.ensures.lookup.0) c.in-Some.ensures.lookup.1 in
-    nothing c.args.out.now.items _ (entered_none c.args.scope.now c.args.place c.args.instance c.in-Some.seat.now c.args.pc at c.in-Frame.k c.in-Frame.is c.if-not-seat.true)
+    let s = c.args.scope.now in
+    let seat = c.in-Some.seat.now in
+    let at = seat_at s.seats.now c.args.instance seat (sym c.in-Some.ensures.lookup.0) c.in-Some.ensures.lookup.1 in
+    elim c.then-not-seat.branch [
+      | emit_enter-then-not-seat-via-then-not-seat w ↦ nothing c.args.out.now.items _ (entered_none s c.args.place c.args.instance seat c.args.pc at c.in-Frame.k c.in-Frame.is w.if-not-seat.true)
+      | emit_enter-then-not-seat-via-else-not-seat+then-k-scope w ↦ nothing c.args.out.now.items _ (entered_past s c.args.place c.args.instance seat c.args.pc at c.in-Frame.k c.in-Frame.is (omega (arith, w.if-k-scope.true)))
+    ]
 
 pub emit_enter-returns-in-Standard : goal.emit_enter-returns-in-Standard
 emit_enter-returns-in-Standard t c =
     let at = seat_at c.args.scope.now.seats.now c.args.instance c.in-Some.seat.now (sym c.in-Some.ensures.lookup.0) c.in-Some.ensures.lookup.1 in
     subst (λ z. IfOk c.emit_standard.result (λ x. c.emit_standard.new.out.items ≡ c.args.out.now.items ++ z)) (entered_standard c.args.scope.now c.args.place c.args.instance c.in-Some.seat.now c.args.pc at c.in-Standard.of c.in-Standard.is) c.emit_standard.ensures
 
-pub emit_enter-returns-in_ok-path-in-Frame : goal.emit_enter-returns-in_ok-path-in-Frame
-emit_enter-returns-in_ok-path-in-Frame t c =
-    let at = seat_at c.args.scope.now.seats.now c.args.instance c.in-Some.seat.now (sym c.in-Some.ensures.lookup.0) c.in-Some.ensures.lookup.1 in
-    let is =
-    entered_frame c.args.scope.now c.args.place c.args.instance c.in-Some.seat.now c.args.pc at c.in-Frame.k c.in_ok-base-in-Frame.base c.in_ok-path-in-Frame.path c.in-Frame.is c.if-not-seat.false c.in_ok-base-in-Frame.ensures c.in_ok-path-in-Frame.ensures in
+pub emit_enter-overflow_add-scope : goal.emit_enter-overflow_add-scope
+emit_enter-overflow_add-scope t c =
+    let s = c.args.scope.now in
+    let seat = c.in-Some.seat.now in
+    let at = seat_at s.seats.now c.args.instance seat (sym c.in-Some.ensures.lookup.0) c.in-Some.ensures.lookup.1 in
+    let less : c.in-Frame.k < s.limit = omega (arith, c.if-k-scope.false) in
+    let below = numbers_below s.frames.now s.limit c.in-Frame.k c.args.instance s.seats.now seat less c.requires.lines.within c.requires.own at c.in-Frame.is c.if-not-seat.false in
+    omega (arith, below.0, below.1, c.requires.paths)
+
+pub emit_enter-emit_frame-requires : goal.emit_enter-emit_frame-requires
+emit_enter-emit_frame-requires t c =
+    let s = c.args.scope.now in
+    let seat = c.in-Some.seat.now in
+    let at = seat_at s.seats.now c.args.instance seat (sym c.in-Some.ensures.lookup.0) c.in-Some.ensures.lookup.1 in
+    let less : c.in-Frame.k < s.limit = omega (arith, c.if-k-scope.false) in
+    let below = numbers_below s.frames.now s.limit c.in-Frame.k c.args.instance s.seats.now seat less c.requires.lines.within c.requires.own at c.in-Frame.is c.if-not-seat.false in
+    (omega arith, (less, (c.requires.lines, (c.base_of.ensures.room s.limit c.requires.bases, (omega (arith, below.1, c.requires.paths), c.requires.in_turn)))))
+
+pub emit_enter-returns-else-k-scope : goal.emit_enter-returns-else-k-scope
+emit_enter-returns-else-k-scope t c =
+    let s = c.args.scope.now in
+    let seat = c.in-Some.seat.now in
+    let at = seat_at s.seats.now c.args.instance seat (sym c.in-Some.ensures.lookup.0) c.in-Some.ensures.lookup.1 in
+    let is = entered_frame s c.args.place c.args.instance seat c.args.pc at c.in-Frame.k c.base_of.result (s.path + seat.paths) c.in-Frame.is c.if-not-seat.false c.base_of.ensures.is refl in
     subst (λ z. IfOk c.emit_frame.result (λ x. c.emit_frame.new.out.items ≡ c.args.out.now.items ++ z)) is c.emit_frame.ensures
 
 pub emit_enter-returns-in-None : goal.emit_enter-returns-in-None
@@ -96,21 +124,30 @@ emit_enter-returns-in-None t c =
 
 pub emit_frame-emit_body-requires : goal.emit_frame-emit_body-requires
 emit_frame-emit_body-requires t c =
-    let inside : c.args.k < length c.args.frames.now = let w = c.requires.within in omega arith in
-    let less = frame_less c.args.frames.now c.args.limit c.args.k c.index-frames-k.result c.deref-then-k-limit.result.now c.if-k-limit.true inside c.index-frames-k.is c.deref-then-k-limit.ensures.value in
-    (omega (arith, less), laid_before c.args.frames.now c.args.limit c.args.k c.args.table.now c.if-k-limit.true c.requires)
+    let frames = c.args.frames.now in
+    let inside : c.args.k < length frames = let w = c.requires.lines.within in let h = c.requires.there in omega arith in
+    let less = frame_less frames c.args.limit c.args.k c.index-frames-k.result c.deref-2.result.now c.requires.there inside c.index-frames-k.is c.deref-2.ensures.value in
+    let at = frame_at frames c.args.k c.index-frames-k.result inside c.index-frames-k.is in
+    let all = ap (λ (l : List Path). length l) (paths_is frames c.args.limit c.args.k c.index-frames-k.result c.requires.there at) in
+    let own = ap (λ seats. length (routine_paths (frame_paths frames c.args.k) seats)) c.deref.ensures.value in (
+      omega (arith, less),
+      record {
+        lines = laid_before frames c.args.limit c.args.k c.args.table.now c.requires.there c.requires.lines;
+        bases = (omega (arith, c.requires.there, c.requires.bases.0), omega (arith, c.requires.there, c.requires.bases.1));
+        paths = omega (arith, all, own, c.requires.paths);
+        own = subst (InTurn (frame_paths frames c.args.k)) (sym c.deref.ensures.value) (c.requires.in_turn c.args.k c.index-frames-k.result at);
+        in_turn = c.requires.in_turn;
+      },
+    )
 
-pub emit_frame-returns-then-k-limit : goal.emit_frame-returns-then-k-limit
-emit_frame-returns-then-k-limit t c =
-    let inside : c.args.k < length c.args.frames.now = let w = c.requires.within in omega arith in
+pub emit_frame-returns : goal.emit_frame-returns
+emit_frame-returns t c =
+    let inside : c.args.k < length c.args.frames.now = let w = c.requires.lines.within in let h = c.requires.there in omega arith in
     let at = frame_at c.args.frames.now c.args.k c.index-frames-k.result inside c.index-frames-k.is in
-    let coded = frame_coded c.args.frames.now c.args.limit c.args.k c.args.table.now c.if-k-limit.true c.requires c.args.globals c.index-frames-k.result c.args.base c.args.path c.args.pc at in
+    let coded = frame_coded c.args.frames.now c.args.limit c.args.k c.args.table.now c.requires.there c.requires.lines c.args.globals c.index-frames-k.result c.args.base c.args.path c.args.pc at in
     let same =
-    (λ i. codes.body_code c.args.globals (c.deref.ensures.value i) (lines_at (take c.args.k c.args.table.now)) (coders c.args.globals c.args.frames.now c.args.k) c.args.base c.args.path (view_body (c.deref-then-k-limit.ensures.value i)) c.args.pc) ∙ coded in
+    (λ i. codes.body_code c.args.globals (c.deref.ensures.value i) (lines_at (take c.args.k c.args.table.now)) (coders c.args.globals c.args.frames.now c.args.k) c.args.base c.args.path (view_body (c.deref-2.ensures.value i)) c.args.pc) ∙ coded in
     subst (λ z. IfOk c.emit_body.result (λ x. c.emit_body.new.out.items ≡ c.args.out.now.items ++ z)) same c.emit_body.ensures
-
-pub emit_frame-returns-else-k-limit : goal.emit_frame-returns-else-k-limit
-emit_frame-returns-else-k-limit t c = nothing c.args.out.now.items _ (frame_uncoded c.args.frames.now c.args.limit c.args.k c.args.globals c.args.base c.args.path c.args.pc (omega arith))
 
 pub emit_stmt-emit_branches-requires : goal.emit_stmt-emit_branches-requires
 emit_stmt-emit_branches-requires t c =

@@ -1,5 +1,4 @@
 use Rattle.std.proofs.Common.{◌≡◌, ◌∙◌, ℕ, ◌+◌, ◌≤◌, ◌++◌, ◌∷◌, [], ap, sym, subst, length, get_or, rules, arith, length-append}
-use Rattle.std.proofs.lemmas.List.Elements.{All-get_or}
 use Rattle.block_walk.specs.Frames.{AreInTurn}
 use Rattle.code_sizes.specs.Sizes.{frame_turns, frame_cost}
 use Rattle.codegen.specs.Codes.{code_of, AreSteady}
@@ -76,6 +75,3 @@ loop-n-preserved c =
       each = one_more (λ m x. IsCodeOf frames globals (first + m) (base m) (cost m) x) codes c.push.new.self.items code pushed c.loop-n.invariant.each (subst (λ m. IsCodeOf frames globals (first + m) (base m) (cost m) code) (sym many) is);
       made = one_more (λ m x. IsMade frames globals (first + m) (base m) (cost m) x) codes c.push.new.self.items code pushed c.loop-n.invariant.made (subst (λ m. IsMade frames globals (first + m) (base m) (cost m) code) (sym many) made);
     }
-
-pub code_of-requires-clause-cheap : goal.code_of-requires-clause-cheap
-code_of-requires-clause-cheap c = All-get_or (λ cost. cost ≤ 2000000) c.args.costs.now c.loop-n.n 0 c.loop-n-test.true c.requires.cheap

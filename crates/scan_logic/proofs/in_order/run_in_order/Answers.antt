@@ -16,7 +16,7 @@ loop-at-preserved c =
     let l = c.loop-at in
     let source = c.args.framed.now in
     let flag = c.index.result.now in
-    let after = c.run_program-fault.new.cells in
+    let after = c.run_program.new.cells in
     let there : l.at < length l.faulted.items = omega (arith, c.loop-at-test.true, l.invariant.same) in
     elim c.match-fault.branch [
       | in-Some+in_ok-push w ↦
@@ -26,20 +26,20 @@ loop-at-preserved c =
           record {
             few = l.invariant.few;
             same = ap length flags ∙ length-set l.faulted.items l.at true ∙ l.invariant.same;
-            cells_there = c.run_program-fault.ensures.cells;
-            within = rw faults (All-push (λ (f : Place × Trap). f.0.path < length (paths_of source)) l.faults.items fault l.invariant.within (subst (λ o. IfSome o (λ (f : Place × Trap). f.0.path < length (paths_of source))) w.in-Some.is c.run_program-fault.ensures.within));
+            cells_there = c.run_program.ensures.cells;
+            within = rw faults (All-push (λ (f : Place × Trap). f.0.path < length (paths_of source)) l.faults.items fault l.invariant.within (subst (λ o. IfSome o (λ (f : Place × Trap). f.0.path < length (paths_of source))) w.in-Some.is c.in_ok-fault.ensures.within));
             reached = λ u stands.
                 rw (flags, faults) (reached_trap source c.args.moment _ l.at l.cells after l.faulted.items l.faults.items flag fault there (sym c.index.ensures)
-                (λ v s. subst (λ o. Agree source (run_by flag source l.at c.args.moment v) (ended_by source o after)) w.in-Some.is (c.run_program-fault.ensures.ran v s)) (l.invariant.reached u stands));
+                (λ v s. subst (λ o. Agree source (run_by flag source l.at c.args.moment v) (ended_by source o after)) w.in-Some.is (c.in_ok-fault.ensures.ran v s)) (l.invariant.reached u stands));
           }
       | in_default w ↦
           record {
             few = l.invariant.few;
             same = ap (λ f. length f.items) w.faulted-is ∙ l.invariant.same;
-            cells_there = c.run_program-fault.ensures.cells;
+            cells_there = c.run_program.ensures.cells;
             within = search rules;
             reached = λ u stands.
                 rw (w.faulted-is, w.faults-is) (reached_next source c.args.moment _ l.at l.cells after l.faulted.items l.faults.items flag there (sym c.index.ensures)
-                (λ v s. subst (λ o. Agree source (run_by flag source l.at c.args.moment v) (ended_by source o after)) w.in_default.is (c.run_program-fault.ensures.ran v s)) (l.invariant.reached u stands));
+                (λ v s. subst (λ o. Agree source (run_by flag source l.at c.args.moment v) (ended_by source o after)) w.in_default.is (c.in_ok-fault.ensures.ran v s)) (l.invariant.reached u stands));
           }
     ]
