@@ -1,34 +1,30 @@
-//! A list that contracts see whole and that takes no memory: no entry is stored.
+//! Lists and values that contracts see whole and that take no memory: nothing is stored.
 //!
-//! A value that grows by entries can keep beside it, for its contracts, the list of the entries that made it: it holds a snapshot of the list
-//! before, and one of the last entry. A snapshot has no bytes.
+//! A value that grows by entries can keep beside it, for its contracts, the list of the entries that made it: its trace. What it was at some
+//! moment can be remembered, too. Neither has bytes, so both may go to any thread, and the prover finds that of each type that holds them.
 #![tactic(auto)]
 
 ghost use Rattle.std.specs.Prelude.{◌≡◌, [], ◌∷◌, ◌++◌};
 
+mod listed;
+mod remembered;
+
+use listed::Listed;
+pub use remembered::Remembered;
 use std::marker::Model;
-use std::snapshot::Snapshot;
 
 /// A list of entries, for contracts alone. Contracts see it as the list.
 #[derive(Drop)]
 pub struct Trace<E> {
-    end: Option<(Snapshot<Trace<E>>, Snapshot<E>)>,
+    list: Listed<E>,
 }
 
 impl<E> Model for Trace<E> {
-    ghost use Rattle.std.specs.Prelude.{List, length};
+    ghost use Rattle.std.specs.Prelude.{List};
 
     ghost Value = { List E };
 
-    ghost use Rattle.trace.specs.Items.{items};
-
-    ghost view = { λ t. items t.end };
-
-    ghost size = { length };
-
-    ghost use Rattle.std.proofs.Common.{arith, length-append};
-
-    ghost size_decreases = { λ a h. Prim.grind (arith, length-append) };
+    ghost view = { λ t. t.list.items };
 }
 
 impl<E> Trace<E> {
@@ -36,7 +32,9 @@ impl<E> Trace<E> {
     pub fn new() -> Trace<E>
         ensures { result ≡ [] }
     {
-        Trace { end: None }
+        Trace {
+            list: Listed::new(),
+        }
     }
 
     /// The list with one entry more.
@@ -44,7 +42,7 @@ impl<E> Trace<E> {
         ensures { result ≡ self.now ++ entry.now ∷ [] }
     {
         Trace {
-            end: Some((Snapshot::of(self), Snapshot::of(entry))),
+            list: self.list.then(entry),
         }
     }
 }
