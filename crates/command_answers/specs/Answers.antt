@@ -13,6 +13,7 @@ use Rattle.alarm_machine.specs.Codes.{PlainChange}
 use Rattle.alarm_machine.specs.declared.states.Verb.{Verb}
 use Rattle.plant_config.specs.Plants.{PlainPlant}
 use Rattle.plant_config.specs.Names.{alarm_number, program_number, tag_of, global_of}
+use Rattle.event_history.specs.Orders.{order_with}
 use Rattle.event_history.specs.declared.event.Event.{Event}
 use Rattle.plant_system.specs.declared.event.EngineFault.{EngineFault}
 use Rattle.plant_system.specs.Faults.{fault_text}
@@ -44,7 +45,7 @@ tag_for plant order = if is_restart order.verb then [] else tag_of_alarm plant o
 
 -- the order for what a word names
 abbrev pub order_for : PlainPlant → Verb → List ℕ → OrderMade
-order_for plant verb word = record { verb = verb; target = target_of plant verb word }
+order_for plant verb word = order_with verb (target_of plant verb word)
 
 -- ---- the answers to a scan and to an order
 

@@ -236,10 +236,7 @@ fn answer_order(
 {
     system_keeps_its_plant();
     let last = engine.moment();
-    let order = Order {
-        verb,
-        target: target_of(engine.plant(), verb, word),
-    };
+    let order = Order::of(verb, target_of(engine.plant(), verb, word));
     match engine.order(alloc, console, order) {
         Ok(reply) => push_order(text, last, tag_for(engine.plant(), order), reply),
         // An order asks no crew.

@@ -141,7 +141,7 @@ pub(crate) fn push_area(
 pub(crate) fn row_total(engine: &Engine) -> u64
     ensures { result ≡ length (journal_of engine.now.plant engine.now.history) }
 {
-    engine.journal().len() as u64
+    engine.journal().len()
 }
 
 /// Appends the line of the journal's row of a number, from 1. Fails if allocation fails.

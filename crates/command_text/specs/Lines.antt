@@ -5,7 +5,7 @@ use Rattle.std.specs.List.{flat_map}
 use Rattle.plant_types.specs.declared.values.Value.{Value}
 use Rattle.plant_types.specs.declared.values.Value.TheVariants as value
 use Rattle.plant_types.specs.declared.values.Trap.{Trap}
-use Rattle.plant_types.specs.declared.values.Trap.TheVariants as trap
+use Rattle.plant_types.specs.Values.{trap_text}
 use Rattle.alarm_machine.specs.Codes.{PlainChange, code_text}
 use Rattle.alarm_machine.specs.declared.states.Code.{Code}
 use Rattle.alarm_machine.specs.Orders.{order_fault_text}
@@ -20,11 +20,6 @@ abbrev pub value_text : Value → List ℕ
 value_text (value.Bool b) = if b then codes "TRUE" else codes "FALSE"
 value_text (value.Dint n) = signed_decimal n
 value_text (value.Time n) = signed_decimal n
-
--- the word for why a program stopped
-abbrev pub trap_text : Trap → List ℕ
-trap_text trap.Overflow = codes "OVERFLOW"
-trap_text trap.DivZero = codes "DIVZERO"
 
 -- the line for a program that stopped, at a statement of the body with this path
 unfoldable pub fault_line : ℕ → List ℕ → ℕ → Trap → List ℕ

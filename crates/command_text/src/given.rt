@@ -8,16 +8,9 @@ ghost use Rattle.command_text.specs.Cuts.{cut_name, split_word};
 use crate::numbers::whole;
 use crate::pool::Pool;
 use crate::words::{split_word, trim_start};
-use plant_types::{Given, same_word};
+use plant_types::{Given, is_name_byte, same_word};
 use std::alloc::{AllocError, Global};
 use std::str;
-
-/// Whether a name may go on with this byte: a letter, an underscore or a digit.
-fn is_name_byte(byte: u8) -> bool
-    ensures { result ≡ is_name_byte byte }
-{
-    byte.is_ascii_alphabetic() || byte == b'_' || byte.is_ascii_digit()
-}
 
 /// The number of bytes before the first one with which no name may go on.
 fn name_len(line: &[u8]) -> usize

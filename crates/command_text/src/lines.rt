@@ -1,6 +1,6 @@
 ghost use Rattle.std.specs.Prelude.{◌≡◌, ◌++◌, ℕ, OnOk, OnErr, length, map, take, ◌∷◌, [], codes, decimal};
 ghost use Rattle.alarm_machine.specs.Codes.{code_text};
-ghost use Rattle.command_text.specs.Lines.{line_of, trap_text, fault_line, alarm_line, out_line, done_line, reply_line, refused_line, state_line, count_line, row_line, end_line};
+ghost use Rattle.command_text.specs.Lines.{line_of, fault_line, alarm_line, out_line, done_line, reply_line, refused_line, state_line, count_line, row_line, end_line};
 
 use alarm_machine::{Change, Code, OrderFault};
 use itoa::Buffer;
@@ -76,16 +76,6 @@ fn push_four<'a>(
     push_line(out, name, &[first, second, third, fourth])
 }
 
-/// The word for why a program stopped.
-fn trap_text(trap: Trap) -> &'static str
-    ensures { result.now ≡ trap_text trap }
-{
-    match trap {
-        Trap::Overflow => "OVERFLOW",
-        Trap::DivZero => "DIVZERO",
-    }
-}
-
 /// Appends `FAULT MOMENT PATH STATEMENT KIND`: a program stopped at this statement of the body with this path. The moment is given by its
 /// digits. Where memory is refused the text is unchanged.
 #[tactic(auto, unfolding(crate::specs::Lines::fault_line))]
@@ -101,7 +91,7 @@ pub fn push_fault(
 {
     let mut number = Buffer::new();
     let statement = number.format(statement);
-    push_four(out, "FAULT", moment, path, statement, trap_text(trap))
+    push_four(out, "FAULT", moment, path, statement, trap.text())
 }
 
 /// Appends a code's text between two spaces.

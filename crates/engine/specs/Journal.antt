@@ -16,6 +16,7 @@ use Rattle.journal_core.specs.Rows.{fault_entry, change_entry}
 use Rattle.journal_core.specs.Bodies.{row_text}
 use Rattle.plant_config.specs.Plants.{PlainPlant}
 use Rattle.plant_config.specs.Names.{programs_of, body_paths, tag_of, program_at, body_path}
+use Rattle.event_history.specs.Orders.{order_with}
 use Rattle.event_history.specs.declared.event.Event.{Event}
 use Rattle.event_history.specs.declared.event.Event.TheVariants as event
 use Rattle.event_history.specs.declared.event.Order.{Order}
@@ -40,7 +41,7 @@ pub record NamedRow : Type 0 where
 abbrev pub named_entry : Source → Entry → NamedEntry
 named_entry source (entry.Fault place trap) = FaultAt (place_spot source place) trap
 named_entry source (entry.Alarm alarm change) = ChangeOf alarm change
-named_entry source (entry.Order console verb target refused) = OrderBy console (record { verb = verb; target = target }) refused
+named_entry source (entry.Order console verb target refused) = OrderBy console (order_with verb target) refused
 
 -- a row by names
 abbrev pub named_row : Source → Row → NamedRow

@@ -2,6 +2,7 @@
 
 ghost use Rattle.std.specs.Prelude.{◌≡◌, ◌+◌, ◌<◌, ◌≤◌, ◌++◌, [], ◌∷◌, length, slice_get, string_bytes, Some, Ok, IfOk, OnOk, OnErr, IfErr};
 ghost use Rattle.std.specs.Option.{option_map};
+ghost use Rattle.alarm_machine.specs.declared.limits.TheConstants.{LAST_MOMENT};
 ghost use Rattle.plant_system.specs.Faults.{faults_by, IsNoCrews};
 ghost use Rattle.plant_system.specs.Image.{IsDue};
 ghost use Rattle.plant_system.specs.Orders.{restart_of};
@@ -69,7 +70,7 @@ impl Model for Engine {
 fn opening(alloc: Global, plant: &Plant) -> Result<(State, Room), AllocError>
     ensures { IfOk result (λ made. IsEngine plant.now [] [] made.0) }
 {
-    let space = Workspace::new(alloc)?;
+    let space = Workspace::new(alloc);
     let state = opening_state(alloc, plant)?;
     let run = RunRoom {
         spare: None,
@@ -146,7 +147,8 @@ impl Engine {
 
     /// The moment of the last scan in milliseconds, 0 before the first.
     pub fn moment(&self) -> u64
-        ensures { result ≡ (state_of self.now).moment }
+        ensures moment { result ≡ (state_of self.now).moment }
+        ensures in_range { result ≤ LAST_MOMENT }
     {
         self.state.bank.moment()
     }
@@ -365,8 +367,6 @@ impl Engine {
         ensures kept { OnErr result (self.new.history ≡ self.old.history) }
         ensures row_room { OnErr result (self.old.row_room ≤ self.new.row_room) }
     {
-        let verb = Verb::Restart;
-        let target = program;
-        self.order(alloc, console, Order { verb, target })
+        self.order(alloc, console, Order::of(Verb::Restart, program))
     }
 }

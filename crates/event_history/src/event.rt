@@ -1,3 +1,6 @@
+ghost use Rattle.std.specs.Prelude.{◌≡◌};
+ghost use Rattle.event_history.specs.Orders.{order_with};
+
 use alarm_machine::Verb;
 use plant_types::{Items, Value};
 
@@ -6,6 +9,15 @@ use plant_types::{Items, Value};
 pub struct Order {
     pub verb: Verb,
     pub target: Option<u32>,
+}
+
+impl Order {
+    /// The order of a verb for a target.
+    pub fn of(verb: Verb, target: Option<u32>) -> Order
+        ensures { result ≡ order_with verb target }
+    {
+        Order { verb, target }
+    }
 }
 
 /// One event of the history.

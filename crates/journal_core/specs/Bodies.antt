@@ -2,7 +2,7 @@
 use Rattle.std.specs.Prelude.{ℕ, List, [], ◌++◌, Option, Some, None, codes}
 use Rattle.std.specs.Fmt.{decimal}
 use Rattle.plant_types.specs.declared.values.Trap.{Trap}
-use Rattle.plant_types.specs.declared.values.Trap.TheVariants as trap
+use Rattle.plant_types.specs.Values.{trap_text}
 use Rattle.alarm_machine.specs.Codes.{PlainChange, code_text}
 use Rattle.alarm_machine.specs.Orders.{verb_text, order_fault_text}
 use Rattle.alarm_machine.specs.declared.states.Verb.{Verb}
@@ -12,11 +12,6 @@ use Rattle.stamps.specs.Stamps.{stamp}
 use Rattle.journal_core.specs.declared.row.Entry.{Entry}
 use Rattle.journal_core.specs.declared.row.Entry.TheVariants as entry
 use Rattle.journal_core.specs.declared.row.Row.{Row}
-
--- the word for why a program was faulted
-abbrev pub trap_text : Trap → List ℕ
-trap_text trap.Overflow = codes "OVERFLOW"
-trap_text trap.DivZero = codes "DIVZERO"
 
 -- the body for a fault, at a statement of the body with this path: `FAULT PATH STATEMENT KIND`
 abbrev pub fault_body : List ℕ → ℕ → Trap → List ℕ

@@ -100,12 +100,12 @@ impl Log {
 
     /// How many rows there are.
     #[tactic(auto, using(crate::proofs::KeptLaws::rows_length))]
-    pub fn len(&self) -> usize
+    pub fn len(&self) -> u64
         ensures count { result ≡ length self.now.rows }
         ensures numbered { AreNumbered self.now.rows }
         ensures in_order { AreInOrder self.now.rows }
     {
-        self.rows.len()
+        self.rows.len() as u64
     }
 
     /// The row of a number, from 1.

@@ -1,6 +1,6 @@
 ghost use Rattle.std.specs.Prelude.{◌≡◌, ◌++◌, ◌≤◌, string_bytes, OnOk, IfOk};
 ghost use Rattle.alarm_machine.specs.declared.limits.TheConstants.{LAST_MOMENT};
-ghost use Rattle.journal_core.specs.Bodies.{trap_text, fault_body, alarm_body, shelf_text, reply_text, order_body, body_text, row_text};
+ghost use Rattle.journal_core.specs.Bodies.{fault_body, alarm_body, shelf_text, reply_text, order_body, body_text, row_text};
 
 use crate::row::{Entry, Row};
 use alarm_machine::{Change, OrderFault, Verb};
@@ -10,16 +10,6 @@ use std::alloc::{AllocError, Global};
 
 /// How many bytes are reserved for a row beside those of its name: few rows have more.
 const ROOM: usize = 80;
-
-/// The word for why a program was faulted.
-fn trap_text(trap: Trap) -> &'static str
-    ensures { result.now ≡ trap_text trap }
-{
-    match trap {
-        Trap::Overflow => "OVERFLOW",
-        Trap::DivZero => "DIVZERO",
-    }
-}
 
 /// The reply to an order: OK, or the number of its refusal.
 fn reply_text(refused: Option<OrderFault>) -> &'static str
@@ -46,7 +36,7 @@ fn push_fault(
     text.push_str(" ")?;
     text.push_str(&statement.to_string(alloc)?)?;
     text.push_str(" ")?;
-    text.push_str(trap_text(kind))?;
+    text.push_str(kind.text())?;
     Ok(())
 }
 

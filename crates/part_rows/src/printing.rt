@@ -34,14 +34,6 @@ pub fn truth_text(truth: bool) -> &'static str {
     if truth { "TRUE" } else { "FALSE" }
 }
 
-/// How a trap is printed.
-pub fn trap_text(trap: Trap) -> &'static str {
-    match trap {
-        Trap::Overflow => "OVERFLOW",
-        Trap::DivZero => "DIVZERO",
-    }
-}
-
 /// The number that a word spells; 0 where it spells none.
 pub fn number_of(word: &str) -> u64 {
     word.parse::<u64>().unwrap_or(0)

@@ -2,7 +2,7 @@
 
 ghost use Rattle.std.specs.Prelude.{◌<◌, length};
 
-use crate::printing::{push_all, push_number, trap_text, truth_text};
+use crate::printing::{push_all, push_number, truth_text};
 use plant_cells::Cells;
 use plant_limits::LimitFault;
 use plant_walk::{Framed, Stack, Walked, run_counted, standing_cells_are_there, walk};
@@ -26,7 +26,7 @@ fn push_run(
             for _ in 0..place.statement {
                 text.push_str(".")?;
             }
-            push_all(text, &[" ", trap_text(trap)])
+            push_all(text, &[" ", trap.text()])
         }
     }
 }
@@ -50,12 +50,12 @@ fn push_walked(alloc: Global, text: &mut String, framed: &Framed) -> Result<(), 
 /// Adds how the run of the first program's code ends, whether it takes 10,000 to 280,012 instructions, and what the first global is then.
 fn push_counted(alloc: Global, text: &mut String, framed: &Framed) -> Result<(), AllocError> {
     standing_cells_are_there();
-    let mut stack = Stack::new(alloc)?;
+    let mut stack = Stack::new(alloc);
     let mut cells = framed.opening(alloc)?;
     if framed.programs().is_empty() {
         return text.push_str(" ?");
     }
-    let (ended, count) = run_counted(framed, 0, &mut stack, &mut cells, 0);
+    let (ended, count) = run_counted(framed, 0, &mut stack, &mut cells, 0)?;
     let is_done = matches!(ended, Walked::Done);
     let is_in_range = matches!(count, 10_000..=280_012);
     push_all(

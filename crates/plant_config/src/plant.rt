@@ -1,12 +1,13 @@
 //! The plant, its parts and their names.
 
-ghost use Rattle.std.specs.Prelude.{◌≡◌, ◌<◌, ◌++◌, Some, length, map, option_map, position, string_bytes, IfSome, IfOk, IfErr, MatchResult};
+ghost use Rattle.std.specs.Prelude.{◌≡◌, ◌<◌, ◌++◌, Some, get_or, length, map, option_map, position, string_bytes, IfSome, IfOk, IfErr, MatchResult};
 ghost use Rattle.plant_types.specs.Words.{same_word};
 ghost use Rattle.st_parser.specs.Units.{view_unit};
 ghost use Rattle.plant_file.specs.Read.{plant_file_in};
 ghost use Rattle.plant_logic.specs.declared.logic.Routine.{Routine};
 ghost use Rattle.plant_config.specs.Files.{files_of, texts_of};
 ghost use Rattle.alarm_db.specs.Databases.{IsDatabase, rows_of, tags_of as database_tags};
+ghost use Rattle.plant_limits.specs.Counts.{program_costs};
 ghost use Rattle.plant_logic.specs.Units.{source_in};
 ghost use Rattle.plant_file.specs.PlantFiles.{IsPlantFile};
 ghost use Rattle.plant_config.specs.Alarms.{alarms_of};
@@ -442,6 +443,14 @@ impl Plant {
         ensures { result.now ≡ program_at self.now program }
     {
         self.logic.programs()[program as usize].name.as_str()
+    }
+
+    /// What a scan of a program costs at most, by the rule of the limit of 2,000,000 (this profile): of the program as it is written.
+    pub fn cost(&self, program: u32) -> u64
+        requires { program < length (programs_of self.now) }
+        ensures { result ≡ get_or (program_costs self.now.source) program 0 }
+    {
+        self.logic.cost(program as usize)
     }
 
     /// The path of the body in which a trap occurred, as a fault prints it: the names of the program and of the instances below it, as

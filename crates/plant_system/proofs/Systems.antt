@@ -48,13 +48,13 @@ use Rattle.plant_system.proofs.CellWorlds.{inputs_stand, values_stand, alarms_sa
 use Rattle.plant_system.proofs.Follows.{follow_order}
 use Rattle.plant_system.proofs.Images.{has_number}
 
-event_holds : (s : System) (e : Event) → (after_event s e).plant ≡ s.plant
-event_holds s (event.Scan image t) = refl
-event_holds s (event.Order console order) = refl
+pub event_keeps_plant : (s : System) (e : Event) → (after_event s e).plant ≡ s.plant
+event_keeps_plant s (event.Scan image t) = refl
+event_keeps_plant s (event.Order console order) = refl
 
 plant_from : (s : System) (history : List Event) → (fold after_event s history).plant ≡ s.plant
 plant_from s [] = refl
-plant_from s (e ∷ history) = plant_from (after_event s e) history ∙ event_holds s e
+plant_from s (e ∷ history) = plant_from (after_event s e) history ∙ event_keeps_plant s e
 
 -- a system keeps the plant that it began with
 pub system_keeps_its_plant : (plant : PlainPlant) (history : List Event) → (system plant history).plant ≡ plant

@@ -11,6 +11,7 @@ use Rattle.alarm_machine.specs.Codes.{PlainChange}
 use Rattle.alarm_bank.specs.Moves.{change_from}
 use Rattle.plant_file.specs.declared.console.Console.{Console}
 use Rattle.plant_config.specs.Plants.{PlainPlant}
+use Rattle.event_history.specs.Orders.{order_with}
 use Rattle.event_history.specs.declared.event.Order.{Order}
 use Rattle.plant_system.specs.declared.event.Reply.{Reply}
 use Rattle.plant_system.specs.declared.event.Reply.TheVariants as reply
@@ -56,7 +57,7 @@ is_restart _ = false
 
 -- the order to restart the program of a number
 abbrev pub restart_of : Option ℕ → Order
-restart_of program = record { verb = verb.Restart; target = program }
+restart_of program = order_with verb.Restart program
 
 -- what an order does, or why it is refused
 abbrev pub order_outcome : PlainPlant → List PlainAlarm → List Bool → ℕ → ℕ → Order → Result Effect OrderFault

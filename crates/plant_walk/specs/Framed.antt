@@ -1,7 +1,7 @@
 -- A source made ready to run.
 use Rattle.std.specs.Prelude.{◌≡◌, ◌<◌, ◌^◌, ℕ, List, [], ◌∷◌, map, length}
 use Rattle.plant_logic.specs.declared.logic.Variable.{Variable}
-use Rattle.plant_logic.specs.Source.{Source}
+use Rattle.plant_logic.specs.Source.{Source, global_cells}
 use Rattle.plant_logic.specs.Blocks.{AreBelow}
 use Rattle.plant_logic.specs.Layout.{ClockAt, all_clocks}
 use Rattle.plant_logic.specs.Seats.{program_values_base, program_clocks_base}
@@ -41,4 +41,4 @@ pub record IsFramed (source : Source) (order : List ℕ) (frames start : List Fr
   pub clocks_begin : AreBases (program_clocks_base source) (length source.programs) clocks
   pub paths_begin : AreBases (program_paths_base source) (length source.programs) paths
   pub paths_fit : program_paths_base source (length source.programs) < 2 ^ 32
-  pub codes_are : AreCodes frames (length source.globals) (length order) values clocks (program_costs source) codes
+  pub codes_are : AreCodes frames (global_cells source) (length order) values clocks (program_costs source) codes

@@ -2,7 +2,7 @@
 use Rattle.std.specs.Prelude.{◌≡◌, ◌<◌, ◌≤◌, ◌+◌, ◌++◌, ℕ, List, [], ◌∷◌, map, length, get_or, Option, Some, None, Result, Ok, Err, slice_get}
 use Rattle.plant_types.specs.declared.values.Place.{Place}
 use Rattle.st_tree.specs.Meaning.{Spot, Ran, Done, Trapped}
-use Rattle.plant_logic.specs.Source.{PlainRoutine, Source}
+use Rattle.plant_logic.specs.Source.{PlainRoutine, Source, global_cells}
 use Rattle.plant_logic.specs.Worlds.{World, run_program}
 use Rattle.plant_logic.specs.Layout.{cell_paths, all_clocks}
 use Rattle.plant_logic.specs.Paths.{paths_rule, type_paths, paths_of}
@@ -63,7 +63,7 @@ pub record TakesInstructions (source : Source) (n t : ℕ) (cells : PlainCells) 
   pub frames : List Frame
   pub are_frames : IsFrames source order frames
   pub code : PlainCode
-  pub made : IsMade frames (length source.globals) (length order + n) (program_base source n) (get_or (program_costs source) n 0) code
+  pub made : IsMade frames (global_cells source) (length order + n) (program_base source n) (get_or (program_costs source) n 0) code
   pub result : Ran PlainCells
   pub left : ℕ
   pub runs : run_of t [] code cells ≡ Over result left
@@ -87,7 +87,7 @@ pub record EndsAsProgram (source : Source) (n t : ℕ) (code : PlainCode) (cells
 
 -- beside the globals, which come first, instructions name only values and clocks of the program of a number
 pub record NamesOwn (source : Source) (n : ℕ) (code : List Instr) : Type 0 where
-  pub values : (s : ℕ) → Names code s → length source.globals ≤ s → IsOwnValue source n s
+  pub values : (s : ℕ) → Names code s → global_cells source ≤ s → IsOwnValue source n s
   pub clocks : (k : ℕ) → NamesClock code k → IsOwnClock source n k
 
 -- code is that of the program of a number: it is sound, cells of the source have what it names, which is few, and beside the globals the program's own, its paths are the program's, it tells what the program costs, and from cells that stand for a world it ends as the program does there

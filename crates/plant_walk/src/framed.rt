@@ -325,20 +325,23 @@ impl Framed {
         stack: &mut Stack,
         cells: &mut Cells,
         moment: u64,
-    ) -> (Walked, u128)
+    ) -> Result<(Walked, u128), AllocError>
         requires there { program < length self.now.programs }
         requires cells { HasCells self.now cells.old }
-        ensures ran { (w : World) → StandFor self.now cells.old w → Agree self.now (run_program self.now program moment w) (ran self.now result.0 cells.new) }
-        ensures within { IsWithin self.now result.0 }
+        ensures ran { IfOk result (λ ended. (w : World) → StandFor self.now cells.old w → Agree self.now (run_program self.now program moment w) (ran self.now ended.0 cells.new)) }
+        ensures within { IfOk result (λ ended. IsWithin self.now ended.0) }
         ensures shape { HasCells self.now cells.new }
-        ensures count { TakesInstructions self.now program moment cells.old result.1 }
-        ensures cost { result.1 ≤ 4 * get_or (program_costs self.now) program 0 + 4 }
+        ensures count { IfOk result (λ ended. TakesInstructions self.now program moment cells.old ended.1) }
+        ensures cost { IfOk result (λ ended. ended.1 ≤ 4 * get_or (program_costs self.now) program 0 + 4) }
+        ensures kept { IfErr result (λ _. cells.new ≡ cells.old) }
     {
         frames_agree();
         frames_have_paths();
         typed_names_are_known();
-        let (ended, count) = run_code_counted(&self.codes[program], stack, cells, moment);
-        (walked(self.paths[program], ended), count)
+        let compiled = &self.codes[program];
+        stack.reach(compiled.stack())?;
+        let (ended, count) = run_code_counted(compiled, stack, cells, moment);
+        Ok((walked(self.paths[program], ended), count))
     }
 
     /// The code of the program of a number, from 0. Beside the globals it names only values and clocks of the program. Its paths are those of the

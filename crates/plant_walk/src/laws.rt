@@ -5,7 +5,7 @@ ghost use Rattle.plant_types.specs.Values.{is_in_range};
 ghost use Rattle.plant_types.specs.declared.values.Place.{Place};
 ghost use Rattle.st_tree.specs.Ranges.{Leaves};
 ghost use Rattle.plant_logic.specs.declared.logic.Variable.{Variable};
-ghost use Rattle.plant_logic.specs.Source.{Source};
+ghost use Rattle.plant_logic.specs.Source.{Source, global_cells};
 ghost use Rattle.plant_logic.specs.Names.{find_global};
 ghost use Rattle.plant_logic.specs.Layout.{cell_paths};
 ghost use Rattle.plant_logic.specs.Paths.{paths_of};
@@ -85,6 +85,6 @@ pub fn place_is_in_source()
 /// No two programs share a cell of their own: beside the globals, which come first, their codes name no value of the same number, and no clock
 /// of the same number.
 pub fn programs_share_no_cell()
-    ensures values { (source : Source) (p q s : ℕ) (a b : PlainCode) → IsProgramCode source p a → IsProgramCode source q b → length source.globals ≤ s → Names a.instrs s → Names b.instrs s → p ≡ q }
+    ensures values { (source : Source) (p q s : ℕ) (a b : PlainCode) → IsProgramCode source p a → IsProgramCode source q b → global_cells source ≤ s → Names a.instrs s → Names b.instrs s → p ≡ q }
     ensures clocks { (source : Source) (p q k : ℕ) (a b : PlainCode) → IsProgramCode source p a → IsProgramCode source q b → NamesClock a.instrs k → NamesClock b.instrs k → p ≡ q }
 {}

@@ -1,6 +1,6 @@
 //! Runs programs over cells: by their codes, or as the source is read.
 
-ghost use Rattle.std.specs.Prelude.{◌<◌, ◌≤◌, ◌+◌, ◌*◌, get_or, length};
+ghost use Rattle.std.specs.Prelude.{◌≡◌, ◌<◌, ◌≤◌, ◌+◌, ◌*◌, IfErr, IfOk, get_or, length};
 ghost use Rattle.plant_limits.specs.Counts.{program_costs};
 ghost use Rattle.plant_logic.specs.Worlds.{World, run_program};
 ghost use Rattle.block_frames.specs.Stands.{StandFor};
@@ -10,6 +10,7 @@ use crate::framed::Framed;
 use plant_cells::Cells;
 use plant_types::{Place, Trap};
 use program_codes::Stack;
+use std::alloc::AllocError;
 
 /// How a run of a program ends.
 #[derive(Clone, Copy, Debug, PartialEq, Eq, Drop)]
@@ -31,22 +32,24 @@ pub fn walk(framed: &Framed, program: u32, cells: &mut Cells, moment: u64) -> Wa
 }
 
 /// Runs the code of the program of a number, from 0, over the cells. Where these stand for a world it ends as `walk` does, and what it leaves
-/// stands for the same world as what `walk` leaves. The stack is memory for the run. It allocates nothing.
+/// stands for the same world as what `walk` leaves. The stack is memory for the run, and is first made as long as the code needs: a run on
+/// a stack that is long enough allocates nothing. Fails if allocation fails; then nothing has run.
 pub fn run(
     framed: &Framed,
     program: u32,
     stack: &mut Stack,
     cells: &mut Cells,
     moment: u64,
-) -> Walked
+) -> Result<Walked, AllocError>
     requires there { program < length framed.now.programs }
     requires cells { HasCells framed.now cells.old }
-    ensures ran { (w : World) → StandFor framed.now cells.old w → Agree framed.now (run_program framed.now program moment w) (ran framed.now result cells.new) }
-    ensures within { IsWithin framed.now result }
+    ensures ran { IfOk result (λ ended. (w : World) → StandFor framed.now cells.old w → Agree framed.now (run_program framed.now program moment w) (ran framed.now ended cells.new)) }
+    ensures within { IfOk result (λ ended. IsWithin framed.now ended) }
     ensures shape { HasCells framed.now cells.new }
+    ensures kept { IfErr result (λ _. cells.new ≡ cells.old) }
 {
-    let (walked, _) = framed.run_counted(program as usize, stack, cells, moment);
-    walked
+    let (walked, _) = framed.run_counted(program as usize, stack, cells, moment)?;
+    Ok(walked)
 }
 
 /// Runs the code of a program as `run` does, and tells how many instructions it did, a pair counted once: at most four for each unit of what the
@@ -57,14 +60,15 @@ pub fn run_counted(
     stack: &mut Stack,
     cells: &mut Cells,
     moment: u64,
-) -> (Walked, u128)
+) -> Result<(Walked, u128), AllocError>
     requires there { program < length framed.now.programs }
     requires cells { HasCells framed.now cells.old }
-    ensures ran { (w : World) → StandFor framed.now cells.old w → Agree framed.now (run_program framed.now program moment w) (ran framed.now result.0 cells.new) }
-    ensures within { IsWithin framed.now result.0 }
+    ensures ran { IfOk result (λ ended. (w : World) → StandFor framed.now cells.old w → Agree framed.now (run_program framed.now program moment w) (ran framed.now ended.0 cells.new)) }
+    ensures within { IfOk result (λ ended. IsWithin framed.now ended.0) }
     ensures shape { HasCells framed.now cells.new }
-    ensures count { TakesInstructions framed.now program moment cells.old result.1 }
-    ensures cost { result.1 ≤ 4 * get_or (program_costs framed.now) program 0 + 4 }
+    ensures count { IfOk result (λ ended. TakesInstructions framed.now program moment cells.old ended.1) }
+    ensures cost { IfOk result (λ ended. ended.1 ≤ 4 * get_or (program_costs framed.now) program 0 + 4) }
+    ensures kept { IfErr result (λ _. cells.new ≡ cells.old) }
 {
     framed.run_counted(program as usize, stack, cells, moment)
 }

@@ -79,47 +79,52 @@ fn set_inputs(twin: &mut Twin, image: &[(usize, i64)])
     }
 }
 
-/// Runs a program in both ways, unless it is stopped. False if they end apart.
+/// Runs a program in both ways, unless it is stopped. False if they end apart. Fails if allocation fails.
 fn run_program(
     framed: &Framed,
     twin: &mut Twin,
     stopped: &mut [bool],
     program: u32,
     moment: u64,
-) -> bool
+) -> Result<bool, AllocError>
     requires there { program < length framed.now.programs }
     requires cells { HasCells framed.now twin.old.ran }
     ensures { HasCells framed.now twin.new.ran }
 {
     let Some(is_stopped) = stopped.get_mut(program as usize) else {
-        return true;
+        return Ok(true);
     };
     if *is_stopped {
-        return true;
+        return Ok(true);
     }
-    match twin.run(framed, program, moment) {
-        Some(Walked::Done) => true,
+    match twin.run(framed, program, moment)? {
+        Some(Walked::Done) => Ok(true),
         Some(Walked::Trapped(_, _)) => {
             *is_stopped = true;
-            true
+            Ok(true)
         }
-        None => false,
+        None => Ok(false),
     }
 }
 
-/// Runs the programs that aren't stopped, in order. False if both ways of one end apart, or leave something else.
-fn run_programs(framed: &Framed, twin: &mut Twin, stopped: &mut [bool], moment: u64) -> bool
+/// Runs the programs that aren't stopped, in order. False if both ways of one end apart, or leave something else. Fails if allocation fails.
+fn run_programs(
+    framed: &Framed,
+    twin: &mut Twin,
+    stopped: &mut [bool],
+    moment: u64,
+) -> Result<bool, AllocError>
     requires { HasCells framed.now twin.old.ran }
     ensures { HasCells framed.now twin.new.ran }
 {
     sound_source_is_small();
     let mut is_alike = true;
     for program in 0..framed.programs().len() {
-        if !run_program(framed, twin, stopped, program as u32, moment) {
+        if !run_program(framed, twin, stopped, program as u32, moment)? {
             is_alike = false;
         }
     }
-    is_alike && twin.is_alike()
+    Ok(is_alike && twin.is_alike())
 }
 
 /// Cells for the runs of a logic, and that no program is stopped. Fails if allocation fails.
@@ -165,7 +170,7 @@ impl TwinScans {
         self.moment = moment;
         set_inputs(&mut self.twin, image.as_slice());
         let stopped = self.stopped.as_mut_slice();
-        if run_programs(&self.framed, &mut self.twin, stopped, moment) {
+        if run_programs(&self.framed, &mut self.twin, stopped, moment)? {
             Ok(Scanned::Alike)
         } else {
             Ok(Scanned::Apart)

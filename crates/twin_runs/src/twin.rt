@@ -45,7 +45,7 @@ impl Twin {
         ensures { IfOk result (λ twin. HasCells framed.now twin.ran) }
     {
         standing_cells_are_there();
-        let stack = Stack::new(alloc)?;
+        let stack = Stack::new(alloc);
         let walked = framed.opening(alloc)?;
         Ok(Twin {
             ran: framed.opening(alloc)?,
@@ -64,15 +64,20 @@ impl Twin {
     }
 
     /// Runs the program of a number, from 0, in both ways. Tells how it ended, if it ended alike: at the same place, with the same trap;
-    /// `None` otherwise. The moment is that of the scan, in milliseconds.
-    pub fn run(&mut self, framed: &Framed, program: u32, moment: u64) -> Option<Walked>
+    /// `None` otherwise. The moment is that of the scan, in milliseconds. Fails if allocation fails.
+    pub fn run(
+        &mut self,
+        framed: &Framed,
+        program: u32,
+        moment: u64,
+    ) -> Result<Option<Walked>, AllocError>
         requires there { program < length framed.now.programs }
         requires cells { HasCells framed.now self.old.ran }
         ensures { HasCells framed.now self.new.ran }
     {
         let walked = walk(framed, program, &mut self.walked, moment);
-        let ran = run(framed, program, &mut self.stack, &mut self.ran, moment);
-        if walked == ran { Some(walked) } else { None }
+        let ran = run(framed, program, &mut self.stack, &mut self.ran, moment)?;
+        Ok(if walked == ran { Some(walked) } else { None })
     }
 
     /// Whether both ways have left the same values, and standard blocks that show the same.

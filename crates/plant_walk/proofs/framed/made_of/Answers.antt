@@ -6,7 +6,7 @@ use Rattle.plant_logic.specs.Names.{global_words}
 use Rattle.plant_limits.specs.Counts.{routine_cost, type_cost, program_costs}
 use Rattle.block_frames.specs.Numbers.{HasAllNames}
 use Rattle.codegen.specs.Codes.{AreSteady}
-use Rattle.program_codes.specs.Codes.{CostNoMore, AreCheap}
+use Rattle.program_codes.specs.Codes.{CostNoMore}
 use Rattle.plant_walk.specs.Framed.{global_names}
 use Rattle.plant_walk.proofs.Coded.{sound_steady, codes_same}
 use Rattle.plant_walk.proofs.Small.{sound_named, sound_types}
@@ -58,9 +58,6 @@ codes_of-requires-clause-enough c =
     let names : HasAllNames source = subst HasAllNames (sym sound.are_theirs) (c.typed_names_are_known.ensures sound.units sound.typed) in
     let enough : CostNoMore frames (length order) (program_costs source) = costs_listed source order frames c.in_ok-frames.ensures.frames c.requires.below (sound_types source sound) names (c.block_type_counts.ensures.cost source.blocks order) in
     subst (λ fs. CostNoMore fs (length order) c.deref-6.result.now) (sym c.deref-3.ensures.value) (subst (CostNoMore frames (length order)) (sym (c.deref-6.ensures.value ∙ are)) enough)
-
-pub codes_of-requires-clause-cheap : goal.codes_of-requires-clause-cheap
-codes_of-requires-clause-cheap c = subst AreCheap (sym (c.deref-6.ensures.value ∙ c.in_ok-costs.ensures.kept c.requires.sound.limits.cost)) c.requires.sound.limits.cost
 
 pub global_names-requires : goal.global_names-requires
 global_names-requires c = ap (λ l. repeats (global_words l)) c.deref-7.ensures.value ∙ (sound_named (source_of c.args.logic.now) c.requires.sound).globals_apart

@@ -1,7 +1,7 @@
 use Rattle.std.proofs.Common.{◌∙◌, ap}
 use Rattle.std.proofs.lemmas.List.{take_all}
 use Rattle.plant_logic.specs.declared.logic.Variable.{Variable}
-use Rattle.block_frames.proofs.Growing.{names_more}
+use Rattle.plant_logic.proofs.Growing.{names_more}
 use Rattle.plant_walk.specs.Framed.{global_names}
 use Rattle.plant_walk.proofs.names.global_names.Goals as goal
 

@@ -28,8 +28,8 @@ run_code_counted-ended-requires-clause-values c =
     let there : n < length source.programs = subst (λ (s : Source). n < length s.programs) (sym c.self.view_is) c.requires.there in
     let long = are.codes_are.long in
     let rows = are.values_begin.long in
-    let code = c.index.result.now in
-    let at : slice_get inside.codes.items n ≡ Some code = slice_get_read inside.codes.items (length inside.codes.items) n code refl (omega (arith, there, long, rows)) c.index.ensures in
+    let code = c.index-compiled.result.now in
+    let at : slice_get inside.codes.items n ≡ Some code = slice_get_read inside.codes.items (length inside.codes.items) n code refl (omega (arith, there, long, rows)) c.index-compiled.ensures in
     let is = are.codes_are.each n code at in
     let has : HasCells source c.args.cells.now = subst (λ (s : Source). HasCells s c.args.cells.now) (sym c.self.view_is) c.requires.cells in
     let names : HasAllNames source = subst HasAllNames (sym are.sound.are_theirs) (c.typed_names_are_known.ensures are.sound.units are.sound.typed) in
@@ -46,27 +46,14 @@ run_code_counted-ended-requires-clause-clocks c =
     let there : n < length source.programs = subst (λ (s : Source). n < length s.programs) (sym c.self.view_is) c.requires.there in
     let long = are.codes_are.long in
     let rows = are.values_begin.long in
-    let code = c.index.result.now in
-    let at : slice_get inside.codes.items n ≡ Some code = slice_get_read inside.codes.items (length inside.codes.items) n code refl (omega (arith, there, long, rows)) c.index.ensures in
+    let code = c.index-compiled.result.now in
+    let at : slice_get inside.codes.items n ≡ Some code = slice_get_read inside.codes.items (length inside.codes.items) n code refl (omega (arith, there, long, rows)) c.index-compiled.ensures in
     let is = are.codes_are.each n code at in
     let has : HasCells source c.args.cells.now = subst (λ (s : Source). HasCells s c.args.cells.now) (sym c.self.view_is) c.requires.cells in
     let names : HasAllNames source = subst HasAllNames (sym are.sound.are_theirs) (c.typed_names_are_known.ensures are.sound.units are.sound.typed) in
     let own = (code_there source inside.order.items are.below inside.frames.items are.are_frames (sound_types source are.sound) names inside.values.items inside.clocks.items are.values_begin are.clocks_begin n there (get_or (program_costs source) n 0) code is).1 in
     let all = has.clocks in
     omega (arith, own, all)
-
-pub run_code_counted-ended-requires-clause-room : goal.run_code_counted-ended-requires-clause-room
-run_code_counted-ended-requires-clause-room c =
-    let inside = c.self.inside in
-    let source = source_of inside.logic in
-    let are = c.self.invariant in
-    let n = c.args.program in
-    let there : n < length source.programs = subst (λ (s : Source). n < length s.programs) (sym c.self.view_is) c.requires.there in
-    let long = are.codes_are.long in
-    let rows = are.values_begin.long in
-    let code = c.index.result.now in
-    let at : slice_get inside.codes.items n ≡ Some code = slice_get_read inside.codes.items (length inside.codes.items) n code refl (omega (arith, there, long, rows)) c.index.ensures in
-    (are.codes_are.each n code at).stack
 
 pub returns-clause-ran : goal.returns-clause-ran
 returns-clause-ran c w stands =
@@ -80,8 +67,8 @@ returns-clause-ran c w stands =
     let most : n ≤ length source.programs = omega (arith, there) in
     let long = are.codes_are.long in
     let rows = are.values_begin.long in
-    let code = c.index.result.now in
-    let at : slice_get inside.codes.items n ≡ Some code = slice_get_read inside.codes.items (length inside.codes.items) n code refl (omega (arith, there, long, rows)) c.index.ensures in
+    let code = c.index-compiled.result.now in
+    let at : slice_get inside.codes.items n ≡ Some code = slice_get_read inside.codes.items (length inside.codes.items) n code refl (omega (arith, there, long, rows)) c.index-compiled.ensures in
     let is = are.codes_are.each n code at in
     let ended = c.run_code_counted-ended.result.0 in
     let new = c.run_code_counted-ended.new.cells in
@@ -89,7 +76,7 @@ returns-clause-ran c w stands =
     let p = the_program source n in
     let have_paths = c.frames_have_paths.ensures source order frames are.are_frames are.below types n p (is_there source n there) in
     let paths_long = are.paths_begin.long in
-    let base_is : c.index-2.result.now ≡ program_paths_base source n = c.index-2.ensures ∙ get_or_default inside.paths.items n c.index-2.result.now 0 (omega (arith, there, paths_long)) ∙ are.paths_begin.each n most in
+    let base_is : c.index.result.now ≡ program_paths_base source n = c.index.ensures ∙ get_or_default inside.paths.items n c.index.result.now 0 (omega (arith, there, paths_long)) ∙ are.paths_begin.each n most in
     let values_are : get_or inside.values.items n 0 ≡ program_values_base source n = are.values_begin.each n most in
     let clocks_are : get_or inside.clocks.items n 0 ≡ program_clocks_base source n = are.clocks_begin.each n most in
     let names : HasAllNames source = subst HasAllNames (sym are.sound.are_theirs) (c.typed_names_are_known.ensures are.sound.units are.sound.typed) in
@@ -98,7 +85,7 @@ returns-clause-ran c w stands =
     let placed = path_inside frames (length source.globals) (length order + n) (base_in inside.values.items inside.clocks.items n) (get_or (program_costs source) n 0) code is ended c.run_code_counted-ended.ensures.path in
     let as_frame = ends_as_frame frames (length source.globals) (length order + n) (base_in inside.values.items inside.clocks.items n) (get_or (program_costs source) n 0) code is ended c.run_code_counted-ended.ensures.path c.args.moment c.args.cells.now new
     (λ l. (_, c.run_code_counted-ended.ensures.ran l)) in
-    let whole = ran_is source order frames n there have_paths frames (length order + n) refl refl ended placed c.args.moment (length source.globals) (get_or inside.values.items n 0) (get_or inside.clocks.items n 0) c.index-2.result.now
+    let whole = ran_is source order frames n there have_paths frames (length order + n) refl refl ended placed c.args.moment (length source.globals) (get_or inside.values.items n 0) (get_or inside.clocks.items n 0) c.index.result.now
     c.args.cells.now new (run_program source n c.args.moment w) refl values_are clocks_are base_is as_frame agree
     in
     subst (λ (s : Source). Agree s (run_program s n c.args.moment w) (ran s c.walked.result new)) c.self.view_is
@@ -116,14 +103,14 @@ returns-clause-within c =
     let most : n ≤ length source.programs = omega (arith, there) in
     let long = are.codes_are.long in
     let rows = are.values_begin.long in
-    let code = c.index.result.now in
-    let at : slice_get inside.codes.items n ≡ Some code = slice_get_read inside.codes.items (length inside.codes.items) n code refl (omega (arith, there, long, rows)) c.index.ensures in
+    let code = c.index-compiled.result.now in
+    let at : slice_get inside.codes.items n ≡ Some code = slice_get_read inside.codes.items (length inside.codes.items) n code refl (omega (arith, there, long, rows)) c.index-compiled.ensures in
     let is = are.codes_are.each n code at in
     let have_paths = c.frames_have_paths.ensures source order frames are.are_frames are.below (sound_types source are.sound) n (the_program source n) (is_there source n there) in
     let paths_long = are.paths_begin.long in
-    let base_is : c.index-2.result.now ≡ program_paths_base source n = c.index-2.ensures ∙ get_or_default inside.paths.items n c.index-2.result.now 0 (omega (arith, there, paths_long)) ∙ are.paths_begin.each n most in
+    let base_is : c.index.result.now ≡ program_paths_base source n = c.index.ensures ∙ get_or_default inside.paths.items n c.index.result.now 0 (omega (arith, there, paths_long)) ∙ are.paths_begin.each n most in
     let placed = path_inside frames (length source.globals) (length order + n) (base_in inside.values.items inside.clocks.items n) (get_or (program_costs source) n 0) code is c.run_code_counted-ended.result.0 c.run_code_counted-ended.ensures.path in
-    let whole = within_is source order frames n there have_paths frames (length order + n) refl refl c.run_code_counted-ended.result.0 placed c.index-2.result.now base_is in
+    let whole = within_is source order frames n there have_paths frames (length order + n) refl refl c.run_code_counted-ended.result.0 placed c.index.result.now base_is in
     subst (λ (s : Source). IsWithin s c.walked.result) c.self.view_is (subst (IsWithin source) (sym c.walked.ensures) whole)
 
 pub returns-clause-shape : goal.returns-clause-shape
@@ -141,14 +128,14 @@ walked-requires c =
     let most : n ≤ length source.programs = omega (arith, there) in
     let long = are.codes_are.long in
     let rows = are.values_begin.long in
-    let code = c.index.result.now in
-    let at : slice_get inside.codes.items n ≡ Some code = slice_get_read inside.codes.items (length inside.codes.items) n code refl (omega (arith, there, long, rows)) c.index.ensures in
+    let code = c.index-compiled.result.now in
+    let at : slice_get inside.codes.items n ≡ Some code = slice_get_read inside.codes.items (length inside.codes.items) n code refl (omega (arith, there, long, rows)) c.index-compiled.ensures in
     let is = are.codes_are.each n code at in
     let have_paths = c.frames_have_paths.ensures source order frames are.are_frames are.below (sound_types source are.sound) n (the_program source n) (is_there source n there) in
     let paths_long = are.paths_begin.long in
-    let base_is : c.index-2.result.now ≡ program_paths_base source n = c.index-2.ensures ∙ get_or_default inside.paths.items n c.index-2.result.now 0 (omega (arith, there, paths_long)) ∙ are.paths_begin.each n most in
+    let base_is : c.index.result.now ≡ program_paths_base source n = c.index.ensures ∙ get_or_default inside.paths.items n c.index.result.now 0 (omega (arith, there, paths_long)) ∙ are.paths_begin.each n most in
     let placed = path_inside frames (length source.globals) (length order + n) (base_in inside.values.items inside.clocks.items n) (get_or (program_costs source) n 0) code is c.run_code_counted-ended.result.0 c.run_code_counted-ended.ensures.path in
-    fits_in source order frames n there have_paths frames (length order + n) refl refl c.run_code_counted-ended.result.0 placed c.index-2.result.now 4294967296 base_is are.paths_fit
+    fits_in source order frames n there have_paths frames (length order + n) refl refl c.run_code_counted-ended.result.0 placed c.index.result.now 4294967296 base_is are.paths_fit
 
 pub returns-clause-cost : goal.returns-clause-cost
 returns-clause-cost c =
@@ -161,8 +148,8 @@ returns-clause-cost c =
     let there : n < length source.programs = subst (λ (s : Source). n < length s.programs) (sym c.self.view_is) c.requires.there in
     let long = are.codes_are.long in
     let rows = are.values_begin.long in
-    let code = c.index.result.now in
-    let at : slice_get inside.codes.items n ≡ Some code = slice_get_read inside.codes.items (length inside.codes.items) n code refl (omega (arith, there, long, rows)) c.index.ensures in
+    let code = c.index-compiled.result.now in
+    let at : slice_get inside.codes.items n ≡ Some code = slice_get_read inside.codes.items (length inside.codes.items) n code refl (omega (arith, there, long, rows)) c.index-compiled.ensures in
     let own = (are.codes_are.each n code at).tells in
     let done = c.run_code_counted-ended.ensures.count in
     let all : c.run_code_counted-ended.result.1 ≤ 4 * get_or (program_costs source) n 0 + 4 = omega (arith, own, done) in
@@ -178,8 +165,8 @@ returns-clause-count c =
     let most : n ≤ length source.programs = omega (arith, there) in
     let long = are.codes_are.long in
     let rows = are.values_begin.long in
-    let code = c.index.result.now in
-    let at : slice_get inside.codes.items n ≡ Some code = slice_get_read inside.codes.items (length inside.codes.items) n code refl (omega (arith, there, long, rows)) c.index.ensures in
+    let code = c.index-compiled.result.now in
+    let at : slice_get inside.codes.items n ≡ Some code = slice_get_read inside.codes.items (length inside.codes.items) n code refl (omega (arith, there, long, rows)) c.index-compiled.ensures in
     let values_are = are.values_begin.each n most in
     let clocks_are = are.clocks_begin.each n most in
     let base_is : base_in inside.values.items inside.clocks.items n ≡ program_base source n = λ i. record { values = values_are i; clocks = clocks_are i } in

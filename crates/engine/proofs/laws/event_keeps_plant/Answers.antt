@@ -1,0 +1,5 @@
+use Rattle.plant_system.proofs.Systems as systems
+use Rattle.engine.proofs.laws.event_keeps_plant.Goals as goal
+
+pub returns : goal.returns
+returns c = systems.event_keeps_plant
