@@ -1,5 +1,8 @@
 //! The example plant, which is built in.
 
+/// The name of its plant file.
+pub const PLANT_NAME: &str = "plant.toml";
+
 /// The name of its source.
 pub const SOURCE_NAME: &str = "p.st";
 

@@ -9,16 +9,14 @@ ghost use Rattle.command_line.specs.Choices.{HasWorkers};
 
 mod crews;
 mod example;
-mod explained;
 mod greeting;
 mod missing;
 mod plants;
 mod prints;
-mod texts;
+mod telling;
 mod watching;
 mod words;
 
-use crate::explained::explained;
 use crate::plants::{check, serve_example, serve_files};
 use crate::prints::{asked, stopped, usage};
 use crate::words::choice;
@@ -26,21 +24,9 @@ use command_line::{Choice, Ended, UsageFault, status};
 use plant_service::ServeFault;
 use std::io::IsTerminal;
 use std::process::ExitCode;
-use std::rt::{Files, Runtime};
+use std::rt::Runtime;
 use std::sync::Wait;
 use std::thread::Threads;
-
-/// How the program ends; where the plant of a plant file's path was refused, a person is told more.
-fn told<R: Files + Eprint + AllocGlobal + Threads + Sync>(
-    rt: &R,
-    path: &str,
-    ended: Ended,
-) -> Ended {
-    if let Ended::Refused = ended {
-        explained(rt, path);
-    }
-    ended
-}
 
 /// Does what was chosen.
 fn done<R: Runtime + Threads + Wait + AllocGlobal + Send + Sync + 'static>(
@@ -52,11 +38,8 @@ fn done<R: Runtime + Threads + Wait + AllocGlobal + Send + Sync + 'static>(
 {
     match choice {
         Choice::Example => serve_example(rt, is_terminal),
-        Choice::Check(path) => told(rt, path.as_str(), check(rt, path.as_str())),
-        Choice::Run(path, workers) => {
-            let ended = serve_files(rt, path.as_str(), *workers, is_terminal);
-            told(rt, path.as_str(), ended)
-        }
+        Choice::Check(path) => check(rt, path.as_str()),
+        Choice::Run(path, workers) => serve_files(rt, path.as_str(), *workers, is_terminal),
     }
 }
 

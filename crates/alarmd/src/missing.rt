@@ -2,21 +2,10 @@
 
 use std::alloc::{AllocError, Global};
 use std::fs;
-use std::path::Path;
 use std::rt::Files;
 
 /// The most bytes that a file may have.
 const MOST_BYTES: u64 = 16_777_217;
-
-/// The path under which a file is sought: the plant file's own, or a name beside it. Fails if allocation fails.
-fn sought(alloc: Global, plant_path: &str, name: &str) -> Result<String, AllocError> {
-    if name == plant_path {
-        return String::from_str(alloc, name);
-    }
-    let parent = Path::new(plant_path).parent().unwrap_or(Path::new(""));
-    let path = parent.join(alloc, name)?;
-    Ok(path.into_string())
-}
 
 /// What the system says of a path. Fails if allocation fails.
 fn reason<R: Files>(rt: &R, alloc: Global, path: &str) -> Result<String, AllocError> {
@@ -38,16 +27,15 @@ fn reason<R: Files>(rt: &R, alloc: Global, path: &str) -> Result<String, AllocEr
     String::from_str(alloc, "it can't be read to its end")
 }
 
-/// What a person is told of a file that can't be read: its name as given, the path under which it is sought, and the system's reason. Fails if allocation
-/// fails.
+/// What a person is told of a file that can't be read: its name as the refusal has it, the path under which it is sought, and the system's reason. The file
+/// isn't read for this. Fails if allocation fails.
 pub fn why_missing<R: Files>(
     rt: &R,
     alloc: Global,
-    plant_path: &str,
+    path: &str,
     name: &str,
 ) -> Result<String, AllocError> {
-    let path = sought(alloc, plant_path, name)?;
-    let reason = reason(rt, alloc, path.as_str())?;
+    let reason = reason(rt, alloc, path)?;
     format!(in alloc;
         "FILE {name}\n{path}: {reason}\nread on: docs/PLANT.md, \"Reading the files\"\n"
     )

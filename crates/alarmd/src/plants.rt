@@ -3,13 +3,17 @@
 ghost use Rattle.std.specs.Prelude.{◌<◌, ◌≤◌};
 
 use crate::crews::workers;
-use crate::example::{ALARMS, PLANT, SOURCE, SOURCE_NAME};
+use crate::example::{ALARMS, PLANT, PLANT_NAME, SOURCE, SOURCE_NAME};
 use crate::greeting::greet;
 use crate::prints::stopped;
+use crate::telling::Telling;
 use crate::watching::Watching;
 use command_line::Ended;
 use engine::{Alone, Crew, Done, Job, Start};
-use plant_service::{Disk, Reading, RunEnd, ServeFault, Writing, check_from, run, run_from};
+use plant_service::{
+    Deaf, Disk, Ends, PlantFiles, PlantTexts, Reading, RunEnd, ServeFault, Writing, check_from,
+    run, run_from,
+};
 use std::io;
 use std::rt::{Files, Runtime};
 use std::sync::Wait;
@@ -24,20 +28,32 @@ fn ended<R: Eprint>(rt: &R, run: Result<RunEnd, ServeFault>) -> Ended {
     }
 }
 
-/// Tells whether the plant of a plant file's path is accepted.
+/// Tells whether the plant of a plant file's path is accepted. A person is told why it is refused, or what is likely to be wrong in it.
 pub fn check<R: Files + Print + Eprint + Threads + AllocGlobal + Sync>(
     rt: &R,
     path: &str,
 ) -> Ended {
     let mut sink = Writing::new(io::writer(rt));
-    match check_from(rt, rt.alloc(), &Disk { files: rt }, path, &mut sink) {
-        Ok(true) => Ended::Done,
-        Ok(false) => Ended::Refused,
+    let mut telling = Telling::new(rt, true);
+    let files = PlantFiles {
+        folder: &Disk { files: rt },
+        path,
+    };
+    match check_from(rt, rt.alloc(), &files, &mut telling, &mut sink) {
+        Ok(is_accepted) => {
+            telling.tell(rt);
+            if is_accepted {
+                Ended::Done
+            } else {
+                Ended::Refused
+            }
+        }
         Err(fault) => stopped(rt, fault),
     }
 }
 
-/// Serves the plant of a plant file's path over standard input and output, its programs run by the crew. A person at a terminal is told how to begin.
+/// Serves the plant of a plant file's path over standard input and output, its programs run by the crew. A person is told why it is refused, and at a
+/// terminal how to begin.
 fn serve_by<
     R: Files + Input + Print + Eprint + Threads + Wait + AllocGlobal + Sync,
     C: Crew<Job, Start, Done, R>,
@@ -47,13 +63,20 @@ fn serve_by<
     if is_terminal {
         greet(rt, "scan 0");
     }
-    let mut feed = Reading::new(rt.reader());
-    let mut sink = Watching::new(rt, Writing::new(io::writer(rt)), is_terminal);
-    let folder = Disk { files: rt };
-    ended(
-        rt,
-        run_from(rt, rt.alloc(), crew, &folder, path, &mut feed, &mut sink),
-    )
+    let mut ends = Ends {
+        feed: Reading::new(rt.reader()),
+        sink: Watching::new(rt, Writing::new(io::writer(rt)), is_terminal),
+        listener: Telling::new(rt, false),
+    };
+    let files = PlantFiles {
+        folder: &Disk { files: rt },
+        path,
+    };
+    let run = run_from(rt, rt.alloc(), crew, &files, &mut ends);
+    if let Ok(RunEnd::Refused) = run {
+        ends.listener.tell(rt);
+    }
+    ended(rt, run)
 }
 
 /// Serves the plant of a plant file's path over standard input and output, its programs run by so many workers. One is the caller alone.
@@ -87,20 +110,18 @@ pub fn serve_example<R: Input + Print + Eprint + Threads + Wait + AllocGlobal + 
     if is_terminal {
         greet(rt, "scan 0 a=5");
     }
-    let mut feed = Reading::new(rt.reader());
-    let mut sink = Watching::new(rt, Writing::new(io::writer(rt)), is_terminal);
+    let mut ends = Ends {
+        feed: Reading::new(rt.reader()),
+        sink: Watching::new(rt, Writing::new(io::writer(rt)), is_terminal),
+        listener: Deaf,
+    };
     let sources = [(SOURCE_NAME, SOURCE)];
-    ended(
-        rt,
-        run(
-            rt,
-            rt.alloc(),
-            &mut Alone,
-            PLANT,
-            &sources,
-            ALARMS,
-            &mut feed,
-            &mut sink,
-        ),
-    )
+    let texts = PlantTexts {
+        path: PLANT_NAME,
+        plant: PLANT,
+        sources: &sources,
+        alarms: ALARMS,
+    };
+    let run = run(rt, rt.alloc(), &mut Alone, &texts, &mut ends);
+    ended(rt, run)
 }

@@ -37,6 +37,19 @@ fn warning(events: u32) -> &'static str {
     }
 }
 
+/// Whether a line tells of an event, by its beginning: each answer of an event has one line DONE or REPLY. And what is said of another line to whoever looks
+/// on; empty where nobody does.
+fn judged(head: &[u8], is_watched: bool) -> (bool, &'static str) {
+    if head.starts_with(b"DONE ") || head.starts_with(b"REPLY ") {
+        return (true, "");
+    }
+    if is_watched {
+        (false, hint(head.get(..HEAD).unwrap_or(head)))
+    } else {
+        (false, "")
+    }
+}
+
 /// The answers so far: the beginning of the last line, and how many events there were.
 #[derive(Drop)]
 struct Answers {
@@ -59,12 +72,8 @@ impl Answers {
         }
     }
 
-    /// Takes the end of a line, and returns what is said of it. Each answer of an event has one line DONE or REPLY.
-    fn end_line(&mut self) -> &'static str {
-        let head = self.head.get(..self.len).unwrap_or(b"");
-        let is_event = head.starts_with(b"DONE ") || head.starts_with(b"REPLY ");
-        let said = if self.is_watched { hint(head) } else { "" };
-        self.len = 0;
+    /// Counts a line that tells of an event, and returns what is said of a line.
+    fn counted(&mut self, is_event: bool, said: &'static str) -> &'static str {
         if is_event {
             self.events = self.events.saturating_add(1);
             return warning(self.events);
@@ -72,13 +81,25 @@ impl Answers {
         said
     }
 
+    /// Takes the rest of a line, which is mostly the whole of it and is looked at where it stands, and returns what is said of it.
+    fn end_line(&mut self, rest: &[u8]) -> &'static str {
+        if self.len == 0 {
+            let (is_event, said) = judged(rest, self.is_watched);
+            return self.counted(is_event, said);
+        }
+        self.add(rest);
+        let head = self.head.get(..self.len).unwrap_or(b"");
+        let (is_event, said) = judged(head, self.is_watched);
+        self.len = 0;
+        self.counted(is_event, said)
+    }
+
     /// Takes bytes, and tells on standard error what there is to say of them.
     fn take(&mut self, rt: &impl Eprint, bytes: &[u8]) {
         let mut begun = 0usize;
         for end in memchr_iter(b'\n', bytes) {
-            self.add(bytes.get(begun..end).unwrap_or(b""));
+            let said = self.end_line(bytes.get(begun..end).unwrap_or(b""));
             begun = end.saturating_add(1);
-            let said = self.end_line();
             if !said.is_empty() {
                 let _ = eprint!(rt; "{said}");
             }

@@ -1,15 +1,15 @@
 //! The cause of a refusal is looked for.
 
-use crate::alarms::{doubled, malformed, uneven, unknown};
-use crate::document::{no_epoch, not_toml, wrong_keys};
-use crate::limits::over_limit;
-use crate::place::{FileOf, byte_at};
-use crate::texts::{PlantTexts, Spot};
 use crate::turns::too_many_turns;
 use crate::units::cause_in;
 use plant_config::{ConfigFault, Limit};
+use plant_folder::PlantTexts;
+use plant_places::{FileOf, Spot, byte_at, text_of};
 use plant_types::Text;
 use std::alloc::{AllocError, Global};
+use table_causes::{
+    doubled, malformed, no_epoch, not_toml, over_limit, uneven, unknown, wrong_keys,
+};
 use token_causes::{Cause, misspelled, ungrammatical};
 use unit_causes::Rule;
 
@@ -34,7 +34,7 @@ fn in_text(
     is_spelling: bool,
 ) -> Result<Spot, AllocError> {
     let file = FileOf::Source(source_named(refused, name));
-    let text = refused.text(file);
+    let text = text_of(refused, file);
     let at = byte_at(text, place.0, place.1);
     let cause = if is_spelling {
         misspelled(alloc, text, at)?

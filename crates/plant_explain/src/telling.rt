@@ -6,10 +6,10 @@ ghost use Rattle.plant_config.specs.FaultLine.{config_line};
 ghost use Rattle.plant_explain.specs.Told.{BeginsWith};
 
 use crate::finding::find;
-use crate::render::{shown, shown_alone};
-use crate::texts::PlantTexts;
 use crate::warnings::find_warnings;
 use plant_config::ConfigFault;
+use plant_folder::PlantTexts;
+use plant_places::{shown, shown_alone};
 use std::alloc::{AllocError, Global};
 
 /// A line, and behind its line feed a text. Fails if allocation fails.

@@ -1,11 +1,11 @@
 //! A FOR of too many turns (C10 TURNS).
 
-use crate::limits::over_limit;
-use crate::place::FileOf;
-use crate::texts::{PlantTexts, Spot};
 use plant_config::Limit;
+use plant_folder::PlantTexts;
+use plant_places::{FileOf, Spot};
 use st_lexer::{Keyword, Token, TokenKind};
 use std::alloc::{AllocError, Global};
+use table_causes::over_limit;
 use token_causes::{cause_at, kind_at, span_of, tokens_of};
 
 /// The most turns that a FOR may have.

@@ -1,12 +1,13 @@
 //! What is wrong in a unit of a source (C6 to C9).
 
-use crate::place::FileOf;
-use crate::texts::PlantTexts;
+use plant_folder::PlantTexts;
+use plant_places::{FileOf, text_of};
 use plant_types::same_word;
 use st_lexer::{Keyword, Token, TokenKind};
 use std::alloc::{AllocError, Global};
 use token_causes::{Cause, Role, cause_at, role_of, span_of, tokens_of, word_at};
-use unit_causes::{Rule, cause_in_unit, entries_of, sources_of};
+use unit_causes::{Rule, cause_in_unit};
+use unit_words::{entries_of, sources_of};
 
 /// The numbers of the first token of a unit, by its name, and of the one that ends it; of `VAR_GLOBAL` those up to the first block or program. Of
 /// units with one name it is the last.
@@ -89,6 +90,6 @@ pub fn cause_in(
     let place = (source, unit);
     match cause_in_unit(alloc, sources.as_slice(), entries.as_slice(), place, rule)? {
         Some(cause) => Ok(cause),
-        None => whole_unit(alloc, refused.text(FileOf::Source(source)), unit, rule),
+        None => whole_unit(alloc, text_of(refused, FileOf::Source(source)), unit, rule),
     }
 }

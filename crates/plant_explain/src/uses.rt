@@ -2,7 +2,7 @@
 
 use std::alloc::{AllocError, Global};
 use token_causes::Role;
-use unit_causes::Entry;
+use unit_words::Entry;
 use word_index::Names;
 
 /// What is done with a variable.

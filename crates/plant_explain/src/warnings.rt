@@ -1,16 +1,15 @@
 //! What is likely to be wrong in a plant that is accepted.
 
-use crate::alarms::unquoted;
-use crate::fields::{first_field, next_field};
-use crate::place::FileOf;
-use crate::texts::{PlantTexts, Spot};
 use crate::uses::{Use, Variables, use_by};
+use plant_folder::PlantTexts;
+use plant_places::{FileOf, Spot};
 use plant_types::Region;
 use st_lexer::{Keyword, TokenKind};
 use std::alloc::{AllocError, Global};
 use std::str;
+use table_causes::{first_field, next_field, unquoted};
 use token_causes::{Role, cause_at, kind_at, role_of, section_after, span_of, word_at};
-use unit_causes::{Entry, Source, What, entries_of, sources_of};
+use unit_words::{Entry, Source, What, entries_of, sources_of};
 
 /// Where variables are described.
 const VARIABLES: &str = "docs/LANGUAGE.md, \"Variables\"";

@@ -1,5 +1,5 @@
 -- Files that are found, one after another.
-use Rattle.std.proofs.Common.{◌≡◌, ℕ, suc, ◌+◌, ◌<◌, List, [], ◌∷◌, ◌++◌, length, map, take, drop, subst, append_assoc, inr, option_map, sym, ap, ◌∙◌, Some, None, get_or}
+use Rattle.std.proofs.Common.{◌≡◌, ℕ, suc, ◌+◌, ◌<◌, List, [], ◌∷◌, ◌++◌, length, map, take, drop, subst, append_assoc, inl, inr, option_map, sym, ap, ◌∙◌, Some, None, get_or}
 use Rattle.std.proofs.lemmas.List.{map_push, take_more, take-append-drop}
 use Rattle.std.proofs.Math.Seq.{drop-cons}
 use Rattle.plant_folder.specs.declared.texts.FetchFault.{FetchFault}
@@ -7,7 +7,11 @@ use Rattle.plant_folder.specs.declared.texts.FetchFault.TheVariants as fault
 use Rattle.plant_file.specs.Read.{plant_file_in}
 use Rattle.plant_config.specs.declared.files.Files.{Files}
 use Rattle.plant_config.specs.Files.{files_of}
-use Rattle.plant_folder.specs.Fetches.{Finds, AreFound, AreMissed, IsFetchFault, IsMiss, beside}
+use Rattle.plant_config.specs.Files.{Texts}
+use Rattle.plant_config.specs.Refusals.{IsFileFault, IsRefused}
+use Rattle.plant_config.specs.declared.fault.ConfigFault.{ConfigFault}
+use Rattle.plant_config.specs.declared.fault.ConfigFault.TheVariants as config_fault
+use Rattle.plant_folder.specs.Fetches.{Finds, AreFound, AreMissed, IsFetchFault, IsMiss, IsUnnamed, beside}
 
 -- one more file is found
 pub found_more : (finds : Finds) (plant : List ℕ) (names texts : List (List ℕ)) (name text : List ℕ) → AreFound finds plant names texts → finds (beside plant name) (Some text) → AreFound finds plant (names ++ name ∷ []) (texts ++ text ∷ [])
@@ -59,3 +63,28 @@ fetch_missed finds path text files (fault.File name) there named missed = inr (
   },
 )
 fetch_missed finds path text files (fault.Config refused) there named missed = absurd missed
+
+-- the plant file is found, and names no files
+pub fetch_unnamed : (finds : Finds) (path text : List ℕ) (f : FetchFault) → finds path (Some text) → IsUnnamed text f → IsFetchFault finds path f
+fetch_unnamed finds path text fault.Memory there unnamed = tt
+fetch_unnamed finds path text (fault.File name) there unnamed = absurd unnamed
+fetch_unnamed finds path text (fault.Config refused) there unnamed = (unnamed.0, (text, there, unnamed.1))
+
+-- what refuses a plant file by itself refuses it beside any other texts
+pub file_refused : (texts : Texts) (f : ConfigFault) → IsFileFault texts.plant f → IsRefused texts f
+unfolding IsRefused
+file_refused texts config_fault.Memory is = tt
+file_refused texts config_fault.NotToml is = is
+file_refused texts config_fault.PlantFile is = inl is
+file_refused texts config_fault.Epoch is = absurd is
+file_refused texts (config_fault.Limit found) is = absurd is
+file_refused texts (config_fault.Spelling name line column) is = absurd is
+file_refused texts (config_fault.Grammar name line column) is = absurd is
+file_refused texts (config_fault.Name name unit) is = absurd is
+file_refused texts (config_fault.Kind name unit) is = absurd is
+file_refused texts (config_fault.HoldsItself name unit) is = absurd is
+file_refused texts (config_fault.Constant name unit) is = absurd is
+file_refused texts config_fault.Header is = absurd is
+file_refused texts (config_fault.Field row column) is = absurd is
+file_refused texts (config_fault.Twice row) is = absurd is
+file_refused texts (config_fault.Unknown row column) is = absurd is

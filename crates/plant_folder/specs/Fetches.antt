@@ -72,6 +72,12 @@ IsFetchFault finds path fault.Memory = ⊤
 IsFetchFault finds path (fault.File name) = LacksFile finds path name
 IsFetchFault finds path (fault.Config refused) = HasWrongFile finds path refused
 
+-- why a plant file names no files, Memory apart
+abbrev pub IsUnnamed : List ℕ → FetchFault → Type 0
+IsUnnamed text fault.Memory = ⊤
+IsUnnamed text (fault.File missing) = ⊥
+IsUnnamed text (fault.Config refused) = (refused ≢ config_fault.Memory) × IsFileFault text refused
+
 -- why one file isn't there, Memory apart
 abbrev pub IsMiss : Finds → List ℕ → List ℕ → FetchFault → Type 0
 IsMiss finds path name fault.Memory = ⊤

@@ -45,6 +45,13 @@ pub trait Folder {
         ensures missing { IsErrOf result FileFault.Missing → finds self.now path.now None };
 }
 
+/// Where the files of a plant are found: in a folder, its plant file under a path, and the files that this names beside it.
+#[derive(Drop)]
+pub struct PlantFiles<'a, F: Folder> {
+    pub folder: &'a F,
+    pub path: &'a str,
+}
+
 /// Reads a feed to its end. Fails with `Missing` if a read fails, and if the feed has more than 16,777,217 bytes.
 fn read_whole<F: Feed>(alloc: Global, feed: &mut F) -> Result<Vec<u8>, FileFault>
     ensures bytes { IfOk result (λ v. Consumes (F.remaining feed.old) (F.remaining feed.new) v.items) }

@@ -1,14 +1,16 @@
 //! The texts of a plant, read from its files.
 
-ghost use Rattle.std.specs.Prelude.{◌≡◌, ◌≢◌, map, string_bytes, Some, IfOk, IfErr, MatchResult};
+ghost use Rattle.std.specs.Prelude.{◌≡◌, ◌≢◌, map, string_bytes, option_map, Some, IfOk, IfErr, MatchResult};
 ghost use Rattle.plant_file.specs.Read.{plant_file_in};
+ghost use Rattle.plant_config.specs.declared.fault.ConfigFault.TheVariants as config_fault;
 ghost use Rattle.plant_config.specs.Files.{files_of};
 ghost use Rattle.plant_config.specs.Refusals.{IsFileFault};
-ghost use Rattle.plant_folder.specs.Fetches.{beside, names_of, AreFound, AreTexts, AreMissed, IsFetchFault, IsMiss};
+ghost use Rattle.plant_folder.specs.Fetches.{beside, AreFound, AreTexts, AreMissed, IsFetchFault, IsMiss, IsUnnamed};
 ghost use Rattle.plant_folder.specs.declared.texts.FetchFault.TheVariants as fault;
 
-use crate::folder::{FileFault, Folder};
-use plant_config::{ConfigFault, Plant};
+use crate::folder::{FileFault, Folder, PlantFiles};
+use crate::listener::{Listener, PlantTexts};
+use plant_config::{ConfigFault, Files, Plant};
 use plant_types::Text;
 use std::alloc::{AllocError, AllocFailed, Global};
 use std::marker::Model;
@@ -88,49 +90,54 @@ fn beside(alloc: Global, plant_path: &str, name: &str) -> Result<String, AllocEr
     Ok(path.into_string())
 }
 
-/// The bytes of the file of a path; a miss is told by the file's name.
-fn file_at<F: Folder>(
+/// The bytes of the file of a path; a miss is told by the file's name, and a listener hears of it.
+fn file_at<F: Folder, L: Listener>(
     alloc: Global,
     folder: &F,
     path: &str,
     name: &str,
+    listener: &mut L,
 ) -> Result<Vec<u8>, FetchFault>
     ensures { MatchResult result (λ v. F.finds folder.now path.now (Some v.items)) (IsMiss (F.finds folder.now) path.now name.now) }
 {
     match folder.contents(alloc, path) {
         Ok(bytes) => Ok(bytes),
         Err(FileFault::Memory) => Err(FetchFault::Memory),
-        Err(FileFault::Missing) => Err(FetchFault::File(Text::from_str(alloc, name)?)),
+        Err(FileFault::Missing) => {
+            let told = Text::from_str(alloc, name)?;
+            listener.missing(alloc, folder, path, name);
+            Err(FetchFault::File(told))
+        }
     }
 }
 
 /// The bytes of a file that a plant file names.
-fn file_beside<F: Folder>(
+fn file_beside<F: Folder, L: Listener>(
     alloc: Global,
-    folder: &F,
-    plant_path: &str,
+    files: &PlantFiles<'_, F>,
     name: &str,
+    listener: &mut L,
 ) -> Result<Vec<u8>, FetchFault>
-    ensures { MatchResult result (λ v. F.finds folder.now (beside plant_path.now name.now) (Some v.items)) (IsMiss (F.finds folder.now) (beside plant_path.now name.now) name.now) }
+    ensures { MatchResult result (λ v. F.finds files.now.folder.now (beside files.now.path.now name.now) (Some v.items)) (IsMiss (F.finds files.now.folder.now) (beside files.now.path.now name.now) name.now) }
 {
-    let path = beside(alloc, plant_path, name)?;
-    file_at(alloc, folder, path.as_str(), name)
+    let path = beside(alloc, files.path, name)?;
+    file_at(alloc, files.folder, path.as_str(), name, listener)
 }
 
 /// The sources that a plant file names, in their order, up to the first that isn't found.
-fn sources_beside<F: Folder>(
+fn sources_beside<F: Folder, L: Listener>(
     alloc: Global,
-    folder: &F,
-    plant_path: &str,
+    files: &PlantFiles<'_, F>,
     names: &[Text],
+    listener: &mut L,
 ) -> Result<Vec<SourceText>, FetchFault>
     ensures names { IfOk result (λ v. map (λ s. s.name) v.items ≡ names.now) }
-    ensures texts { IfOk result (λ v. AreFound (F.finds folder.now) plant_path.now names.now (map (λ s. s.text.items) v.items)) }
-    ensures missed { IfErr result (AreMissed (F.finds folder.now) plant_path.now names.now) }
+    ensures texts { IfOk result (λ v. AreFound (F.finds files.now.folder.now) files.now.path.now names.now (map (λ s. s.text.items) v.items)) }
+    ensures missed { IfErr result (AreMissed (F.finds files.now.folder.now) files.now.path.now names.now) }
 {
     let mut sources = Vec::new(alloc);
     for name in names {
-        match file_beside(alloc, folder, plant_path, name.as_str()) {
+        match file_beside(alloc, files, name.as_str(), listener) {
             Ok(text) => {
                 let name = name.copy(alloc)?;
                 sources.push(SourceText { name, text })?;
@@ -141,25 +148,67 @@ fn sources_beside<F: Folder>(
     Ok(sources)
 }
 
-/// Reads the texts of the plant whose plant file has this path: the plant file first, then the sources that it names, in their order, then its
-/// alarm database. Fails as `FetchFault` says, at the first file with a fault.
-pub fn fetch<F: Folder>(alloc: Global, folder: &F, path: &str) -> Result<Fetched, FetchFault>
-    ensures { MatchResult result (AreTexts (F.finds folder.now) path.now) (IsFetchFault (F.finds folder.now) path.now) }
+/// Lets a listener hear why a plant file names no files.
+fn tell_of_plant_file<L: Listener>(
+    alloc: Global,
+    path: &str,
+    plant: &[u8],
+    fault: &ConfigFault,
+    listener: &mut L,
+)
+    requires lawful { IsFileFault plant.now fault.now }
+    requires told { fault.now ≢ config_fault.Memory }
 {
-    let plant = match file_at(alloc, folder, path, path) {
+    let texts = PlantTexts {
+        path,
+        plant,
+        sources: &[],
+        alarms: b"",
+    };
+    listener.refused(alloc, &texts, fault);
+}
+
+/// The files that a plant file names. Where it names none, a listener hears why.
+fn named_files<L: Listener>(
+    alloc: Global,
+    path: &str,
+    plant: &[u8],
+    listener: &mut L,
+) -> Result<Files, FetchFault>
+    ensures { MatchResult result (λ files. option_map files_of (plant_file_in plant.now) ≡ Some files) (IsUnnamed plant.now) }
+{
+    match Plant::files(alloc, plant) {
+        Ok(files) => Ok(files),
+        Err(ConfigFault::Memory) => Err(FetchFault::Memory),
+        Err(fault) => {
+            tell_of_plant_file(alloc, path, plant, &fault, listener);
+            Err(FetchFault::Config(fault))
+        }
+    }
+}
+
+/// Reads the texts of the plant of a plant file: this first, then the sources that it names, in their order, then its alarm database. Fails as
+/// `FetchFault` says, at the first file with a fault, of which a listener hears.
+pub fn fetch<F: Folder, L: Listener>(
+    alloc: Global,
+    files: &PlantFiles<'_, F>,
+    listener: &mut L,
+) -> Result<Fetched, FetchFault>
+    ensures { MatchResult result (AreTexts (F.finds files.now.folder.now) files.now.path.now) (IsFetchFault (F.finds files.now.folder.now) files.now.path.now) }
+{
+    let plant = match file_at(alloc, files.folder, files.path, files.path, listener) {
         Ok(plant) => plant,
         Err(fault) => return Err(fault),
     };
-    let files = match Plant::files(alloc, plant.as_slice()) {
-        Ok(files) => files,
-        Err(ConfigFault::Memory) => return Err(FetchFault::Memory),
-        Err(fault) => return Err(FetchFault::Config(fault)),
+    let named = match named_files(alloc, files.path, plant.as_slice(), listener) {
+        Ok(named) => named,
+        Err(fault) => return Err(fault),
     };
-    let sources = match sources_beside(alloc, folder, path, files.sources.as_slice()) {
+    let sources = match sources_beside(alloc, files, named.sources.as_slice(), listener) {
         Ok(sources) => sources,
         Err(fault) => return Err(fault),
     };
-    match file_beside(alloc, folder, path, files.alarms.as_str()) {
+    match file_beside(alloc, files, named.alarms.as_str(), listener) {
         Ok(alarms) => Ok(Fetched {
             plant,
             sources,

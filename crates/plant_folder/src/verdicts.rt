@@ -1,18 +1,18 @@
 //! What the program says of a plant.
 
-ghost use Rattle.std.specs.Prelude.{◌≡◌, ◌≢◌, [], if◌then◌else◌, map, string_bytes, IfOk};
+ghost use Rattle.std.specs.Prelude.{◌≡◌, ◌≢◌, map, string_bytes, false, IfOk};
 ghost use Rattle.plant_config.specs.declared.fault.ConfigFault.TheVariants as config_fault;
-ghost use Rattle.plant_config.specs.Files.{texts_of};
 ghost use Rattle.plant_folder.specs.Verdicts.{accepted_line, refusal_line, missing_line, fetch_line, HasLine, IsVerdict, IsFilesVerdict};
 
-use crate::folder::Folder;
-use crate::texts::{FetchFault, SourceText, fetch};
+use crate::folder::{Folder, PlantFiles};
+use crate::listener::{Listener, PlantTexts};
+use crate::texts::{FetchFault, Fetched, SourceText, fetch};
 use plant_config::{ConfigFault, Plant};
 use std::alloc::{AllocError, Global};
 use std::thread::Threads;
 
 /// The line for a plant that is accepted. Fails if allocation fails.
-fn accepted_line(alloc: Global, plant: &Plant) -> Result<String, AllocError>
+pub fn accepted_line(alloc: Global, plant: &Plant) -> Result<String, AllocError>
     ensures { IfOk result (λ line. string_bytes line ≡ accepted_line plant.now) }
 {
     let mut line = String::from_str(alloc, "ACCEPTED PROGRAMS ")?;
@@ -23,17 +23,6 @@ fn accepted_line(alloc: Global, plant: &Plant) -> Result<String, AllocError>
     line.push_str(alarms.as_str())?;
     line.push_str("\n")?;
     Ok(line)
-}
-
-/// The line that is due for an accepted plant: none but where it is asked for. Fails if allocation fails.
-fn due_line(alloc: Global, plant: &Plant, says_accepted: bool) -> Result<String, AllocError>
-    ensures { IfOk result (λ line. string_bytes line ≡ (if says_accepted then accepted_line plant.now else [])) }
-{
-    if says_accepted {
-        accepted_line(alloc, plant)
-    } else {
-        Ok(String::new(alloc))
-    }
 }
 
 /// The line for a plant that is refused. Fails if allocation fails.
@@ -56,26 +45,25 @@ fn missing_line(alloc: Global, name: &str) -> Result<String, AllocError>
     Ok(line)
 }
 
-/// Reads a plant from its texts, each source with its name. There is none where it is refused. With it comes the line that is due, empty where
-/// there is nothing to say: the line of an accepted plant is due only where it is asked for (`says_accepted`). Fails if allocation fails.
-pub fn verdict<H: Threads + Sync>(
+/// Reads a plant from its texts. There is none where it is refused, and then with it comes the line that is due; for an accepted plant none is, and the
+/// text is empty. A listener hears of either. Fails if allocation fails.
+pub fn verdict<H: Threads + Sync, L: Listener>(
     rt: &H,
     alloc: Global,
-    plant: &[u8],
-    sources: &[(&str, &[u8])],
-    alarms: &[u8],
-    says_accepted: bool,
+    texts: &PlantTexts<'_>,
+    listener: &mut L,
 ) -> Result<(Option<Plant>, String), AllocError>
-    ensures { IfOk result (λ v. IsVerdict (texts_of plant.now (map (λ s. s.0.now) sources.now) (map (λ s. s.1.now) sources.now) alarms.now) says_accepted v.0 (string_bytes v.1)) }
+    ensures { IfOk result (λ v. IsVerdict texts.now false v.0 (string_bytes v.1)) }
 {
-    match Plant::read(rt, alloc, plant, sources, alarms) {
+    match Plant::read(rt, alloc, texts.plant, texts.sources, texts.alarms) {
         Ok(plant) => {
-            let line = due_line(alloc, &plant, says_accepted)?;
-            Ok((Some(plant), line))
+            listener.accepted(alloc, texts);
+            Ok((Some(plant), String::new(alloc)))
         }
         Err(ConfigFault::Memory) => Err(AllocError),
         Err(fault) => {
             let line = refusal_line(alloc, &fault)?;
+            listener.refused(alloc, texts, &fault);
             Ok((None, line))
         }
     }
@@ -108,29 +96,38 @@ fn fetch_line(alloc: Global, fault: &FetchFault) -> Result<String, AllocError>
     }
 }
 
-/// As `verdict`, from the files of a plant: the plant file of this path and those that it names. The line for a file that can't be read, or has
-/// more than 16,777,217 bytes, has its name. Fails if allocation fails.
-pub fn files_verdict<H: Threads + Sync, F: Folder>(
+/// As `verdict`, from texts that were fetched for the plant file of a path. Fails if allocation fails.
+fn fetched_verdict<H: Threads + Sync, L: Listener>(
     rt: &H,
     alloc: Global,
-    folder: &F,
     path: &str,
-    says_accepted: bool,
+    fetched: &Fetched,
+    listener: &mut L,
 ) -> Result<(Option<Plant>, String), AllocError>
-    ensures { IfOk result (λ v. IsFilesVerdict (F.finds folder.now) path.now says_accepted v.0 (string_bytes v.1)) }
+    ensures { IfOk result (λ v. IsVerdict fetched.now false v.0 (string_bytes v.1)) }
 {
-    match fetch(alloc, folder, path) {
-        Ok(texts) => {
-            let sources = pairs(alloc, texts.sources.as_slice())?;
-            verdict(
-                rt,
-                alloc,
-                texts.plant.as_slice(),
-                sources.as_slice(),
-                texts.alarms.as_slice(),
-                says_accepted,
-            )
-        }
+    let sources = pairs(alloc, fetched.sources.as_slice())?;
+    let texts = PlantTexts {
+        path,
+        plant: fetched.plant.as_slice(),
+        sources: sources.as_slice(),
+        alarms: fetched.alarms.as_slice(),
+    };
+    verdict(rt, alloc, &texts, listener)
+}
+
+/// As `verdict`, from the files of a plant: the plant file and those that it names. The line for a file that can't be read, or has more than
+/// 16,777,217 bytes, has its name. Fails if allocation fails.
+pub fn files_verdict<H: Threads + Sync, F: Folder, L: Listener>(
+    rt: &H,
+    alloc: Global,
+    files: &PlantFiles<'_, F>,
+    listener: &mut L,
+) -> Result<(Option<Plant>, String), AllocError>
+    ensures { IfOk result (λ v. IsFilesVerdict (F.finds files.now.folder.now) files.now.path.now false v.0 (string_bytes v.1)) }
+{
+    match fetch(alloc, files, listener) {
+        Ok(fetched) => fetched_verdict(rt, alloc, files.path, &fetched, listener),
         Err(FetchFault::Memory) => Err(AllocError),
         Err(fault) => {
             let line = fetch_line(alloc, &fault)?;

@@ -1,19 +1,16 @@
 -- What a run did, by what was told of its plant and what its session did.
-use Rattle.std.proofs.Common.{◌≡◌, ℕ, false, List, [], subst, refl, sym, Option, Some, Ok, Err, inl, inr}
+use Rattle.std.proofs.Common.{ℕ, List, [], subst, refl, Option, Some, Ok, Err, inr}
 use Rattle.std.specs.Io.KnownBytes.{Appends}
 use Rattle.std.proofs.KnownBytes.{Appends-trans}
-use Rattle.std.proofs.lemmas.Option.{none-some}
 use Rattle.event_history.specs.declared.event.Event.{Event}
 use Rattle.plant_config.specs.Plants.{PlainPlant}
-use Rattle.plant_config.specs.Files.{Texts}
-use Rattle.plant_folder.specs.Fetches.{Finds}
-use Rattle.plant_folder.specs.Verdicts.{IsVerdict, IsFilesVerdict}
 use Rattle.serve_faults.specs.declared.fault.ServeFault.{ServeFault}
 use Rattle.serve_faults.specs.declared.fault.ServeFault.TheVariants as fault
 use Rattle.plant_service.specs.declared.service.RunEnd.TheVariants as run_end
 use Rattle.serving.specs.Requests.{ended_requests}
 use Rattle.serving.specs.Session.{StoppedBy}
 use Rattle.plant_verdict.specs.Admits.{IsTold}
+use Rattle.plant_verdict.proofs.AdmitLaws.{IsQuiet}
 use Rattle.plant_service.specs.Services.{IsServed, IsStopped, IsRun}
 use Rattle.serving.proofs.SessionLaws.{answered-more, stopped-more}
 
@@ -24,17 +21,6 @@ stopped-after fault.Read plant remaining input history w₀ w w₁ none s = answ
 stopped-after fault.Write plant remaining input history w₀ w w₁ none s = (s.0, s.1, stopped-more plant [] s.0 [] [] history w₀ w w₁ (record { history_is = refl; wrote = none }) s.2)
 stopped-after fault.Memory plant remaining input history w₀ w w₁ none s = (s.0, s.1, stopped-more plant [] s.0 [] [] history w₀ w w₁ (record { history_is = refl; wrote = none }) s.2)
 stopped-after fault.Crew plant remaining input history w₀ w w₁ none s = (s.0, s.1, stopped-more plant [] s.0 [] [] history w₀ w w₁ (record { history_is = refl; wrote = none }) s.2)
-
--- a verdict has no line beside a plant
-abbrev pub IsQuiet : (Option PlainPlant → List ℕ → Type 0) → Type 0
-IsQuiet verdict = (plant : PlainPlant) (line : List ℕ) → verdict (Some plant) line → line ≡ []
-
-pub quiet-texts : (texts : Texts) → IsQuiet (IsVerdict texts false)
-quiet-texts texts plant line v = v.1
-
-pub quiet-files : (finds : Finds) (path : List ℕ) → IsQuiet (IsFilesVerdict finds path false)
-quiet-files finds path plant line (inl v) = v.2.1
-quiet-files finds path plant line (inr v) = absurd (none-some plant (sym v.3))
 
 module _ (verdict : Option PlainPlant → List ℕ → Type 0) (quiet : IsQuiet verdict) (plant : PlainPlant) (r₀ r₁ w₀ w w₁ : Option (List ℕ)) (told : IsTold verdict w₀ w (Ok (Some plant))) where
   -- the plant was told of, and its session served

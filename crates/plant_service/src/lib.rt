@@ -2,14 +2,17 @@
 //! to say of its refusal is written.
 //!
 //! `run` and `run_from` say in one clause what came of both. The crate stands above `serving`, whose sessions own neither a plant nor an engine,
-//! and gives on all that a program needs to serve: feeds and sinks, folders, verdicts and faults.
+//! and gives on all that a program needs to serve: feeds and sinks, folders and listeners, verdicts and faults.
 #![tactic(auto)]
 
 mod service;
 
 pub use byte_streams::{Failed, Feed, Reading, Sink, Writing};
-pub use plant_folder::{Disk, FetchFault, Fetched, FileFault, Folder, SourceText, fetch};
+pub use plant_folder::{
+    Deaf, Disk, FetchFault, Fetched, FileFault, Folder, Listener, PlantFiles, PlantTexts,
+    SourceText, accepted_line, fetch,
+};
 pub use plant_verdict::{admit, admit_from, check_from};
 pub use serve_faults::{ServeFault, put_all};
-pub use service::{RunEnd, run, run_from};
+pub use service::{Ends, RunEnd, run, run_from};
 pub use serving::{Session, Step, requests_end_in_lf, serve};

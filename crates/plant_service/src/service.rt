@@ -1,7 +1,6 @@
 //! A run: a plant is read, and its session served.
 
-ghost use Rattle.std.specs.Prelude.{◌≡◌, ◌||◌, map, false, OnOk, IfErr};
-ghost use Rattle.plant_config.specs.Files.{texts_of};
+ghost use Rattle.std.specs.Prelude.{◌≡◌, false, OnOk, IfErr};
 ghost use Rattle.plant_folder.specs.Verdicts.{IsVerdict, IsFilesVerdict};
 ghost use Rattle.serve_faults.specs.Faults.{is_read, is_write, crew_faults};
 ghost use Rattle.plant_service.specs.Services.{IsServed, IsStopped, IsRun};
@@ -9,7 +8,7 @@ ghost use Rattle.plant_service.specs.Services.{IsServed, IsStopped, IsRun};
 use byte_streams::{Feed, Sink};
 use engine::{Crew, Done, Engine, Job, Start};
 use plant_config::Plant;
-use plant_folder::Folder;
+use plant_folder::{Folder, Listener, PlantFiles, PlantTexts};
 use plant_verdict::{admit, admit_from};
 use serve_faults::ServeFault;
 use serving::serve;
@@ -26,28 +25,35 @@ pub enum RunEnd {
     Refused,
 }
 
+/// What a run is joined to: where its input comes from, where its answers go, and who hears what becomes of its plant.
+#[derive(Drop)]
+pub struct Ends<F, S, L> {
+    pub feed: F,
+    pub sink: S,
+    pub listener: L,
+}
+
 /// Serves a plant from its first event to the end of the input.
-fn serve_plant<H: Wait, C: Crew<Job, Start, Done, H>, F: Feed, S: Sink>(
+fn serve_plant<H: Wait, C: Crew<Job, Start, Done, H>, F: Feed, S: Sink, L>(
     rt: &H,
     alloc: Global,
     crew: &mut C,
     plant: Plant,
-    feed: &mut F,
-    sink: &mut S,
+    ends: &mut Ends<F, S, L>,
 ) -> Result<(), ServeFault>
     requires asked { C.asks }
-    requires feed { F.broken feed.old ≡ false }
-    requires sink { S.broken sink.old ≡ false }
-    ensures ok { OnOk result (IsServed plant (F.remaining feed.old) (F.remaining feed.new) (S.written sink.old) (S.written sink.new)) }
-    ensures err { IfErr result (λ e. IsStopped e plant (F.remaining feed.old) (F.remaining feed.new) (S.written sink.old) (S.written sink.new)) }
-    ensures read { F.broken feed.new ≡ is_read result }
-    ensures write { S.broken sink.new ≡ is_write result }
+    requires feed { F.broken ends.old.feed ≡ false }
+    requires sink { S.broken ends.old.sink ≡ false }
+    ensures ok { OnOk result (IsServed plant (F.remaining ends.old.feed) (F.remaining ends.new.feed) (S.written ends.old.sink) (S.written ends.new.sink)) }
+    ensures err { IfErr result (λ e. IsStopped e plant (F.remaining ends.old.feed) (F.remaining ends.new.feed) (S.written ends.old.sink) (S.written ends.new.sink)) }
+    ensures read { F.broken ends.new.feed ≡ is_read result }
+    ensures write { S.broken ends.new.sink ≡ is_write result }
     ensures crew { C.faulted crew.new ≡ crew_faults (C.faulted crew.old) result }
 {
     match Engine::new(alloc, plant) {
         Ok(engine) => {
             let mut engine = engine;
-            let ended = serve(rt, alloc, &mut engine, crew, feed, sink);
+            let ended = serve(rt, alloc, &mut engine, crew, &mut ends.feed, &mut ends.sink);
             drop(engine);
             ended
         }
@@ -56,33 +62,29 @@ fn serve_plant<H: Wait, C: Crew<Job, Start, Done, H>, F: Feed, S: Sink>(
 }
 
 /// Reads a plant from its texts, as `admit` does, and serves it to the end of the input, its programs run by the crew; or writes the line of
-/// its refusal.
+/// its refusal. The listener hears of the plant before anything is read or written.
 ///
 /// After `Served` what was written is exactly the text that belongs to the plant and to the bytes that were read, whatever the crew, and after
 /// `Refused` exactly the line of the refusal. Returns `Memory` only where an allocation failed, and `Read`, `Write` and `Crew` only where the
 /// feed, the sink or the crew failed in this call. After an error either nothing was read and at most a part of the line was written, or the session came as
 /// far as `serve` says. It returns only where `serve` does.
-pub fn run<H: Threads + Wait + Sync, C: Crew<Job, Start, Done, H>, F: Feed, S: Sink>(
+pub fn run<H: Threads + Wait + Sync, C: Crew<Job, Start, Done, H>, F: Feed, S: Sink, L: Listener>(
     rt: &H,
     alloc: Global,
     crew: &mut C,
-    plant: &[u8],
-    sources: &[(&str, &[u8])],
-    alarms: &[u8],
-    feed: &mut F,
-    sink: &mut S,
+    texts: &PlantTexts<'_>,
+    ends: &mut Ends<F, S, L>,
 ) -> Result<RunEnd, ServeFault>
     requires asked { C.asks }
-    requires feed { F.broken feed.old ≡ false }
-    requires sink { S.broken sink.old ≡ false }
-    ensures run { IsRun (IsVerdict (texts_of plant.now (map (λ s. s.0.now) sources.now) (map (λ s. s.1.now) sources.now) alarms.now) false)
-        (F.remaining feed.old) (F.remaining feed.new) (S.written sink.old) (S.written sink.new) result }
-    ensures read { F.broken feed.new ≡ is_read result }
-    ensures write { S.broken sink.new ≡ is_write result }
+    requires feed { F.broken ends.old.feed ≡ false }
+    requires sink { S.broken ends.old.sink ≡ false }
+    ensures run { IsRun (IsVerdict texts.now false) (F.remaining ends.old.feed) (F.remaining ends.new.feed) (S.written ends.old.sink) (S.written ends.new.sink) result }
+    ensures read { F.broken ends.new.feed ≡ is_read result }
+    ensures write { S.broken ends.new.sink ≡ is_write result }
     ensures crew { C.faulted crew.new ≡ crew_faults (C.faulted crew.old) result }
 {
-    match admit(rt, alloc, plant, sources, alarms, false, sink) {
-        Ok(Some(plant)) => match serve_plant(rt, alloc, crew, plant, feed, sink) {
+    match admit(rt, alloc, texts, &mut ends.listener, &mut ends.sink) {
+        Ok(Some(plant)) => match serve_plant(rt, alloc, crew, plant, ends) {
             Ok(()) => Ok(RunEnd::Served),
             Err(fault) => Err(fault),
         },
@@ -99,25 +101,25 @@ pub fn run_from<
     D: Folder,
     F: Feed,
     S: Sink,
+    L: Listener,
 >(
     rt: &H,
     alloc: Global,
     crew: &mut C,
-    folder: &D,
-    path: &str,
-    feed: &mut F,
-    sink: &mut S,
+    files: &PlantFiles<'_, D>,
+    ends: &mut Ends<F, S, L>,
 ) -> Result<RunEnd, ServeFault>
     requires asked { C.asks }
-    requires feed { F.broken feed.old ≡ false }
-    requires sink { S.broken sink.old ≡ false }
-    ensures run { IsRun (IsFilesVerdict (D.finds folder.now) path.now false) (F.remaining feed.old) (F.remaining feed.new) (S.written sink.old) (S.written sink.new) result }
-    ensures read { F.broken feed.new ≡ is_read result }
-    ensures write { S.broken sink.new ≡ is_write result }
+    requires feed { F.broken ends.old.feed ≡ false }
+    requires sink { S.broken ends.old.sink ≡ false }
+    ensures run { IsRun (IsFilesVerdict (D.finds files.now.folder.now) files.now.path.now false) (F.remaining ends.old.feed) (F.remaining ends.new.feed)
+        (S.written ends.old.sink) (S.written ends.new.sink) result }
+    ensures read { F.broken ends.new.feed ≡ is_read result }
+    ensures write { S.broken ends.new.sink ≡ is_write result }
     ensures crew { C.faulted crew.new ≡ crew_faults (C.faulted crew.old) result }
 {
-    match admit_from(rt, alloc, folder, path, false, sink) {
-        Ok(Some(plant)) => match serve_plant(rt, alloc, crew, plant, feed, sink) {
+    match admit_from(rt, alloc, files, &mut ends.listener, &mut ends.sink) {
+        Ok(Some(plant)) => match serve_plant(rt, alloc, crew, plant, ends) {
             Ok(()) => Ok(RunEnd::Served),
             Err(fault) => Err(fault),
         },

@@ -17,6 +17,14 @@ IsTold verdict w₀ w₁ (Err fault.Read) = ⊥
 IsTold verdict w₀ w₁ (Err fault.Crew) = ⊥
 IsTold verdict w₀ w₁ (Err fault.Write) = (answer : Option PlainPlant) × (line : List ℕ) × verdict answer line × IsBegun w₀ w₁ line
 
+-- what was written of one line by the time of a result, in the same way
+abbrev pub IsWritten : List ℕ → Option (List ℕ) → Option (List ℕ) → Result Unit ServeFault → Type 0
+IsWritten line w₀ w₁ (Ok done) = Appends w₀ w₁ line
+IsWritten line w₀ w₁ (Err fault.Memory) = Appends w₀ w₁ []
+IsWritten line w₀ w₁ (Err fault.Read) = ⊥
+IsWritten line w₀ w₁ (Err fault.Crew) = ⊥
+IsWritten line w₀ w₁ (Err fault.Write) = IsBegun w₀ w₁ line
+
 -- the same of the files of a plant where the plant isn't kept: whether there is one
 abbrev pub IsChecked : Finds → List ℕ → Option (List ℕ) → Option (List ℕ) → Result Bool ServeFault → Type 0
 IsChecked finds path w₀ w₁ (Ok accepted) = (answer : Option PlainPlant) × (accepted ≡ is_some answer) × IsTold (IsFilesVerdict finds path true) w₀ w₁ (Ok answer)

@@ -1,14 +1,15 @@
 //! What the program says of a plant is written.
 
-ghost use Rattle.std.specs.Prelude.{◌≡◌, map, false};
-ghost use Rattle.plant_config.specs.Files.{texts_of};
-ghost use Rattle.plant_folder.specs.Verdicts.{IsVerdict, IsFilesVerdict};
-ghost use Rattle.plant_verdict.specs.Admits.{IsTold, IsChecked};
+ghost use Rattle.std.specs.Prelude.{◌≡◌, false};
+ghost use Rattle.plant_folder.specs.Verdicts.{accepted_line, IsVerdict, IsFilesVerdict};
+ghost use Rattle.plant_verdict.specs.Admits.{IsTold, IsWritten, IsChecked};
 ghost use Rattle.serve_faults.specs.Faults.{is_write};
 
 use byte_streams::Sink;
 use plant_config::Plant;
-use plant_folder::{Folder, files_verdict, verdict};
+use plant_folder::{
+    Folder, Listener, PlantFiles, PlantTexts, accepted_line, files_verdict, verdict,
+};
 use serve_faults::{ServeFault, put_all};
 use std::alloc::Global;
 use std::thread::Threads;
@@ -32,73 +33,85 @@ fn told<S: Sink>(
     }
 }
 
-/// Reads a plant from its texts, each source with its name, and writes what there is to say of it: the line of the refusal, and then there is no
-/// plant; or the line for an accepted plant, where that is asked for.
+/// Reads a plant from its texts, and writes what there is to say of it: the line of the refusal, and then there is no plant; nothing where it is
+/// accepted. A listener hears of either before.
 ///
 /// Returns `Memory` only where an allocation failed, and then nothing is written; and `Write` only where the sink failed in this call.
 #[tactic(auto, using(crate::proofs::AdmitLaws::told_of))]
-pub fn admit<H: Threads + Sync, S: Sink>(
+pub fn admit<H: Threads + Sync, L: Listener, S: Sink>(
     rt: &H,
     alloc: Global,
-    plant: &[u8],
-    sources: &[(&str, &[u8])],
-    alarms: &[u8],
-    says_accepted: bool,
+    texts: &PlantTexts<'_>,
+    listener: &mut L,
     sink: &mut S,
 ) -> Result<Option<Plant>, ServeFault>
     requires { S.broken sink.old ≡ false }
-    ensures told { IsTold (IsVerdict (texts_of plant.now (map (λ s. s.0.now) sources.now) (map (λ s. s.1.now) sources.now) alarms.now) says_accepted) (S.written sink.old) (S.written sink.new) result }
+    ensures told { IsTold (IsVerdict texts.now false) (S.written sink.old) (S.written sink.new) result }
     ensures write { S.broken sink.new ≡ is_write result }
 {
-    match verdict(rt, alloc, plant, sources, alarms, says_accepted) {
+    match verdict(rt, alloc, texts, listener) {
         Ok((plant, line)) => told(sink, plant, line.as_str()),
         Err(_) => Err(ServeFault::Memory),
     }
 }
 
-/// Reads a plant from its files, the plant file of this path and those that it names, and writes what there is to say of it, as `admit` does. Of
-/// a file that can't be read, or has more than 16,777,217 bytes, it writes the name.
+/// Reads a plant from its files, the plant file and those that it names, and writes what there is to say of it, as `admit` does. Of a file that can't
+/// be read, or has more than 16,777,217 bytes, it writes the name.
 ///
 /// Returns `Memory` only where an allocation failed, and then nothing is written; and `Write` only where the sink failed in this call.
-pub fn admit_from<H: Threads + Sync, F: Folder, S: Sink>(
+pub fn admit_from<H: Threads + Sync, F: Folder, L: Listener, S: Sink>(
     rt: &H,
     alloc: Global,
-    folder: &F,
-    path: &str,
-    says_accepted: bool,
+    files: &PlantFiles<'_, F>,
+    listener: &mut L,
     sink: &mut S,
 ) -> Result<Option<Plant>, ServeFault>
     requires { S.broken sink.old ≡ false }
-    ensures told { IsTold (IsFilesVerdict (F.finds folder.now) path.now says_accepted) (S.written sink.old) (S.written sink.new) result }
+    ensures told { IsTold (IsFilesVerdict (F.finds files.now.folder.now) files.now.path.now false) (S.written sink.old) (S.written sink.new) result }
     ensures write { S.broken sink.new ≡ is_write result }
 {
-    match files_verdict(rt, alloc, folder, path, says_accepted) {
+    match files_verdict(rt, alloc, files, listener) {
         Ok((plant, line)) => told(sink, plant, line.as_str()),
         Err(_) => Err(ServeFault::Memory),
     }
 }
 
-/// Tells whether a plant is accepted, from its files: it writes what `admit_from` writes, the line for an accepted plant too, and keeps no
-/// plant.
+/// Writes the line for an accepted plant. Returns `Memory` only where an allocation failed, and then nothing is written.
+fn told_accepted<S: Sink>(alloc: Global, plant: &Plant, sink: &mut S) -> Result<(), ServeFault>
+    requires { S.broken sink.old ≡ false }
+    ensures told { IsWritten (accepted_line plant.now) (S.written sink.old) (S.written sink.new) result }
+    ensures write { S.broken sink.new ≡ is_write result }
+{
+    match accepted_line(alloc, plant) {
+        Ok(line) => put_all(sink, line.as_bytes()),
+        Err(_) => Err(ServeFault::Memory),
+    }
+}
+
+/// Tells whether a plant is accepted, from its files: it writes what `admit_from` writes, and the line for an accepted plant; it keeps no plant.
 ///
 /// Returns `Memory` only where an allocation failed, and then nothing is written; and `Write` only where the sink failed in this call.
-pub fn check_from<H: Threads + Sync, F: Folder, S: Sink>(
+pub fn check_from<H: Threads + Sync, F: Folder, L: Listener, S: Sink>(
     rt: &H,
     alloc: Global,
-    folder: &F,
-    path: &str,
+    files: &PlantFiles<'_, F>,
+    listener: &mut L,
     sink: &mut S,
 ) -> Result<bool, ServeFault>
     requires { S.broken sink.old ≡ false }
-    ensures told { IsChecked (F.finds folder.now) path.now (S.written sink.old) (S.written sink.new) result }
+    ensures told { IsChecked (F.finds files.now.folder.now) files.now.path.now (S.written sink.old) (S.written sink.new) result }
     ensures write { S.broken sink.new ≡ is_write result }
 {
-    match admit_from(rt, alloc, folder, path, true, sink) {
-        Ok(plant) => {
-            let is_accepted = plant.is_some();
+    match admit_from(rt, alloc, files, listener, sink) {
+        Ok(Some(plant)) => {
+            let told = told_accepted(alloc, &plant, sink);
             drop(plant);
-            Ok(is_accepted)
+            match told {
+                Ok(()) => Ok(true),
+                Err(fault) => Err(fault),
+            }
         }
+        Ok(None) => Ok(false),
         Err(fault) => Err(fault),
     }
 }

@@ -1,10 +1,8 @@
 //! A function block that holds itself (C8).
 
-use crate::entry::{Entry, What};
-use crate::scope::{block_named, is_same};
-use crate::unit::{Spot, Unit};
 use std::alloc::{AllocError, Global};
 use token_causes::{Cause, Role};
+use unit_words::{Entry, Spot, Unit, What, block_named, is_same};
 
 /// Where the rule stands.
 const BLOCKS: &str = "docs/LANGUAGE.md, \"Function blocks\"";

@@ -1,15 +1,13 @@
 //! Arguments and outputs that a block hasn't, or that are there twice (C6).
 
-use crate::names::NAMES;
 use crate::near::Nearest;
-use crate::scope::{
-    Found, block_named, is_member_of, is_same, is_standard, kind_named, member_named,
-    standard_members, variable_named,
-};
-use crate::unit::Unit;
 use st_lexer::{Symbol, TokenKind};
 use std::alloc::{AllocError, Global};
 use token_causes::{Cause, Role};
+use unit_words::{
+    Found, Unit, block_named, block_of, is_member_of, is_same, is_standard, member_named,
+    standard_members, variable_named,
+};
 
 /// Where the rules of calls stand.
 pub const CALLS: &str = "docs/LANGUAGE.md, \"Function blocks\"";
@@ -17,15 +15,6 @@ pub const CALLS: &str = "docs/LANGUAGE.md, \"Function blocks\"";
 /// How inputs or outputs are called.
 fn called(are_inputs: bool) -> &'static str {
     if are_inputs { "input" } else { "output" }
-}
-
-/// The block of the instance that the word of a number names; `None` where it names none.
-pub fn block_of<'a>(unit: &Unit<'_, 'a>, number: usize) -> Option<&'a str> {
-    let variable = variable_named(unit.entries, unit.number, unit.word(number))?;
-    match kind_named(variable.kind) {
-        Some(_) => None,
-        None => Some(variable.kind),
-    }
 }
 
 /// The names of a block's inputs or outputs, each behind a blank, and the one that is nearest to a word.

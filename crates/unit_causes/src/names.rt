@@ -1,13 +1,13 @@
 //! A name that isn't there, or is there twice (C6).
 
 use crate::calls::{miscalled, misread};
-use crate::entry::{Entry, What};
 use crate::near::Nearest;
-use crate::scope::{global_named, is_block, is_same, is_standard, variable_named};
-use crate::unit::{Spot, Unit};
 use st_lexer::{Keyword, place_of};
 use std::alloc::{AllocError, Global};
 use token_causes::{Cause, Role};
+use unit_words::{
+    Entry, Spot, Unit, What, global_named, is_block, is_same, is_standard, variable_named,
+};
 
 /// Where the rules of names stand.
 pub const NAMES: &str = "docs/LANGUAGE.md, \"Names\"";

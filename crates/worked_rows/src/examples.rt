@@ -5,7 +5,9 @@ use crate::crews::Crews;
 use crate::laws::call_laws;
 use crate::shown::push_texts;
 use engine::{Alone, Crew, Done, Job, Start};
-use plant_service::{Disk, Reading, ServeFault, Writing, check_from, run_from};
+use plant_service::{
+    Deaf, Disk, Ends, PlantFiles, Reading, ServeFault, Writing, check_from, run_from,
+};
 use row_text::push_line;
 use std::alloc::{AllocError, Global};
 use std::fs;
@@ -20,7 +22,11 @@ fn checked<R: Files + Threads + Sync>(
     path: &str,
 ) -> Result<Vec<u8>, ServeFault> {
     let mut sink = Writing::new(Vec::new(alloc));
-    check_from(rt, alloc, &Disk { files: rt }, path, &mut sink)?;
+    let files = PlantFiles {
+        folder: &Disk { files: rt },
+        path,
+    };
+    check_from(rt, alloc, &files, &mut Deaf, &mut sink)?;
     Ok(sink.into_inner())
 }
 
@@ -37,11 +43,17 @@ fn served<R: Files + Threads + Wait + Sync, C: Crew<Job, Start, Done, R>>(
     let Ok(file) = fs::open(rt, commands) else {
         return Err(ServeFault::Read);
     };
-    let mut feed = Reading::new(file);
-    let mut sink = Writing::new(Vec::new(alloc));
-    let disk = Disk { files: rt };
-    run_from(rt, alloc, crew, &disk, path, &mut feed, &mut sink)?;
-    Ok(sink.into_inner())
+    let mut ends = Ends {
+        feed: Reading::new(file),
+        sink: Writing::new(Vec::new(alloc)),
+        listener: Deaf,
+    };
+    let files = PlantFiles {
+        folder: &Disk { files: rt },
+        path,
+    };
+    run_from(rt, alloc, crew, &files, &mut ends)?;
+    Ok(ends.sink.into_inner())
 }
 
 /// Adds what an example is answered: `check PLANT`, or `run PLANT COMMANDS`. A session whose commands can't be read has no answers but

@@ -5,7 +5,8 @@ ghost use Rattle.std.specs.Prelude.{◌≡◌, false};
 use crate::plants::{File, Plan, text_of, texts_of};
 use engine::{Crew, Done, Job, Start};
 use plant_service::{
-    FileFault, Folder, Reading, RunEnd, ServeFault, Writing, check_from, run, run_from,
+    Deaf, Ends, FileFault, Folder, PlantFiles, PlantTexts, Reading, RunEnd, ServeFault, Writing,
+    check_from, run, run_from,
 };
 use row_text::push_line;
 use std::alloc::{AllocError, Global};
@@ -52,11 +53,18 @@ pub fn push_checked<H: Threads + Sync>(
         texts: &texts,
     };
     let mut sink = Writing::new(Vec::new(alloc));
-    if check_from(rt, alloc, &shelf, PATH, &mut sink).is_err() {
+    let files = PlantFiles {
+        folder: &shelf,
+        path: PATH,
+    };
+    if check_from(rt, alloc, &files, &mut Deaf, &mut sink).is_err() {
         return Err(AllocError);
     }
     text.extend_from_slice(sink.get_ref().as_slice())
 }
+
+/// What a run in memory is joined to.
+type MemoryEnds<'a> = Ends<Reading<&'a [u8]>, Writing<Vec<u8>>, Deaf>;
 
 /// Runs the plant of a folder to the end of a feed: from its files, or from the texts of its plant file, of `p.st` and of its alarms.
 fn ran<H: Threads + Wait + Sync, C: Crew<Job, Start, Done, H>>(
@@ -65,29 +73,27 @@ fn ran<H: Threads + Wait + Sync, C: Crew<Job, Start, Done, H>>(
     crew: &mut C,
     shelf: &Shelf<'_>,
     is_of_texts: bool,
-    feed: &mut Reading<&[u8]>,
-    sink: &mut Writing<Vec<u8>>,
+    ends: &mut MemoryEnds<'_>,
 ) -> Result<RunEnd, ServeFault>
     requires asked { C.asks }
-    requires feed { feed.old.broken ≡ false }
-    requires sink { sink.old.broken ≡ false }
+    requires feed { ends.old.feed.broken ≡ false }
+    requires sink { ends.old.sink.broken ≡ false }
 {
     if !is_of_texts {
-        return run_from(rt, alloc, crew, shelf, PATH, feed, sink);
+        let files = PlantFiles {
+            folder: shelf,
+            path: PATH,
+        };
+        return run_from(rt, alloc, crew, &files, ends);
     }
-    let plant = text_of(shelf.files, shelf.texts, "plant.toml").unwrap_or(&[]);
     let source = text_of(shelf.files, shelf.texts, "p.st").unwrap_or(&[]);
-    let alarms = text_of(shelf.files, shelf.texts, "alarms.csv").unwrap_or(&[]);
-    run(
-        rt,
-        alloc,
-        crew,
-        plant,
-        &[("p.st", source)],
-        alarms,
-        feed,
-        sink,
-    )
+    let texts = PlantTexts {
+        path: PATH,
+        plant: text_of(shelf.files, shelf.texts, "plant.toml").unwrap_or(&[]),
+        sources: &[("p.st", source)],
+        alarms: text_of(shelf.files, shelf.texts, "alarms.csv").unwrap_or(&[]),
+    };
+    run(rt, alloc, crew, &texts, ends)
 }
 
 /// Adds what the run of a plant writes, how it ends, and how many bytes of the input it leaves.
@@ -106,15 +112,18 @@ pub fn push_ran<H: Threads + Wait + Sync, C: Crew<Job, Start, Done, H>>(
         files: plan.files,
         texts: &texts,
     };
-    let mut feed = Reading::new(plan.lines.as_bytes());
-    let mut sink = Writing::new(Vec::new(alloc));
-    let end = match ran(rt, alloc, crew, &shelf, is_of_texts, &mut feed, &mut sink) {
+    let mut ends = Ends {
+        feed: Reading::new(plan.lines.as_bytes()),
+        sink: Writing::new(Vec::new(alloc)),
+        listener: Deaf,
+    };
+    let end = match ran(rt, alloc, crew, &shelf, is_of_texts, &mut ends) {
         Ok(RunEnd::Served) => "SERVED",
         Ok(RunEnd::Refused) => "REFUSED",
         Err(_) => return Err(AllocError),
     };
-    text.extend_from_slice(sink.get_ref().as_slice())?;
-    let (left, bytes) = (feed.get_ref().len(), plan.lines.len());
+    text.extend_from_slice(ends.sink.get_ref().as_slice())?;
+    let (left, bytes) = (ends.feed.get_ref().len(), plan.lines.len());
     push_line(
         text,
         format!(in alloc; "{end}, {left} of {bytes} bytes left")?.as_str(),

@@ -1,13 +1,11 @@
 //! What has to be constant, and what controls a FOR (C9).
 
-use crate::entry::What;
 use crate::operands::variable_kind;
-use crate::scope::{is_same, variable_named};
-use crate::unit::{Spot, Unit};
 use plant_types::Kind;
 use st_lexer::{Keyword, TokenKind};
 use std::alloc::{AllocError, Global};
 use token_causes::{Cause, Role};
+use unit_words::{Spot, Unit, What, is_same, variable_named};
 
 /// Where the rules of FOR stand.
 const STATEMENTS: &str = "docs/LANGUAGE.md, \"Statements\"";

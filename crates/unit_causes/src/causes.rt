@@ -1,71 +1,16 @@
-//! A unit whose tokens are looked through.
+//! A unit is looked through for what is wrong.
 
 use crate::blocks::circular;
-use crate::constants::inconstant;
-use crate::entry::{Entry, Source, What, begins_unit};
-use crate::kinds::unfitting;
 use crate::names::unnamed;
 use crate::rule::Rule;
-use crate::scope::is_same;
-use st_lexer::{Keyword, Token, TokenKind};
+use kind_causes::{inconstant, unfitting};
+use st_lexer::Token;
 use std::alloc::{AllocError, Global};
-use token_causes::{
-    Cause, Role, cause_at, kind_at, kind_before, role_of, section_after, span_of, word_at,
-};
+use token_causes::{Cause, role_of, section_after};
+use unit_words::{Entry, Source, Spot, Unit, What, begins_unit, is_same};
 
 /// A larger product of the tokens of a unit and the names of a plant isn't gone through.
 const MOST_WORK: usize = 200_000_000;
-
-/// A unit, and what there is to know of its plant.
-#[derive(Drop)]
-pub struct Unit<'s, 'a> {
-    pub sources: &'s [Source<'a>],
-    pub entries: &'s [Entry<'a>],
-    pub text: &'a [u8],
-    pub tokens: &'s [Token],
-    /// Its name.
-    pub name: &'a str,
-    /// Its number over all sources, from 1; 0 for the globals of a source.
-    pub number: usize,
-    /// The number of its source, from 0.
-    pub source: usize,
-}
-
-/// A token of a unit: its number, and what it is there for.
-#[derive(Clone, Copy, Drop)]
-pub struct Spot {
-    pub number: usize,
-    pub role: Role,
-    pub section: Option<Keyword>,
-}
-
-impl<'s, 'a> Unit<'s, 'a> {
-    /// The word of the token of a number.
-    pub fn word(&self, number: usize) -> &'a str {
-        word_at(self.text, self.tokens, number)
-    }
-
-    /// The kind of the token of a number.
-    pub fn kind(&self, number: usize) -> Option<TokenKind> {
-        kind_at(self.tokens, number)
-    }
-
-    /// The kind of the token so many before that of a number.
-    pub fn kind_before(&self, number: usize, back: usize) -> Option<TokenKind> {
-        kind_before(self.tokens, number, back)
-    }
-
-    /// What the token of a number is there for, in a body.
-    pub fn body_role(&self, number: usize) -> Role {
-        role_of(self.tokens, number, false)
-    }
-
-    /// A cause at the token of a number.
-    pub fn cause(&self, number: usize, said: String, page: &'static str) -> Option<Cause> {
-        let mark = span_of(self.text, self.tokens, number, number.saturating_add(1));
-        Some(cause_at(mark, said, page))
-    }
-}
 
 /// The cause at a token, by the rule. Fails if allocation fails.
 fn cause_at_token(

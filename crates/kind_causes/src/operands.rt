@@ -1,10 +1,8 @@
 //! The kinds of operands, where one token or an output of an instance tells them.
 
-use crate::calls::block_of;
-use crate::scope::{Found, kind_named, member_named, variable_named};
-use crate::unit::Unit;
 use plant_types::Kind;
 use st_lexer::{Keyword, Symbol, TokenKind};
+use unit_words::{Found, Unit, block_of, kind_named, member_named, variable_named};
 
 /// The kind of a literal.
 fn literal_kind(kind: TokenKind) -> Option<Kind> {

@@ -3,7 +3,7 @@
 ghost use Rattle.std.specs.Prelude.{◌≡◌, ◌≤◌, ◌+◌, ◌==◌, not, length, count_by};
 ghost use Rattle.std.specs.List.{suffix_len};
 ghost use Rattle.st_lexer.specs.Lexes.{mark_len};
-ghost use Rattle.plant_explain.specs.Told.{IsPlaceIn};
+ghost use Rattle.plant_places.specs.Places.{IsPlaceIn};
 
 /// A file of a plant.
 #[derive(Clone, Copy, Debug, PartialEq, Eq, Drop)]

@@ -1,15 +1,14 @@
 //! What isn't of the kind that it has to be (C7).
 
-use crate::calls::block_of;
 use crate::operands::{is_bit, kind_alone, kind_beginning, kind_ending, variable_kind};
-use crate::scope::{
-    Found, global_named, is_block, is_input, kind_named, kind_text, member_named, variable_named,
-};
-use crate::unit::{Spot, Unit};
 use plant_types::Kind;
 use st_lexer::{Keyword, Symbol, TokenKind};
 use std::alloc::{AllocError, Global};
 use token_causes::{Cause, Role};
+use unit_words::{
+    Found, Spot, Unit, block_of, global_named, is_block, is_input, kind_named, kind_text,
+    member_named, variable_named,
+};
 
 /// Where the rules of kinds stand.
 const KINDS: &str = "docs/LANGUAGE.md, \"Kinds\"";

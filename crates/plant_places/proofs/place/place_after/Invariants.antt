@@ -1,6 +1,6 @@
 use Rattle.std.proofs.Common.{◌≡◌, ◌≤◌, ◌+◌, ◌==◌, not, take, count_by}
 use Rattle.std.specs.List.{suffix_len}
-use Rattle.plant_explain.proofs.place.place_after.Given as goal
+use Rattle.plant_places.proofs.place.place_after.Given as goal
 
 abbrev pub invariant-loop-byte : goal.invariant-loop-byte
 invariant-loop-byte l = record {

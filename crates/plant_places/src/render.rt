@@ -1,11 +1,12 @@
 //! How a cause is shown.
 
 ghost use Rattle.std.specs.Prelude.{◌≡◌, IfSome};
-ghost use Rattle.plant_explain.specs.Told.{IsPlaceIn, text_of};
+ghost use Rattle.plant_places.specs.Places.{IsPlaceIn, text_of};
 
 use crate::place::{FileOf, Place, line_around, place_at};
-use crate::texts::{PlantTexts, Spot};
+use crate::texts::{Spot, text_of};
 use plant_config::Plant;
+use plant_folder::PlantTexts;
 use plant_types::Text;
 use std::alloc::{AllocError, Global};
 use token_causes::part;
@@ -18,7 +19,7 @@ pub fn place_of(texts: &PlantTexts<'_>, spot: &Spot) -> Option<Place>
     ensures { IfSome result (IsPlaceIn (text_of texts.now spot.now.file)) }
 {
     match spot.cause.mark {
-        Some(mark) => Some(place_at(texts.text(spot.file), mark.0)),
+        Some(mark) => Some(place_at(text_of(texts, spot.file), mark.0)),
         None => None,
     }
 }
@@ -113,7 +114,7 @@ fn marked(alloc: Global, texts: &PlantTexts<'_>, spot: &Spot) -> Result<String, 
     text.push_str(spot.cause.said.as_str())?;
     text.push_str("\n")?;
     if let (Some(mark), Some(place)) = (spot.cause.mark, place) {
-        let lines = excerpt(alloc, texts.text(spot.file), place.line, mark)?;
+        let lines = excerpt(alloc, text_of(texts, spot.file), place.line, mark)?;
         text.push_str(lines.as_str())?;
     }
     Ok(text)

@@ -1,0 +1,12 @@
+//! Places in the texts of a plant, for people: where a cause stands, and how it is shown, with its file, line and column, and the line there with a mark.
+//!
+//! It promises that a place lies in the text of the file for which it is given.
+#![tactic(auto)]
+
+mod place;
+mod render;
+mod texts;
+
+pub use place::{FileOf, Place, byte_at, mark_len, place_at};
+pub use render::{place_of, shown, shown_alone};
+pub use texts::{Spot, text_of};
