@@ -1,19 +1,13 @@
 -- The board goes on as the engine does.
-use Rattle.std.proofs.Common.{◌≡◌, List, [], ◌∷◌, ◌++◌, sym, subst}
+use Rattle.std.proofs.Common.{◌≡◌, List, ◌∙◌, sym, subst}
 use Rattle.event_history.specs.declared.event.Event.{Event}
 use Rattle.plant_config.specs.Plants.{PlainPlant}
-use Rattle.plant_system.specs.System.{system}
-use Rattle.engine.specs.Lawful.{IsTaken}
 use Rattle.boards.specs.declared.writer.BoardWriter.{BoardWriter}
-use Rattle.board_entries.specs.Showing.{ShowsHistory, HasNext}
+use Rattle.boards.specs.Readers.{laid}
+use Rattle.board_entries.specs.Showing.{HasHistory}
 
--- of an engine with the same plant and the same history
-pub shows_same : (plant now : PlainPlant) (history events : List Event) (board : BoardWriter) → now ≡ plant → events ≡ history → ShowsHistory plant history board → ShowsHistory now events board
-shows_same plant now history events board p h shows =
-    subst (λ (q : PlainPlant). ShowsHistory q events board) (sym p) (subst (λ (es : List Event). ShowsHistory plant es board) (sym h) shows)
-
--- of one that has the next event
-pub shows_more : (plant now : PlainPlant) (history events : List Event) (e : Event) (old new : BoardWriter)
-    → ((q : PlainPlant) (es : List Event) (x : Event) → HasNext q es x old → IsTaken (system q es) x → ShowsHistory q (es ++ x ∷ []) new)
-    → HasNext plant history e old → IsTaken (system plant history) e → now ≡ plant → events ≡ history ++ e ∷ [] → ShowsHistory now events new
-shows_more plant now history events e old new shown next taken p h = shows_same plant now (history ++ e ∷ []) events new p h (shown plant history e next taken)
+-- of an engine with the same plant and the same history, where the same was laid by
+pub has_same : (plant now : PlainPlant) (history events : List Event) (old new : BoardWriter) → laid new ≡ laid old → now ≡ plant → events ≡ history → HasHistory plant history old → HasHistory now events new
+has_same plant now history events old new same p h has =
+    let kept : HasHistory plant history new = record { laid_is = same ∙ has.laid_is; alarms = has.alarms } in
+    subst (λ (q : PlainPlant). HasHistory q events new) (sym p) (subst (λ (es : List Event). HasHistory plant es new) (sym h) kept)

@@ -21,5 +21,4 @@ mod recorder;
 pub use book::Book;
 pub use both::{ReadyOrder, ReadyScan, commit_order, commit_scan, ready_order, ready_scan};
 pub use lock::Archive;
-pub use opening::let_go;
 pub use recorder::Recorder;

@@ -83,8 +83,3 @@ impl<L: Ledger> Recorder<L> {
         engine
     }
 }
-
-/// Lets an engine go. How each of its parts goes is proved here, and not again where this is called.
-pub fn let_go(engine: Engine) {
-    drop(engine)
-}

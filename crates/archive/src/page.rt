@@ -25,7 +25,7 @@ pub(crate) fn page_of(
 ) -> Result<Vec<String>, AllocError>
     ensures { IfOk result (λ lines. IsPage engine.now.plant engine.now.history from n (map string_bytes lines.items)) }
 {
-    let rows = engine.journal().len() as u64;
+    let rows = engine.journal().len();
     let mut lines = Vec::new(alloc);
     for before in from.saturating_sub(1)..page_end(rows, from, n) {
         lines.push(engine.line(alloc, before + 1)?)?;

@@ -3,12 +3,13 @@
 ghost use Rattle.std.specs.Prelude.{◌≡◌, ◌<◌, length, IfOk, IfErr, OnErr};
 ghost use Rattle.plant_system.specs.Faults.{faults_by};
 ghost use Rattle.engine.specs.Engines.{TakesScan};
-ghost use Rattle.board_entries.specs.Showing.{ShowsHistory};
+ghost use Rattle.boards.specs.Readers.{laid, log_kept};
+ghost use Rattle.board_entries.specs.Showing.{HasHistory};
 ghost use Rattle.archive.specs.Records.{IsScanDue};
 
 use crate::both::{commit_order, commit_scan, ready_order, ready_scan};
 use crate::lock::Archive;
-use board_entries::{lay_order, lay_scan, show_next};
+use board_entries::{lay_order, lay_scan};
 use boards::BoardWriter;
 use engine::{Crew, Done, Engine, EngineFault, Job, Order, Pair, Reply, Report, Start};
 use order_taking::Recording;
@@ -26,12 +27,19 @@ pub struct Recorder<L: Ledger> {
     pub board: BoardWriter,
     pub ghost counted: { length engine.history ≡ share.amount },
     pub ghost part: { 0 < share.parts },
-    pub ghost shown: { ShowsHistory engine.plant engine.history board },
+    pub ghost has: { HasHistory engine.plant engine.history board },
+}
+
+/// Shows readers what was laid by. Where memory is refused for that, the board is late: the next event shows it.
+fn show<R: Wait>(rt: &R, board: &mut BoardWriter)
+    ensures { (laid board.new ≡ laid board.old) × (log_kept board.new ≡ log_kept board.old) }
+{
+    let _late = board.publish(rt);
 }
 
 impl<L: Ledger> Recorder<L> {
     /// A scan: it is made ready in both engines, and its entry laid by for the board; then it is committed in both, under the archive's lock, and
-    /// shown.
+    /// shown, or the board is late.
     pub fn scan<C, H: Wait>(
         &mut self,
         rt: &H,
@@ -49,6 +57,7 @@ impl<L: Ledger> Recorder<L> {
         ensures kept { OnErr result (self.new.engine.history ≡ self.old.engine.history) }
         ensures crew { C.faulted crew.new ≡ faults_by (C.faulted crew.old) result }
         ensures share { self.new.share.parts ≡ self.old.share.parts }
+        ensures log { log_kept self.new.board ≡ log_kept self.old.board }
     {
         let Recorder {
             engine,
@@ -62,7 +71,7 @@ impl<L: Ledger> Recorder<L> {
         lay_scan(alloc, board, engine, &ready.own)?;
         let report = commit_scan(engine, &mut *book, share, ready);
         drop(book);
-        show_next(rt, board);
+        show(rt, board);
         Ok(report)
     }
 }
@@ -75,6 +84,8 @@ impl<L: Ledger, H: Wait> Recording<H> for Recorder<L> {
     ghost history_of = { λ r. r.engine.history };
 
     ghost parts_of = { λ r. r.share.parts };
+
+    ghost log_of = { λ r. log_kept r.board };
 
     fn order(
         &mut self,
@@ -94,7 +105,7 @@ impl<L: Ledger, H: Wait> Recording<H> for Recorder<L> {
         lay_order(board, engine, &ready.own)?;
         let reply = commit_order(engine, &mut *book, share, ready);
         drop(book);
-        show_next(rt, board);
+        show(rt, board);
         Ok(reply)
     }
 }

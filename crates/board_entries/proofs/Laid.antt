@@ -1,5 +1,6 @@
 -- The entry that is laid by is that of the event that was made ready.
-use Rattle.std.proofs.Common.{◌≡◌, Bool, List, [], ◌∷◌, ◌++◌, ap, sym, ◌∙◌, subst}
+use Rattle.std.proofs.Common.{◌≡◌, Bool, true, List, [], ◌∷◌, ◌++◌, Result, Ok, Err, MatchResult, ap, sym, ◌∙◌, subst}
+use Rattle.alarm_bank.specs.Banks.{PlainBank}
 use Rattle.plant_cells.specs.Cells.{PlainCells, value_at}
 use Rattle.block_frames.specs.Stands.{StandFor}
 use Rattle.alarm_bank.specs.declared.event.BankEvent.TheVariants as bank_event
@@ -11,16 +12,20 @@ use Rattle.plant_config.specs.Names.{globals_of}
 use Rattle.plant_system.specs.declared.event.Reply.{Reply}
 use Rattle.plant_system.specs.Programs.{global_in}
 use Rattle.plant_system.specs.States.{PlainPrepared, PlainPreparedOrder}
-use Rattle.plant_system.specs.System.{system, after_event, conditions, suppressions, scanned_by}
+use Rattle.plant_system.specs.System.{system, opening_system, after_event, conditions, suppressions, scanned_by}
 use Rattle.plant_system.proofs.CellWorlds.{SameGlobals, values_stand}
 use Rattle.engine.specs.Engines.{PlainEngine, state_of, Fits, FitsOrder, LeavesState}
 use Rattle.boards.specs.declared.entry.Entry.{Entry}
 use Rattle.boards.specs.declared.entry.Entry.TheVariants as entry
 use Rattle.boards.specs.declared.writer.BoardWriter.{BoardWriter}
-use Rattle.boards.specs.Readers.{published, pending}
-use Rattle.board_entries.specs.Entries.{board_reply, entry_of}
-use Rattle.board_entries.specs.Showing.{ShowsHistory, HasNext}
+use Rattle.engine.specs.Lawful.{IsTaken}
+use Rattle.boards.specs.Stories.{Story, shown}
+use Rattle.boards.specs.Replies.{after, allows}
+use Rattle.boards.specs.Readers.{laid}
+use Rattle.board_entries.specs.Entries.{board_reply, bank_of, entry_of, entries_of}
+use Rattle.board_entries.specs.Showing.{HasHistory}
 use Rattle.board_entries.proofs.Scans.{conditions_same, suppressions_same}
+use Rattle.board_entries.proofs.Steps.{history_more, next_may, alarms_next}
 
 pub scan_entry : (e : PlainEngine) (p : PlainPrepared) (rows : List AlarmRow) → Fits e p → LeavesState e p → IsPlant ((state_of e).plant) → rows ≡ (state_of e).plant.alarms
     → entry.Scan (bank_event.Scan p.report.moment (conditions (value_at p.effect.cells) rows) (suppressions (value_at p.effect.cells) rows)) ≡ entry_of (state_of e) p.event
@@ -42,19 +47,23 @@ scan_entry e p rows fits leaves is same =
 pub order_entry : (e : PlainEngine) (p : PlainPreparedOrder) → FitsOrder e p → entry.Order p.console (record { order = p.order; reply = board_reply p.reply }) ≡ entry_of (state_of e) (event.Order p.console p.order)
 order_entry e p fits = ap (λ (r : Reply). entry.Order p.console (record { order = p.order; reply = board_reply r })) fits.reply_is
 
--- the entry of the next event is laid by
-pub laid : (plant : PlainPlant) (history : List Event) (e : Event) (old new : BoardWriter) (x : Entry) → ShowsHistory plant history old → published new ≡ published old
-    → pending new ≡ pending old ++ x ∷ [] → x ≡ entry_of (system plant history) e → HasNext plant history e new
-laid plant history e old new x shows same more is = record {
-  published_is = same ∙ shows.published_is;
-  next_pending = more ∙ (ap (λ (l : List Entry). l ++ x ∷ []) shows.none_pending ∙ ap (λ (y : Entry). y ∷ []) is);
-  alarms = shows.alarms;
-}
+-- the entry of the next event may be laid by
+pub may_come : (plant : PlainPlant) (history : List Event) (e : Event) (board : BoardWriter) (x : Entry) → HasHistory plant history board → x ≡ entry_of (system plant history) e
+    → allows (shown after (laid board).0 (laid board).1) x ≡ true
+may_come plant history e board x has is = ap (λ (s : Story PlainBank Entry). allows (shown after s.0 s.1) x) has.laid_is ∙ next_may plant history e x has.alarms is
 
--- nothing is laid by
-pub kept : (plant : PlainPlant) (history : List Event) (old new : BoardWriter) → ShowsHistory plant history old → published new ≡ published old → pending new ≡ pending old → ShowsHistory plant history new
-kept plant history old new shows same none = record {
-  published_is = same ∙ shows.published_is;
-  none_pending = none ∙ shows.none_pending;
-  alarms = shows.alarms;
-}
+has_next : (plant : PlainPlant) (history : List Event) (e : Event) (old new : BoardWriter) (x : Entry) → HasHistory plant history old → IsTaken (system plant history) e
+    → x ≡ entry_of (system plant history) e → laid new ≡ ((laid old).0, (laid old).1 ++ x ∷ []) → HasHistory plant (history ++ e ∷ []) new
+has_next plant history e old new x has taken is more =
+    let opening = bank_of (opening_system plant) in record {
+      laid_is = more ∙ (ap (λ (s : Story PlainBank Entry). (s.0, s.1 ++ x ∷ [])) has.laid_is
+          ∙ (ap (λ (y : Entry). (opening, entries_of plant history ++ y ∷ [])) is ∙ ap (λ (l : List Entry). (opening, l)) (sym (history_more plant history e))));
+      alarms = alarms_next plant history e taken has.alarms;
+    }
+
+-- the entry of the next event was laid by, or nothing was
+pub laid_or_not : {T F : Type 0} (r : Result T F) (plant : PlainPlant) (history : List Event) (e : Event) (old new : BoardWriter) (x : Entry) → HasHistory plant history old → IsTaken (system plant history) e
+    → x ≡ entry_of (system plant history) e → MatchResult r (λ _. laid new ≡ ((laid old).0, (laid old).1 ++ x ∷ [])) (λ _. laid new ≡ laid old)
+    → MatchResult r (λ _. HasHistory plant (history ++ e ∷ []) new) (λ _. HasHistory plant history new)
+laid_or_not (Ok t) plant history e old new x has taken is h = has_next plant history e old new x has taken is h
+laid_or_not (Err f) plant history e old new x has taken is h = record { laid_is = h ∙ has.laid_is; alarms = has.alarms }

@@ -1,6 +1,6 @@
 //! How the entry of an event is laid by.
 
-ghost use Rattle.std.specs.Prelude.{◌≡◌, map, IfOk, MatchResult};
+ghost use Rattle.std.specs.Prelude.{◌≡◌, [], ◌∷◌, ◌++◌, map, IfOk, MatchResult};
 ghost use Rattle.alarm_bank.specs.declared.event.BankEvent.TheVariants.{Scan};
 ghost use Rattle.event_history.specs.declared.event.Event.TheVariants.{Order};
 ghost use Rattle.plant_cells.specs.Cells.{value_at};
@@ -8,8 +8,9 @@ ghost use Rattle.plant_types.specs.Values.{is_true};
 ghost use Rattle.alarm_watch.specs.Watched.{suppression};
 ghost use Rattle.plant_system.specs.System.{conditions, suppressions};
 ghost use Rattle.engine.specs.Engines.{Fits, FitsOrder};
+ghost use Rattle.boards.specs.Readers.{published, log_kept};
 ghost use Rattle.board_entries.specs.Entries.{board_reply};
-ghost use Rattle.board_entries.specs.Showing.{ShowsHistory, HasNext};
+ghost use Rattle.board_entries.specs.Showing.{HasHistory};
 
 use alarm_bank::BankEvent;
 use alarm_watch::value_at;
@@ -88,42 +89,38 @@ fn board_reply(reply: Reply) -> boards::Reply
     }
 }
 
-/// Lays the entry by of a scan that was made ready. Fails if allocation fails; then nothing is laid by.
+/// Lays the entry by of a scan that was made ready. Fails if allocation fails, or where the board takes no entry more; then nothing is laid by.
 pub fn lay_scan(
     alloc: Global,
     board: &mut BoardWriter,
     engine: &Engine,
     prepared: &Prepared,
 ) -> Result<(), AllocError>
-    requires shows { ShowsHistory engine.now.plant engine.now.history board.old }
+    requires has { HasHistory engine.now.plant engine.now.history board.old }
     requires fits { Fits engine.now prepared.now }
-    ensures { MatchResult result (λ _. HasNext engine.now.plant engine.now.history prepared.now.event board.new) (λ _. ShowsHistory engine.now.plant engine.now.history board.new) }
+    ensures same { (published board.new ≡ published board.old) × (log_kept board.new ≡ log_kept board.old) }
+    ensures laid { MatchResult result (λ _. HasHistory engine.now.plant (engine.now.history ++ prepared.now.event ∷ []) board.new) (λ _. HasHistory engine.now.plant engine.now.history board.new) }
 {
     engine.leaves_a_state(prepared);
     let rows = engine.plant().alarm_rows();
     let given = given(alloc, rows, &prepared.effect.cells, prepared.report.moment)?;
-    match board.append(Entry::Scan(given)) {
-        Ok(()) => Ok(()),
-        Err(_) => Err(AllocError),
-    }
+    board.lay(Entry::Scan(given))
 }
 
-/// Lays the entry by of an order that was made ready. Fails if allocation fails; then nothing is laid by.
+/// Lays the entry by of an order that was made ready. Fails if allocation fails, or where the board takes no entry more; then nothing is laid by.
 pub fn lay_order(
     board: &mut BoardWriter,
     engine: &Engine,
     prepared: &PreparedOrder,
 ) -> Result<(), AllocError>
-    requires shows { ShowsHistory engine.now.plant engine.now.history board.old }
+    requires has { HasHistory engine.now.plant engine.now.history board.old }
     requires fits { FitsOrder engine.now prepared.now }
-    ensures { MatchResult result (λ _. HasNext engine.now.plant engine.now.history (Order prepared.now.console prepared.now.order) board.new) (λ _. ShowsHistory engine.now.plant engine.now.history board.new) }
+    ensures same { (published board.new ≡ published board.old) × (log_kept board.new ≡ log_kept board.old) }
+    ensures laid { MatchResult result (λ _. HasHistory engine.now.plant (engine.now.history ++ Order prepared.now.console prepared.now.order ∷ []) board.new) (λ _. HasHistory engine.now.plant engine.now.history board.new) }
 {
     let answer = Answer {
         order: prepared.order,
         reply: board_reply(prepared.reply),
     };
-    match board.append(Entry::Order(prepared.console, answer)) {
-        Ok(()) => Ok(()),
-        Err(_) => Err(AllocError),
-    }
+    board.lay(Entry::Order(prepared.console, answer))
 }

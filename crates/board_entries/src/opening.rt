@@ -3,7 +3,7 @@
 ghost use Rattle.std.specs.Prelude.{◌≡◌, [], IfOk, All};
 ghost use Rattle.plant_system.specs.System.{opening_system};
 ghost use Rattle.board_entries.specs.Entries.{bank_of};
-ghost use Rattle.board_entries.specs.Showing.{ShowsHistory};
+ghost use Rattle.board_entries.specs.Showing.{HasHistory};
 
 use alarm_bank::Bank;
 use boards::{Board, BoardWriter, Tally};
@@ -46,7 +46,7 @@ fn opening_board(alloc: Global, plant: &Plant) -> Result<Board, AllocError>
 
 /// The writer of a board of a plant before the first event, with a place for a reader for each console of the plant. Fails if allocation fails.
 pub fn open_board<R: Wait>(rt: &R, alloc: Global, plant: &Plant) -> Result<BoardWriter, AllocError>
-    ensures { IfOk result (ShowsHistory plant.now []) }
+    ensures { IfOk result (HasHistory plant.now []) }
 {
     let readers = plant.consoles().len() + 1;
     let first = opening_board(alloc, plant)?;

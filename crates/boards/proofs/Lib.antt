@@ -1,3 +1,4 @@
+pub mod Laying
 pub mod Prefixes
 pub mod Sights
 pub mod Takes

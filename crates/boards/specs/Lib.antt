@@ -1,4 +1,5 @@
 pub mod Counts
+pub mod Marks
 pub mod Readers
 pub mod Replies
 pub mod Stories

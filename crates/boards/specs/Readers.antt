@@ -1,5 +1,6 @@
 -- What a contract sees of a board's reader and of its writer.
-use Rattle.std.specs.Prelude.{Option, List, drop}
+use Rattle.std.specs.Prelude.{Option}
+use Rattle.logbook.specs.Pages.{Book}
 use Rattle.left_right.specs.Sides.{view}
 use Rattle.alarm_bank.specs.Banks.{PlainBank}
 use Rattle.boards.specs.declared.entry.Entry.{Entry}
@@ -29,10 +30,22 @@ story_read r = story_of r.reading.part.value
 abbrev pub told_before : BoardReading → Option (Story PlainBank Entry)
 told_before r = (view r.reading.place).told
 
+-- the log of which it has marks
+abbrev pub log_of : BoardReader → Book
+log_of r = r.mark.log
+
+-- the log in which the board that is read is marked
+abbrev pub log_read : BoardReading → Book
+log_read r = r.reading.part.value.mark.log
+
 -- the story that readers take now
 abbrev pub published : BoardWriter → Story PlainBank Entry
 published w = story_of w.writer.desk.shown.value
 
--- the entries that were laid by, and aren't published yet
-abbrev pub pending : BoardWriter → List Entry
-pending w = drop w.writer.behind w.writer.log.items
+-- the story of all that was laid by, published or not yet
+abbrev pub laid : BoardWriter → Story PlainBank Entry
+laid w = (w.writer.desk.shown.value.opening.value, w.log.entries)
+
+-- the log of what was laid by
+abbrev pub log_kept : BoardWriter → Book
+log_kept w = w.log.log

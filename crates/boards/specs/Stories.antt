@@ -1,10 +1,14 @@
 -- What a board shows: a story, which is an opening picture and a list of entries that change it one after another.
-use Rattle.std.specs.Prelude.{◌≡◌, ℕ, Bool, true, ◌&&◌, if◌then◌else◌, nat_lt, Option, Some, None, List, [], ◌∷◌, ◌++◌, length}
+use Rattle.std.specs.Prelude.{◌≡◌, ℕ, Bool, true, ◌&&◌, if◌then◌else◌, nat_lt, Option, Some, None, List, [], ◌∷◌, ◌++◌, length, take}
 use mathlib.Core.List.{IsPrefix}
 
 -- an opening picture, and a list of entries
 abbrev pub Story : Type 0 → Type 0 → Type 0
 Story P E = P × List E
+
+-- the first list is the beginning of the second that has its length
+abbrev pub Begins : {E : Type 0} → List E → List E → Type 0
+Begins xs ys = take (length xs) ys ≡ xs
 
 module _ {P E : Type 0} where
   -- the picture after a list of entries
@@ -38,6 +42,11 @@ module _ {P E : Type 0} where
   abbrev pub seen_events : Option (Story P E) → ℕ
   seen_events None = 0
   seen_events (Some s) = length s.1
+
+  -- the list that was seen; nothing was seen: none
+  abbrev pub seen_list : Option (Story P E) → List E
+  seen_list None = []
+  seen_list (Some s) = s.1
 
   -- whether each of the entries that were seen might come after those before it; nothing was seen: yes
   abbrev pub is_seen_lawful : (P → E → P) → (P → E → Bool) → Option (Story P E) → Bool

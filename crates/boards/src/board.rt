@@ -7,17 +7,18 @@ ghost use Rattle.boards.specs.Counts.{count_of};
 use crate::entry::Entry;
 use crate::tally::Tally;
 use alarm_bank::Bank;
-use std::snapshot::Snapshot;
-use trace::Trace;
+use marked_log::Mark;
+use trace::{Remembered, Trace};
 
 /// The alarms of a plant after a list of entries, which contracts alone see. Each of the entries might come after those before it.
 #[derive(Drop)]
 pub struct Board {
     bank: Bank,
-    pub opening: Snapshot<Bank>,
+    pub opening: Remembered<Bank>,
     pub list: Trace<Entry>,
     events: u64,
     tallies: Vec<Tally>,
+    pub(crate) mark: Mark<Entry>,
     ghost is_shown: { bank ≡ shown after opening.value list },
     ghost lawful: { is_lawful after allows opening.value list ≡ true },
     ghost all_counted: { events ≡ length list },

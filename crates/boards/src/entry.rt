@@ -1,6 +1,7 @@
 use alarm_bank::BankEvent;
 use alarm_machine::{Change, OrderFault};
 use event_history::Order;
+use marked_log::Mark;
 
 /// What an order is answered: the change of its alarm's code, if there is one, or why it is refused.
 pub type Reply = Result<Option<Change>, OrderFault>;
@@ -19,4 +20,13 @@ pub enum Entry {
     Scan(BankEvent),
     /// An order of the console of a number, with its reply.
     Order(u32, Answer),
+}
+
+/// What is done to both copies of a board.
+#[derive(Drop)]
+pub enum Operation {
+    /// An entry is taken in, if it may come next.
+    Entry(Entry),
+    /// The board is marked anew.
+    Mark(Mark<Entry>),
 }

@@ -5,6 +5,9 @@
 //! last, so that a reader never waits. Beside its alarms a board keeps, for contracts alone, the list of its entries: what a reader sees is
 //! always the alarms after a list that begins with every list that this reader saw before.
 //!
+//! The writer has a log of all entries that were laid by, and each board that is shown has a mark of its list in that log. So of whatever two readers
+//! saw, and of what the writer laid by, each list is a beginning of one list.
+//!
 //! A reply is the one of an alarm bank (`Reply`), so that the crate stands below the engine, whose replies say the same.
 #![tactic(auto)]
 
@@ -18,7 +21,7 @@ mod view;
 mod writer;
 
 pub use board::Board;
-pub use entry::{Answer, Entry, Reply};
+pub use entry::{Answer, Entry, Operation, Reply};
 pub use reader::{BoardReader, BoardReading};
 pub use rule::Grows;
 pub use tally::Tally;

@@ -1,20 +1,26 @@
 //! A console's reader of a board.
 ghost use Rattle.std.specs.Prelude.{◌≡◌, Some, true};
 ghost use Rattle.left_right.specs.Sides.{view};
-ghost use Rattle.boards.specs.Stories.{seen_events, is_seen_lawful, OpensAsTold};
+ghost use Rattle.boards.specs.Stories.{seen_events, seen_list, is_seen_lawful, OpensAsTold};
 ghost use Rattle.boards.specs.Replies.{after, allows};
+ghost use Rattle.boards.specs.Marks.{log_in};
 
 use crate::board::Board;
+use crate::entry::Entry;
 use crate::rule::Grows;
 use crate::view::View;
 use left_right::reader::{Reader, Reading};
+use marked_log::Mark;
 
-/// A reader of a board that isn't reading. It knows how many entries it saw last.
+/// A reader of a board that isn't reading. It knows how many entries it saw last, and has a mark of them.
 #[derive(Drop)]
 pub struct BoardReader {
     pub(crate) reader: Reader<Board, View, Grows>,
     pub(crate) events: u64,
+    pub(crate) mark: Mark<Entry>,
     ghost counted: { events ≡ seen_events (view reader.place).seen },
+    ghost marked: { mark.entries ≡ seen_list (view reader.place).seen },
+    ghost log_is: { log_in (view reader.place).mark ≡ Some mark.log },
     ghost lawful: { is_seen_lawful after allows (view reader.place).seen ≡ true },
     ghost opens: { OpensAsTold (view reader.place).told (view reader.place).seen },
 }
@@ -23,6 +29,8 @@ pub struct BoardReader {
 pub struct BoardReading {
     reading: Reading<Board, View, Grows>,
     ghost saw: { (view reading.place).seen ≡ Some (reading.part.value.opening.value, reading.part.value.list) },
+    ghost marked: { reading.part.value.mark.entries ≡ reading.part.value.list },
+    ghost log_is: { log_in (view reading.place).mark ≡ Some reading.part.value.mark.log },
     ghost opens: { OpensAsTold (view reading.place).told (view reading.place).seen },
 }
 

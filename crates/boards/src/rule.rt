@@ -1,4 +1,4 @@
-//! The rule over a board and what is known of it: its story goes on from all that was seen.
+//! The rule over a board and what is known of it: its story goes on from all that was seen, and has a mark in one log.
 ghost use Rattle.boards.specs.Views.{Keeps, Sees, informed, newcomer};
 
 use crate::board::Board;
@@ -6,11 +6,11 @@ use crate::view::View;
 use atomic_table::{Join, Split};
 use crossbeam_utils::rule::{Outcome, Protocol};
 
-/// The board's story goes on from what each reader has seen and was told of.
+/// The board's story goes on from what each reader has seen and was told of, and its mark is of that list, in the log of which each was told.
 pub struct Grows;
 
 impl Protocol<Board, View> for Grows {
-    ghost holds = { λ b. Keeps (b.opening.value, b.list) };
+    ghost holds = { λ b. Keeps (b.opening.value, b.list) b.mark };
 
     ghost first = { newcomer };
 }
@@ -19,7 +19,7 @@ impl Protocol<Board, View> for Grows {
 pub(crate) struct Looks;
 
 impl Outcome<Board, View> for Looks {
-    ghost then = { λ v x y w. Sees v (y.opening.value, y.list) w };
+    ghost then = { λ v x y w. Sees v (y.opening.value, y.list) y.mark w };
 }
 
 /// What the writer has seen is told, and known to it still.

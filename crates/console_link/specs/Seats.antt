@@ -48,20 +48,20 @@ module _ {O R : Type 0} where
   abbrev pub seen_by : Lane O R → Option ℕ
   seen_by l = if l.ended then Some l.seen else None
 
-  -- the same number and the same two rings
+  -- the same number, the same two rings, and the same log
   abbrev pub SameConsole : Console O R → Console O R → Type 0
-  SameConsole a b = (b.number ≡ a.number) × (SameProducer a.orders b.orders × SameConsumer a.answers b.answers)
+  SameConsole a b = (b.number ≡ a.number) × (SameProducer a.orders b.orders × SameConsumer a.answers b.answers) × (b.log ≡ a.log)
 
   abbrev pub SameLane : Lane O R → Lane O R → Type 0
-  SameLane a b = (b.number ≡ a.number) × (SameConsumer a.orders b.orders × SameProducer a.answers b.answers)
+  SameLane a b = (b.number ≡ a.number) × (SameConsumer a.orders b.orders × SameProducer a.answers b.answers) × (b.log ≡ a.log)
 
   -- the lane is the owner's end of this console's rings
   abbrev pub IsConsoleOf : Console O R → Lane O R → Type 0
-  IsConsoleOf c l = (l.number ≡ c.number) × (IsPair c.orders l.orders × IsPair l.answers c.answers)
+  IsConsoleOf c l = (l.number ≡ c.number) × (IsPair c.orders l.orders × IsPair l.answers c.answers) × (l.log ≡ c.log)
 
   -- the lane is the owner's end of the rings of this console, which has ended
   abbrev pub IsEndOf : Finished O R → Lane O R → Type 0
-  IsEndOf f l = (l.number ≡ f.number) × (IsFinishedOf f.orders l.orders × IsPair l.answers f.answers)
+  IsEndOf f l = (l.number ≡ f.number) × (IsFinishedOf f.orders l.orders × IsPair l.answers f.answers) × (l.log ≡ f.log)
 
   -- every order that a console submitted, and every answer that it took, before it ended
   abbrev pub all_submitted : Finished O R → List O
@@ -70,9 +70,9 @@ module _ {O R : Type 0} where
   abbrev pub all_taken : Finished O R → List (Answer O R)
   all_taken f = received f.answers
 
-  -- the console ended as this one, with the same number and the same rings
+  -- the console ended as this one, with the same number, the same rings and the same log
   abbrev pub Ends : Console O R → Finished O R → Type 0
-  Ends c f = (f.number ≡ c.number) × (Finishes c.orders f.orders × (f.answers ≡ c.answers))
+  Ends c f = (f.number ≡ c.number) × (Finishes c.orders f.orders × (f.answers ≡ c.answers)) × (f.log ≡ c.log)
 
   -- nothing was taken or given, and no more is known than before
   abbrev pub LaneLooked : Lane O R → Lane O R → Type 0

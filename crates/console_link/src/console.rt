@@ -3,6 +3,7 @@ ghost use Rattle.std.specs.Prelude.{◌≡◌, length};
 ghost use Rattle.rtrb.specs.Ring.{producer_capacity, received};
 
 use crate::answer::Answer;
+use marked_log::LogName;
 use rtrb::{Consumer, Producer, PushError};
 
 /// A console: it submits orders and takes their answers. It may go to a thread of its own.
@@ -13,6 +14,8 @@ pub struct Console<O, R> {
     pub(crate) answers: Consumer<Answer<O, R>>,
     /// How many answers it has taken.
     pub(crate) answered: u64,
+    /// In which log what it sees is marked, as its owner says.
+    pub(crate) log: LogName,
     ghost places: { producer_capacity orders ≡ 64 },
     ghost counted: { answered ≡ length (received answers) },
 }
@@ -25,6 +28,8 @@ pub struct Finished<O, R> {
     pub(crate) answers: Consumer<Answer<O, R>>,
     /// How many events it saw, as its owner says.
     pub(crate) seen: u64,
+    /// In which log they are marked.
+    pub(crate) log: LogName,
 }
 
 impl<O: Drop, R: Drop> Console<O, R> {
@@ -94,6 +99,7 @@ impl<O: Drop, R: Drop> Console<O, R> {
             orders,
             answers,
             answered: _,
+            log,
         } = self;
         let orders = orders.finish()?;
         Some(Finished {
@@ -101,6 +107,7 @@ impl<O: Drop, R: Drop> Console<O, R> {
             orders,
             answers,
             seen,
+            log,
         })
     }
 }

@@ -4,6 +4,7 @@ ghost use Rattle.console_link.specs.Seats.{submitted, taken, known_room, orders_
 
 use crate::answer::Answer;
 use crate::console::{Console, Finished};
+use marked_log::{LogName, Mark};
 use rtrb::{Consumer, Producer, RingBuffer};
 use std::alloc::{AllocError, Global};
 
@@ -17,16 +18,20 @@ pub struct Lane<O, R> {
     pub(crate) ended: bool,
     /// How many events its console saw, once it has ended.
     pub(crate) seen: u64,
+    /// In which log what its console sees is marked.
+    pub(crate) log: LogName,
 }
 
-/// A console of a number and the owner's ends, with two empty rings of 64 places each. Fails if allocation fails.
-pub fn open<O: Drop, R: Drop>(
+/// A console of a number and the owner's ends, with two empty rings of 64 places each. What the console sees is marked in the log of this mark. Fails if
+/// allocation fails.
+pub fn open<O: Drop, R: Drop, E>(
     alloc: Global,
     number: u32,
+    mark: &Mark<E>,
 ) -> Result<(Console<O, R>, Lane<O, R>), AllocError>
     ensures pair { IfOk result (λ r. IsConsoleOf r.0 r.1) }
-    ensures console { IfOk result (λ r. (r.0.number ≡ number) × (submitted r.0 ≡ []) × (taken r.0 ≡ []) × (known_room r.0 ≡ 64)) }
-    ensures lane { IfOk result (λ r. (r.1.number ≡ number) × (orders_taken r.1 ≡ []) × (answers_given r.1 ≡ []) × IsOpen r.1) }
+    ensures console { IfOk result (λ r. (r.0.number ≡ number) × (submitted r.0 ≡ []) × (taken r.0 ≡ []) × (known_room r.0 ≡ 64) × (r.0.log ≡ mark.now.log)) }
+    ensures lane { IfOk result (λ r. (r.1.number ≡ number) × (orders_taken r.1 ≡ []) × (answers_given r.1 ≡ []) × IsOpen r.1 × (r.1.log ≡ mark.now.log)) }
 {
     let (submits, orders) = RingBuffer::new(alloc, 64)?;
     let (answers, takes) = RingBuffer::new(alloc, 64)?;
@@ -35,6 +40,7 @@ pub fn open<O: Drop, R: Drop>(
         orders: submits,
         answers: takes,
         answered: 0,
+        log: mark.name(),
     };
     let lane = Lane {
         number,
@@ -42,6 +48,7 @@ pub fn open<O: Drop, R: Drop>(
         answers,
         ended: false,
         seen: 0,
+        log: mark.name(),
     };
     Ok((console, lane))
 }
@@ -102,6 +109,7 @@ impl<O: Copy + Drop, R: Copy + Drop> Lane<O, R> {
             orders: mut ended,
             answers: mut takes,
             seen,
+            log: _,
         } = console;
         self.orders.slots_after(&mut ended);
         takes.slots_beside(&mut self.answers);

@@ -1,12 +1,13 @@
 -- What a console sees of its board, and has seen.
 use Rattle.std.specs.Prelude.{◌≡◌, ◌≤◌, ℕ, true, Option, Some, None}
+use Rattle.logbook.specs.Pages.{Book}
 use Rattle.alarm_machine.specs.declared.states.AlarmState.{AlarmState}
 use Rattle.alarm_bank.specs.Banks.{PlainBank}
 use Rattle.boards.specs.declared.entry.Entry.{Entry}
 use Rattle.boards.specs.Stories.{Story, IsSince, shown, is_lawful}
 use Rattle.boards.specs.Replies.{after, allows, state_at}
 use Rattle.boards.specs.Counts.{count_of}
-use Rattle.boards.specs.Readers.{seen, told, story_read, told_before}
+use Rattle.boards.specs.Readers.{seen, told, log_of, story_read, told_before, log_read}
 use Rattle.operator_console.specs.declared.sight.Sight.{Sight}
 use Rattle.operator_console.specs.declared.sight.Sight.TheVariants as sight
 
@@ -18,19 +19,21 @@ BoardStory = Story PlainBank Entry
 abbrev pub seen_by : Sight → Option BoardStory
 seen_by (sight.Idle r) = seen r
 seen_by (sight.Looking g) = Some (story_read g)
-seen_by sight.Gone = None
 
 -- what it was told of, if it was
 abbrev pub told_by : Sight → Option BoardStory
 told_by (sight.Idle r) = told r
 told_by (sight.Looking g) = told_before g
-told_by sight.Gone = None
+
+-- the log in which what it sees is marked
+abbrev pub log_by : Sight → Book
+log_by (sight.Idle r) = log_of r
+log_by (sight.Looking g) = log_read g
 
 -- what it looks at, if it looks
 abbrev pub looked_at : Sight → Option BoardStory
 looked_at (sight.Idle r) = None
 looked_at (sight.Looking g) = Some (story_read g)
-looked_at sight.Gone = None
 
 -- what was seen goes on from what was seen before
 abbrev pub GoesOn : Option BoardStory → Option BoardStory → Type 0
@@ -42,15 +45,17 @@ abbrev pub IsSeenSince : Option BoardStory → Option BoardStory → Option Boar
 IsSeenSince before told None = Unit {0}
 IsSeenSince before told (Some s) = IsSince before s × IsSince told s
 
--- it has seen and was told of the same
+-- it has seen and was told of the same, in the same log
 pub record KnowsAs (a b : Sight) : Type 0 where
   pub seen : seen_by b ≡ seen_by a
   pub told : told_by b ≡ told_by a
+  pub log : log_by b ≡ log_by a
 
--- a look of one who has seen and was told of this
-pub record LooksFrom (before told : Option BoardStory) (b : Sight) : Type 0 where
+-- a look of one who has seen and was told of this, in this log
+pub record LooksFrom (before told : Option BoardStory) (log : Book) (b : Sight) : Type 0 where
   pub seen : GoesOn before (seen_by b)
   pub told_is : told_by b ≡ told
+  pub log_is : log_by b ≡ log
   pub shown : IsSeenSince before told (looked_at b)
 
 -- a board is looked at, each entry of which might come after those before it, and which has so many orders of this console, or more

@@ -10,9 +10,11 @@
 mod console;
 mod laws;
 mod sight;
+mod threads;
 mod view;
 
-pub use console::Console;
-pub use console_link::{Answer, Finished};
+pub use console::{Console, Finished};
+pub use console_link::Answer;
 pub use laws::looks_twice;
+pub use threads::ends_elsewhere;
 pub use view::BoardView;

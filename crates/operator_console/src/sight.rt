@@ -1,12 +1,15 @@
 //! How a console stands to its board.
 ghost use Rattle.std.specs.Prelude.{◌≡◌, None, IsTrue};
-ghost use Rattle.boards.specs.Stories.{seen_events, IsSound};
+ghost use Rattle.boards.specs.Stories.{seen_events, seen_list, IsSound};
 ghost use Rattle.boards.specs.Replies.{after, allows};
-ghost use Rattle.boards.specs.Readers.{seen, told};
-ghost use Rattle.operator_console.specs.Sights.{seen_by, told_by, looked_at, state_shown, HasOrders, KnowsAs, LooksFrom};
+ghost use Rattle.boards.specs.Marks.{IsMark};
+ghost use Rattle.boards.specs.Readers.{seen, told, log_of};
+ghost use Rattle.operator_console.specs.Sights.{seen_by, told_by, log_by, looked_at, state_shown, HasOrders, KnowsAs, LooksFrom};
 
 use alarm_machine::AlarmState;
-use boards::{BoardReader, BoardReading};
+use boards::{BoardReader, BoardReading, Entry};
+use core::mem::replace_with;
+use marked_log::Mark;
 
 /// How a console stands to its board.
 #[derive(Drop)]
@@ -15,13 +18,11 @@ pub enum Sight {
     Idle(BoardReader),
     /// It looks at it.
     Looking(BoardReading),
-    /// It has none: only while its state changes.
-    Gone,
 }
 
 /// Looks at the board that was published last, where the writer is there.
 fn look(reader: BoardReader) -> Sight
-    ensures { LooksFrom (seen reader) (told reader) result }
+    ensures { LooksFrom (seen reader) (told reader) (log_of reader) result }
 {
     match reader.enter() {
         Ok(reading) => Sight::Looking(reading),
@@ -30,27 +31,42 @@ fn look(reader: BoardReader) -> Sight
 }
 
 impl Sight {
-    /// Ends the look, if there is one.
-    pub(crate) fn ended(self) -> Sight
-        ensures knows { KnowsAs self result }
-        ensures over { looked_at result ≡ None }
+    /// How it stands once the look has ended, if there was one.
+    fn ended(self, _nothing: ()) -> (Sight, ())
+        ensures knows { KnowsAs self result.0 }
+        ensures over { looked_at result.0 ≡ None }
     {
-        match self {
+        let sight = match self {
             Sight::Looking(reading) => Sight::Idle(reading.leave()),
             Sight::Idle(reader) => Sight::Idle(reader),
-            Sight::Gone => Sight::Gone,
-        }
+        };
+        (sight, ())
+    }
+
+    /// Ends the look, if there is one.
+    pub(crate) fn end(&mut self)
+        ensures knows { KnowsAs self.old self.new }
+        ensures over { looked_at self.new ≡ None }
+    {
+        replace_with(self, (), Sight::ended)
+    }
+
+    /// How it stands once it has looked anew.
+    fn renewed(self, _nothing: ()) -> (Sight, ())
+        ensures { LooksFrom (seen_by self) (told_by self) (log_by self) result.0 }
+    {
+        let sight = match self {
+            Sight::Looking(reading) => look(reading.leave()),
+            Sight::Idle(reader) => look(reader),
+        };
+        (sight, ())
     }
 
     /// Looks anew.
-    pub(crate) fn renewed(self) -> Sight
-        ensures { LooksFrom (seen_by self) (told_by self) result }
+    pub(crate) fn renew(&mut self)
+        ensures { LooksFrom (seen_by self.old) (told_by self.old) (log_by self.old) self.new }
     {
-        match self {
-            Sight::Looking(reading) => look(reading.leave()),
-            Sight::Idle(reader) => look(reader),
-            Sight::Gone => Sight::Gone,
-        }
+        replace_with(self, (), Sight::renewed)
     }
 
     /// Whether it looks at a board that has so many orders of the console of a number, or more.
@@ -72,7 +88,7 @@ impl Sight {
     {
         match self {
             Sight::Looking(reading) => reading.board().state(alarm),
-            Sight::Idle(_) | Sight::Gone => None,
+            Sight::Idle(_) => None,
         }
     }
 
@@ -82,7 +98,7 @@ impl Sight {
     {
         match self {
             Sight::Looking(reading) => reading.board().events(),
-            Sight::Idle(_) | Sight::Gone => 0,
+            Sight::Idle(_) => 0,
         }
     }
 
@@ -94,7 +110,16 @@ impl Sight {
         match self {
             Sight::Looking(reading) => reading.board().events(),
             Sight::Idle(reader) => reader.events(),
-            Sight::Gone => 0,
+        }
+    }
+
+    /// A mark of the entries that it saw last, which are none where it saw nothing yet.
+    pub(crate) fn mark(&self) -> Mark<Entry>
+        ensures { IsMark (log_by self.now) (seen_list (seen_by self.now)) result }
+    {
+        match self {
+            Sight::Looking(reading) => reading.mark(),
+            Sight::Idle(reader) => reader.mark(),
         }
     }
 }

@@ -25,10 +25,11 @@ same_lanes a b c h k = (
     ((k.1.0.0.0 ∙ h.1.0.0.0, k.1.0.0.1 ∙ h.1.0.0.1, k.1.0.0.2 ∙ h.1.0.0.2, k.1.0.0.3 ∙ h.1.0.0.3), k.1.0.1 ∙ h.1.0.1),
     ((k.1.1.0.0 ∙ h.1.1.0.0, k.1.1.0.1 ∙ h.1.1.0.1, k.1.1.0.2 ∙ h.1.1.0.2, k.1.1.0.3 ∙ h.1.1.0.3), k.1.1.1 ∙ h.1.1.1),
   ),
+  k.2 ∙ h.2,
 )
 
 pub same_lane : (a : L) → SameLane a a
-same_lane a = (refl, (((refl, refl, refl, refl), refl), ((refl, refl, refl, refl), refl)))
+same_lane a = (refl, (((refl, refl, refl, refl), refl), ((refl, refl, refl, refl), refl)), refl)
 
 -- a look takes nothing
 pub took_looked : (plant : PlainPlant) (a b : L) (history : List Event) → LaneLooked a b → b.ended ≡ a.ended → Took plant a b history history []

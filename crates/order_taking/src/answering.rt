@@ -31,6 +31,7 @@ fn take_order<T: Recording<H>, H>(
 ) -> Result<bool, EngineFault>
     ensures plant { T.plant_of recorder.new ≡ T.plant_of recorder.old }
     ensures share { T.parts_of recorder.new ≡ T.parts_of recorder.old }
+    ensures log { T.log_of recorder.new ≡ T.log_of recorder.old }
     ensures took { TookOne (T.plant_of recorder.old) lane.old lane.new (T.history_of recorder.old) (T.history_of recorder.new) result }
 {
     let Some(order) = lane.waiting() else {
@@ -50,6 +51,7 @@ fn take_part<T: Recording<H>, H>(
 ) -> Part
     ensures plant { T.plant_of recorder.new ≡ T.plant_of recorder.old }
     ensures share { T.parts_of recorder.new ≡ T.parts_of recorder.old }
+    ensures log { T.log_of recorder.new ≡ T.log_of recorder.old }
     ensures part { TookPart (T.plant_of recorder.old) lane.old lane.new (T.history_of recorder.old) (T.history_of recorder.new) result.taken result.stopped }
 {
     let mut taken = 0u32;
@@ -86,6 +88,7 @@ pub fn take_parts<T: Recording<H>, H>(
     requires { length lanes.old ≤ 32 }
     ensures plant { T.plant_of recorder.new ≡ T.plant_of recorder.old }
     ensures share { T.parts_of recorder.new ≡ T.parts_of recorder.old }
+    ensures log { T.log_of recorder.new ≡ T.log_of recorder.old }
     ensures parts { TookParts (T.plant_of recorder.old) lanes.old lanes.new (T.history_of recorder.old) (T.history_of recorder.new) result.taken result.stopped }
     ensures most { result.taken ≤ 64 * length lanes.old }
 {

@@ -5,6 +5,7 @@ ghost use Rattle.event_history.specs.declared.event.Event.{Event};
 ghost use Rattle.event_history.specs.declared.event.Event.TheVariants as event;
 ghost use Rattle.plant_config.specs.Plants.{PlainPlant};
 ghost use Rattle.plant_system.specs.System.{system, reply_to};
+ghost use Rattle.logbook.specs.Pages.{Book};
 
 use event_history::Order;
 use plant_system::{EngineFault, Reply};
@@ -21,6 +22,9 @@ pub trait Recording<H> {
     /// The parts that it holds of the ledger that counts the events. No order changes them.
     ghost parts_of: { Self → ℕ };
 
+    /// The log in which the boards are marked that show the events. No order changes which it is.
+    ghost log_of: { Self → Book };
+
     /// Makes an order of the console of a number the next event, and gives its reply. A refusal leaves the history as it was.
     fn order(
         &mut self,
@@ -33,5 +37,6 @@ pub trait Recording<H> {
         ensures ok { OnOk result (history_of self.new ≡ history_of self.old ++ event.Order console order ∷ []) }
         ensures reply { IfOk result (λ r. r ≡ reply_to (system (plant_of self.old) (history_of self.old)) console order) }
         ensures kept { OnErr result (history_of self.new ≡ history_of self.old) }
-        ensures parts { parts_of self.new ≡ parts_of self.old };
+        ensures parts { parts_of self.new ≡ parts_of self.old }
+        ensures log { log_of self.new ≡ log_of self.old };
 }

@@ -2,9 +2,10 @@
 use Rattle.std.proofs.Common.{◌≡◌, ℕ, ◌==◌, nat_eq, Bool, true, false, ◌||◌, List, [], ◌∷◌, ◌++◌, All, MatchBool, Option, Some, None, ap, refl, sym, ◌∙◌, subst, eq-eqb, ne_eqb, eqb-true, true≢false, inl, inr, if◌then◌else◌, nat_le}
 use mathlib.Core.List.{IsPrefix}
 use Rattle.std.specs.List.{list_any}
-use Rattle.std.proofs.lemmas.List.Elements.{All-head, All-tail}
+use Rattle.std.proofs.lemmas.List.Elements.{All-nil, All-cons, All-head, All-tail}
 use Rattle.std.proofs.lemmas.Bool.{cases_Bool, eqb-false}
 use Rattle.rtrb.specs.Ring.{known_items}
+use Rattle.logbook.specs.Pages.{Book}
 use Rattle.console_link.specs.declared.answer.Answer.{Answer}
 use Rattle.console_link.specs.declared.console.Console.{Console}
 use Rattle.console_link.specs.declared.console.Finished.{Finished}
@@ -17,13 +18,14 @@ use Rattle.plant_config.specs.Plants.{PlainPlant}
 use Rattle.plant_system.specs.declared.event.Reply.{Reply}
 use Rattle.order_taking.specs.Parts.{answers_of, orders_in}
 use Rattle.order_taking.specs.Turns.{TookParts}
-use Rattle.boards.specs.Stories.{is_seen_lawful, seen_events}
+use Rattle.boards.specs.Stories.{is_seen_lawful, seen_events, seen_list}
 use Rattle.boards.specs.Replies.{after, allows}
 use Rattle.board_entries.specs.Entries.{history_story}
 use Rattle.operator_console.specs.declared.console.Console.{Console as Operator}
+use Rattle.operator_console.specs.declared.console.Finished.{Finished as Ended}
 use Rattle.operator_console.specs.Sights.{BoardStory}
 use Rattle.operator_console.specs.Consoles.{story_seen, story_told, EndsAs}
-use Rattle.station.specs.Lanes.{HasSeen, numbers_in, HasNoTwin, IsConsoleIn, IsEndIn, KeepsConsoles, finished_of, left_in, saw_within, is_within, has_seen_within}
+use Rattle.station.specs.Lanes.{HasSeen, numbers_in, HasNoTwin, IsConsoleIn, IsLinkEndIn, IsOfLog, KeepsConsoles, finished_of, left_in, saw_within, is_within, has_seen_within}
 use Rattle.station.specs.Stations.{AgreesWith, IsClosed}
 use Rattle.station.specs.Closings.{Joined, EndedOne, IsEnded, AreEnded}
 use Rattle.order_taking.proofs.Takes.{same_lanes, same_lane}
@@ -45,6 +47,7 @@ console_stays c a b s h = (
     (s.1.0.0.0 ∙ h.1.0.0, s.1.0.0.1 ∙ h.1.0.1, s.1.0.0.2 ∙ h.1.0.2, s.1.0.0.3 ∙ h.1.0.3),
     (h.1.1.0 ∙ sym s.1.1.0.0, h.1.1.1 ∙ sym s.1.1.0.1, h.1.1.2 ∙ sym s.1.1.0.2, h.1.1.3 ∙ sym s.1.1.0.3),
   ),
+  s.2 ∙ h.2,
 )
 
 end_stays : (f : F) (a b : L) → SameLane a b → IsEndOf f a → IsEndOf f b
@@ -54,6 +57,7 @@ end_stays f a b s h = (
     (s.1.0.0.0 ∙ h.1.0.0, s.1.0.0.1 ∙ h.1.0.1, s.1.0.0.2 ∙ h.1.0.2, s.1.0.0.3 ∙ h.1.0.3),
     (h.1.1.0 ∙ sym s.1.1.0.0, h.1.1.1 ∙ sym s.1.1.0.1, h.1.1.2 ∙ sym s.1.1.0.2, h.1.1.3 ∙ sym s.1.1.0.3),
   ),
+  s.2 ∙ h.2,
 )
 
 -- a console goes on, over the same rings
@@ -64,6 +68,7 @@ console_moves c d l s h = (
     (h.1.0.0 ∙ sym s.1.0.0.0, h.1.0.1 ∙ sym s.1.0.0.1, h.1.0.2 ∙ sym s.1.0.0.2, h.1.0.3 ∙ sym s.1.0.0.3),
     (s.1.1.0.0 ∙ h.1.1.0, s.1.1.0.1 ∙ h.1.1.1, s.1.1.0.2 ∙ h.1.1.2, s.1.1.0.3 ∙ h.1.1.3),
   ),
+  h.2 ∙ sym s.2,
 )
 
 -- a console ends, over the same rings
@@ -74,6 +79,7 @@ console_ends c f l e h = (
     (h.1.0.0 ∙ sym e.1.0.0.0, h.1.0.1 ∙ sym e.1.0.0.1, h.1.0.2 ∙ sym e.1.0.0.2, h.1.0.3 ∙ sym e.1.0.0.3),
     (ap (λ x. x.end.words) e.1.1 ∙ h.1.1.0, ap (λ x. x.end.slots) e.1.1 ∙ h.1.1.1, ap (λ x. x.end.names) e.1.1 ∙ h.1.1.2, ap (λ x. x.end.heap) e.1.1 ∙ h.1.1.3),
   ),
+  h.2 ∙ sym e.2,
 )
 
 pub console_goes_on : (ls : List L) (c d : C) → IsConsoleIn ls c → SameConsole c d → IsConsoleIn ls d
@@ -85,11 +91,11 @@ console_goes_on (l ∷ ls) c d h s =
       | false ↦ λ k. console_goes_on ls c d k s
     ] h)
 
-pub console_has_ended : (ls : List L) (c : C) (f : F) → IsConsoleIn ls c → Ends c f → IsEndIn ls f
+pub console_has_ended : (ls : List L) (c : C) (f : F) → IsConsoleIn ls c → Ends c f → IsLinkEndIn ls f
 console_has_ended [] c f h e = h
 console_has_ended (l ∷ ls) c f h e =
-    subst (λ (n : ℕ). MatchBool (l.number == n) (IsEndOf f l) (IsEndIn ls f)) (sym e.0)
-    (elim (l.number == c.number) as (λ t. (MatchBool (t) (IsConsoleOf c l) (IsConsoleIn ls c)) → (MatchBool (t) (IsEndOf f l) (IsEndIn ls f))) [
+    subst (λ (n : ℕ). MatchBool (l.number == n) (IsEndOf f l) (IsLinkEndIn ls f)) (sym e.0)
+    (elim (l.number == c.number) as (λ t. (MatchBool (t) (IsConsoleOf c l) (IsConsoleIn ls c)) → (MatchBool (t) (IsEndOf f l) (IsLinkEndIn ls f))) [
       | true ↦ λ k. console_ends c f l e k
       | false ↦ λ k. console_has_ended ls c f k e
     ] h)
@@ -120,6 +126,22 @@ same_parts plant (a ∷ ds) (b ∷ bs) old new taken stopped t = (
   ] t.6,
 )
 
+-- lanes that are the same have the same log
+pub logs_on : (log : Book) (ds bs : List L) → AreSame ds bs → All (IsOfLog log) ds → All (IsOfLog log) bs
+logs_on log [] [] s h = All-nil (IsOfLog log)
+logs_on log [] (b ∷ bs) s h = absurd s
+logs_on log (a ∷ ds) [] s h = absurd s
+logs_on log (a ∷ ds) (b ∷ bs) s h = All-cons (IsOfLog log) b bs (s.0.2 ∙ All-head (IsOfLog log) a ds h) (logs_on log ds bs s.1 (All-tail (IsOfLog log) a ds h))
+
+-- the rings of an ended console have the log of their lane
+pub log_in : (log : Book) (ls : List L) (f : F) → All (IsOfLog log) ls → IsLinkEndIn ls f → f.log ≡ log
+log_in log [] f h is = absurd is
+log_in log (l ∷ ls) f h is =
+    elim (l.number == f.number) as (λ t. MatchBool t (IsEndOf f l) (IsLinkEndIn ls f) → f.log ≡ log) [
+      | true ↦ λ k. sym k.2 ∙ All-head (IsOfLog log) l ls h
+      | false ↦ λ k. log_in log ls f (All-tail (IsOfLog log) l ls h) k
+    ] is
+
 consoles_stay : (ds bs : List L) (c : C) → AreSame ds bs → IsConsoleIn ds c → IsConsoleIn bs c
 consoles_stay [] [] c s h = h
 consoles_stay [] (b ∷ bs) c s h = absurd s
@@ -131,13 +153,13 @@ consoles_stay (a ∷ ds) (b ∷ bs) c s h =
       | false ↦ λ k. consoles_stay ds bs c s.1 k
     ] h)
 
-pub ends_stay : (ds bs : List L) (f : F) → AreSame ds bs → IsEndIn ds f → IsEndIn bs f
+pub ends_stay : (ds bs : List L) (f : F) → AreSame ds bs → IsLinkEndIn ds f → IsLinkEndIn bs f
 ends_stay [] [] f s h = h
 ends_stay [] (b ∷ bs) f s h = absurd s
 ends_stay (a ∷ ds) [] f s h = absurd s
 ends_stay (a ∷ ds) (b ∷ bs) f s h =
-    subst (λ (n : ℕ). MatchBool (n == f.number) (IsEndOf f b) (IsEndIn bs f)) (sym s.0.0)
-    (elim (a.number == f.number) as (λ t. (MatchBool (t) (IsEndOf f a) (IsEndIn ds f)) → (MatchBool (t) (IsEndOf f b) (IsEndIn bs f))) [
+    subst (λ (n : ℕ). MatchBool (n == f.number) (IsEndOf f b) (IsLinkEndIn bs f)) (sym s.0.0)
+    (elim (a.number == f.number) as (λ t. (MatchBool (t) (IsEndOf f a) (IsLinkEndIn ds f)) → (MatchBool (t) (IsEndOf f b) (IsLinkEndIn bs f))) [
       | true ↦ λ k. end_stays f a b s.0 k
       | false ↦ λ k. ends_stay ds bs f s.1 k
     ] h)
@@ -163,7 +185,7 @@ ended_same fs [] (b ∷ bs) h = absurd h
 ended_same fs (a ∷ ds) [] h = absurd h
 ended_same fs (a ∷ ds) (b ∷ bs) h = (ended_one (finished_of a.number fs) a b h.0, ended_same fs ds bs h.1)
 
-pub ended_keep : (fs : List F) (ds bs : List L) (f : F) → AreEnded fs ds bs → IsEndIn ds f → IsEndIn bs f
+pub ended_keep : (fs : List F) (ds bs : List L) (f : F) → AreEnded fs ds bs → IsLinkEndIn ds f → IsLinkEndIn bs f
 ended_keep fs ds bs f h k = ends_stay ds bs f (ended_same fs ds bs h) k
 
 -- nothing was joined yet
@@ -247,7 +269,7 @@ none_left plant history fs (a ∷ ds) (b ∷ bs) n e agree h =
     ]
 
 -- where it was, all that the console submitted is in the history or left
-some_closed : (plant : PlainPlant) (history : List Event) (fs : List F) (ds bs : List L) (n : ℕ) (f : F) → finished_of n fs ≡ Some f → f.number ≡ n → IsEndIn ds f
+some_closed : (plant : PlainPlant) (history : List Event) (fs : List F) (ds bs : List L) (n : ℕ) (f : F) → finished_of n fs ≡ Some f → f.number ≡ n → IsLinkEndIn ds f
     → All (AgreesWith plant history) ds → AreEnded fs ds bs → IsClosed (answers_of n plant history) (left_in n bs) (Some f)
 some_closed plant history fs [] [] n f e is ends agree h = absurd ends
 some_closed plant history fs [] (b ∷ bs) n f e is ends agree h = absurd h
@@ -268,19 +290,19 @@ some_closed plant history fs (a ∷ ds) (b ∷ bs) n f e is ends agree h =
           )
       | inr no' ↦
           let away : (a.number == f.number) ≡ false = ne_eqb a.number f.number (λ (k : a.number ≡ f.number). eqb-false b.number n no' (same ∙ (k ∙ is))) in
-          let on = some_closed plant history fs ds bs n f e is (subst (λ (t : Bool). MatchBool (t) (IsEndOf f a) (IsEndIn ds f)) away ends) (All-tail (AgreesWith plant history) a ds agree) h.1 in
+          let on = some_closed plant history fs ds bs n f e is (subst (λ (t : Bool). MatchBool (t) (IsEndOf f a) (IsLinkEndIn ds f)) away ends) (All-tail (AgreesWith plant history) a ds agree) h.1 in
           subst (λ (ls : List Order). IsClosed (answers_of n plant history) ls (Some f)) (sym (ap (λ (t : Bool). if t then left_of b else left_in n bs) no')) on
     ]
 
 -- what is known of each console once its lane was joined
-pub closed : (plant : PlainPlant) (history : List Event) (fs : List F) (ds bs : List L) (n : ℕ) → All (AgreesWith plant history) ds → All (IsEndIn ds) fs → AreEnded fs ds bs
+pub closed : (plant : PlainPlant) (history : List Event) (fs : List F) (ds bs : List L) (n : ℕ) → All (AgreesWith plant history) ds → All (IsLinkEndIn ds) fs → AreEnded fs ds bs
     → IsClosed (answers_of n plant history) (left_in n bs) (finished_of n fs)
 closed plant history fs ds bs n agree ends h = by (finished_of n fs) refl
   where
     by : (o : Option F) → finished_of n fs ≡ o → IsClosed (answers_of n plant history) (left_in n bs) o
     by None e = none_left plant history fs ds bs n e agree h
     by (Some f) e =
-        let found = found_in (IsEndIn ds) n fs f ends e in
+        let found = found_in (IsLinkEndIn ds) n fs f ends e in
         some_closed plant history fs ds bs n f e found.1 found.0 agree h
 
 -- no end was handed in: then nothing is known of what it saw
@@ -301,7 +323,7 @@ none_within plant history fs (a ∷ ds) (b ∷ bs) n events e agree h =
           ∙ none_within plant history fs ds bs n events e (All-tail (AgreesWith plant history) a ds agree) h.1
     ]
 
-some_within : (fs : List F) (ds bs : List L) (n events : ℕ) (f : F) → finished_of n fs ≡ Some f → f.number ≡ n → IsEndIn ds f → AreEnded fs ds bs → is_within n events bs ≡ nat_le f.seen events
+some_within : (fs : List F) (ds bs : List L) (n events : ℕ) (f : F) → finished_of n fs ≡ Some f → f.number ≡ n → IsLinkEndIn ds f → AreEnded fs ds bs → is_within n events bs ≡ nat_le f.seen events
 some_within fs [] bs n events f e is ends h = absurd ends
 some_within fs (a ∷ ds) [] n events f e is ends h = absurd h
 some_within fs (a ∷ ds) (b ∷ bs) n events f e is ends h =
@@ -314,17 +336,17 @@ some_within fs (a ∷ ds) (b ∷ bs) n events f e is ends h =
       | inr no' ↦
           let away : (a.number == f.number) ≡ false = ne_eqb a.number f.number (λ (k : a.number ≡ f.number). eqb-false b.number n no' (same ∙ (k ∙ is))) in
           ap (λ (t : Bool). if t then saw_within events (seen_by b) else is_within n events bs) no'
-          ∙ some_within fs ds bs n events f e is (subst (λ (t : Bool). MatchBool t (IsEndOf f a) (IsEndIn ds f)) away ends) h.1
+          ∙ some_within fs ds bs n events f e is (subst (λ (t : Bool). MatchBool t (IsEndOf f a) (IsLinkEndIn ds f)) away ends) h.1
     ]
 
 -- what is known of how many events each console saw, once its lane was joined
-pub closed_within : (plant : PlainPlant) (history : List Event) (fs : List F) (ds bs : List L) (n events : ℕ) → All (AgreesWith plant history) ds → All (IsEndIn ds) fs → AreEnded fs ds bs
+pub closed_within : (plant : PlainPlant) (history : List Event) (fs : List F) (ds bs : List L) (n events : ℕ) → All (AgreesWith plant history) ds → All (IsLinkEndIn ds) fs → AreEnded fs ds bs
     → is_within n events bs ≡ has_seen_within events (finished_of n fs)
 closed_within plant history fs ds bs n events agree ends h = by (finished_of n fs) refl
   where
     by : (o : Option F) → finished_of n fs ≡ o → is_within n events bs ≡ has_seen_within events o
     by None e = none_within plant history fs ds bs n events e agree h
-    by (Some f) e = let found = found_in (IsEndIn ds) n fs f ends e in some_within fs ds bs n events f e found.1 found.0 h
+    by (Some f) e = let found = found_in (IsLinkEndIn ds) n fs f ends e in some_within fs ds bs n events f e found.1 found.0 h
 
 -- the console that ends is that of the first lane
 pub end_first : (f : F) (a b : L) (ls : List L) → a.number ≡ f.number → Joined f a b → EndedOne f (a ∷ ls) (b ∷ ls)
@@ -334,11 +356,11 @@ end_first f a b ls is j = subst (λ (t : Bool). MatchBool t (Joined f a b × (ls
 pub end_later : (f : F) (a : L) (ls bs : List L) → (a.number ≡ f.number → ⊥) → EndedOne f ls bs → EndedOne f (a ∷ ls) (a ∷ bs)
 end_later f a ls bs away e = subst (λ (t : Bool). MatchBool t (Joined f a a × (bs ≡ ls)) ((a ≡ a) × EndedOne f ls bs)) (sym (ne_eqb a.number f.number away)) (refl, e)
 
-pub in_first : (f : F) (a : L) (ls : List L) → a.number ≡ f.number → IsEndIn (a ∷ ls) f → IsEndOf f a
-in_first f a ls is h = subst (λ (t : Bool). MatchBool t (IsEndOf f a) (IsEndIn ls f)) (eq-eqb a.number f.number is) h
+pub in_first : (f : F) (a : L) (ls : List L) → a.number ≡ f.number → IsLinkEndIn (a ∷ ls) f → IsEndOf f a
+in_first f a ls is h = subst (λ (t : Bool). MatchBool t (IsEndOf f a) (IsLinkEndIn ls f)) (eq-eqb a.number f.number is) h
 
-pub in_later : (f : F) (a : L) (ls : List L) → (a.number ≡ f.number → ⊥) → IsEndIn (a ∷ ls) f → IsEndIn ls f
-in_later f a ls away h = subst (λ (t : Bool). MatchBool t (IsEndOf f a) (IsEndIn ls f)) (ne_eqb a.number f.number away) h
+pub in_later : (f : F) (a : L) (ls : List L) → (a.number ≡ f.number → ⊥) → IsLinkEndIn (a ∷ ls) f → IsLinkEndIn ls f
+in_later f a ls away h = subst (λ (t : Bool). MatchBool t (IsEndOf f a) (IsLinkEndIn ls f)) (ne_eqb a.number f.number away) h
 
 -- what is left of the first lane's console, and of another
 pub left_first : (n : ℕ) (a : L) (ls : List L) → a.number ≡ n → left_in n (a ∷ ls) ≡ left_of a
@@ -347,18 +369,19 @@ left_first n a ls is = ap (λ (t : Bool). if t then left_of a else left_in n ls)
 pub left_later : (n : ℕ) (a : L) (ls : List L) → (a.number ≡ n → ⊥) → left_in n (a ∷ ls) ≡ left_in n ls
 left_later n a ls away = ap (λ (t : Bool). if t then left_of a else left_in n ls) (ne_eqb a.number n away)
 
-last_in : (P : F → Type 0) (fs : List F) (f : F) (es : List F) → All P ((fs ++ f ∷ []) ++ es) → P f
+last_in : {X : Type 0} (P : X → Type 0) (fs : List X) (f : X) (es : List X) → All P ((fs ++ f ∷ []) ++ es) → P f
 last_in P [] f es h = All-head P f es h
 last_in P (g ∷ fs) f es h = last_in P fs f es (All-tail P g ((fs ++ f ∷ []) ++ es) h)
 
 -- the last of a list of ended consoles
-pub last_of : (P : F → Type 0) (fs : List F) (f : F) (es whole : List F) → whole ≡ (fs ++ f ∷ []) ++ es → All P whole → P f
-last_of P fs f es whole is h = last_in P fs f es (subst (λ (xs : List F). All P xs) is h)
+pub last_of : {X : Type 0} (P : X → Type 0) (fs : List X) (f : X) (es whole : List X) → whole ≡ (fs ++ f ∷ []) ++ es → All P whole → P f
+last_of {X} P fs f es whole is h = last_in P fs f es (subst (λ (xs : List X). All P xs) is h)
 
 -- what an ended console saw opens as the history before the first event, of which it was told
-pub console_has_seen : (plant : PlainPlant) (c : Operator Order Reply) (f : F) (story : BoardStory) → story_told c ≡ Some (history_story plant []) → EndsAs c f → story_seen c ≡ Some story → HasSeen plant story f
+pub console_has_seen : (plant : PlainPlant) (c : Operator Order Reply) (f : Ended Order Reply) (story : BoardStory) → story_told c ≡ Some (history_story plant []) → EndsAs c f → story_seen c ≡ Some story → HasSeen plant story f
 console_has_seen plant c f story told ends seen = record {
   opening = ends.sound.0 (history_story plant []) story told seen;
   lawful = sym (ap (λ (s : Option BoardStory). is_seen_lawful after allows s) seen) ∙ ends.sound.1;
   events = ends.seen ∙ ap (λ (s : Option BoardStory). seen_events s) seen;
+  marked = ends.mark.1 ∙ ap (λ (s : Option BoardStory). seen_list s) seen;
 }

@@ -5,6 +5,7 @@ use Rattle.std.specs.declared.result.Result.{Result}
 use Rattle.std.proofs.lemmas.List.{map-append}
 use Rattle.std.proofs.lemmas.List.Elements.{All-nil, All-cons, All-weaker, All-push}
 use Rattle.std.proofs.lemmas.Bool.{cases_Bool}
+use Rattle.logbook.specs.Pages.{Book}
 use Rattle.console_link.specs.declared.console.Console.{Console}
 use Rattle.console_link.specs.declared.lane.Lane.{Lane}
 use Rattle.console_link.specs.Seats.{IsConsoleOf}
@@ -18,7 +19,7 @@ use Rattle.plant_file.specs.Lists.{repeats}
 use Rattle.plant_config.specs.Plants.{PlainPlant, IsPlant}
 use Rattle.plant_system.specs.declared.event.Reply.{Reply}
 use Rattle.order_taking.specs.Parts.{answers_of}
-use Rattle.station.specs.Lanes.{numbers_in, HasNoTwin, ArePairs, AreOpened, IsConsoleIn, IsFresh, IsUnused, links_of, numbers_of, HasNotLooked, AreConsolesOf}
+use Rattle.station.specs.Lanes.{numbers_in, HasNoTwin, ArePairs, AreOpened, IsConsoleIn, IsFresh, IsUnused, links_of, numbers_of, HasNotLooked, IsOfLog, AreConsolesOf}
 use Rattle.station.specs.Stations.{AgreesWith}
 
 abbrev L : Type 0
@@ -94,13 +95,14 @@ operators_more numbers os ls n o c l h same pair c_number l_number fresh unused 
     let links : links_of (os ++ o ∷ []) ≡ links_of os ++ c ∷ [] = map-append (λ (x : O). x.link) os (o ∷ []) ∙ ap (λ (x : C). links_of os ++ x ∷ []) same in
     subst (λ (cs : List C). AreOpened (numbers ++ n ∷ []) cs (ls ++ l ∷ [])) (sym links) (opened_more numbers (links_of os) ls n c l h pair c_number l_number fresh unused)
 
--- consoles and lanes that were opened for a plant whose history a board shows
-pub consoles_opened : {T E : Type 0} (r : Result T E) (os : T → List O) (ls : T → List L) (plant : PlainPlant) (history : List Event) (listed : List Listed) (story : BoardStory)
-    → listed ≡ plant.consoles → IsPlant plant → story ≡ history_story plant history
-    → IfOk r (λ x. AreOpened (numbers_of listed) (links_of (os x)) (ls x)) → IfOk r (λ x. All (HasNotLooked story) (os x)) → IfOk r (λ x. AreConsolesOf plant history (os x) (ls x))
-consoles_opened (Ok x) os ls plant history listed story same is shows h k = record {
+-- consoles and lanes that were opened for a plant, and told of what a board shows
+pub consoles_opened : {T E : Type 0} (r : Result T E) (os : T → List O) (ls : T → List L) (plant : PlainPlant) (listed : List Listed) (story : BoardStory) (log : Book) → listed ≡ plant.consoles → IsPlant plant
+    → IfOk r (λ x. AreOpened (numbers_of listed) (links_of (os x)) (ls x)) → IfOk r (λ x. All (HasNotLooked story) (os x)) → IfOk r (λ x. All (IsOfLog log) (ls x))
+    → IfOk r (λ x. AreConsolesOf plant story log (os x) (ls x))
+consoles_opened (Ok x) os ls plant listed story log same is h k m = record {
   opened = subst (λ (cs : List Listed). AreOpened (numbers_of cs) (links_of (os x)) (ls x)) same h;
-  looks = subst (λ (s : BoardStory). All (HasNotLooked s) (os x)) shows k;
+  looks = k;
+  marked = m;
   is_plant = is;
 }
-consoles_opened (Err e) os ls plant history listed story same is shows h k = tt
+consoles_opened (Err e) os ls plant listed story log same is h k m = tt

@@ -11,7 +11,9 @@ use Rattle.plant_system.specs.System.{opening_system}
 use Rattle.board_entries.specs.Entries.{bank_of, history_story}
 use Rattle.boards.specs.Stories.{is_lawful}
 use Rattle.boards.specs.Replies.{after, allows}
+use Rattle.logbook.specs.Pages.{Book}
 use Rattle.operator_console.specs.declared.console.Console.{Console as Operator}
+use Rattle.operator_console.specs.declared.console.Finished.{Finished as Ended}
 use Rattle.operator_console.specs.Sights.{BoardStory}
 use Rattle.operator_console.specs.Consoles.{story_seen, story_told}
 use Rattle.plant_file.specs.Lists.{repeats}
@@ -35,10 +37,22 @@ abbrev pub IsConsoleIn : List (Lane Order Reply) → Console Order Reply → Typ
 IsConsoleIn [] c = ⊥
 IsConsoleIn (lane ∷ lanes) c = MatchBool (lane.number == c.number) (IsConsoleOf c lane) (IsConsoleIn lanes c)
 
--- and of a console that has ended
-abbrev pub IsEndIn : List (Lane Order Reply) → Finished Order Reply → Type 0
-IsEndIn [] f = ⊥
-IsEndIn (lane ∷ lanes) f = MatchBool (lane.number == f.number) (IsEndOf f lane) (IsEndIn lanes f)
+-- and of the rings of a console that has ended
+abbrev pub IsLinkEndIn : List (Lane Order Reply) → Finished Order Reply → Type 0
+IsLinkEndIn [] f = ⊥
+IsLinkEndIn (lane ∷ lanes) f = MatchBool (lane.number == f.number) (IsEndOf f lane) (IsLinkEndIn lanes f)
+
+-- the lane of an ended console's number is the owner's end of its rings
+abbrev pub IsEndIn : List (Lane Order Reply) → Ended Order Reply → Type 0
+IsEndIn lanes f = IsLinkEndIn lanes f.link
+
+-- what the lane's console sees of the board is marked in this log
+abbrev pub IsOfLog : Book → Lane Order Reply → Type 0
+IsOfLog log lane = lane.log ≡ log
+
+-- the rings of consoles that have ended
+abbrev pub links_in : List (Ended Order Reply) → List (Finished Order Reply)
+links_in consoles = map (λ (f : Ended Order Reply). f.link) consoles
 
 -- each console has its lane, in the same order
 abbrev pub ArePairs : List (Console Order Reply) → List (Lane Order Reply) → Type 0
@@ -70,7 +84,7 @@ pub record AreOpened (numbers : List ℕ) (consoles : List (Console Order Reply)
 -- each console of the one is a console of the other, also where it has ended
 pub record KeepsConsoles (before after : List (Lane Order Reply)) : Type 0 where
   pub consoles : (c : Console Order Reply) → IsConsoleIn before c → IsConsoleIn after c
-  pub ended : (f : Finished Order Reply) → IsEndIn before f → IsEndIn after f
+  pub ended : (f : Finished Order Reply) → IsLinkEndIn before f → IsLinkEndIn after f
 
 -- the ends of the consoles' rings
 abbrev pub links_of : List (Operator Order Reply) → List (Console Order Reply)
@@ -81,16 +95,18 @@ pub record HasNotLooked (story : BoardStory) (c : Operator Order Reply) : Type 0
   pub none_seen : story_seen c ≡ None
   pub told_is : story_told c ≡ Some story
 
--- what an ended console saw of the board: so many events as its end says, each of which might come after those before it, from the alarms as the plant opens
-pub record HasSeen (plant : PlainPlant) (story : BoardStory) (f : Finished Order Reply) : Type 0 where
+-- what an ended console saw of the board: so many events as its end says and as its mark has, each of which might come after those before it, from the alarms as the plant opens
+pub record HasSeen (plant : PlainPlant) (story : BoardStory) (f : Ended Order Reply) : Type 0 where
   pub opening : story.0 ≡ bank_of (opening_system plant)
   pub lawful : is_lawful after allows story.0 story.1 ≡ true
-  pub events : f.seen ≡ length story.1
+  pub events : f.link.seen ≡ length story.1
+  pub marked : f.mark.entries ≡ story.1
 
--- a console and a lane for each that a plant lists, in order, before the first order; the consoles are told of the history
-pub record AreConsolesOf (plant : PlainPlant) (history : List Event) (consoles : List (Operator Order Reply)) (lanes : List (Lane Order Reply)) : Type 0 where
+-- a console and a lane for each that a plant lists, in order, before the first order; the consoles are told of this story of the board, and what they see is marked in this log
+pub record AreConsolesOf (plant : PlainPlant) (story : BoardStory) (log : Book) (consoles : List (Operator Order Reply)) (lanes : List (Lane Order Reply)) : Type 0 where
   pub opened : AreOpened (numbers_of plant.consoles) (links_of consoles) lanes
-  pub looks : All (HasNotLooked (history_story plant history)) consoles
+  pub looks : All (HasNotLooked story) consoles
+  pub marked : All (IsOfLog log) lanes
   pub is_plant : IsPlant plant
 
 -- whether an ended console saw at most so many events; none that hasn't ended
@@ -108,10 +124,15 @@ abbrev pub has_seen_within : ℕ → Option (Finished Order Reply) → Bool
 has_seen_within events None = false
 has_seen_within events (Some f) = nat_le f.seen events
 
--- the first of a list of ended consoles that has this number
+-- the first of a list of ended rings that has this number
 abbrev pub finished_of : ℕ → List (Finished Order Reply) → Option (Finished Order Reply)
 finished_of number [] = None
 finished_of number (f ∷ consoles) = if f.number == number then Some f else finished_of number consoles
+
+-- the first of a list of ended consoles that has this number
+abbrev pub ended_of : ℕ → List (Ended Order Reply) → Option (Ended Order Reply)
+ended_of number [] = None
+ended_of number (f ∷ consoles) = if f.link.number == number then Some f else ended_of number consoles
 
 -- the orders that were left of the console of a number
 abbrev pub left_in : ℕ → List (Lane Order Reply) → List Order

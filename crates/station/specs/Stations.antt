@@ -2,6 +2,7 @@
 use Rattle.std.specs.Prelude.{◌≡◌, ℕ, ◌≤◌, Bool, List, [], ◌∷◌, ◌++◌, length, Option, Some, None, Ok, All, refl}
 use Rattle.std.specs.Coded.{Coded, code_by, coded×, coded_list, coded_ℕ}
 use mathlib.Core.List.{IsPrefix}
+use Rattle.logbook.specs.Pages.{Book}
 use Rattle.plant_types.specs.Pairs.{PlainPair}
 use Rattle.console_link.specs.declared.answer.Answer.{Answer}
 use Rattle.console_link.specs.declared.console.Finished.{Finished}
@@ -18,9 +19,11 @@ use Rattle.plant_system.specs.System.{scan_event}
 use Rattle.plant_system.specs.Reports.{PlainReport}
 use Rattle.plant_system.specs.States.{IsReport}
 use Rattle.engine.specs.Engines.{PlainEngine, engine_code, state_of}
+use Rattle.boards.specs.declared.entry.Entry.{Entry}
 use Rattle.order_taking.specs.Parts.{answers_of, orders_in}
 use Rattle.order_taking.specs.Turns.{TookParts}
-use Rattle.station.specs.Lanes.{numbers_of, numbers_in, HasNoTwin}
+use Rattle.operator_console.specs.declared.console.Finished.{Finished as Ended}
+use Rattle.station.specs.Lanes.{numbers_of, numbers_in, HasNoTwin, IsOfLog}
 
 -- its engine, its share of the parts of its ledger, its crew, and the owner's ends of its consoles' rings
 pub record PlainStation (C : Type 0) : Type 0 where
@@ -55,12 +58,13 @@ pub record AgreesWith (plant : PlainPlant) (history : List Event) (lane : Lane O
   pub given : answers_given lane ≡ answers_of lane.number plant history
   pub is_open : IsOpen lane
 
--- each console that the plant lists has one lane, in the same order, and each lane agrees with the history
-pub record IsStation (plant : PlainPlant) (history : List Event) (lanes : List (Lane Order Reply)) : Type 0 where
+-- each console that the plant lists has one lane, in the same order, each lane agrees with the history, and what its console sees is marked in the board's log
+pub record IsStation (plant : PlainPlant) (history : List Event) (log : Book) (lanes : List (Lane Order Reply)) : Type 0 where
   pub listed : numbers_in lanes ≡ numbers_of plant.consoles
   pub once : HasNoTwin (numbers_in lanes)
   pub few : length lanes ≤ 32
   pub agree : All (AgreesWith plant history) lanes
+  pub marked : All (IsOfLog log) lanes
 
 module _ {C : Type 0} where
   -- a turn: its scan is the next event of the history, then come the orders that were taken
@@ -81,3 +85,9 @@ module _ {C : Type 0} where
 abbrev pub IsClosed : List (Answer Order Reply) → List Order → Option (Finished Order Reply) → Type 0
 IsClosed answers left None = left ≡ []
 IsClosed answers left (Some f) = (orders_in answers ++ left ≡ all_submitted f) × IsPrefix (all_taken f) answers
+
+-- what ended consoles saw of the board, and these entries, are beginnings of one list
+pub record AreBeginnings (entries : List Entry) (consoles : List (Ended Order Reply)) : Type 0 where
+  pub one : List Entry
+  pub own : IsPrefix entries one
+  pub theirs : All (λ (f : Ended Order Reply). IsPrefix f.mark.entries one) consoles

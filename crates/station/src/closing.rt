@@ -1,12 +1,14 @@
 //! What is left once a station is closed.
 
 ghost use Rattle.std.specs.Prelude.{◌≡◌, ◌≢◌, ℕ, [], ◌∷◌, length, All, IfSome, IfNone};
-ghost use Rattle.station.specs.Lanes.{left_in, is_within, numbers_in, HasNoTwin, IsEndIn};
+ghost use mathlib.Core.List.{IsPrefix};
+ghost use Rattle.station.specs.Lanes.{left_in, is_within, numbers_in, links_in, HasNoTwin, IsOfLog, IsEndIn, IsLinkEndIn};
 ghost use Rattle.station.specs.Closings.{EndedOne, AreEnded};
 
-use archive::let_go;
+use boards::Entry;
 use console_link::{Finished, Lane};
 use engine::{Engine, Order, Reply};
+use marked_log::Mark;
 use std::marker::Model;
 
 /// A station that was closed: its engine, its crew, and the orders that were left of the consoles that had ended.
@@ -38,7 +40,7 @@ impl<C> Model for Closing<C> {
 
 /// Joins the rings of a console that has ended with the lane of its number.
 fn end_lane(lanes: &mut [Lane<Order, Reply>], console: Finished<Order, Reply>)
-    requires { IsEndIn lanes.old console }
+    requires { IsLinkEndIn lanes.old console }
     ensures { EndedOne console lanes.old lanes.new }
 {
     let Some((lane, others)) = lanes.split_first_mut() else {
@@ -51,14 +53,22 @@ fn end_lane(lanes: &mut [Lane<Order, Reply>], console: Finished<Order, Reply>)
     }
 }
 
-/// Joins the rings of consoles that have ended, each with the lane of its number.
-pub(crate) fn end_lanes(lanes: &mut [Lane<Order, Reply>], mut finished: Vec<Finished<Order, Reply>>)
+/// Joins the rings of consoles that have ended, each with the lane of its number, and takes in what their marks say.
+pub(crate) fn end_lanes(
+    lanes: &mut [Lane<Order, Reply>],
+    mark: &mut Mark<Entry>,
+    mut finished: Vec<operator_console::Finished<Order, Reply>>,
+)
     requires once { HasNoTwin (numbers_in lanes.old) }
     requires ends { All (IsEndIn lanes.old) finished.items }
-    ensures { AreEnded finished.items lanes.old lanes.new }
+    requires marked { All (IsOfLog mark.old.log) lanes.old }
+    ensures lanes { AreEnded (links_in finished.items) lanes.old lanes.new }
+    ensures own { IsPrefix mark.old.entries mark.new.entries }
+    ensures theirs { All (λ f. IsPrefix f.mark.entries mark.new.entries) finished.items }
 {
     while let Some(console) = finished.pop() {
-        end_lane(lanes, console);
+        mark.learn(&console.mark);
+        end_lane(lanes, console.link);
     }
 }
 
@@ -67,6 +77,7 @@ fn next_left_in(lanes: &mut [Lane<Order, Reply>], console: u32) -> Option<Order>
     ensures some { IfSome result (λ o. left_in console lanes.old ≡ o ∷ left_in console lanes.new) }
     ensures none { IfNone result ((left_in console lanes.old ≡ []) × (left_in console lanes.new ≡ [])) }
     ensures others { (n : ℕ) → n ≢ console → left_in n lanes.new ≡ left_in n lanes.old }
+    ensures within { (n : ℕ) (events : ℕ) → is_within n events lanes.new ≡ is_within n events lanes.old }
 {
     let (lane, others) = lanes.split_first_mut()?;
     if lane.number() == console {
@@ -106,11 +117,13 @@ impl<C: Drop> Closing<C> {
         ensures none { IfNone result ((left_in console self.old.lanes ≡ []) × (left_in console self.new.lanes ≡ [])) }
         ensures others { (n : ℕ) → n ≢ console → left_in n self.new.lanes ≡ left_in n self.old.lanes }
         ensures engine { self.new.engine ≡ self.old.engine }
+        ensures within { (n : ℕ) (events : ℕ) → is_within n events self.new.lanes ≡ is_within n events self.old.lanes }
     {
         next_left_in(self.lanes.as_mut_slice(), console)
     }
 
-    /// Whether the console of a number saw no more events on the board than the history has; `false` where that console's end wasn't handed in.
+    /// Whether the console of a number saw no more events on the board than the history has; `false` where that console's end wasn't handed in. Where
+    /// it is `true`, `Station::close` says that what the console saw is a beginning of the history's entries.
     pub fn within(&self, console: u32) -> bool
         ensures { result ≡ is_within console (length self.now.engine.history) self.now.lanes }
     {
@@ -126,7 +139,7 @@ impl<C: Drop> Closing<C> {
             crew,
             lanes,
         } = self;
-        let_go(engine);
+        drop(engine);
         drop(lanes);
         crew
     }

@@ -9,21 +9,23 @@ ghost use Rattle.console_link.specs.Seats.{SameConsole, Ends};
 ghost use Rattle.event_history.specs.declared.event.Order.{Order};
 ghost use Rattle.plant_system.specs.declared.event.Reply.{Reply};
 ghost use Rattle.operator_console.specs.declared.console.Console.{Console as Operator};
+ghost use Rattle.operator_console.specs.declared.console.Finished.{Finished as Ended};
 ghost use Rattle.operator_console.specs.Sights.{BoardStory};
 ghost use Rattle.operator_console.specs.Consoles.{story_seen, story_told, EndsAs};
 ghost use Rattle.board_entries.specs.Entries.{history_story};
-ghost use Rattle.station.specs.Lanes.{IsConsoleIn, IsEndIn, HasSeen};
+ghost use Rattle.station.specs.Lanes.{IsConsoleIn, IsEndIn, IsLinkEndIn, HasSeen};
 
 /// A console of a station is one after each of its own calls, and where it has ended it is an ended console of that station: so `close` may be
 /// called with it.
 pub fn consoles_stay()
     ensures stays { (lanes : List (Lane Order Reply)) (c d : Console Order Reply) → IsConsoleIn lanes c → SameConsole c d → IsConsoleIn lanes d }
-    ensures ends { (lanes : List (Lane Order Reply)) (c : Console Order Reply) (f : Finished Order Reply) → IsConsoleIn lanes c → Ends c f → IsEndIn lanes f }
+    ensures ends { (lanes : List (Lane Order Reply)) (c : Console Order Reply) (f : Finished Order Reply) → IsConsoleIn lanes c → Ends c f → IsLinkEndIn lanes f }
+    ensures ended { (lanes : List (Lane Order Reply)) (c : Operator Order Reply) (f : Ended Order Reply) → IsConsoleIn lanes c.link → EndsAs c f → IsEndIn lanes f }
 {}
 
 /// What an ended console of a station saw of the board, if it saw anything: so many events as its end says, each of which might come after those
 /// before it, from the alarms as the plant opens. `Station::new` tells each console of the history before the first event, and no call of a
 /// console changes what it was told.
 pub fn consoles_saw()
-    ensures { (plant : PlainPlant) (c : Operator Order Reply) (f : Finished Order Reply) (story : BoardStory) → story_told c ≡ Some (history_story plant []) → EndsAs c f → story_seen c ≡ Some story → HasSeen plant story f }
+    ensures { (plant : PlainPlant) (c : Operator Order Reply) (f : Ended Order Reply) (story : BoardStory) → story_told c ≡ Some (history_story plant []) → EndsAs c f → story_seen c ≡ Some story → HasSeen plant story f }
 {}

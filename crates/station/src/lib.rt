@@ -27,4 +27,4 @@ pub use station::{Station, Turn};
 pub type Console = operator_console::Console<engine::Order, engine::Reply>;
 
 /// A console that has ended.
-pub type Finished = console_link::Finished<engine::Order, engine::Reply>;
+pub type Finished = operator_console::Finished<engine::Order, engine::Reply>;

@@ -1,8 +1,8 @@
 //! How a plant's consoles are made.
 
 ghost use Rattle.std.specs.Prelude.{◌≡◌, IfOk, All};
-ghost use Rattle.boards.specs.Readers.{published, pending};
-ghost use Rattle.station.specs.Lanes.{numbers_of, links_of, AreOpened, HasNotLooked};
+ghost use Rattle.boards.specs.Readers.{published, laid, log_kept};
+ghost use Rattle.station.specs.Lanes.{numbers_of, links_of, AreOpened, HasNotLooked, IsOfLog};
 
 use boards::BoardWriter;
 use console_link::{Lane, open};
@@ -53,14 +53,16 @@ pub(crate) fn open_lanes(
     listed: &[engine::Console],
     board: &mut BoardWriter,
 ) -> Result<(Consoles, Lanes), StationFault>
-    ensures same { (published board.new ≡ published board.old) × (pending board.new ≡ pending board.old) }
+    ensures same { (published board.new ≡ published board.old) × (laid board.new ≡ laid board.old) × (log_kept board.new ≡ log_kept board.old) }
     ensures opened { IfOk result (λ r. AreOpened (numbers_of listed.now) (links_of r.0.items) r.1.items) }
     ensures looks { IfOk result (λ r. All (HasNotLooked (published board.old)) r.0.items) }
+    ensures marked { IfOk result (λ r. All (IsOfLog (log_kept board.old)) r.1.items) }
 {
+    let start = board.mark();
     let mut consoles = Vec::new(alloc);
     let mut lanes = Vec::new(alloc);
     for row in listed {
-        let (link, lane) = open(alloc, row.number)?;
+        let (link, lane) = open(alloc, row.number, &start)?;
         let Ok(reader) = board.reader() else {
             return Err(StationFault::Ends);
         };

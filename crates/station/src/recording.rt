@@ -1,6 +1,7 @@
 //! The consoles of a recorder's plant.
 
 ghost use Rattle.std.specs.Prelude.{◌≡◌, IfOk};
+ghost use Rattle.boards.specs.Readers.{published, log_kept};
 ghost use Rattle.station.specs.Lanes.{AreConsolesOf};
 
 use crate::opening::{Consoles, Lanes, StationFault, open_lanes};
@@ -15,7 +16,8 @@ pub(crate) fn open_consoles<L: Ledger>(
 ) -> Result<(Consoles, Lanes), StationFault>
     ensures engine { recorder.new.engine ≡ recorder.old.engine }
     ensures share { recorder.new.share.parts ≡ recorder.old.share.parts }
-    ensures opened { IfOk result (λ r. AreConsolesOf recorder.old.engine.plant recorder.old.engine.history r.0.items r.1.items) }
+    ensures log { log_kept recorder.new.board ≡ log_kept recorder.old.board }
+    ensures opened { IfOk result (λ r. AreConsolesOf recorder.old.engine.plant (published recorder.old.board) (log_kept recorder.old.board) r.0.items r.1.items) }
 {
     let Recorder { engine, board, .. } = recorder;
     open_lanes(alloc, engine.plant().consoles(), board)

@@ -1,20 +1,24 @@
 //! The station: its public calls.
 
-ghost use Rattle.std.specs.Prelude.{◌≡◌, ◌<◌, ℕ, [], length, map, All, IfOk, IfErr, OnErr};
+ghost use Rattle.std.specs.Prelude.{◌≡◌, ◌<◌, ℕ, [], true, length, map, All, Some, IfOk, IfErr, OnErr};
 ghost use Rattle.plant_system.specs.Faults.{faults_by};
 ghost use Rattle.order_taking.specs.Parts.{answers_of};
 ghost use Rattle.archive.specs.Records.{IsScanDue};
-ghost use Rattle.station.specs.Lanes.{numbers_of, links_of, left_in, finished_of, is_within, has_seen_within, IsConsoleIn, IsEndIn, IsFresh, HasNotLooked, KeepsConsoles};
-ghost use Rattle.station.specs.Stations.{IsTurn, IsClosed, SameButRoom};
-ghost use Rattle.board_entries.specs.Entries.{history_story};
+ghost use Rattle.station.specs.Lanes.{numbers_of, links_of, links_in, left_in, finished_of, ended_of, is_within, has_seen_within, IsConsoleIn, IsEndIn, IsFresh, HasNotLooked, KeepsConsoles};
+ghost use Rattle.station.specs.Stations.{IsTurn, IsClosed, SameButRoom, AreBeginnings};
+ghost use mathlib.Core.List.{IsPrefix};
+ghost use Rattle.event_history.specs.declared.event.Order.{Order};
+ghost use Rattle.plant_system.specs.declared.event.Reply.{Reply};
+ghost use Rattle.operator_console.specs.declared.console.Finished.{Finished as Ended};
+ghost use Rattle.board_entries.specs.Entries.{entries_of, history_story};
 
 use crate::closing::{Closing, end_lanes};
 use crate::opening::StationFault;
 use crate::recording::open_consoles;
-use archive::{Archive, Recorder, let_go};
-use console_link::{Finished, Lane};
+use archive::{Archive, Recorder};
+use console_link::Lane;
 use engine::{Crew, Done, Engine, EngineFault, Job, Order, Pair, Plant, Reply, Report, Start};
-use operator_console::Console;
+use operator_console::{Console, Finished};
 use order_taking::take_parts;
 use std::alloc::Global;
 use std::marker::Model;
@@ -52,6 +56,7 @@ pub struct Station<L: Ledger, C> {
 }
 
 impl<L: Ledger, C> Model for Station<L, C> {
+    ghost use Rattle.boards.specs.Readers.{log_kept};
     ghost use Rattle.station.specs.Stations.{PlainStation, IsStation, station_code};
 
     ghost Value = { PlainStation C };
@@ -60,7 +65,7 @@ impl<L: Ledger, C> Model for Station<L, C> {
 
     ghost view = { λ s. record { engine = s.recorder.engine; parts = s.recorder.share.parts; crew = s.crew; lanes = s.lanes.items } };
 
-    ghost invariant = { λ s. IsStation s.recorder.engine.plant s.recorder.engine.history s.lanes.items };
+    ghost invariant = { λ s. IsStation s.recorder.engine.plant s.recorder.engine.history (log_kept s.recorder.board) s.lanes.items };
 }
 
 impl<L: Ledger, C: Drop> Station<L, C> {
@@ -96,7 +101,7 @@ impl<L: Ledger, C: Drop> Station<L, C> {
                 consoles,
             )),
             Err(fault) => {
-                let_go(recorder.end(rt));
+                drop(recorder.end(rt));
                 Err(fault)
             }
         }
@@ -155,19 +160,25 @@ impl<L: Ledger, C: Drop> Station<L, C> {
     /// Ends the station, once its consoles have ended: the orders that the history has of a console, followed by those that are left, are all that it
     /// submitted, each once and in order, and the answers that it took are the first of those that the history has of it. Of two
     /// ended consoles of one number, which no station has, the first counts.
+    ///
+    /// The lists that the ended consoles saw on the board, and the entries of the history, are beginnings of one list. So where a console saw no more
+    /// events than the history has, which `Closing::within` tells, what it saw is a beginning of the history's entries.
     pub fn close<H: Wait>(self, rt: &H, finished: Vec<Finished<Order, Reply>>) -> Closing<C>
         requires { All (IsEndIn self.lanes) finished.items }
         ensures engine { result.engine ≡ self.engine }
         ensures crew { result.crew ≡ self.crew }
-        ensures closed { (n : ℕ) → IsClosed (answers_of n self.engine.plant self.engine.history) (left_in n result.lanes) (finished_of n finished.items) }
-        ensures within { (n : ℕ) → is_within n (length self.engine.history) result.lanes ≡ has_seen_within (length self.engine.history) (finished_of n finished.items) }
+        ensures closed { (n : ℕ) → IsClosed (answers_of n self.engine.plant self.engine.history) (left_in n result.lanes) (finished_of n (links_in finished.items)) }
+        ensures within { (n : ℕ) → is_within n (length self.engine.history) result.lanes ≡ has_seen_within (length self.engine.history) (finished_of n (links_in finished.items)) }
+        ensures one { AreBeginnings (entries_of self.engine.plant self.engine.history) finished.items }
+        ensures begins { (n : ℕ) (f : Ended Order Reply) → ended_of n finished.items ≡ Some f → is_within n (length self.engine.history) result.lanes ≡ true → IsPrefix f.mark.entries (entries_of self.engine.plant self.engine.history) }
     {
         let Station {
             recorder,
             crew,
             mut lanes,
         } = self;
-        end_lanes(lanes.as_mut_slice(), finished);
+        let mut all = recorder.board.mark();
+        end_lanes(lanes.as_mut_slice(), &mut all, finished);
         Closing {
             engine: recorder.end(rt),
             crew,

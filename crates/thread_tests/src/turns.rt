@@ -1,12 +1,14 @@
 //! A console's part of a turn.
 use console_link::{Console, Lane, open};
+use marked_log::Log;
 use std::alloc::{AllocError, Global};
 
 /// A console of a number, and the owner's ends of its rings; where memory is refused they are made once more.
 pub fn opened(alloc: Global, number: u32) -> Result<(Console<u32, u8>, Lane<u32, u8>), AllocError> {
-    match open(alloc, number) {
+    let log = Log::<u32>::new();
+    match open(alloc, number, &log.mark()) {
         Ok(ends) => Ok(ends),
-        Err(_) => open(alloc, number),
+        Err(_) => open(alloc, number, &log.mark()),
     }
 }
 

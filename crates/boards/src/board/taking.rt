@@ -1,18 +1,19 @@
 //! How a board takes in an entry.
 ghost use Rattle.std.specs.Prelude.{◌≡◌, ◌^◌, ◌+◌, ◌<◌, true, length, All, [], ◌∷◌, ◌++◌, map};
 ghost use Rattle.boards.specs.Stories.{shown, is_lawful, grown};
+ghost use Rattle.boards.specs.Marks.{operated};
 ghost use Rattle.boards.specs.Replies.{after, allows};
 ghost use Rattle.boards.specs.Counts.{count_of, tallied};
 
 use super::Board;
-use crate::entry::Entry;
+use crate::entry::{Entry, Operation};
 use crate::replies::take;
 use crate::tally::{Tally, count_entry};
 use alarm_bank::Bank;
 use left_right::Absorb;
+use marked_log::{Log, Mark};
 use std::alloc::AllocError;
-use std::snapshot::Snapshot;
-use trace::Trace;
+use trace::{Remembered, Trace};
 
 impl Board {
     /// A board before the first entry, which counts the orders of these consoles. None of them has one yet.
@@ -20,31 +21,43 @@ impl Board {
         requires { All (λ t. t.orders ≡ 0) tallies.items }
         ensures { (result.opening.value ≡ bank) × (result.list ≡ []) }
     {
-        let opening = Snapshot::of(&bank);
+        let opening = Remembered::of(&bank);
         Board {
             bank,
             opening,
             list: Trace::new(),
             events: 0,
             tallies,
+            mark: Log::new().mark(),
+        }
+    }
+
+    /// Takes in an entry, if it may come next.
+    fn take(&mut self, entry: &Entry)
+        ensures story { (self.new.opening.value, self.new.list) ≡ grown after allows (self.old.opening.value, self.old.list) entry.now }
+        ensures mark { self.new.mark ≡ self.old.mark }
+    {
+        if self.events < u64::MAX && take(&mut self.bank, entry) {
+            self.list = self.list.then(entry);
+            self.events += 1;
+            count_entry(&mut self.tallies, entry);
         }
     }
 }
 
-impl Absorb<Entry> for Board {
-    type State = (Bank, Trace<Entry>);
+impl Absorb<Operation> for Board {
+    type State = (Bank, Trace<Entry>, Mark<Entry>);
 
-    ghost state = { λ b. (b.opening.value, b.list) };
+    ghost state = { λ b. (b.opening.value, b.list, b.mark) };
 
-    ghost applied = { grown after allows };
+    ghost applied = { operated };
 
     ghost never_fails = { Unit {0} };
 
-    fn absorb_first(&mut self, operation: &Entry, _other: &Board) -> Result<(), AllocError> {
-        if self.events < u64::MAX && take(&mut self.bank, operation) {
-            self.list = self.list.then(operation);
-            self.events += 1;
-            count_entry(&mut self.tallies, operation);
+    fn absorb_first(&mut self, operation: &Operation, _other: &Board) -> Result<(), AllocError> {
+        match operation {
+            Operation::Entry(entry) => self.take(entry),
+            Operation::Mark(mark) => self.mark = mark.again(),
         }
         Ok(())
     }

@@ -1,8 +1,8 @@
 //! What a console does with its rings.
 ghost use Rattle.std.specs.Prelude.{◌≡◌, ◌<◌, ◌≤◌, [], ◌∷◌, ◌++◌, OnOk, IfErr, IfSome, IsOk, IfNone};
-ghost use Rattle.boards.specs.Readers.{seen, told};
+ghost use Rattle.boards.specs.Readers.{seen, told, log_of};
 ghost use Rattle.console_link.specs.Seats.{SameConsole};
-ghost use Rattle.operator_console.specs.Consoles.{submitted, taken, known_room, story_seen, story_told};
+ghost use Rattle.operator_console.specs.Consoles.{submitted, taken, known_room, story_seen, story_told, board_log};
 
 use super::Console;
 use crate::sight::Sight;
@@ -10,10 +10,12 @@ use boards::BoardReader;
 use console_link::Answer;
 
 impl<O: Drop, R: Drop> Console<O, R> {
-    /// A console with these rings and this reader of the board.
+    /// A console with these rings and this reader of the board, which has its marks in the log that the rings tell.
     pub fn new(link: console_link::Console<O, R>, reader: BoardReader) -> Console<O, R>
+        requires log { link.log ≡ log_of reader }
         ensures rings { result.link ≡ link }
         ensures seen { (story_seen result ≡ seen reader) × (story_told result ≡ told reader) }
+        ensures log { board_log result ≡ log_of reader }
     {
         Console {
             link,

@@ -7,17 +7,14 @@ ghost use Rattle.operator_console.specs.Views.{console_name};
 ghost use Rattle.operator_console.specs.contracts.console.Console.{the_row};
 
 use super::Console;
-use crate::sight::Sight;
 use crate::view::BoardView;
-use std::mem::replace;
 
 impl<O, R> Console<O, R> {
     /// Ends the look, if there is one.
     pub(crate) fn leave(&mut self)
         ensures { HasLeft self.old self.new }
     {
-        let sight = replace(&mut self.sight, Sight::Gone);
-        self.sight = sight.ended();
+        self.sight.end();
     }
 }
 
@@ -28,8 +25,7 @@ impl<O: Drop, R: Drop> Console<O, R> {
         ensures looked { HasLooked self.old self.new }
         ensures shows { MatchBool result (ShowsFrom self.old (looked_at self.new.sight)) (Unit {0}) }
     {
-        let sight = replace(&mut self.sight, Sight::Gone);
-        self.sight = sight.renewed();
+        self.sight.renew();
         if self
             .sight
             .has_orders(self.link.number(), self.link.answered())

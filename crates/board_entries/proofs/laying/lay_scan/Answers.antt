@@ -7,13 +7,13 @@ use Rattle.plant_system.specs.States.{PlainPrepared}
 use Rattle.plant_system.specs.System.{conditions, suppressions}
 use Rattle.engine.specs.Engines.{state_of}
 use Rattle.boards.specs.declared.entry.Entry.TheVariants as entry
+use Rattle.boards.specs.Replies.{is_scan}
 use Rattle.board_entries.specs.Entries.{entry_of}
-use Rattle.board_entries.proofs.Laid.{scan_entry, laid, kept}
+use Rattle.board_entries.proofs.Laid.{scan_entry, laid_or_not}
 use Rattle.board_entries.proofs.laying.lay_scan.Goals as goal
-use Rattle.board_entries.proofs.laying.lay_scan.Goals.{in-Ok, in-Err}
 
-pub returns : goal.returns
-returns c =
+pub returns-clause-laid : goal.returns-clause-laid
+returns-clause-laid c =
     let e = c.args.engine.now in
     let p = c.args.prepared.now in
     let rows = c.alarm_rows-rows.result.now in
@@ -24,7 +24,7 @@ returns c =
     ∙ (ap (λ q. entry.Scan (bank_event.Scan q.report.moment (conditions (value_at q.effect.cells) rows) (suppressions (value_at q.effect.cells) rows))) c.prepared-inside.view_is
     ∙ (ap (λ (q : PlainPrepared). entry.Scan (bank_event.Scan q.report.moment (conditions (value_at q.effect.cells) rows) (suppressions (value_at q.effect.cells) rows))) c.prepared.view_is
     ∙ scan_entry e p rows c.requires.fits c.leaves_a_state.ensures is same)) in
-    elim c.match-append.branch [
-      | in-Ok w ↦ rw w.result-is (laid e.plant e.history p.event c.args.board.now c.append.new.self (entry.Scan c.in_ok-given.given) c.requires.shows c.append.ensures.same w.in-Ok.ensures.pending made)
-      | in-Err w ↦ rw w.result-is (kept e.plant e.history c.args.board.now c.append.new.self c.requires.shows c.append.ensures.same w.in-Err.ensures.pending.1)
-    ]
+    laid_or_not c.lay.result e.plant e.history p.event c.args.board.now c.lay.new.self (entry.Scan c.in_ok-given.given) c.requires.has c.requires.fits.taken made c.lay.ensures.laid
+
+pub lay-requires : goal.lay-requires
+lay-requires c = record { may_come = ap (λ (x : BankEvent). is_scan x) c.in_ok-given.ensures }

@@ -18,4 +18,5 @@ loop-preserved g c =
       omega (arith, h.3),
       c.take_order.ensures.plant ∙ h.4,
       c.take_order.ensures.share ∙ h.5,
+      c.take_order.ensures.log ∙ h.6,
     )

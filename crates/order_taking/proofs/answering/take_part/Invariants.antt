@@ -8,3 +8,4 @@ invariant-loop g l =
     (orders : List Order) × Took (g.T.Recording.plant_of l.fn.recorder) l.fn.lane l.lane (g.T.Recording.history_of l.fn.recorder) (g.T.Recording.history_of l.recorder) orders × (length orders ≡ l.taken) × (l.taken ≡ l.counter)
     × ((g.T.Recording.plant_of l.recorder) ≡ (g.T.Recording.plant_of l.fn.recorder))
     × ((g.T.Recording.parts_of l.recorder) ≡ (g.T.Recording.parts_of l.fn.recorder))
+    × ((g.T.Recording.log_of l.recorder) ≡ (g.T.Recording.log_of l.fn.recorder))

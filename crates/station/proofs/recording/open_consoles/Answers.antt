@@ -1,7 +1,7 @@
 use Rattle.std.proofs.Common.{◌≡◌, ap, ◌∙◌, subst}
 use Rattle.plant_config.specs.Plants.{PlainPlant, IsPlant}
 use Rattle.plant_system.proofs.Systems.{system_keeps_its_plant}
-use Rattle.boards.specs.Readers.{published}
+use Rattle.boards.specs.Readers.{published, log_kept}
 use Rattle.station.proofs.Openings.{consoles_opened}
 use Rattle.station.proofs.recording.open_consoles.Goals as goal
 
@@ -11,5 +11,5 @@ returns-clause-opened g c =
     let e = s.engine in
     let own : c.plant.result.now ≡ e.plant = c.plant.ensures ∙ system_keeps_its_plant e.plant e.history in
     let is : IsPlant e.plant = subst (λ (p : PlainPlant). IsPlant p) own c.consoles.ensures.plant in
-    consoles_opened c.open_lanes.result (λ r. r.0.items) (λ r. r.1.items) e.plant e.history c.consoles.result.now (published s.board) (c.consoles.ensures.consoles ∙ ap (λ (p : PlainPlant). p.consoles) own) is s.shown.published_is
-    c.open_lanes.ensures.opened c.open_lanes.ensures.looks
+    consoles_opened c.open_lanes.result (λ r. r.0.items) (λ r. r.1.items) e.plant c.consoles.result.now (published s.board) (log_kept s.board) (c.consoles.ensures.consoles ∙ ap (λ (p : PlainPlant). p.consoles) own) is
+    c.open_lanes.ensures.opened c.open_lanes.ensures.looks c.open_lanes.ensures.marked

@@ -1,10 +1,11 @@
-use Rattle.archive.proofs.Shown.{shows_more}
+use Rattle.std.proofs.Common.{[], ◌∷◌, ◌++◌}
+use Rattle.archive.proofs.Shown.{has_same}
 use Rattle.archive.proofs.recorder.Recorder.scan.Goals as goal
 
-pub invariant_of-self-2-clause-shown : goal.invariant_of-self-2-clause-shown
-invariant_of-self-2-clause-shown g c =
+pub invariant_of-self-2-clause-has : goal.invariant_of-self-2-clause-has
+invariant_of-self-2-clause-has g c =
     let old = c.ready_scan.new.engine in
     let new = c.commit_scan-report.new.engine in
     let own = c.in_ok-ready.ready.own in
-    shows_more old.plant new.plant old.history new.history own.event c.lay_scan.new.board c.show_next.new.board c.show_next.ensures c.in_ok-lay_scan.ensures c.in_ok-ready.ensures.own.0.taken
-    c.commit_scan-report.ensures.plants.0 c.commit_scan-report.ensures.engine
+    has_same old.plant new.plant (old.history ++ own.event ∷ []) new.history c.lay_scan.new.board c.show.new.board c.show.ensures.0 c.commit_scan-report.ensures.plants.0 c.commit_scan-report.ensures.engine
+    c.in_ok-lay_scan.ensures.laid

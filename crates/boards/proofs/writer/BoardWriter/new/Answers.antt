@@ -1,14 +1,11 @@
-use Rattle.std.proofs.Common.{drop, sym, subst}
-use Rattle.alarm_bank.specs.Banks.{PlainBank}
-use Rattle.boards.specs.declared.entry.Entry.{Entry}
-use Rattle.boards.specs.Stories.{Story, Continues}
-use Rattle.boards.specs.Replies.{after, allows}
-use Rattle.boards.specs.Readers.{story_of}
-use Rattle.boards.proofs.Sights.{turns, grown_all}
+use Rattle.std.proofs.Common.{List, fold, ◌∙◌, ap}
+use Rattle.boards.specs.declared.entry.Operation.{Operation}
+use Rattle.boards.specs.Marks.{operated}
+use Rattle.boards.proofs.Laying.{state_of, turns_same}
 use Rattle.boards.proofs.writer.BoardWriter.new.Goals as goal
 
 pub publish_as-writer-requires : goal.publish_as-writer-requires
 publish_as-writer-requires g c next is =
     let w = c.in_ok-writer.writer in
     let now = w.desk.shown.value in
-    turns story_of _ _ now next (subst (λ (s : Story PlainBank Entry). Continues (story_of now) s) (sym is) (grown_all after allows (story_of now) (drop w.behind w.log.items)))
+    turns_same _ _ now next (is ∙ ap (λ (ops : List Operation). fold operated (state_of now) ops) c.in_ok-writer.ensures.1)

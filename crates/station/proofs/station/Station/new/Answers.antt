@@ -1,9 +1,11 @@
 use Rattle.std.proofs.Common.{List, ℕ, All, sym, subst}
 use Rattle.operator_console.specs.Sights.{BoardStory}
-use Rattle.board_entries.specs.Entries.{history_story}
+use Rattle.boards.specs.Readers.{log_kept}
+use Rattle.logbook.specs.Pages.{Book}
 use Rattle.engine.specs.Engines.{PlainEngine}
 use Rattle.station.specs.Lanes.{links_of, HasNoTwin, HasNotLooked}
 use Rattle.station.specs.Stations.{IsStation}
+use Rattle.station.proofs.Beginnings.{opening_published}
 use Rattle.station.proofs.Openings.{all_found}
 use Rattle.station.proofs.Turning.{station_opened}
 use Rattle.station.proofs.station.Station.new.Goals as goal
@@ -13,8 +15,10 @@ invariant_of-result g c =
     let made = c.in-Ok-open_consoles.ensures.opened in
     let e = c.in-Ok.recorder.engine in
     let lanes = c.in-Ok-open_consoles.lanes.items in
-    subst (λ (x : PlainEngine). IsStation x.plant x.history lanes) (sym c.in-Ok-open_consoles.ensures.engine)
-    (station_opened e.plant e.history lanes c.in-Ok.ensures.engine.1 made.opened.lane_numbers made.is_plant.consoles_once made.is_plant.few_consoles made.opened.unused)
+    let log = log_kept c.in-Ok.recorder.board in
+    subst (λ (b : Book). IsStation c.open_consoles.new.recorder.engine.plant c.open_consoles.new.recorder.engine.history b lanes) (sym c.in-Ok-open_consoles.ensures.log)
+    (subst (λ (x : PlainEngine). IsStation x.plant x.history log lanes) (sym c.in-Ok-open_consoles.ensures.engine)
+    (station_opened e.plant e.history log lanes c.in-Ok.ensures.engine.1 made.opened.lane_numbers made.is_plant.consoles_once made.is_plant.few_consoles made.opened.unused made.marked))
 
 pub returns-in-Ok-open_consoles-clause-consoles : goal.returns-in-Ok-open_consoles-clause-consoles
 returns-in-Ok-open_consoles-clause-consoles g c =
@@ -24,4 +28,5 @@ returns-in-Ok-open_consoles-clause-consoles g c =
 pub returns-in-Ok-open_consoles-clause-looks : goal.returns-in-Ok-open_consoles-clause-looks
 returns-in-Ok-open_consoles-clause-looks g c =
     let is = c.in-Ok.ensures.engine in
-    subst (λ (s : BoardStory). All (HasNotLooked s) c.in-Ok-open_consoles.consoles.items) (λ i. history_story (is.0 i) (is.1 i)) c.in-Ok-open_consoles.ensures.opened.looks
+    let s = c.in-Ok.recorder in
+    subst (λ (t : BoardStory). All (HasNotLooked t) c.in-Ok-open_consoles.consoles.items) (opening_published c.args.plant s.engine.plant s.engine.history s.board is.0 is.1 s.has) c.in-Ok-open_consoles.ensures.opened.looks

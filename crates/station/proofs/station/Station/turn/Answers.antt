@@ -1,6 +1,7 @@
 use Rattle.std.proofs.Common.{◌≡◌, ◌∷◌, [], ◌++◌, ◌∙◌, length, refl, arith}
 use Rattle.std.proofs.lemmas.List.{with_items_is}
 use Rattle.engine.specs.Engines.{state_of}
+use Rattle.boards.specs.Readers.{log_kept}
 use Rattle.order_taking.specs.Turns.{TookParts}
 use Rattle.order_taking.proofs.Takes.{parts_moved}
 use Rattle.station.proofs.Agrees.{scan_orders_nothing}
@@ -21,8 +22,8 @@ invariant_of-self-2 g c =
     c.scan.ensures.plant c.as_mut_slice.ensures.value took.history_is c.take_parts-part.ensures.parts in
     let long : length lanes ≡ s.lanes.len = omega (arith, c.take_parts-part.auto.lanes, c.as_mut_slice.ensures.len) in
     rw (with_items_is s.lanes lanes long)
-    (station_kept old.plant e.plant e.history e.history lanes (c.take_parts-part.ensures.plant ∙ c.scan.ensures.plant) refl
-    (station_turned old.plant old.history e.history took.event s.lanes.items lanes c.take_parts-part.result.taken c.take_parts-part.result.stopped
+    (station_kept old.plant e.plant e.history e.history (log_kept s.recorder.board) (log_kept c.take_parts-part.new.recorder.board) lanes (c.take_parts-part.ensures.plant ∙ c.scan.ensures.plant) refl (c.take_parts-part.ensures.log ∙ c.scan.ensures.log)
+    (station_turned old.plant old.history e.history (log_kept s.recorder.board) took.event s.lanes.items lanes c.take_parts-part.result.taken c.take_parts-part.result.stopped
     (scan_orders_nothing (state_of old) c.args.pairs.now c.args.moment took.event took.event_is) parts c.self.invariant))
 
 pub returns-clause-consoles : goal.returns-clause-consoles

@@ -6,7 +6,7 @@ use Rattle.boards.specs.Stories.{shown, is_lawful}
 use Rattle.boards.specs.Replies.{after, allows}
 use Rattle.boards.specs.Counts.{count_of, tallied}
 use Rattle.boards.proofs.Takes.{shown_more, lawful_more, few_each, each_more}
-use Rattle.boards.proofs.board.taking.BoardAbsorbEntry.absorb_first.Goals as goal
+use Rattle.boards.proofs.board.Board.take.Goals as goal
 
 pub count_entry-requires : goal.count_entry-requires
 count_entry-requires c =
@@ -16,14 +16,14 @@ count_entry-requires c =
 pub invariant_of-self : goal.invariant_of-self
 invariant_of-self c =
     let s = c.args.self.now in
-    let e = c.args.operation.now in
+    let e = c.args.entry.now in
     let opening = s.opening.value in
-    let more = c.then.ensures in
+    let more = c.then-self.ensures in
     let may : allows s.bank e ≡ true = sym c.take.ensures.allowed ∙ c.if-take.true in
     let longer = ap (λ (es : List Entry). length es) more in record {
       is_shown = c.take.ensures.taken ∙ (ap (λ (b : Bool). if b then after s.bank e else s.bank) may ∙ (ap (λ (b : PlainBank). after b e) s.is_shown ∙ (sym (shown_more after opening s.list e) ∙ ap (λ (es : List Entry). shown after opening es) (sym more))));
       lawful = subst (λ (es : List Entry). is_lawful after allows opening es ≡ true) (sym more) (lawful_more after allows opening s.list e s.lawful (ap (λ (b : PlainBank). allows b e) (sym s.is_shown) ∙ may));
       all_counted = omega (arith, s.all_counted, length-append s.list (e ∷ []), longer);
-      each_counted = subst (λ (ts : List Tally). All (λ t. t.orders ≡ count_of t.console c.then.result) ts) (sym c.count_entry.ensures)
+      each_counted = subst (λ (ts : List Tally). All (λ t. t.orders ≡ count_of t.console c.then-self.result) ts) (sym c.count_entry.ensures)
           (subst (λ (es : List Entry). All (λ t. t.orders ≡ count_of t.console es) (map (tallied e) s.tallies.items)) (sym more) (each_more s.list e s.tallies.items s.each_counted));
     }
