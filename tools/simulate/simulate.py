@@ -276,9 +276,10 @@ def unwarned(ran):
 
 
 def unexplained(ran):
-    """A refusal without what a person is told of it on standard error, which begins with the refusal's own line."""
+    """A refusal without what a person is told of it on standard error, which begins with the refusal's own line; and a check of an accepted plant without its warnings."""
     explained = ran.status == 3 and ran.out.startswith((b"CONFIG C", b"FILE ")) and ran.error.startswith(ran.out)
-    return Ran(ran.out, b"", ran.status) if explained else unwarned(ran)
+    warned = ran.status == 0 and ran.out.startswith(b"ACCEPTED PROGRAMS ") and b": warning: " in ran.error.split(b"\n")[0]
+    return Ran(ran.out, b"", ran.status) if explained or warned else unwarned(ran)
 
 
 def is_refusal(ran):
@@ -362,6 +363,8 @@ def share_out(options, told):
         counts = queue.get()
         left -= counts is None
         told(counts or {})
+    for it in shares:
+        it.join()
 
 
 def put_all(options, share, queue):

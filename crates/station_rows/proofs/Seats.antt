@@ -2,11 +2,11 @@
 use Rattle.std.proofs.Common.{◌≡◌, List, [], ◌∷◌, ◌++◌, refl, sym, ◌∙◌, subst}
 use Rattle.std.proofs.lemmas.List.Elements.{All-nil, All-cons, All-head, All-tail, All-weaker}
 use Rattle.console_link.specs.declared.console.Console.{Console as Link}
-use Rattle.console_link.specs.declared.console.Finished.{Finished}
 use Rattle.console_link.specs.declared.lane.Lane.{Lane}
 use Rattle.console_link.specs.Seats.{SameConsole, Ends}
 use Rattle.event_history.specs.declared.event.Order.{Order}
 use Rattle.operator_console.specs.declared.console.Console.{Console}
+use Rattle.operator_console.specs.declared.console.Finished.{Finished}
 use Rattle.plant_system.specs.declared.event.Reply.{Reply}
 use Rattle.station.specs.Lanes.{links_of, IsConsoleIn, IsEndIn, KeepsConsoles}
 use Rattle.station.proofs.Ends.{console_goes_on, console_has_ended}
@@ -25,7 +25,7 @@ abbrev Lanes : Type 0
 Lanes = List (Lane Order Reply)
 
 same_console : (c : K) → SameConsole c c
-same_console c = (refl, (((refl, refl, refl, refl), refl), ((refl, refl, refl, refl), refl)))
+same_console c = (refl, (((refl, refl, refl, refl), refl), ((refl, refl, refl, refl), refl)), refl)
 
 -- a console whose rings are as they were
 pub same_link : (c d : K) → d ≡ c → SameConsole c d
@@ -38,6 +38,7 @@ same_consoles a b c h k = (
     ((k.1.0.0.0 ∙ h.1.0.0.0, k.1.0.0.1 ∙ h.1.0.0.1, k.1.0.0.2 ∙ h.1.0.0.2, k.1.0.0.3 ∙ h.1.0.0.3), k.1.0.1 ∙ h.1.0.1),
     ((k.1.1.0.0 ∙ h.1.1.0.0, k.1.1.0.1 ∙ h.1.1.0.1, k.1.1.0.2 ∙ h.1.1.0.2, k.1.1.0.3 ∙ h.1.1.0.3), k.1.1.1 ∙ h.1.1.1),
   ),
+  k.2 ∙ h.2,
 )
 
 pub same_all : (cs : List C) → AreSame cs cs
@@ -89,5 +90,5 @@ pub without_last : (lanes : Lanes) (whole cs : List C) (c : C) → whole ≡ cs 
 without_last lanes whole cs c is h = front_of lanes cs (c ∷ []) (subst (λ (xs : List C). AreOf lanes xs) is h)
 
 -- which has ended
-pub last_ended : (lanes : Lanes) (whole cs : List C) (c : C) (f : F) → whole ≡ cs ++ c ∷ [] → AreOf lanes whole → Ends c.link f → IsEndIn lanes f
-last_ended lanes whole cs c f is h e = console_has_ended lanes c.link f (last_of lanes cs c (subst (λ (xs : List C). AreOf lanes xs) is h)) e
+pub last_ended : (lanes : Lanes) (whole cs : List C) (c : C) (f : F) → whole ≡ cs ++ c ∷ [] → AreOf lanes whole → Ends c.link f.link → IsEndIn lanes f
+last_ended lanes whole cs c f is h e = console_has_ended lanes c.link f.link (last_of lanes cs c (subst (λ (xs : List C). AreOf lanes xs) is h)) e

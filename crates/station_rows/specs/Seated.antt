@@ -1,10 +1,10 @@
 -- Consoles of a station, which go on together.
 use Rattle.std.specs.Prelude.{List, [], ◌∷◌, All}
-use Rattle.console_link.specs.declared.console.Finished.{Finished}
 use Rattle.console_link.specs.declared.lane.Lane.{Lane}
 use Rattle.console_link.specs.Seats.{SameConsole}
 use Rattle.event_history.specs.declared.event.Order.{Order}
 use Rattle.operator_console.specs.declared.console.Console.{Console}
+use Rattle.operator_console.specs.declared.console.Finished.{Finished}
 use Rattle.plant_system.specs.declared.event.Reply.{Reply}
 use Rattle.station.specs.Lanes.{links_of, IsConsoleIn, IsEndIn}
 

@@ -8,8 +8,8 @@ ghost use Rattle.station.specs.Lanes.{IsEndIn};
 ghost use Rattle.station_rows.specs.Seated.{EndAll};
 
 use crate::orders::order_text;
-use engine::Alone;
-use row_text::push_line;
+use crate::printing::push_line;
+use crate::workers::Workers;
 use station::{Closing, Console, Finished};
 use std::alloc::{AllocError, Global};
 
@@ -39,7 +39,7 @@ pub fn end_all(alloc: Global, mut consoles: Vec<Console>) -> Vec<Finished>
 /// Adds whether a console saw no more events than the history has.
 fn push_within(
     alloc: Global,
-    closing: &Closing<Alone>,
+    closing: &Closing<Workers>,
     text: &mut Vec<u8>,
     console: u32,
 ) -> Result<(), AllocError> {
@@ -57,7 +57,7 @@ fn push_within(
 /// Adds the orders that were left of a console, which are 64 at most.
 fn push_left(
     alloc: Global,
-    closing: &mut Closing<Alone>,
+    closing: &mut Closing<Workers>,
     text: &mut Vec<u8>,
     console: u32,
 ) -> Result<(), AllocError> {
@@ -71,15 +71,36 @@ fn push_left(
     Ok(())
 }
 
-/// Adds what is left once a station was closed: of consoles 1 and 2, and of 3, which the plant doesn't list.
+/// Adds whether a console saw no more than the history has, and its orders that were left.
+fn push_ended(
+    alloc: Global,
+    closing: &mut Closing<Workers>,
+    text: &mut Vec<u8>,
+    console: u32,
+) -> Result<(), AllocError> {
+    push_within(alloc, &*closing, text, console)?;
+    push_left(alloc, closing, text, console)
+}
+
+/// The number of the console that the plant lists there, if there is one.
+fn listed(closing: &Closing<Workers>, at: usize) -> Option<u32> {
+    let console = closing.engine().plant().consoles().get(at)?;
+    Some(console.number)
+}
+
+/// Adds what is left once a station was closed: of each console in the plant's order, and of one that the plant doesn't list, whose number is one above
+/// the greatest.
 pub fn push_end(
     alloc: Global,
-    closing: &mut Closing<Alone>,
+    closing: &mut Closing<Workers>,
     text: &mut Vec<u8>,
 ) -> Result<(), AllocError> {
-    for console in 1..4u32 {
-        push_within(alloc, &*closing, text, console)?;
-        push_left(alloc, closing, text, console)?;
+    let mut other = 1u32;
+    for at in 0..closing.engine().plant().consoles().len() {
+        if let Some(console) = listed(&*closing, at) {
+            push_ended(alloc, closing, text, console)?;
+            other = other.max(console.saturating_add(1));
+        }
     }
-    Ok(())
+    push_ended(alloc, closing, text, other)
 }

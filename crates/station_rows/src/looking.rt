@@ -4,9 +4,9 @@ ghost use Rattle.station_rows.specs.Seated.{AreSame};
 
 use crate::asking::{Asked, Told, ask};
 use crate::orders::{order_of, order_text, reply_text};
+use crate::printing::push_line;
 use crate::rows::{cut, number};
 use engine::{Order, Plant};
-use row_text::push_line;
 use station::Console;
 use std::alloc::{AllocError, Global};
 

@@ -3,33 +3,46 @@
 //! The table is read from standard input (the file `stdin`), and what the stations do is written to standard output (the file `stdout`). Rows are
 //! bytes, so more of them cost no proof. Nothing here is part of the server.
 //!
-//! A line `station NAME` begins a station of the plant that is built in (in `src/plants.rt`), which has two consoles. The lines after it are done in
-//! turn, and of each the line and what it gives are printed; empty lines are passed over. The station ends before the next one begins: its consoles
-//! end, it is closed, and of each console is printed whether it saw no more than the history has, and the orders that were left. What stands before
-//! the first station is passed over. A line is one of these:
+//! A line `station NAME` begins a station. Its plant is the one that is built in (in `src/plants.rt`), which has two consoles; or, where the lines after
+//! the name are `file plant.toml` and its text, then `file alarms.csv`, then `file` and the name of each source as the plant file lists them, and
+//! `begin`, the plant of these files. The lines after that are done in turn, and of each the line and what it gives are printed; empty lines are passed
+//! over. The station ends before the next one begins: its consoles end, it is closed, and of each console is printed whether it saw no more than the
+//! history has, and the orders that were left; and likewise of a console that isn't there. What stands before the first station is passed over. A line is
+//! one of these:
 //!
-//! - `scan 0 a=5` takes a turn with this scan;
+//! - `scan 0 a=5` takes a turn with this scan: the alarms and outputs that changed, and the orders that were taken;
+//! - `once scan 0 a=5` likewise, and says `MEMORY` where memory is refused for the scan;
 //! - `ack 1 T1`, or any other order as the server reads it, is submitted by its console; `repeat 64 ack 1 T1` submits it so many times;
 //! - `answer 1` takes the next answer at a console, `answers 1 64` so many;
 //! - `board 1 T1` looks at the board of a console: how many events it shows, and the state of an alarm;
 //! - `room 1` says how many places for orders a console knows to be free;
 //! - `page 1 3` prints the archive's lines from one number on, so many;
-//! - `journal` says whether the archive's lines are those of the engine's journal, and how many they are.
+//! - `journal` says whether the archive's lines are those of the engine's journal, and how many they are;
+//! - `workers 2`, as a station's first line only, has its programs run by workers who are gone after so many rounds.
+//!
+//! Where memory is refused for a turn's scan, or for a page, it is asked for once more. Where it is refused for an order, so that the turn is stopped, or
+//! anywhere else in a station's life, the whole station is lived once more, from the reading of its plant; a turn of `once` says so instead, and the
+//! station goes on. Where a turn is refused or stopped it is held against what came before: how many events the engine, the archive and the boards have, and
+//! how many orders wait. `PROMISE BROKEN` is printed where these aren't as they have to be; the file `stdout` has no such line. So what is printed is the
+//! same whichever allocation fails after the reading of the table, unless the output's own growth does: then nothing is printed.
 #![tactic(auto)]
 
 mod asking;
+mod counts;
 mod ending;
 mod living;
 mod looking;
 mod orders;
 mod pages;
 mod plants;
+mod printing;
 mod rows;
 mod turns;
+mod workers;
 
 use living::run;
-use plants::read_plant;
-use row_text::push_line;
+use plants::{parted, read_plant};
+use printing::push_line;
 use std::alloc::{AllocError, Global};
 use std::io;
 use std::io::Write;
@@ -38,18 +51,41 @@ use std::sync::Wait;
 use std::sync::ledger::Blank;
 use std::thread::Threads;
 
-/// Adds what a station does by the lines of its part of the table, of which the first is its name.
+/// How often a station is lived at most, where memory is refused.
+const MOST_LIVES: u32 = 100;
+
+/// Adds what a station does by its part of the table.
 fn push_station<R: Threads + Wait + Sync>(
     rt: &R,
     alloc: Global,
     text: &mut Vec<u8>,
     part: &str,
 ) -> Result<(), AllocError> {
-    let part = String::from_str(alloc, part)?;
-    match read_plant(rt, alloc)? {
-        Some(plant) => run::<Brand, R>(rt, alloc, plant, text, &part, Blank::new(1)),
+    let (name, lines) = part.split_once("\n").unwrap_or((part, ""));
+    push_line(text, format!(in alloc; "station {name}")?.as_str())?;
+    let (files, rows) = parted(lines);
+    let rows = String::from_str(alloc, rows)?;
+    match read_plant(rt, alloc, files)? {
+        Some(plant) => run::<Brand, R>(rt, alloc, plant, text, &rows, Blank::new(1)),
         None => push_line(text, "NO PLANT"),
     }
+}
+
+/// Adds what a station does by its part of the table. Where memory is refused it is lived once more.
+fn push_station_again<R: Threads + Wait + Sync>(
+    rt: &R,
+    alloc: Global,
+    text: &mut Vec<u8>,
+    part: &str,
+) -> Result<(), AllocError> {
+    for _ in 0..MOST_LIVES {
+        let mut told = Vec::new(alloc);
+        if let Ok(()) = push_station(rt, alloc, &mut told, part) {
+            text.extend_from_slice(told.as_slice())?;
+            return push_line(text, "");
+        }
+    }
+    Err(AllocError)
 }
 
 /// Adds what the stations of a table do.
@@ -60,15 +96,7 @@ fn push_stations<R: Threads + Wait + Sync>(
     table: &str,
 ) -> Result<(), AllocError> {
     for part in table.split("\nstation ").skip(1) {
-        push_line(
-            text,
-            format!(in alloc; "station {part}")?
-                .lines()
-                .next()
-                .unwrap_or(""),
-        )?;
-        push_station(rt, alloc, text, part)?;
-        push_line(text, "")?;
+        push_station_again(rt, alloc, text, part)?;
     }
     Ok(())
 }

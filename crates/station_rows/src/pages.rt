@@ -1,12 +1,26 @@
 //! The lines of the table that read the archive.
 
+use crate::printing::push_line;
 use crate::rows::{cut, number};
 use engine::Engine;
-use row_text::push_line;
 use station::Archive;
 use std::alloc::{AllocError, Global};
 use std::sync::Wait;
 use std::sync::ledger::Ledger;
+
+/// A page of the archive; where memory is refused it is asked for once more.
+fn page_again<L: Ledger, R: Wait>(
+    rt: &R,
+    alloc: Global,
+    archive: &Archive<L>,
+    from: u64,
+    n: u32,
+) -> Result<Vec<String>, AllocError> {
+    match archive.page(rt, alloc, from, n) {
+        Ok(lines) => Ok(lines),
+        Err(_) => archive.page(rt, alloc, from, n),
+    }
+}
 
 /// Adds the page of the archive that a line asks for.
 pub fn push_page<L: Ledger, R: Wait>(
@@ -17,7 +31,7 @@ pub fn push_page<L: Ledger, R: Wait>(
     words: &str,
 ) -> Result<(), AllocError> {
     let (from, n) = cut(words);
-    for line in &archive.page(rt, alloc, u64::from(number(from)), number(n))? {
+    for line in &page_again(rt, alloc, archive, u64::from(number(from)), number(n))? {
         push_line(text, line.as_str())?;
     }
     Ok(())
@@ -25,7 +39,7 @@ pub fn push_page<L: Ledger, R: Wait>(
 
 /// The lines of an engine's journal.
 fn journal_of(alloc: Global, engine: &Engine) -> Result<Vec<String>, AllocError> {
-    let rows = engine.journal().len() as u64;
+    let rows = engine.journal().len();
     let mut lines = Vec::new(alloc);
     for before in 0..rows {
         lines.push(engine.line(alloc, before + 1)?)?;
@@ -41,7 +55,7 @@ pub fn push_compared<L: Ledger, R: Wait>(
     engine: &Engine,
     text: &mut Vec<u8>,
 ) -> Result<(), AllocError> {
-    let kept = archive.page(rt, alloc, 1, u32::MAX)?;
+    let kept = page_again(rt, alloc, archive, 1, u32::MAX)?;
     let own = journal_of(alloc, engine)?;
     let lines = own.len();
     let word = if kept.as_slice() == own.as_slice() {

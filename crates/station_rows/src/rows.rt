@@ -1,12 +1,12 @@
-//! The lines of a station's part of the table.
+//! The rows of a station.
 
 ghost use Rattle.station_rows.specs.Seated.{AreOf};
 
 use crate::looking::push_asked;
 use crate::pages::{push_compared, push_page};
+use crate::printing::push_line;
 use crate::turns::push_turn_of;
-use engine::Alone;
-use row_text::push_line;
+use crate::workers::Workers;
 use station::{Console, Station};
 use std::alloc::{AllocError, Global};
 use std::sync::Wait;
@@ -30,7 +30,7 @@ pub fn number(word: &str) -> u32 {
 fn push_row<L: Ledger, R: Wait>(
     rt: &R,
     alloc: Global,
-    station: &mut Station<L, Alone>,
+    station: &mut Station<L, Workers>,
     consoles: &mut [Console],
     text: &mut Vec<u8>,
     line: &str,
@@ -40,26 +40,27 @@ fn push_row<L: Ledger, R: Wait>(
 {
     let (word, words) = cut(line);
     match word {
-        "scan" => push_turn_of(rt, alloc, station, text, line),
+        "scan" | "once" => push_turn_of(rt, alloc, station, consoles, text, line),
+        "workers" => Ok(()),
         "page" => push_page(rt, alloc, &**station.archive(), text, words),
         "journal" => push_compared(rt, alloc, &**station.archive(), station.engine(), text),
         _ => push_asked(alloc, station.engine().plant(), consoles, text, line),
     }
 }
 
-/// Does the lines of a part, but for the first, which is the station's name, and adds each line and what it gives.
+/// Does the rows of a station, and adds each of them and what it gives.
 pub fn push_rows<L: Ledger, R: Wait>(
     rt: &R,
     alloc: Global,
-    station: &mut Station<L, Alone>,
+    station: &mut Station<L, Workers>,
     consoles: &mut [Console],
     text: &mut Vec<u8>,
-    part: &str,
+    rows: &str,
 ) -> Result<(), AllocError>
     requires { AreOf station.old.lanes consoles.old }
     ensures { AreOf station.new.lanes consoles.new }
 {
-    for line in part.lines().skip(1) {
+    for line in rows.lines() {
         if line.is_empty() {
             continue;
         }
