@@ -1,0 +1,40 @@
+//! What the owner and the consoles tell each other beside the rings.
+
+use std::sync::atomic::{AtomicBool, AtomicU64, Ordering};
+
+/// Whether the day is over, and how many consoles are done with their drill.
+#[derive(Drop)]
+pub struct Watch {
+    over: AtomicBool,
+    drilled: AtomicU64,
+}
+
+impl Watch {
+    /// The day begins.
+    pub fn new() -> Watch {
+        Watch {
+            over: AtomicBool::new(false),
+            drilled: AtomicU64::new(0),
+        }
+    }
+
+    /// The owner takes no more turns.
+    pub fn end(&self) {
+        self.over.store(true, Ordering::SeqCst);
+    }
+
+    /// Whether the day is over.
+    pub fn is_over(&self) -> bool {
+        self.over.load(Ordering::SeqCst)
+    }
+
+    /// One console more is done with its drill.
+    pub fn add_drilled(&self) {
+        self.drilled.fetch_add(1, Ordering::SeqCst);
+    }
+
+    /// How many consoles are done with their drill.
+    pub fn drilled(&self) -> u64 {
+        self.drilled.load(Ordering::SeqCst)
+    }
+}

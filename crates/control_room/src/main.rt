@@ -1,0 +1,84 @@
+//! The control room: a host that has a station, with its consoles in threads of their own and a crew of workers.
+//!
+//! The plant is that of `data/house`, a boiler house of forty alarms with two consoles, whose areas are apart. The script is read from standard input (the
+//! file `stdin`): scans, each a line as the server reads it, and remarks.
+//!
+//! The owner takes the turn of a scan, and then turns at the same moment, two at least, until nothing waits: no alarm for an acknowledgement or a
+//! reset, and no console for the answers of its drill. A console begins with its drill, a hundred orders that shelve and unshelve its own alarms. Then it goes by
+//! its board: it looks, acknowledges and resets what waits in its areas, takes answers, and looks again, until the owner's day is over.
+//!
+//! What is printed doesn't depend on how threads take turns: a console orders only what its board shows after the answers that it took, so each alarm
+//! is acknowledged once; and the last scans of the script are of one console's areas, so the last page is always the same. How many turns
+//! the owner took is never printed.
+#![tactic(auto)]
+
+mod console_reports;
+mod crews;
+mod day;
+mod events;
+mod house;
+mod reports;
+mod room;
+mod shift;
+
+use crews::workers;
+use house::read_house;
+use room::run;
+use row_text::push_line;
+use shift::Shift;
+use std::alloc::{AllocError, Global};
+use std::io;
+use std::io::Write;
+use std::marker::Brand;
+use std::process::ExitCode;
+use std::rt::Runtime;
+use std::sync::Wait;
+use std::sync::ledger::Blank;
+use std::thread::Threads;
+
+/// The plant file of the house.
+const PLANT: &str = "house/plant.toml";
+
+/// How many workers run its programs, of which the owner is one.
+const WORKERS: u32 = 2;
+
+/// Makes the crew and the plant, and lets a station live by the script. Tells whether the day was whole.
+fn run_shift<R: Runtime + Threads + Wait + AllocGlobal + Send + Sync + 'static>(
+    rt: &R,
+    alloc: Global,
+    shift: &mut Shift,
+) -> Result<bool, AllocError> {
+    let Some(crew) = workers(rt, alloc, WORKERS)? else {
+        push_line(&mut shift.text, "NO WORKERS")?;
+        return Ok(false);
+    };
+    match read_house(rt, alloc, PLANT, &mut shift.text) {
+        Ok(Some(plant)) => run::<Brand, R>(rt, alloc, plant, crew, shift, Blank::new(1)),
+        Ok(None) => {
+            crew.close(rt);
+            Ok(false)
+        }
+        Err(refused) => {
+            crew.close(rt);
+            Err(refused)
+        }
+    }
+}
+
+/// Reads the script, and writes what there is to tell of the shift. Tells whether the day was whole.
+fn tell<R: Runtime + Threads + Wait + AllocGlobal + Send + Sync + 'static>(
+    rt: &R,
+) -> io::Result<bool> {
+    let script = io::read_to_string(rt.alloc(), rt.reader())?;
+    let mut shift = Shift::new(rt.alloc(), script)?;
+    let is_whole = run_shift(rt, rt.alloc(), &mut shift)?;
+    io::writer(rt).write_all(shift.text.as_slice())?;
+    Ok(is_whole)
+}
+
+fn main(rt: HostRuntime) -> ExitCode {
+    match tell(&rt) {
+        Ok(true) => ExitCode::from(0),
+        Ok(false) | Err(_) => ExitCode::from(1),
+    }
+}

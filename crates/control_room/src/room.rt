@@ -1,0 +1,64 @@
+//! The life of the station.
+
+ghost use Rattle.std.specs.Prelude.{◌≡◌, ◌<◌};
+
+use crate::console_reports::push_consoles;
+use crate::crews::Workers;
+use crate::day::go_through;
+use crate::reports::{push_end, push_history};
+use crate::shift::Shift;
+use control_desks::{Ended, join_all, seat_all};
+use engine::Plant;
+use row_text::push_line;
+use station::Station;
+use std::alloc::{AllocError, Global};
+use std::sync::Wait;
+use std::sync::ledger::{Blank, Ledger};
+use std::thread::Threads;
+use std::time::Clock;
+
+/// The whole life of a station: its consoles go to threads of their own, the owner goes through the script, the consoles come back, and what there is to
+/// tell is added. Tells whether the day was whole.
+pub fn run<L: Ledger, R: Threads + Wait + Clock>(
+    rt: &R,
+    alloc: Global,
+    plant: Plant,
+    crew: Workers,
+    shift: &mut Shift,
+    blank: Blank,
+) -> Result<bool, AllocError>
+    requires { (blank.name ≡ L.name) × (blank.parts ≡ L.parts) × (0 < L.parts) }
+{
+    let Shift {
+        script,
+        watch,
+        events,
+        text,
+    } = shift;
+    let Ok((mut station, consoles)) = Station::<L, Workers>::new(rt, alloc, plant, crew, blank)
+    else {
+        push_line(text, "NO STATION")?;
+        return Ok(false);
+    };
+    let wanted = consoles.len();
+    let threads = seat_all(rt, alloc, station.engine().plant(), consoles, watch);
+    let day = go_through(rt, alloc, &mut station, events, watch, script);
+    watch.end();
+    let Ended { finished, posts } = join_all(rt, alloc, threads);
+    let told = push_history(
+        rt,
+        alloc,
+        &**station.archive(),
+        station.engine(),
+        events,
+        text,
+    );
+    let mut closing = station.close(rt, finished);
+    let shown = push_consoles(alloc, &mut closing, events, posts.as_slice(), text);
+    closing.into_crew().close(rt);
+    let is_whole = day.is_ok() && posts.len() == wanted;
+    told?;
+    shown?;
+    push_end(alloc, text, day)?;
+    Ok(is_whole)
+}

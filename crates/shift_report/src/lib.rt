@@ -1,0 +1,10 @@
+//! What a journal tells of the orders of a shift: how many there were, and whether the answers that an operator took are those that it has.
+//!
+//! Nothing here owns a journal: it is lent.
+#![tactic(auto)]
+
+mod counts;
+mod notes;
+
+pub use counts::{Orders, count};
+pub use notes::{Note, Telling, are_told};
