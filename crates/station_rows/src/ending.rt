@@ -13,13 +13,12 @@ use crate::workers::Workers;
 use station::{Closing, Console, Finished};
 use std::alloc::{AllocError, Global};
 
-/// Keeps an ended console; where memory is refused it is let go.
+/// Keeps an ended console; where memory is refused twice it is let go.
 fn keep(finished: &mut Vec<Finished>, end: Finished)
     ensures { (lanes : List (Lane Order Reply)) → All (IsEndIn lanes) finished.old.items → IsEndIn lanes end → All (IsEndIn lanes) finished.new.items }
 {
-    match finished.push(end) {
-        Ok(()) => {}
-        Err(_) => {}
+    if let Err(refused) = finished.push(end) {
+        drop(finished.push(refused.value));
     }
 }
 

@@ -39,9 +39,11 @@ impl<J: Work<S, D>, S, D: Drop, H> Crew<J, S, D, H> for Workers {
             self.faults = self.faults.saturating_add(1);
             return Err(CrewFault::Lost);
         }
-        self.left = self.left.map(|left| left.saturating_sub(1));
         match Alone.run(rt, alloc, jobs) {
-            Ok(runs) => Ok(runs),
+            Ok(runs) => {
+                self.left = self.left.map(|left| left.saturating_sub(1));
+                Ok(runs)
+            }
             Err(_) => Err(CrewFault::Memory),
         }
     }
