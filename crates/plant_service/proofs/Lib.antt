@@ -1,1 +1,2 @@
+pub mod AdmitLaws
 pub mod ServiceLaws

@@ -9,8 +9,8 @@ use Rattle.serve_faults.specs.declared.fault.ServeFault.TheVariants as fault
 use Rattle.plant_service.specs.declared.service.RunEnd.TheVariants as run_end
 use Rattle.serving.specs.Requests.{ended_requests}
 use Rattle.serving.specs.Session.{StoppedBy}
-use Rattle.plant_verdict.specs.Admits.{IsTold}
-use Rattle.plant_verdict.proofs.AdmitLaws.{IsQuiet}
+use Rattle.plant_service.specs.Admits.{IsTold}
+use Rattle.plant_service.proofs.AdmitLaws.{IsQuiet}
 use Rattle.plant_service.specs.Services.{IsServed, IsStopped, IsRun}
 use Rattle.serving.proofs.SessionLaws.{answered-more, stopped-more}
 

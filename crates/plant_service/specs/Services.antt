@@ -8,7 +8,7 @@ use Rattle.serve_faults.specs.declared.fault.ServeFault.{ServeFault}
 use Rattle.plant_service.specs.declared.service.RunEnd.{RunEnd}
 use Rattle.plant_service.specs.declared.service.RunEnd.TheVariants as run_end
 use Rattle.serving.specs.Session.{StoppedBy, out_text}
-use Rattle.plant_verdict.specs.Admits.{IsTold}
+use Rattle.plant_service.specs.Admits.{IsTold}
 
 -- all of the input was read, and what was written is the text that belongs to the plant and to its bytes
 pub record IsServed (plant : PlainPlant) (r₀ r₁ w₀ w₁ : Option (List ℕ)) : Type 0 where

@@ -1,18 +1,19 @@
 //! Plants that are served: a plant is read, from its texts or from its files, and its session served to the end of the input; or what there is
 //! to say of its refusal is written.
 //!
-//! `run` and `run_from` say in one clause what came of both. The crate stands above `serving`, whose sessions own neither a plant nor an engine,
+//! `admit`, `admit_from` and `check_from` tell what is said of a plant alone. `run` and `run_from` say in one clause what came of both. The crate stands above `serving`, whose sessions own neither a plant nor an engine,
 //! and gives on all that a program needs to serve: feeds and sinks, folders and listeners, verdicts and faults.
 #![tactic(auto)]
 
 mod service;
+mod verdict;
 
 pub use byte_streams::{Failed, Feed, Reading, Sink, Writing};
 pub use plant_folder::{
     Deaf, Disk, FetchFault, Fetched, FileFault, Folder, Listener, PlantFiles, PlantTexts,
     SourceText, accepted_line, fetch,
 };
-pub use plant_verdict::{admit, admit_from, check_from};
 pub use serve_faults::{ServeFault, put_all};
 pub use service::{Ends, RunEnd, run, run_from};
 pub use serving::{Session, Step, requests_end_in_lf, serve};
+pub use verdict::{admit, admit_from, check_from};

@@ -5,11 +5,11 @@ ghost use Rattle.plant_folder.specs.Verdicts.{IsVerdict, IsFilesVerdict};
 ghost use Rattle.serve_faults.specs.Faults.{is_read, is_write, crew_faults};
 ghost use Rattle.plant_service.specs.Services.{IsServed, IsStopped, IsRun};
 
+use crate::verdict::{admit, admit_from};
 use byte_streams::{Feed, Sink};
 use engine::{Crew, Done, Engine, Job, Start};
 use plant_config::Plant;
 use plant_folder::{Folder, Listener, PlantFiles, PlantTexts};
-use plant_verdict::{admit, admit_from};
 use serve_faults::ServeFault;
 use serving::serve;
 use std::alloc::Global;

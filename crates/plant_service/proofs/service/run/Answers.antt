@@ -1,6 +1,6 @@
 use Rattle.std.proofs.Common.{false}
 use Rattle.plant_folder.specs.Verdicts.{IsVerdict}
-use Rattle.plant_verdict.proofs.AdmitLaws.{quiet-texts}
+use Rattle.plant_service.proofs.AdmitLaws.{quiet-texts}
 use Rattle.plant_service.proofs.ServiceLaws.{run-served, run-stopped}
 use Rattle.plant_service.proofs.service.run.Goals as goal
 

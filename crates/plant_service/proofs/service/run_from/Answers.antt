@@ -1,6 +1,6 @@
 use Rattle.std.proofs.Common.{false}
 use Rattle.plant_folder.specs.Verdicts.{IsFilesVerdict}
-use Rattle.plant_verdict.proofs.AdmitLaws.{quiet-files}
+use Rattle.plant_service.proofs.AdmitLaws.{quiet-files}
 use Rattle.plant_service.proofs.ServiceLaws.{run-served, run-stopped}
 use Rattle.plant_service.proofs.service.run_from.Goals as goal
 

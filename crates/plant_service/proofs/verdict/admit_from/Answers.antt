@@ -1,7 +1,7 @@
 use Rattle.std.proofs.Common.{string_bytes, false}
 use Rattle.plant_folder.specs.Verdicts.{IsFilesVerdict}
-use Rattle.plant_verdict.proofs.AdmitLaws.{told_of}
-use Rattle.plant_verdict.proofs.verdict.admit_from.Goals as goal
+use Rattle.plant_service.proofs.AdmitLaws.{told_of}
+use Rattle.plant_service.proofs.verdict.admit_from.Goals as goal
 
 pub returns-in-Ok-clause-told : goal.returns-in-Ok-clause-told
 returns-in-Ok-clause-told g c =

@@ -1,5 +1,5 @@
-use Rattle.plant_verdict.proofs.AdmitLaws.{checked_accepted, checked_failed, checked_refused, checked_unwritten}
-use Rattle.plant_verdict.proofs.verdict.check_from.Goals as goal
+use Rattle.plant_service.proofs.AdmitLaws.{checked_accepted, checked_failed, checked_refused, checked_unwritten}
+use Rattle.plant_service.proofs.verdict.check_from.Goals as goal
 
 pub returns-in-Ok-clause-told : goal.returns-in-Ok-clause-told
 returns-in-Ok-clause-told g c =

@@ -11,7 +11,7 @@ use Rattle.plant_config.specs.Files.{Texts}
 use Rattle.plant_folder.specs.Fetches.{Finds}
 use Rattle.plant_folder.specs.Verdicts.{accepted_line, IsVerdict, IsFilesVerdict}
 use Rattle.serve_faults.specs.Begun.{IsBegun}
-use Rattle.plant_verdict.specs.Admits.{IsTold, IsWritten, IsChecked}
+use Rattle.plant_service.specs.Admits.{IsTold, IsWritten, IsChecked}
 
 moved : (V : Option PlainPlant → List ℕ → Type 0) (answer other : Option PlainPlant) (line due : List ℕ) → V answer line → (other ≡ answer) × (due ≡ line) → V other due
 moved V answer other line due v same = subst (λ a. V a due) (sym same.0) (subst (V answer) (sym same.1) v)

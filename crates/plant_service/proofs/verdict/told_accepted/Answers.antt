@@ -1,5 +1,5 @@
-use Rattle.plant_verdict.proofs.AdmitLaws.{written}
-use Rattle.plant_verdict.proofs.verdict.told_accepted.Goals as goal
+use Rattle.plant_service.proofs.AdmitLaws.{written}
+use Rattle.plant_service.proofs.verdict.told_accepted.Goals as goal
 
 pub returns-in-Ok-clause-told : goal.returns-in-Ok-clause-told
 returns-in-Ok-clause-told g c =

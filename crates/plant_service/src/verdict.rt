@@ -2,7 +2,7 @@
 
 ghost use Rattle.std.specs.Prelude.{◌≡◌, false};
 ghost use Rattle.plant_folder.specs.Verdicts.{accepted_line, IsVerdict, IsFilesVerdict};
-ghost use Rattle.plant_verdict.specs.Admits.{IsTold, IsWritten, IsChecked};
+ghost use Rattle.plant_service.specs.Admits.{IsTold, IsWritten, IsChecked};
 ghost use Rattle.serve_faults.specs.Faults.{is_write};
 
 use byte_streams::Sink;
