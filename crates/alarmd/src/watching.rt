@@ -37,6 +37,15 @@ fn warning(events: u32) -> &'static str {
     }
 }
 
+/// Whether a whole answer tells of an event, by its first line: that of a scan begins with FAULT, ALARM, OUT or DONE, that of an order with REPLY.
+fn tells_of_event(answer: &[u8]) -> bool {
+    match answer.first() {
+        Some(b'F' | b'A' | b'O' | b'D') => true,
+        Some(b'R') => answer.starts_with(b"REP"),
+        _ => false,
+    }
+}
+
 /// Whether a line tells of an event, by its beginning: each answer of an event has one line DONE or REPLY. And what is said of another line to whoever looks
 /// on; empty where nobody does.
 fn judged(head: &[u8], is_watched: bool) -> (bool, &'static str) {
@@ -56,6 +65,8 @@ struct Answers {
     head: [u8; HEAD],
     len: usize,
     events: u32,
+    /// Whether of the last answer only a part has been taken.
+    is_in_parts: bool,
     /// Whether somebody looks on, to whom refusals are explained.
     is_watched: bool,
 }
@@ -94,15 +105,34 @@ impl Answers {
         self.counted(is_event, said)
     }
 
-    /// Takes bytes, and tells on standard error what there is to say of them.
+    /// Sees what came of a write, which mostly takes an answer whole: then its first line tells enough, and none of the others is looked at.
+    fn see(&mut self, rt: &impl Eprint, answer: &[u8], taken: usize) {
+        let is_whole = answer.len() <= taken;
+        if self.is_watched || self.is_in_parts || !is_whole {
+            self.is_in_parts = !is_whole;
+            self.take(rt, answer.get(..taken).unwrap_or(answer));
+            return;
+        }
+        if tells_of_event(answer) {
+            let said = self.counted(true, "");
+            self.tell(rt, said);
+        }
+    }
+
+    /// Tells on standard error what there is to say.
+    fn tell(&self, rt: &impl Eprint, said: &str) {
+        if !said.is_empty() {
+            let _ = eprint!(rt; "{said}");
+        }
+    }
+
+    /// Takes bytes line by line, and tells on standard error what there is to say of them.
     fn take(&mut self, rt: &impl Eprint, bytes: &[u8]) {
         let mut begun = 0usize;
         for end in memchr_iter(b'\n', bytes) {
             let said = self.end_line(bytes.get(begun..end).unwrap_or(b""));
             begun = end.saturating_add(1);
-            if !said.is_empty() {
-                let _ = eprint!(rt; "{said}");
-            }
+            self.tell(rt, said);
         }
         self.add(bytes.get(begun..).unwrap_or(b""));
     }
@@ -129,6 +159,7 @@ impl<'a, R: Eprint, S: Sink + Drop> Watching<'a, R, S> {
                 head: [0; HEAD],
                 len: 0,
                 events: 0,
+                is_in_parts: false,
                 is_watched,
             },
         }
@@ -143,7 +174,7 @@ impl<'a, R: Eprint, S: Sink + Drop> Sink for Watching<'a, R, S> {
     fn write(&mut self, buf: &[u8]) -> Result<usize, Failed> {
         match self.to.write(buf) {
             Ok(n) => {
-                self.answers.take(self.rt, buf.get(..n).unwrap_or(b""));
+                self.answers.see(self.rt, buf, n);
                 Ok(n)
             }
             Err(failed) => Err(failed),
