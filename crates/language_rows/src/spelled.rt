@@ -1,5 +1,6 @@
 //! What a text spells.
 
+use crate::plants::File;
 use crate::tree::show_unit;
 use const_fold::fold_body;
 use st_lexer::{LexFault, Token, lex};
@@ -76,7 +77,7 @@ fn push_tree(
 }
 
 /// Adds what is wanted of a text.
-pub fn push_spelled(
+fn push_spelled(
     alloc: Global,
     out: &mut String,
     wanted: Wanted,
@@ -97,4 +98,19 @@ pub fn push_spelled(
             push_tree(alloc, out, wanted, text, tokens.as_slice())
         }
     }
+}
+
+/// What is wanted of the last of files, with a line in place of `..`.
+pub fn spelled(
+    alloc: Global,
+    files: &[File],
+    wanted: Wanted,
+    given: &str,
+) -> Result<String, AllocError> {
+    let mut out = String::new(alloc);
+    if let Some(file) = files.last() {
+        let text = file.text(alloc, given)?;
+        push_spelled(alloc, &mut out, wanted, text.as_slice())?;
+    }
+    Ok(out)
 }

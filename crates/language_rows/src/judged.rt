@@ -1,36 +1,11 @@
 //! What the check of a plant's sources answers.
 
-use row_text::Source;
+use crate::plants::File;
 use st_lexer::{LexFault, lex};
 use st_names::UnitPlace;
 use st_parser::{ParseFault, Unit, parse};
 use st_typing::{TypeFault, check};
 use std::alloc::{AllocError, Global};
-
-/// A source and its name.
-#[derive(Drop)]
-pub struct File {
-    pub name: String,
-    pub source: Source,
-}
-
-impl File {
-    /// The source without lines.
-    pub fn new(alloc: Global, name: &str) -> Result<File, AllocError> {
-        Ok(File {
-            name: String::from_str(alloc, name)?,
-            source: Source::new(alloc),
-        })
-    }
-
-    /// Its bytes, with a line in place of its line `..`.
-    fn text(&self, alloc: Global, given: &str) -> Result<Vec<u8>, AllocError> {
-        if self.source.has_gap() {
-            return self.source.with(alloc, given);
-        }
-        Vec::from_slice(alloc, self.source.as_slice())
-    }
-}
 
 /// The unit that a text spells, if it spells one.
 fn unit_of(alloc: Global, text: &[u8]) -> Result<Option<Unit>, AllocError> {

@@ -7,7 +7,7 @@ use st_parser::{Declaration, Pou, PouKind, Section, SectionKind, Sort, Unit};
 use st_tree::{Argument, Binary, Branch, Choice, Expr, Label, Literal, Stmt, Unary};
 use std::alloc::{AllocError, Global};
 
-fn operator(op: Binary) -> &'static str {
+fn operator(op: &Binary) -> &str {
     match op {
         Binary::Multiply => " * ",
         Binary::Divide => " / ",
@@ -71,10 +71,27 @@ fn show(alloc: Global, expr: &Expr<Text>, out: &mut String) -> Result<(), AllocE
         Expr::Binary(op, a, b) => {
             out.push_str("(")?;
             show(alloc, a, out)?;
-            out.push_str(operator(*op))?;
+            out.push_str(operator(op))?;
             show(alloc, b, out)?;
             out.push_str(")")
         }
+    }
+}
+
+fn show_output(name: &Text, target: &Text, out: &mut String) -> Result<(), AllocError> {
+    out.push_str(name.as_str())?;
+    out.push_str(" => ")?;
+    out.push_str(target.as_str())
+}
+
+fn show_bound(
+    alloc: Global,
+    argument: &Argument<Text>,
+    out: &mut String,
+) -> Result<(), AllocError> {
+    match argument {
+        Argument::Input(name, value) => show_assignment(alloc, name, value, out),
+        Argument::Output(name, target) => show_output(name, target, out),
     }
 }
 
@@ -83,18 +100,7 @@ fn show_argument(
     argument: &Argument<Text>,
     out: &mut String,
 ) -> Result<(), AllocError> {
-    match argument {
-        Argument::Input(name, value) => {
-            out.push_str(name.as_str())?;
-            out.push_str(" := ")?;
-            show(alloc, value, out)?;
-        }
-        Argument::Output(name, target) => {
-            out.push_str(name.as_str())?;
-            out.push_str(" => ")?;
-            out.push_str(target.as_str())?;
-        }
-    }
+    show_bound(alloc, argument, out)?;
     out.push_str(", ")
 }
 
@@ -208,7 +214,7 @@ fn show_stmt(alloc: Global, stmt: &Stmt<Text>, out: &mut String) -> Result<(), A
     }
 }
 
-fn section_name(kind: SectionKind) -> &'static str {
+fn section_name(kind: &SectionKind) -> &str {
     match kind {
         SectionKind::Global => "GLOBAL ",
         SectionKind::Local => "LOCAL ",
@@ -227,7 +233,7 @@ fn sort_name(sort: &Sort) -> &str {
     }
 }
 
-fn region_name(region: Option<Region>) -> &'static str {
+fn region_name(region: &Option<Region>) -> &str {
     match region {
         None => "",
         Some(Region::Input) => "%I ",
@@ -241,7 +247,7 @@ fn show_declaration(alloc: Global, d: &Declaration, out: &mut String) -> Result<
         out.push_str(name.as_str())?;
         out.push_str(" ")?;
     }
-    out.push_str(region_name(d.region))?;
+    out.push_str(region_name(&d.region))?;
     out.push_str(sort_name(&d.sort))?;
     if let Some(initial) = &d.initial {
         out.push_str(" ")?;
@@ -251,7 +257,7 @@ fn show_declaration(alloc: Global, d: &Declaration, out: &mut String) -> Result<
 }
 
 fn show_section(alloc: Global, section: &Section, out: &mut String) -> Result<(), AllocError> {
-    out.push_str(section_name(section.kind))?;
+    out.push_str(section_name(&section.kind))?;
     for declaration in &section.declarations {
         show_declaration(alloc, declaration, out)?;
     }

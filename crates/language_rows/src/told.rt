@@ -1,7 +1,6 @@
-//! The lines of the table.
+//! The lines of the table on plants of which a person is told.
 
-use crate::plants::{File, told_of};
-use row_text::Source;
+use crate::plants::{File, have_gap, told_of};
 use std::alloc::{AllocError, Global};
 
 /// What the table has said so far.
@@ -30,16 +29,6 @@ impl Table {
         }
     }
 
-    /// Whether a file has a line `..`.
-    fn has_gap(&self) -> bool {
-        for file in &self.files {
-            if file.source.has_gap() {
-                return true;
-            }
-        }
-        false
-    }
-
     /// Prints a line, what is told of the plant with this in place of `..`, and an empty line.
     fn print(&mut self, alloc: Global, line: &str, given: &str) -> Result<(), AllocError> {
         let files = self.files.as_slice();
@@ -53,7 +42,7 @@ impl Table {
     /// Takes how the plant is refused.
     fn refuse(&mut self, alloc: Global, refusal: &str) -> Result<(), AllocError> {
         self.refusal = String::from_str(alloc, refusal)?;
-        if self.has_gap() {
+        if have_gap(self.files.as_slice()) {
             return Ok(());
         }
         let name = String::from_str(alloc, self.name.as_str())?;
@@ -67,11 +56,8 @@ impl Table {
             return Ok(());
         }
         if let Some(name) = line.strip_prefix("file ") {
-            let name = String::from_str(alloc, name)?;
-            self.files.push(File {
-                name,
-                source: Source::new(alloc),
-            })?;
+            let file = File::new(alloc, name)?;
+            self.files.push(file)?;
             return Ok(());
         }
         match self.files.last_mut() {
@@ -110,7 +96,7 @@ impl Table {
     }
 }
 
-/// What a table is answered.
+/// What these lines are answered.
 pub fn answers_to(alloc: Global, lines: &str) -> Result<String, AllocError> {
     let mut table = Table::new(alloc);
     table.take_all(alloc, lines)?;

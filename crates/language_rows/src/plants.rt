@@ -29,6 +29,34 @@ pub struct File {
     pub source: Source,
 }
 
+impl File {
+    /// The file without lines.
+    pub fn new(alloc: Global, name: &str) -> Result<File, AllocError> {
+        Ok(File {
+            name: String::from_str(alloc, name)?,
+            source: Source::new(alloc),
+        })
+    }
+
+    /// Its bytes, with a line in place of its line `..`.
+    pub fn text(&self, alloc: Global, given: &str) -> Result<Vec<u8>, AllocError> {
+        if self.source.has_gap() {
+            return self.source.with(alloc, given);
+        }
+        Vec::from_slice(alloc, self.source.as_slice())
+    }
+}
+
+/// Whether one of files has a line `..`.
+pub fn have_gap(files: &[File]) -> bool {
+    for file in files {
+        if file.source.has_gap() {
+            return true;
+        }
+    }
+    false
+}
+
 /// The text of the file of a name, with a line in place of its line `..`; another text where there is none. Fails if allocation fails.
 fn text_of(
     alloc: Global,
@@ -39,10 +67,7 @@ fn text_of(
 ) -> Result<Vec<u8>, AllocError> {
     for file in files {
         if file.name.as_str() == name {
-            if file.source.has_gap() {
-                return file.source.with(alloc, given);
-            }
-            return Vec::from_slice(alloc, file.source.as_slice());
+            return file.text(alloc, given);
         }
     }
     Vec::from_slice(alloc, other)
