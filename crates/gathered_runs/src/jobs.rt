@@ -1,8 +1,8 @@
 //! Runs of jobs.
 
-use crate::dice::Dice;
 use crew::Work;
 use plant_cells::Stop;
+use random_sources::Dice;
 use slice_store::{Done, Job};
 use std::alloc::{AllocError, Global};
 

@@ -5,10 +5,10 @@ ghost use Rattle.plant_walk.specs.Runs.{HasCells};
 ghost use Rattle.slice_store.specs.Splits.{CanSplit};
 ghost use Rattle.scan_logic.specs.Levels.{AreLevelsOf};
 
-use crate::dice::Dice;
 use crate::jobs::{Ended, push_ended, run_shuffled};
 use crate::state::State;
 use plant_walk::{Framed, programs_share_no_cell, sound_source_is_small};
+use random_sources::Dice;
 use scan_logic::Levelled;
 use slice_store::{Done, Job, Misfit, Reserve, Store};
 use std::alloc::{AllocError, Global};

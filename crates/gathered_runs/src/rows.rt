@@ -247,7 +247,7 @@ fn push_framed(
 ///
 /// A word is the number of a job of the level, with `@5` behind it for its run at another moment, 5. The words of the next level stand behind a
 /// `;`. Of a source that isn't run `?` is added. Fails if memory was refused.
-pub fn push_row(
+pub fn push_level_row(
     alloc: Global,
     text: &mut String,
     named: &str,

@@ -4,13 +4,13 @@ ghost use Rattle.std.specs.Prelude.{◌≡◌, ◌<◌, length};
 ghost use Rattle.plant_walk.specs.Runs.{HasCells};
 ghost use Rattle.scan_logic.specs.Levels.{AreLevelsOf};
 
-use crate::dice::Dice;
 use crate::jobs::Ended;
 use crate::levels::{Fault, run_by_levels};
 use crate::ready::{Unready, framed};
 use crate::state::{End, State, is_alike, opened, restart, run_in_order};
 use plant_cells::Stop;
 use plant_walk::{Framed, Walked};
+use random_sources::Dice;
 use scan_logic::Levelled;
 use std::alloc::{AllocError, Global};
 use twin_runs::set;

@@ -3,10 +3,10 @@
 ghost use Rattle.std.specs.Prelude.{◌≡◌, ◌<◌, length, IfOk};
 ghost use Rattle.plant_walk.specs.Runs.{HasCells};
 
-use crate::dice::Dice;
 use code_slices::same_cells;
 use plant_cells::Cells;
 use plant_walk::{Framed, Walked, sound_source_is_small, standing_cells_are_there};
+use random_sources::Dice;
 use slice_store::Reserve;
 use std::alloc::{AllocError, Global};
 use twin_runs::Twin;

@@ -156,7 +156,7 @@ impl Table {
     }
 }
 
-/// What these lines are answered.
+/// What a table is answered.
 pub fn answers_to(alloc: Global, lines: &str) -> Result<String, AllocError> {
     let mut table = Table::new(alloc);
     table.take_all(alloc, lines)?;

@@ -7,10 +7,11 @@ use crate::choices::{push_chosen, push_statuses};
 use crate::codes::{push_cells, push_counts};
 use crate::commands::{push_command, push_lines};
 use crate::journals::{push_row, push_stamp};
-use crate::printing::{parts_of, push_all};
+use crate::printing::{number_of, parts_of, push_all};
 use crate::sources::push_source;
 use crate::trees::{push_copied, push_labels, push_named_body, push_named_sum};
 use crate::values::{push_fitted, push_lists, push_name, push_names, push_same, push_truths};
+use gathered_runs::{push_level_row, push_seed};
 use std::alloc::{AllocError, Global};
 
 /// Adds the answer to a row of words, values, alarms or blocks; of any other row that of `push_other`.
@@ -35,6 +36,12 @@ fn push_answer(alloc: Global, text: &mut String, word: &str, rest: &str) -> Resu
     }
 }
 
+/// Adds what is left where the levels of a source, behind a `|`, are handed the runs that words name.
+fn push_levels(alloc: Global, text: &mut String, words: &str) -> Result<(), AllocError> {
+    let (named, source) = parts_of(words, "|");
+    push_level_row(alloc, text, named, source)
+}
+
 /// Adds the answer to a row of journals, commands, trees, code or sources.
 fn push_other(alloc: Global, text: &mut String, word: &str, rest: &str) -> Result<(), AllocError> {
     match word {
@@ -51,6 +58,8 @@ fn push_other(alloc: Global, text: &mut String, word: &str, rest: &str) -> Resul
         "cells" => push_cells(alloc, text),
         "counts" => push_counts(alloc, text),
         "look" | "cost" | "judge" | "walk" | "count" => push_source(alloc, text, word, rest),
+        "levels" => push_levels(alloc, text, rest),
+        "seed" => push_seed(alloc, text, number_of(rest)),
         _ => text.push_str("?"),
     }
 }

@@ -1,9 +1,9 @@
 //! Random bodies, as texts. A body is made from its beginning to its end: what is still to be written waits on a stack.
 
+use crate::dice::Dice;
 use crate::names::{
     BLOCKS, BOOLS, Called, DINTS, GLOBALS, GROUPS, NAMES, PROGRAMS, Routine, THIRD, TIMES,
 };
-use gathered_runs::Dice;
 use plant_types::Kind;
 use std::alloc::{AllocError, Global};
 

@@ -1,0 +1,12 @@
+//! Sources with random programs, from dice: the same for the same seed.
+//!
+//! A source (`source`) has two block types and 2 to 12 programs, which share globals, with bodies of every statement and every operator,
+//! nested, with calls and timers. Nothing here is part of the server.
+#![tactic(auto)]
+
+mod bodies;
+mod dice;
+mod names;
+
+pub use bodies::source;
+pub use dice::Dice;
