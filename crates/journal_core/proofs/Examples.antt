@@ -8,6 +8,8 @@ use Rattle.alarm_machine.specs.declared.states.OrderFault.TheVariants as fault
 use Rattle.stamps.specs.Civil.{date_of}
 use Rattle.journal_core.specs.declared.row.Entry.TheVariants as entry
 use Rattle.journal_core.specs.Rows.{after_entries}
+use Rattle.journal_core.specs.declared.packing.KeptRow.TheVariants as kept
+use Rattle.journal_core.specs.Kept.{unpacked}
 use Rattle.journal_core.specs.Bodies.{alarm_body, order_body, row_text}
 
 pub change_of_code : alarm_body (codes "T1") (record { from = code.Norm; to = code.Unack }) ≡ codes "ALARM T1 NORM UNACK"
@@ -43,3 +45,15 @@ pub numbers_go_on : after_entries 7 (record { rows = (record { number = 1; momen
       room = 1;
     }
 numbers_go_on = refl
+
+-- (2 * 20000 + 4) * 81 + 1
+pub one_word : unpacked 3240325 ≡ kept.Alarm (record { from = code.Norm; to = code.Unack }) 4 2
+one_word = refl
+
+-- the last moment and the last alarm, from OOS to SUPPR: (4000000000000 * 20000 + 19999) * 81 + 8 * 9 + 7
+pub last_word : unpacked 6480000000001619998 ≡ kept.Alarm (record { from = code.Oos; to = code.Suppr }) 19999 4000000000000
+last_word = refl
+
+-- 2 ^ 63 + 3
+pub a_place : unpacked 9223372036854775811 ≡ kept.Apart 3
+a_place = refl

@@ -4,6 +4,7 @@
 #![tactic(auto)]
 
 mod log;
+mod packing;
 mod row;
 mod text;
 

@@ -2,24 +2,12 @@ ghost use Rattle.std.specs.Prelude.{◌≡◌, ◌<◌, ◌≤◌, ◌-◌, [], 
 ghost use Rattle.journal_core.specs.Kept.{row_of, HasPlace};
 ghost use Rattle.journal_core.specs.Rows.{after_entry, after_entries, fault_entry, change_entry, last_moment, AreNumbered, AreInOrder};
 
+use crate::packing::{KeptRow, apart_word, packed, unpacked};
 use crate::row::{Entry, Row};
 use alarm_machine::Change;
 use plant_types::{Place, Trap};
 use std::alloc::{AllocError, Global};
 use std::marker::Model;
-
-/// A row as it is kept, in less memory: its number is its place. The change of an alarm's code stands in it, and of another row the place
-/// in the list apart.
-// The small field stands first, so that the tag and it fill the word before the number: 16 bytes in all.
-#[derive(Clone, Copy, Drop)]
-enum KeptRow {
-    Alarm {
-        change: Change,
-        alarm: u32,
-        moment: u64,
-    },
-    Apart(usize),
-}
 
 /// A row that is kept apart, without its number.
 #[derive(Clone, Copy, Drop)]
@@ -31,8 +19,9 @@ struct ApartRow {
 /// The rows of a journal, numbered from 1 in their order; their moments never go back. Contracts see the rows, and for how many more
 /// there is room.
 pub struct Log {
-    rows: Vec<KeptRow>,
-    /// The rows that aren't the change of an alarm's code.
+    /// A word for each row: its number is its place.
+    rows: Vec<u64>,
+    /// The rows that a word doesn't hold: those that aren't the change of an alarm's code.
     apart: Vec<ApartRow>,
     /// For how many more rows there is room, whatever their entries are.
     room: usize,
@@ -49,21 +38,21 @@ impl Drop for Log {
 }
 
 impl Model for Log {
-    ghost use Rattle.std.specs.Prelude.{vec_len, vec_capacity};
+    ghost use Rattle.std.specs.Prelude.{vec_capacity};
     ghost use Rattle.journal_core.specs.Rows.{PlainLog};
-    ghost use Rattle.journal_core.specs.Kept.{rows_of, IsKept};
+    ghost use Rattle.journal_core.specs.Kept.{rows_in, IsKept};
 
     ghost Value = { PlainLog };
 
-    ghost view = { λ l. record { rows = rows_of l.apart.items 0 l.rows.items; room = l.room } };
+    ghost view = { λ l. record { rows = rows_in l.apart.items l.rows.items; room = l.room } };
 
     ghost invariant = { λ l. IsKept l.rows.items l.apart.items l.room (vec_capacity l.rows) (vec_capacity l.apart) };
 }
 
 /// The row of a number, by how it is kept, with the list of those that are kept apart.
-fn row_of(apart: &[ApartRow], number: u64, kept: &KeptRow) -> Row
-    requires { HasPlace (length apart.now) kept.now }
-    ensures { result ≡ row_of apart.now number kept.now }
+fn row_of(apart: &[ApartRow], number: u64, kept: KeptRow) -> Row
+    requires { HasPlace (length apart.now) kept }
+    ensures { result ≡ row_of apart.now number kept }
 {
     match kept {
         KeptRow::Alarm {
@@ -72,11 +61,11 @@ fn row_of(apart: &[ApartRow], number: u64, kept: &KeptRow) -> Row
             moment,
         } => Row {
             number,
-            moment: *moment,
-            entry: Entry::Alarm(*alarm, *change),
+            moment,
+            entry: Entry::Alarm(alarm, change),
         },
         KeptRow::Apart(place) => {
-            let row = apart[*place];
+            let row = apart[place];
             Row {
                 number,
                 moment: row.moment,
@@ -99,7 +88,7 @@ impl Log {
     }
 
     /// How many rows there are.
-    #[tactic(auto, using(crate::proofs::KeptLaws::rows_length))]
+    #[tactic(auto, using(crate::proofs::KeptLaws::words_length))]
     pub fn len(&self) -> u64
         ensures count { result ≡ length self.now.rows }
         ensures numbered { AreNumbered self.now.rows }
@@ -109,14 +98,14 @@ impl Log {
     }
 
     /// The row of a number, from 1.
-    #[tactic(auto, using(crate::proofs::KeptLaws::rows_length))]
+    #[tactic(auto, using(crate::proofs::KeptLaws::words_length))]
     pub fn row(&self, number: u64) -> Row
         requires first { 1 ≤ number }
         requires last { number ≤ length self.now.rows }
         ensures { slice_get self.now.rows (number - 1) ≡ Some result }
     {
-        let kept = &self.rows[(number - 1) as usize];
-        row_of(self.apart.as_slice(), number, kept)
+        let word = self.rows[(number - 1) as usize];
+        row_of(self.apart.as_slice(), number, unpacked(word))
     }
 
     /// Makes room for so many more rows. Fails if allocation fails; the rows stay as they are, and no room is lost.
@@ -140,12 +129,13 @@ impl Log {
         requires in_order { last_moment self.old.rows ≤ moment }
         ensures { self.new ≡ after_entry moment self.old (change_entry (alarm, change)) }
     {
-        self.rows.push_reserved(KeptRow::Alarm {
-            change,
-            alarm,
-            moment,
-        });
-        self.room -= 1;
+        match packed(change, alarm, moment) {
+            Some(word) => {
+                self.rows.push_reserved(word);
+                self.room -= 1;
+            }
+            None => self.push_apart(moment, Entry::Alarm(alarm, change)),
+        }
     }
 
     /// Adds a row that is kept apart, as `push`.
@@ -156,7 +146,7 @@ impl Log {
     {
         let place = self.apart.len();
         self.apart.push_reserved(ApartRow { moment, entry });
-        self.rows.push_reserved(KeptRow::Apart(place));
+        self.rows.push_reserved(apart_word(place));
         self.room -= 1;
     }
 
