@@ -31,7 +31,8 @@
 //! A plant of which a person is told is a line `plant NAME`, its files, each a line `file NAME` and its text, and a line `run`. Where it has
 //! no `plant.toml` or `alarms.csv` of its own, one stands in its place that is right (in `src/plants.rt`). Then a line `as C6 p.st p` says
 //! how it is refused, or `as accepted` that it is accepted; that it is so, worked_rows and the sources above try. Its name is printed, what
-//! is told, and an empty line. Where a file has a line `..`, that alone is printed which each line `with x := 1;` asks: the line, and what is
+//! is told, and an empty line. With `all C6 p.st p` further faults are told too. A plant may have more sources: they are all its files whose
+//! names end in `.st`, in their order. Where a file has a line `..`, that alone is printed which each line `with x := 1;` asks: the line, and what is
 //! told with this text in place of `..`.
 #![tactic(auto)]
 
@@ -46,19 +47,20 @@ mod tree;
 use std::alloc::{AllocError, Global};
 use std::io;
 use std::io::Write;
+use std::thread::Threads;
 
 /// What a table is answered.
-fn answers_to(alloc: Global, table: &str) -> Result<String, AllocError> {
+fn answers_to<H: Threads + Sync>(rt: &H, alloc: Global, table: &str) -> Result<String, AllocError> {
     let (sources, plants) = table.split_once("\n== plants\n").unwrap_or((table, ""));
     let mut text = sources::answers_to(alloc, sources)?;
-    let told = told::answers_to(alloc, plants)?;
+    let told = told::answers_to(rt, alloc, plants)?;
     text.push_str(told.as_str())?;
     Ok(text)
 }
 
 fn main(rt: HostRuntime) -> io::Result<()> {
     let table = io::read_to_string(rt.alloc(), rt.reader())?;
-    let text = answers_to(rt.alloc(), table.as_str())?;
+    let text = answers_to(&rt, rt.alloc(), table.as_str())?;
     io::writer(&rt).write_all(text.as_bytes())?;
     Ok(())
 }

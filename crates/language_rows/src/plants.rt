@@ -1,10 +1,12 @@
 //! The files of a plant, and what is told of it.
 
 use crate::faults::fault_of;
+use further_faults::explain_all;
 use plant_config::ConfigFault;
 use plant_explain::{PlantTexts, explain, warn};
 use row_text::Source;
 use std::alloc::{AllocError, Global};
+use std::thread::Threads;
 
 /// The plant file of a plant that has none of its own.
 const PLANT: &[u8] = b"name = \"P\"
@@ -74,33 +76,62 @@ fn text_of(
 }
 
 /// What is told of a plant that is refused by a line, or that is accepted, as a text. Fails if allocation fails.
-fn told(alloc: Global, texts: &PlantTexts<'_>, line: &str) -> Result<String, AllocError> {
+fn told<H: Threads + Sync>(
+    rt: &H,
+    alloc: Global,
+    texts: &PlantTexts<'_>,
+    line: &str,
+) -> Result<String, AllocError> {
     if line == "accepted" {
         return warn(alloc, texts);
     }
-    let fault = fault_of(alloc, line)?;
+    let all = line.strip_prefix("all ");
+    let fault = fault_of(alloc, all.unwrap_or(line))?;
     match fault {
         ConfigFault::Memory => Ok(String::new(alloc)),
+        fault if all.is_some() => explain_all(rt, alloc, texts, &fault),
         fault => explain(alloc, texts, &fault),
     }
 }
 
+/// The names of the sources of files. Fails if allocation fails.
+fn sources_of<'a>(alloc: Global, files: &'a [File]) -> Result<Vec<&'a str>, AllocError> {
+    let mut names = Vec::new(alloc);
+    for file in files {
+        if file.name.as_str().ends_with(".st") {
+            names.push(file.name.as_str())?;
+        }
+    }
+    if names.is_empty() {
+        names.push("p.st")?;
+    }
+    Ok(names)
+}
+
 /// What is told of the plant of files that is refused by a line, or accepted, with another line in place of the line `..`. Fails if allocation fails.
-pub fn told_of(
+pub fn told_of<H: Threads + Sync>(
+    rt: &H,
     alloc: Global,
     files: &[File],
-    line: &str,
-    given: &str,
+    words: (&str, &str),
 ) -> Result<String, AllocError> {
+    let (line, given) = words;
     let plant = text_of(alloc, files, "plant.toml", given, PLANT)?;
     let alarms = text_of(alloc, files, "alarms.csv", given, ALARMS)?;
-    let source = text_of(alloc, files, "p.st", given, b"")?;
-    let sources = [("p.st", source.as_slice())];
+    let names = sources_of(alloc, files)?;
+    let mut owned = Vec::new(alloc);
+    for name in names.as_slice() {
+        owned.push(text_of(alloc, files, name, given, b"")?)?;
+    }
+    let mut sources = Vec::new(alloc);
+    for (name, text) in names.iter().zip(owned.iter()) {
+        sources.push((*name, text.as_slice()))?;
+    }
     let texts = PlantTexts {
         path: "plant.toml",
         plant: plant.as_slice(),
-        sources: &sources,
+        sources: sources.as_slice(),
         alarms: alarms.as_slice(),
     };
-    told(alloc, &texts, line)
+    told(rt, alloc, &texts, line)
 }

@@ -2,10 +2,12 @@
 
 use crate::plants::{File, have_gap, told_of};
 use std::alloc::{AllocError, Global};
+use std::thread::Threads;
 
 /// What the table has said so far.
 #[derive(Drop)]
-struct Table {
+struct Table<'a, H> {
+    rt: &'a H,
     /// The name of the last plant.
     name: String,
     /// Its files.
@@ -18,9 +20,10 @@ struct Table {
     out: String,
 }
 
-impl Table {
-    fn new(alloc: Global) -> Table {
+impl<'a, H: Threads + Sync> Table<'a, H> {
+    fn new(rt: &'a H, alloc: Global) -> Table<'a, H> {
         Table {
+            rt,
             name: String::new(alloc),
             files: Vec::new(alloc),
             is_open: false,
@@ -32,7 +35,7 @@ impl Table {
     /// Prints a line, what is told of the plant with this in place of `..`, and an empty line.
     fn print(&mut self, alloc: Global, line: &str, given: &str) -> Result<(), AllocError> {
         let files = self.files.as_slice();
-        let text = told_of(alloc, files, self.refusal.as_str(), given)?;
+        let text = told_of(self.rt, alloc, files, (self.refusal.as_str(), given))?;
         self.out.push_str(line)?;
         self.out.push_str("\n")?;
         self.out.push_str(text.as_str())?;
@@ -77,6 +80,9 @@ impl Table {
         if let Some(refusal) = line.strip_prefix("as ") {
             return self.refuse(alloc, refusal);
         }
+        if line.starts_with("all ") {
+            return self.refuse(alloc, line);
+        }
         match line.strip_prefix("with ") {
             Some(given) => self.print(alloc, line, given),
             None => Ok(()),
@@ -97,8 +103,12 @@ impl Table {
 }
 
 /// What a table is answered.
-pub fn answers_to(alloc: Global, lines: &str) -> Result<String, AllocError> {
-    let mut table = Table::new(alloc);
+pub fn answers_to<H: Threads + Sync>(
+    rt: &H,
+    alloc: Global,
+    lines: &str,
+) -> Result<String, AllocError> {
+    let mut table = Table::new(rt, alloc);
     table.take_all(alloc, lines)?;
     Ok(table.out)
 }

@@ -1,0 +1,127 @@
+//! What is left of the texts of a plant without what was at fault.
+
+use crate::stage::Stage;
+use plant_folder::PlantTexts;
+use plant_places::{FileOf, Spot};
+use std::alloc::{AllocError, Global};
+use table_causes::{first_field, next_field};
+use text_blanks::{blanked, part_at};
+use token_causes::tokens_of;
+
+/// The sources of a plant and its alarm database with blanks in place of what was at fault. Each byte that is left has the number that it had.
+#[derive(Drop)]
+pub struct Rest {
+    pub sources: Vec<Vec<u8>>,
+    pub alarms: Vec<u8>,
+}
+
+/// The bytes of the row of a table that has a byte; `None` for its header.
+fn row_at(text: &[u8], at: usize) -> Option<(usize, usize)> {
+    let mut field = first_field(text);
+    let mut from = field.from;
+    for _ in 0..text.len() {
+        let next = next_field(text, field);
+        let is_last = match next {
+            Some(next) => next.record != field.record,
+            None => true,
+        };
+        if is_last && field.until >= at {
+            return if field.record == 0 {
+                None
+            } else {
+                Some((from, field.until))
+            };
+        }
+        field = next?;
+        if is_last {
+            from = field.from;
+        }
+    }
+    None
+}
+
+/// The bytes of a source that are left out for what is wrong at one of them; `None` where nothing can be. Fails if allocation fails.
+fn part_of(
+    alloc: Global,
+    text: &[u8],
+    stage: Stage,
+    at: usize,
+) -> Result<Option<(usize, usize)>, AllocError> {
+    match stage {
+        Stage::Sources => Ok(Some((0, text.len()))),
+        Stage::Units => {
+            let tokens = tokens_of(alloc, text)?;
+            Ok(part_at(tokens.as_slice(), at))
+        }
+        Stage::Rows => Ok(None),
+    }
+}
+
+impl Rest {
+    /// All of the texts. Fails if allocation fails.
+    pub fn of(alloc: Global, texts: &PlantTexts<'_>) -> Result<Rest, AllocError> {
+        let mut sources = Vec::new(alloc);
+        for source in texts.sources {
+            sources.push(Vec::from_slice(alloc, source.1)?)?;
+        }
+        let alarms = Vec::from_slice(alloc, texts.alarms)?;
+        Ok(Rest { sources, alarms })
+    }
+
+    /// The sources that are left, each with its name. Fails if allocation fails.
+    pub fn pairs<'a>(
+        &'a self,
+        alloc: Global,
+        texts: &PlantTexts<'a>,
+    ) -> Result<Vec<(&'a str, &'a [u8])>, AllocError> {
+        let mut pairs = Vec::new(alloc);
+        for (source, text) in texts.sources.iter().zip(self.sources.iter()) {
+            pairs.push((source.0, text.as_slice()))?;
+        }
+        Ok(pairs)
+    }
+
+    /// Leaves out the part of a source that is wrong at a byte; whether anything can be left out. Fails if allocation fails.
+    fn leave_out_part(
+        &mut self,
+        alloc: Global,
+        stage: Stage,
+        number: usize,
+        at: usize,
+    ) -> Result<bool, AllocError> {
+        let Some(text) = self.sources.get_mut(number) else {
+            return Ok(false);
+        };
+        let Some(part) = part_of(alloc, text.as_slice(), stage, at)? else {
+            return Ok(false);
+        };
+        *text = blanked(alloc, text.as_slice(), part, b' ')?;
+        Ok(true)
+    }
+
+    /// Leaves out the row that is wrong at a byte: of a line without bytes no row is made. Whether anything can be left out. Fails if allocation fails.
+    fn leave_out_row(&mut self, alloc: Global, at: usize) -> Result<bool, AllocError> {
+        let Some(row) = row_at(self.alarms.as_slice(), at) else {
+            return Ok(false);
+        };
+        self.alarms = blanked(alloc, self.alarms.as_slice(), row, b'\r')?;
+        Ok(true)
+    }
+
+    /// Leaves out what is at fault, by the stage of the fault; whether anything can be left out. Fails if allocation fails.
+    pub fn leave_out(
+        &mut self,
+        alloc: Global,
+        stage: Stage,
+        spot: &Spot,
+    ) -> Result<bool, AllocError> {
+        let Some(mark) = spot.cause.mark else {
+            return Ok(false);
+        };
+        match spot.file {
+            FileOf::Plant => Ok(false),
+            FileOf::Source(number) => self.leave_out_part(alloc, stage, number, mark.0),
+            FileOf::Alarms => self.leave_out_row(alloc, mark.0),
+        }
+    }
+}

@@ -1,0 +1,104 @@
+//! Further faults are looked for.
+
+ghost use Rattle.std.specs.Prelude.{◌≢◌};
+ghost use Rattle.plant_config.specs.declared.fault.ConfigFault.TheVariants as config_fault;
+
+use crate::refusal::refusal;
+use crate::rest::Rest;
+use crate::stage::{Stage, stage_of};
+use plant_config::ConfigFault;
+use plant_explain::find;
+use plant_folder::PlantTexts;
+use plant_places::Spot;
+use std::alloc::{AllocError, Global};
+use std::thread::Threads;
+
+/// The most faults that are told.
+pub const MOST_FAULTS: usize = 20;
+
+/// A plant is read again at most so often: a fault whose place isn't known takes several readings.
+const MOST_READINGS: usize = 40;
+
+/// Of a plant with more bytes no further faults are told.
+const MOST_BYTES: usize = 1_048_576;
+
+/// How many bytes the texts of a plant have together.
+fn size_of(texts: &PlantTexts<'_>) -> usize {
+    let mut size = texts.plant.len().saturating_add(texts.alarms.len());
+    for source in texts.sources {
+        size = size.saturating_add(source.1.len());
+    }
+    size
+}
+
+/// The first fault of what is left of a plant, where it is one of a stage. Fails if allocation fails.
+fn next_fault<H: Threads + Sync>(
+    rt: &H,
+    alloc: Global,
+    texts: &PlantTexts<'_>,
+    rest: &Rest,
+    stage: Stage,
+) -> Result<Option<Spot>, AllocError> {
+    let sources = rest.pairs(alloc, texts)?;
+    let left = PlantTexts {
+        path: texts.path,
+        plant: texts.plant,
+        sources: sources.as_slice(),
+        alarms: rest.alarms.as_slice(),
+    };
+    match refusal(rt, alloc, &left)? {
+        Some(fault) if stage_of(&fault) == Some(stage) => Ok(Some(find(alloc, &left, &fault)?)),
+        _ => Ok(None),
+    }
+}
+
+/// Whether what is wrong is one of these already: where a unit is told, since no word in it is certain, it may be told again for the same.
+fn is_among(found: &[Spot], spot: &Spot) -> bool {
+    found.iter().any(|other| other.file == spot.file && other.cause.mark == spot.cause.mark)
+}
+
+/// Adds the further faults of a stage to the first. Fails if allocation fails; those that were found by then are there.
+fn add_further<H: Threads + Sync>(
+    rt: &H,
+    alloc: Global,
+    texts: &PlantTexts<'_>,
+    stage: Stage,
+    found: &mut Vec<Spot>,
+) -> Result<(), AllocError> {
+    let mut rest = Rest::of(alloc, texts)?;
+    for _ in 0..MOST_READINGS {
+        let Some(last) = found.last() else {
+            return Ok(());
+        };
+        if found.len() >= MOST_FAULTS || !rest.leave_out(alloc, stage, last)? {
+            return Ok(());
+        }
+        let Some(spot) = next_fault(rt, alloc, texts, &rest, stage)? else {
+            return Ok(());
+        };
+        if !is_among(found.as_slice(), &spot) {
+            found.push(spot)?;
+        }
+    }
+    Ok(())
+}
+
+/// The fault of a refused plant, and further ones of the same stage, in the order in which they are found; 20 at most. Where memory is short there may be
+/// fewer. Fails if allocation fails.
+pub fn find_all<H: Threads + Sync>(
+    rt: &H,
+    alloc: Global,
+    texts: &PlantTexts<'_>,
+    fault: &ConfigFault,
+) -> Result<Vec<Spot>, AllocError>
+    requires { fault.now ≢ config_fault.Memory }
+{
+    let mut found = Vec::new(alloc);
+    found.push(find(alloc, texts, fault)?)?;
+    if let Some(stage) = stage_of(fault) {
+        if size_of(texts) <= MOST_BYTES {
+            let _ = add_further(rt, alloc, texts, stage, &mut found);
+        }
+    }
+    Ok(found)
+}

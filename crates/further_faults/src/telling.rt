@@ -1,0 +1,73 @@
+//! All faults that are found, explained.
+
+ghost use Rattle.std.specs.Prelude.{◌≢◌, IfOk, string_bytes};
+ghost use Rattle.plant_config.specs.declared.fault.ConfigFault.TheVariants as config_fault;
+ghost use Rattle.plant_config.specs.FaultLine.{config_line};
+ghost use Rattle.plant_explain.specs.Told.{BeginsWith};
+
+use crate::search::{MOST_FAULTS, find_all};
+use plant_config::ConfigFault;
+use plant_folder::PlantTexts;
+use plant_places::{Spot, shown, shown_alone};
+use std::alloc::{AllocError, Global};
+use std::thread::Threads;
+
+/// A line, and behind its line feed a text. Fails if allocation fails.
+fn under(alloc: Global, line: &str, text: &str) -> Result<String, AllocError>
+    ensures { IfOk result (λ both. BeginsWith line.now (string_bytes both)) }
+{
+    let mut both = String::from_str(alloc, line)?;
+    let rest = format!(in alloc; "\n{text}")?;
+    both.push_str(rest.as_str())?;
+    Ok(both)
+}
+
+/// The last line: how many faults are told, where that is more than one. Fails if allocation fails.
+fn last_line(alloc: Global, count: usize) -> Result<String, AllocError> {
+    if count <= 1 {
+        return Ok(String::new(alloc));
+    }
+    if count >= MOST_FAULTS {
+        return format!(in alloc;
+            "{count} faults told, and there may be more: correct these and check again\n"
+        );
+    }
+    format!(in alloc; "{count} faults told: correct these and check again\n")
+}
+
+/// What is said of faults, each with its place in these texts, and where to read on where that isn't the page of the fault before. Fails if allocation
+/// fails.
+fn all_shown(alloc: Global, texts: &PlantTexts<'_>, spots: &[Spot]) -> Result<String, AllocError> {
+    let mut told = String::new(alloc);
+    let mut page = "";
+    for spot in spots {
+        let text = if spot.cause.page == page {
+            shown_alone(alloc, texts, spot)?
+        } else {
+            shown(alloc, texts, spot)?
+        };
+        page = spot.cause.page;
+        told.push_str(text.as_str())?;
+    }
+    let last = last_line(alloc, spots.len())?;
+    told.push_str(last.as_str())?;
+    Ok(told)
+}
+
+/// What a person is told when a plant is refused: first the line of the refusal, then its explanation, then those of further faults of the same stage that
+/// are certain, 20 in all at most, each in the plant's own texts, and how many are told. Where there is one, the text is that of `explain`. Fails if
+/// allocation fails.
+pub fn explain_all<H: Threads + Sync>(
+    rt: &H,
+    alloc: Global,
+    texts: &PlantTexts<'_>,
+    fault: &ConfigFault,
+) -> Result<String, AllocError>
+    requires { fault.now ≢ config_fault.Memory }
+    ensures { IfOk result (λ text. BeginsWith (config_line fault.now) (string_bytes text)) }
+{
+    let line = fault.line(alloc)?;
+    let spots = find_all(rt, alloc, texts, fault)?;
+    let rest = all_shown(alloc, texts, spots.as_slice())?;
+    under(alloc, line.as_str(), rest.as_str())
+}
