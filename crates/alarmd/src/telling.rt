@@ -1,11 +1,13 @@
 //! What a person is told of a plant on standard error.
 
 use crate::missing::why_missing;
+use further_faults::explain_all;
 use plant_config::ConfigFault;
-use plant_explain::{explain, warn};
+use plant_explain::warn;
 use plant_service::{Folder, Listener, PlantTexts};
 use std::alloc::Global;
 use std::rt::Files;
+use std::thread::Threads;
 
 /// A listener that keeps what a person is to be told of a plant, until the plant's line has been written: why it is refused, or where it warns, what is
 /// likely to be wrong in an accepted one.
@@ -36,7 +38,7 @@ impl<'a, R: Files> Telling<'a, R> {
     }
 }
 
-impl<'a, R: Files> Listener for Telling<'a, R> {
+impl<'a, R: Files + Threads + Sync> Listener for Telling<'a, R> {
     fn accepted(&mut self, alloc: Global, texts: &PlantTexts<'_>) {
         if self.warns {
             self.text = warn(alloc, texts).ok();
@@ -44,7 +46,7 @@ impl<'a, R: Files> Listener for Telling<'a, R> {
     }
 
     fn refused(&mut self, alloc: Global, texts: &PlantTexts<'_>, fault: &ConfigFault) {
-        self.text = explain(alloc, texts, fault).ok();
+        self.text = explain_all(self.rt, alloc, texts, fault).ok();
     }
 
     fn missing<F: Folder>(&mut self, alloc: Global, _folder: &F, path: &str, name: &str) {
