@@ -28,28 +28,35 @@ use std::rt::Runtime;
 use std::sync::Wait;
 use std::thread::Threads;
 
+/// Whether a person sits at the ends of the program: one who types, and one who reads standard error.
+#[derive(Clone, Copy)]
+struct Terminals {
+    input: bool,
+    error: bool,
+}
+
 /// Does what was chosen.
 fn done<R: Runtime + Threads + Wait + AllocGlobal + Send + Sync + 'static>(
     rt: &R,
     choice: &Choice,
-    is_terminal: bool,
+    terminals: Terminals,
 ) -> Ended
     requires { HasWorkers choice.now }
 {
     match choice {
-        Choice::Example => serve_example(rt, is_terminal),
-        Choice::Check(path) => check(rt, path.as_str()),
-        Choice::Run(path, workers) => serve_files(rt, path.as_str(), *workers, is_terminal),
+        Choice::Example => serve_example(rt, terminals.input),
+        Choice::Check(path) => check(rt, path.as_str(), terminals.error),
+        Choice::Run(path, workers) => serve_files(rt, path.as_str(), *workers, terminals.input),
     }
 }
 
 /// Does what the words ask for; a person at a terminal is told more.
 fn ended<R: Runtime + Threads + Wait + AllocGlobal + Send + Sync + 'static>(
     rt: &R,
-    is_terminal: bool,
+    terminals: Terminals,
 ) -> Ended {
     match choice(rt) {
-        Ok(choice) => done(rt, &choice, is_terminal),
+        Ok(choice) => done(rt, &choice, terminals),
         Err(UsageFault::Memory) => stopped(rt, ServeFault::Memory),
         Err(UsageFault::Help(text) | UsageFault::Version(text)) => asked(rt, text.as_str()),
         Err(UsageFault::Usage(text)) => usage(rt, text.as_str()),
@@ -57,6 +64,9 @@ fn ended<R: Runtime + Threads + Wait + AllocGlobal + Send + Sync + 'static>(
 }
 
 fn main(rt: HostRuntime) -> ExitCode {
-    let is_terminal = rt.reader().is_terminal();
-    ExitCode::from(status(&ended(&rt, is_terminal)))
+    let terminals = Terminals {
+        input: rt.reader().is_terminal(),
+        error: rt.stderr().is_terminal(),
+    };
+    ExitCode::from(status(&ended(&rt, terminals)))
 }

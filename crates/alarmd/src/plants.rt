@@ -6,7 +6,7 @@ use crate::crews::workers;
 use crate::example::{ALARMS, PLANT, PLANT_NAME, SOURCE, SOURCE_NAME};
 use crate::greeting::greet;
 use crate::prints::stopped;
-use crate::telling::Telling;
+use crate::telling::{OfAccepted, Telling};
 use crate::watching::Watching;
 use command_line::Ended;
 use engine::{Alone, Crew, Done, Job, Start};
@@ -28,13 +28,22 @@ fn ended<R: Eprint>(rt: &R, run: Result<RunEnd, ServeFault>) -> Ended {
     }
 }
 
-/// Tells whether the plant of a plant file's path is accepted. A person is told why it is refused, or what is likely to be wrong in it.
+/// Tells whether the plant of a plant file's path is accepted. A person is told why it is refused, or what is likely to be wrong in it; at a terminal also
+/// what there is in it.
 pub fn check<R: Files + Print + Eprint + Threads + AllocGlobal + Sync>(
     rt: &R,
     path: &str,
+    is_terminal: bool,
 ) -> Ended {
     let mut sink = Writing::new(io::writer(rt));
-    let mut telling = Telling::new(rt, true);
+    let mut telling = Telling::new(
+        rt,
+        if is_terminal {
+            OfAccepted::Listing
+        } else {
+            OfAccepted::Warnings
+        },
+    );
     let files = PlantFiles {
         folder: &Disk { files: rt },
         path,
@@ -66,7 +75,7 @@ fn serve_by<
     let mut ends = Ends {
         feed: Reading::new(rt.reader()),
         sink: Watching::new(rt, Writing::new(io::writer(rt)), is_terminal),
-        listener: Telling::new(rt, false),
+        listener: Telling::new(rt, OfAccepted::Nothing),
     };
     let files = PlantFiles {
         folder: &Disk { files: rt },

@@ -2,46 +2,67 @@
 
 use crate::missing::why_missing;
 use further_faults::explain_all;
-use plant_config::ConfigFault;
+use plant_config::{ConfigFault, Plant};
 use plant_explain::warn;
+use plant_listing::listing;
 use plant_service::{Folder, Listener, PlantTexts};
 use std::alloc::Global;
 use std::rt::Files;
 use std::thread::Threads;
 
-/// A listener that keeps what a person is to be told of a plant, until the plant's line has been written: why it is refused, or where it warns, what is
-/// likely to be wrong in an accepted one.
+/// What a person is told of a plant that is accepted.
+#[derive(Clone, Copy)]
+pub enum OfAccepted {
+    /// Nothing.
+    Nothing,
+    /// What is likely to be wrong in it.
+    Warnings,
+    /// What there is in it, and what is likely to be wrong.
+    Listing,
+}
+
+/// A listener that keeps what a person is to be told of a plant, until the plant's line has been written: why it is refused, or where that is asked for,
+/// what there is in an accepted one, and what is likely to be wrong in it.
 #[derive(Drop)]
 pub struct Telling<'a, R: Files> {
     rt: &'a R,
-    /// Whether a person is told of an accepted plant.
-    warns: bool,
-    /// What is to be told; `None` where nothing is, or where memory was refused for it.
+    of_accepted: OfAccepted,
+    /// What there is in the plant; `None` where that isn't to be told, or where memory was refused for it.
+    listing: Option<String>,
+    /// What else is to be told, likewise.
     text: Option<String>,
 }
 
 impl<'a, R: Files> Telling<'a, R> {
-    /// A listener that has heard nothing. It warns where that is asked for.
-    pub fn new(rt: &'a R, warns: bool) -> Telling<'a, R> {
+    /// A listener that has heard nothing. Of an accepted plant it tells what is asked for here.
+    pub fn new(rt: &'a R, of_accepted: OfAccepted) -> Telling<'a, R> {
         Telling {
             rt,
-            warns,
+            of_accepted,
+            listing: None,
             text: None,
         }
     }
 
     /// Tells on standard error what there is to tell; nothing where that can't be written.
     pub fn tell(&self, rt: &impl Eprint) {
-        if let Some(text) = &self.text {
-            let _ = eprint!(rt; "{text}");
+        for text in [&self.listing, &self.text] {
+            if let Some(text) = text {
+                let _ = eprint!(rt; "{text}");
+            }
         }
     }
 }
 
 impl<'a, R: Files + Threads + Sync> Listener for Telling<'a, R> {
-    fn accepted(&mut self, alloc: Global, texts: &PlantTexts<'_>) {
-        if self.warns {
-            self.text = warn(alloc, texts).ok();
+    fn accepted(&mut self, alloc: Global, texts: &PlantTexts<'_>, plant: &Plant) {
+        match self.of_accepted {
+            OfAccepted::Nothing => {}
+            OfAccepted::Warnings => self.text = warn(alloc, texts).ok(),
+            OfAccepted::Listing => {
+                self.listing = listing(alloc, plant).ok();
+                self.text = warn(alloc, texts).ok();
+            }
         }
     }
 

@@ -2,25 +2,16 @@
 
 ghost use Rattle.std.specs.Prelude.{◌≢◌, IfOk, string_bytes};
 ghost use Rattle.plant_config.specs.declared.fault.ConfigFault.TheVariants as config_fault;
-ghost use Rattle.plant_config.specs.FaultLine.{config_line};
+ghost use Rattle.plant_folder.specs.Verdicts.{refusal_line};
 ghost use Rattle.plant_explain.specs.Told.{BeginsWith};
 
 use crate::search::{MOST_FAULTS, find_all};
 use plant_config::ConfigFault;
+use plant_explain::under;
 use plant_folder::PlantTexts;
 use plant_places::{Spot, shown, shown_alone};
 use std::alloc::{AllocError, Global};
 use std::thread::Threads;
-
-/// A line, and behind its line feed a text. Fails if allocation fails.
-fn under(alloc: Global, line: &str, text: &str) -> Result<String, AllocError>
-    ensures { IfOk result (λ both. BeginsWith line.now (string_bytes both)) }
-{
-    let mut both = String::from_str(alloc, line)?;
-    let rest = format!(in alloc; "\n{text}")?;
-    both.push_str(rest.as_str())?;
-    Ok(both)
-}
 
 /// The last line: how many faults are told, where that is more than one. Fails if allocation fails.
 fn last_line(alloc: Global, count: usize) -> Result<String, AllocError> {
@@ -64,7 +55,7 @@ pub fn explain_all<H: Threads + Sync>(
     fault: &ConfigFault,
 ) -> Result<String, AllocError>
     requires { fault.now ≢ config_fault.Memory }
-    ensures { IfOk result (λ text. BeginsWith (config_line fault.now) (string_bytes text)) }
+    ensures { IfOk result (λ text. BeginsWith (refusal_line fault.now) (string_bytes text)) }
 {
     let line = fault.line(alloc)?;
     let spots = find_all(rt, alloc, texts, fault)?;

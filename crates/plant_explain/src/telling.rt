@@ -1,8 +1,8 @@
 //! A refusal, explained.
 
-ghost use Rattle.std.specs.Prelude.{◌≡◌, ◌≢◌, ◌++◌, IfOk, string_bytes};
+ghost use Rattle.std.specs.Prelude.{◌≡◌, ◌≢◌, ◌++◌, IfOk, codes, string_bytes};
 ghost use Rattle.plant_config.specs.declared.fault.ConfigFault.TheVariants as config_fault;
-ghost use Rattle.plant_config.specs.FaultLine.{config_line};
+ghost use Rattle.plant_folder.specs.Verdicts.{refusal_line};
 ghost use Rattle.plant_explain.specs.Told.{BeginsWith};
 
 use crate::finding::find;
@@ -12,13 +12,13 @@ use plant_folder::PlantTexts;
 use plant_places::{shown, shown_alone};
 use std::alloc::{AllocError, Global};
 
-/// A line, and behind its line feed a text. Fails if allocation fails.
-fn under(alloc: Global, line: &str, text: &str) -> Result<String, AllocError>
-    ensures { IfOk result (λ both. BeginsWith line.now (string_bytes both)) }
+/// A line with its line feed, and a text. Fails if allocation fails.
+pub fn under(alloc: Global, line: &str, text: &str) -> Result<String, AllocError>
+    ensures { IfOk result (λ both. BeginsWith (line.now ++ codes "\n") (string_bytes both)) }
 {
     let mut both = String::from_str(alloc, line)?;
-    let rest = format!(in alloc; "\n{text}")?;
-    both.push_str(rest.as_str())?;
+    both.push_str("\n")?;
+    both.push_str(text)?;
     Ok(both)
 }
 
@@ -30,7 +30,7 @@ pub fn explain(
     fault: &ConfigFault,
 ) -> Result<String, AllocError>
     requires { fault.now ≢ config_fault.Memory }
-    ensures { IfOk result (λ text. BeginsWith (config_line fault.now) (string_bytes text)) }
+    ensures { IfOk result (λ text. BeginsWith (refusal_line fault.now) (string_bytes text)) }
 {
     let line = fault.line(alloc)?;
     let spot = find(alloc, refused, fault)?;

@@ -2,12 +2,11 @@
 
 ghost use Rattle.std.specs.Prelude.{◌≢◌, None};
 ghost use Rattle.plant_config.specs.declared.fault.ConfigFault.TheVariants as config_fault;
-ghost use Rattle.plant_config.specs.Plants.{PlainPlant};
 ghost use Rattle.plant_config.specs.Refusals.{IsRefused};
 ghost use Rattle.plant_config.specs.Stages.{Accepted};
 
 use crate::folder::Folder;
-use plant_config::ConfigFault;
+use plant_config::{ConfigFault, Plant};
 use std::alloc::Global;
 use std::marker::Model;
 
@@ -29,12 +28,12 @@ impl<'a> Model for PlantTexts<'a> {
     ghost view = { λ h. texts_of h.plant.now (map (λ s. s.0.now) h.sources.now) (map (λ s. s.1.now) h.sources.now) h.alarms.now };
 }
 
-/// Who hears what becomes of a plant, with the very texts that were judged: so nothing is read twice for what a person is told. What a listener does
-/// changes no verdict.
+/// Who hears what becomes of a plant, with the very texts that were judged, and the plant where it is accepted: so nothing is read twice for what a person
+/// is told. What a listener does changes no verdict.
 pub trait Listener {
-    /// Hears of a plant that is accepted.
-    fn accepted(&mut self, alloc: Global, texts: &PlantTexts<'_>)
-        requires { (plant : PlainPlant) × Accepted texts.now plant };
+    /// Hears of a plant that is accepted: of its texts, and the plant that they are.
+    fn accepted(&mut self, alloc: Global, texts: &PlantTexts<'_>, plant: &Plant)
+        requires { Accepted texts.now plant.now };
 
     /// Hears why a plant is refused. Where the plant file names no files, there are no other texts than its own.
     fn refused(&mut self, alloc: Global, texts: &PlantTexts<'_>, fault: &ConfigFault)
@@ -51,7 +50,7 @@ pub trait Listener {
 pub struct Deaf;
 
 impl Listener for Deaf {
-    fn accepted(&mut self, _alloc: Global, _texts: &PlantTexts<'_>) {}
+    fn accepted(&mut self, _alloc: Global, _texts: &PlantTexts<'_>, _plant: &Plant) {}
 
     fn refused(&mut self, _alloc: Global, _texts: &PlantTexts<'_>, _fault: &ConfigFault) {}
 

@@ -57,7 +57,7 @@ pub fn verdict<H: Threads + Sync, L: Listener>(
 {
     match Plant::read(rt, alloc, texts.plant, texts.sources, texts.alarms) {
         Ok(plant) => {
-            listener.accepted(alloc, texts);
+            listener.accepted(alloc, texts, &plant);
             Ok((Some(plant), String::new(alloc)))
         }
         Err(ConfigFault::Memory) => Err(AllocError),

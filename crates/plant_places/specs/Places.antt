@@ -1,6 +1,6 @@
--- What is promised of a place that a person is told: it lies in the text of its file.
-use Rattle.std.specs.Prelude.{◌≡◌, ℕ, ◌≤◌, List, [], length, slice_index_or}
-use Rattle.st_lexer.specs.Lexes.{unmarked}
+-- Places in the texts of a plant, as a person is told them.
+use Rattle.std.specs.Prelude.{ℕ, ◌-◌, List, [], slice_index_or}
+use Rattle.st_lexer.specs.Lexes.{mark_len, unmarked}
 use Rattle.st_lexer.specs.Places.{line_at, column_at}
 use Rattle.plant_config.specs.Files.{Texts}
 use Rattle.plant_places.specs.declared.place.FileOf.{FileOf}
@@ -13,9 +13,6 @@ text_of texts f.Plant = texts.plant
 text_of texts (f.Source number) = slice_index_or texts.sources number []
 text_of texts f.Alarms = texts.alarms
 
--- a line and a column are those of a byte of a text, or of its end; a byte order mark isn't counted
-pub record IsPlaceIn (text : List ℕ) (place : Place) : Type 0 where
-  pub at : ℕ
-  pub within : at ≤ length (unmarked text)
-  pub line_is : place.line ≡ line_at (unmarked text) at
-  pub column_is : place.column ≡ column_at (unmarked text) at
+-- the place of a byte of a text, by its number from 0: its line and its column, where a byte order mark isn't counted; in that mark it is the text's start, beyond the last byte the text's end
+abbrev pub place_in : List ℕ → ℕ → Place
+place_in text at = record { line = line_at (unmarked text) (at - mark_len text); column = column_at (unmarked text) (at - mark_len text) }

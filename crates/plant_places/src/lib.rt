@@ -1,6 +1,6 @@
 //! Places in the texts of a plant, for people: where a cause stands, and how it is shown, with its file, line and column, and the line there with a mark.
 //!
-//! It promises that a place lies in the text of the file for which it is given.
+//! It promises that a place is that of the cause's first byte in the text of its file.
 #![tactic(auto)]
 
 mod place;

@@ -3,7 +3,7 @@
 ghost use Rattle.std.specs.Prelude.{◌≡◌, ◌≤◌, ◌+◌, ◌==◌, not, length, count_by};
 ghost use Rattle.std.specs.List.{suffix_len};
 ghost use Rattle.st_lexer.specs.Lexes.{mark_len};
-ghost use Rattle.plant_places.specs.Places.{IsPlaceIn};
+ghost use Rattle.plant_places.specs.Places.{place_in};
 
 /// A file of a plant.
 #[derive(Clone, Copy, Debug, PartialEq, Eq, Drop)]
@@ -54,7 +54,7 @@ fn place_after(before: &[u8]) -> Place
 
 /// The place of a byte of a text by its number, from 0; beyond the last it is the text's end, in a byte order mark the text's start.
 pub fn place_at(text: &[u8], at: usize) -> Place
-    ensures { IsPlaceIn text.now result }
+    ensures { result ≡ place_in text.now at }
 {
     let skipped = mark_len(text);
     let body = &text[skipped..];

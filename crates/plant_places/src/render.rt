@@ -1,7 +1,7 @@
 //! How a cause is shown.
 
-ghost use Rattle.std.specs.Prelude.{◌≡◌, IfSome};
-ghost use Rattle.plant_places.specs.Places.{IsPlaceIn, text_of};
+ghost use Rattle.std.specs.Prelude.{◌≡◌, option_map};
+ghost use Rattle.plant_places.specs.Places.{place_in, text_of};
 
 use crate::place::{FileOf, Place, line_around, place_at};
 use crate::texts::{Spot, text_of};
@@ -14,9 +14,9 @@ use token_causes::part;
 /// A line with more bytes isn't shown.
 const LONGEST_LINE: usize = 200;
 
-/// The place of a spot; `None` where none can be told. It lies in the text of the spot's file.
+/// The place at which the cause of a spot begins, in the text of the spot's file; `None` where none can be told.
 pub fn place_of(texts: &PlantTexts<'_>, spot: &Spot) -> Option<Place>
-    ensures { IfSome result (IsPlaceIn (text_of texts.now spot.now.file)) }
+    ensures { result ≡ option_map (λ mark. place_in (text_of texts.now spot.now.file) mark.0) spot.now.cause.mark }
 {
     match spot.cause.mark {
         Some(mark) => Some(place_at(text_of(texts, spot.file), mark.0)),

@@ -28,6 +28,7 @@
 //! - `ready scan 7` gives the engine a command by its own calls, made ready and then committed, and prints what it shows before and after;
 //!   `step scan 7` gives it by the one call that does both;
 //! - `show FEED y` prints what the plant shows, and then what its copy shows, with the numbers of these names;
+//! - `listed` prints what a person is told that there is in the plant;
 //! - `feed 5` serves the commands so far to new engines, by a feed that gives at most 5 bytes a read and fails at its first read, at its
 //!   second, and so on until a session ends well; `sink 5` likewise with a sink that takes at most 5 bytes a write (`-` is no limit); `little
 //!   5 7` by a feed and a sink that take so little and don't fail. For each session it prints how it ended, how many bytes and line

@@ -7,7 +7,7 @@ use crate::folders::{push_checked, push_ran};
 use crate::gone::run_gone;
 use crate::plants::{Asked, Plan, plant_of};
 use crate::sessions::{asks_for_sessions, push_sessions};
-use crate::shown::push_shown;
+use crate::shown::{push_listed, push_shown};
 use crate::steps::push_step;
 use engine::{Alone, Crew, Done, Engine, Job, Start};
 use plant_config::Plant;
@@ -82,7 +82,10 @@ fn step<H, C: Crew<Job, Start, Done, H>>(
 /// Whether a line of a run is the table's own, and asks what the engine is given or shows next.
 fn is_own(line: &str) -> bool {
     let (word, _) = line.split_once(" ").unwrap_or((line, ""));
-    matches!(word, "seen" | "repeat" | "show" | "ready" | "step")
+    matches!(
+        word,
+        "seen" | "repeat" | "show" | "listed" | "ready" | "step"
+    )
 }
 
 /// Takes a line of the table's own.
@@ -101,6 +104,7 @@ fn take_own<H: Wait, C: Crew<Job, Start, Done, H>>(
     match word {
         "repeat" => repeat(rt, alloc, engine, crew, beside, text, words),
         "show" => push_shown(alloc, text, engine.plant(), words),
+        "listed" => push_listed(alloc, text, engine.plant()),
         "ready" => step(rt, alloc, engine, crew, beside, text, true, words),
         "step" => step(rt, alloc, engine, crew, beside, text, false, words),
         _ => push_seen(alloc, text, engine),

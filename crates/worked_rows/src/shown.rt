@@ -2,6 +2,7 @@
 
 use engine::{CrewFault, EngineFault};
 use plant_config::{AlarmRow, ConfigFault, Limit, Plant};
+use plant_listing::listing;
 use plant_service::ServeFault;
 use plant_types::{Kind, Region};
 use plant_walk::{Framed, Walked, walk};
@@ -168,6 +169,12 @@ pub fn push_shown(
     drop(copy);
     first.and(second)?;
     text.extend_from_slice(shown.as_bytes())
+}
+
+/// Adds what a person is told that there is in a plant.
+pub fn push_listed(alloc: Global, text: &mut Vec<u8>, plant: &Plant) -> Result<(), AllocError> {
+    let listed = listing(alloc, plant)?;
+    text.extend_from_slice(listed.as_bytes())
 }
 
 /// Adds the texts of the server's and the engine's refusals, and the lines of the limits that no small plant passes.
