@@ -1,5 +1,5 @@
 -- What is emitted is the code.
-use Rattle.std.proofs.Common.{◌≡◌, ◌∙◌, ap, sym, refl, arith, ℕ, zero, suc, ◌+◌, ◌<◌, ◌≤◌, List, [], ◌∷◌, ◌++◌, Option, Some, None, inl, inr, length, get_or, take, drop, drop-cons, append_assoc, length-take-le}
+use Rattle.std.proofs.Common.{◌≡◌, ◌∙◌, ap, sym, refl, arith, ℕ, ℤ, zero, suc, pos, ◌+◌, ◌-◌, ◌<◌, ◌≤◌, List, [], ◌∷◌, ◌++◌, Option, Some, None, inl, inr, length, get_or, take, drop, drop-cons, append_assoc, length-take-le}
 use Rattle.std.specs.Prelude.{slice_get, nat_lt, Bool, true, false, if◌then◌else◌}
 use Rattle.std.specs.Option.{option_map_or}
 use borrow.Author.Tests.{ltb-true}
@@ -8,6 +8,7 @@ use Rattle.std.proofs.lemmas.List.{append-nil}
 use Rattle.std.proofs.lemmas.Option.{slice_get_past, slice_get_cases, slice_get_read}
 use Rattle.std.proofs.Math.ListN.{drop_of_length-le}
 use Rattle.plant_types.specs.declared.values.Place.{Place}
+use Rattle.st_tree.specs.declared.controls.Span.{Span}
 use Rattle.st_tree.specs.declared.tree.Label.{Label}
 use Rattle.st_tree.specs.declared.tree.Branch.{Branch}
 use Rattle.st_tree.specs.declared.tree.Choice.{Choice}
@@ -16,6 +17,7 @@ use Rattle.st_tree.specs.declared.tree.Stmt.{Assign, fold-roll-Stmt}
 use Rattle.st_tree.specs.declared.tree.Stmt.TheOpen.{Stmt-F}
 use Rattle.st_tree.specs.declared.tree.Stmt.TheVariants.{rolls-Assign}
 use Rattle.st_tree.specs.Plain.{PlainExpr, PlainStmt, assign, PlainBody, Branches, no_branch, branch, Choices, no_choice, choice}
+use Rattle.st_tree.specs.Controls.{control_values}
 use Rattle.st_tree.specs.View.{view_step, view_branch_step, view_choice_step, view_expr, view_stmt, view_body, view_branch, view_branches, view_choice, view_choices}
 use Rattle.plant_cells.specs.declared.clock.Standard.{Standard}
 use Rattle.block_walk.specs.declared.frame.Seat.{Seat}
@@ -30,7 +32,7 @@ use Rattle.code_sizes.specs.Sizes.{expr_lines, body_lines, frame_lines}
 use Rattle.code_sizes.specs.Counts.{lines_at}
 use Rattle.codegen.specs.declared.scope.Scope.{Scope}
 use Rattle.codegen.specs.Codes as codes
-use Rattle.codegen.specs.Codes.{Line, Coder, Part, frame_part, routine_part, labels_code, pt_instr}
+use Rattle.codegen.specs.Codes.{Line, Coder, Part, frame_part, routine_part, labels_code, loop_code, for_code, pt_instr}
 use Rattle.codegen.specs.Emission.{AreLines, coders, expr_code, enter_code, body_code, branches_code, choices_code, branches_long, choices_long}
 use Rattle.codegen.proofs.Parts.{part_is, part_past, part_lines, lines_is}
 
@@ -197,6 +199,23 @@ case_done s place e choices last pc first at end old mid after mid_is first_is e
     let n = body_lines s.seats.now (lines_at s.table.now) last in
     emitted (body_code s last) n ends ∙ one_after old mid (expr_code s place e) (choices_code s place choices (body_code s last) n first) mid_is
     ∙ ap (λ f. old ++ (expr_code s place e ++ choices_code s place choices (body_code s last) n f)) first_is
+
+-- a FOR of some turns
+loop_by : (place : Place) (slot : ℕ) (span : Span) (n turns first : ℕ) (left : ℤ) (body : ℕ → List Line) (pc : ℕ) (old begun inside : List Line) → turns ≡ n → (turns ≡ 0 → ⊥) → left ≡ pos (turns - 1) → first ≡ pc + 1
+    → begun ≡ old ++ (instr.Begin slot span.from left, place) ∷ [] → inside ≡ begun ++ body first → inside ++ (instr.Turn slot span.step first, place) ∷ [] ≡ old ++ loop_code place slot span n body pc
+loop_by place slot span zero turns first left body pc old begun inside counted some left_is first_is begun_is inside_is = absurd (some counted)
+loop_by place slot span (suc n) turns first left body pc old begun inside counted some left_is first_is begun_is inside_is =
+    let fewer : turns - 1 ≡ n = omega (arith, counted) in
+    let left_at : left ≡ pos n = left_is ∙ ap pos fewer in
+    let begin : Line = (instr.Begin slot span.from left, place) in
+    let whole : inside ≡ old ++ (begin ∷ body first) = inside_is ∙ one_after old begun (begin ∷ []) (body first) begun_is in
+    one_after old inside (begin ∷ body first) ((instr.Turn slot span.step first, place) ∷ []) whole
+    ∙ (λ i. old ++ ((instr.Begin slot span.from (left_at i), place) ∷ (body (first_is i) ++ (instr.Turn slot span.step (first_is i), place) ∷ [])))
+
+pub loop_done : (place : Place) (slot : ℕ) (span : Span) (turns first : ℕ) (left : ℤ) (body : ℕ → List Line) (pc : ℕ) (old begun inside : List Line) → turns ≡ length (control_values span) → (turns ≡ 0 → ⊥) → left ≡ pos (turns - 1)
+    → first ≡ pc + 1 → begun ≡ old ++ (instr.Begin slot span.from left, place) ∷ [] → inside ≡ begun ++ body first → inside ++ (instr.Turn slot span.step first, place) ∷ [] ≡ old ++ for_code place slot (Some span) body pc
+loop_done place slot span turns first left body pc old begun inside counted some left_is first_is begun_is inside_is =
+    loop_by place slot span (length (control_values span)) turns first left body pc old begun inside counted some left_is first_is begun_is inside_is
 
 pub view_assigned : (number : ℕ) (v : ℕ) (e : Expr ℕ) → view_stmt (Assign number v e) ≡ assign number v (view_expr e)
 view_assigned number v e =

@@ -10,6 +10,7 @@ pub mod Statements
 pub mod Frames
 pub mod Runs
 pub mod Emitting
+pub mod Steady
 pub mod Numbered
 pub mod Ends
 pub mod Places

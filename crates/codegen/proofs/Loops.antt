@@ -31,7 +31,7 @@ next_turn on pc slot stride to acc x left rest stack w e fits =
 no_lt : (a b : ℤ) → b ≤ℤ a → int_lt a b ≡ false
 no_lt a b h = grind (arith, ints)
 
-from_range : (x : ℤ) → is_in_range kind.Dint x ≡ true → (negsuc 2147483647 ≤ℤ x) × (x ≤ℤ pos 2147483647)
+pub from_range : (x : ℤ) → is_in_range kind.Dint x ≡ true → (negsuc 2147483647 ≤ℤ x) × (x ≤ℤ pos 2147483647)
 from_range x h = (grind (arith, ints), grind (arith, ints))
 
 -- a DINT is in the range of a TIME
@@ -48,7 +48,7 @@ pub bound : (c n : ℕ) → c * (4 * n + 1) ≤ 4 * (c * (3 + n))
 bound zero n = omega arith
 bound (suc c) n = let h = bound c n in let a = suc-mul c (4 * n + 1) in let b = suc-mul c (3 + n) in omega arith
 
-length_from : (n : ℕ) (x stride : ℤ) → length (values_from n x stride) ≡ n
+pub length_from : (n : ℕ) (x stride : ℤ) → length (values_from n x stride) ≡ n
 length_from zero x stride = refl
 length_from (suc n) x stride = ap suc (length_from n (x +ℤ stride) stride)
 

@@ -15,7 +15,7 @@ use Rattle.code_sizes.specs.Sizes.{frame_lines, branches_lines, choices_lines}
 use Rattle.code_sizes.specs.Counts.{lines_at}
 use Rattle.codegen.specs.declared.scope.Scope.{Scope}
 use Rattle.codegen.specs.Codes as codes
-use Rattle.codegen.specs.Codes.{Line, Coder, frame_part}
+use Rattle.codegen.specs.Codes.{Line, Coder, frame_part, AreSteady}
 
 -- a table has the lines of so many first frames
 pub record AreLines (frames : List Frame) (limit : ℕ) (table : List Count) : Type 0 where
@@ -23,13 +23,15 @@ pub record AreLines (frames : List Frame) (limit : ℕ) (table : List Count) : T
   pub long : length table ≡ limit
   pub lines : (k : ℕ) → frame_lines frames limit k ≡ lines_at table k
 
--- a scope's table has the lines of the frames before its own; each base below it stays below 2 ^ 128, and each path number at it and below it is below 2 ^ 32
+-- a scope's table has the lines of the frames before its own; each base below it stays below 2 ^ 128, and each path number at it and below it is below 2 ^ 32;
+-- and each FOR of a frame has constant bounds
 pub record IsLaid (s : Scope) : Type 0 where
   pub lines : AreLines s.frames.now s.limit s.table.now
   pub bases : HasRoom s.base (s.limit + 1)
   pub paths : s.path + length (paths_within s.frames.now s.limit s.seats.now) ≤ 2 ^ 32
   pub own : InTurn (frame_paths s.frames.now s.limit) s.seats.now
   pub in_turn : AreInTurn s.frames.now
+  pub steady : AreSteady s.frames.now
 
 -- the code of each of so many first frames
 abbrev pub coders : ℕ → List Frame → ℕ → ℕ → Coder

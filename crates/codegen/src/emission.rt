@@ -5,7 +5,7 @@ ghost use Rattle.st_tree.specs.View.{view_argument, view_stmt, view_body, view_b
 ghost use Rattle.block_walk.specs.Frames.{AreInTurn, frame_paths};
 ghost use Rattle.block_walk.specs.Walks.{HasRoom};
 ghost use Rattle.acc_vm.specs.declared.instr.Instr.TheVariants.{Jump, JumpUnless};
-ghost use Rattle.codegen.specs.Codes.{Line, labels_code, for_code};
+ghost use Rattle.codegen.specs.Codes.{Line, labels_code, for_code, IsSteady, SteadyStmt, SteadyBody, SteadyBranches, SteadyChoices, AreSteady};
 ghost use Rattle.codegen.specs.Emission as code;
 ghost use Rattle.codegen.specs.Emission.{AreLines, IsLaid, coders, branches_long, choices_long};
 
@@ -42,6 +42,7 @@ pub(crate) fn emit_frame(
     requires bases { HasRoom base limit }
     requires paths { path + length (frame_paths frames.now limit k) ≤ 2 ^ 32 }
     requires in_turn { AreInTurn frames.now }
+    requires steady { AreSteady frames.now }
     ensures { IfOk result (λ _. out.new.items ≡ out.old.items ++ coders globals frames.now limit k base path pc) }
 {
     let frame = &frames[k];
@@ -65,7 +66,8 @@ fn emit_body(
     body: &[Stmt<usize>],
     pc: u32,
 ) -> Result<(), AllocError>
-    requires { IsLaid scope.now }
+    requires laid { IsLaid scope.now }
+    requires steady { SteadyBody (view_body body.now) }
     ensures { IfOk result (λ _. out.new.items ≡ out.old.items ++ code.body_code scope.now (view_body body.now) pc) }
 {
     let mut at = pc;
@@ -84,7 +86,8 @@ fn emit_stmt(
     stmt: &Stmt<usize>,
     pc: u32,
 ) -> Result<(), AllocError>
-    requires { IsLaid scope.now }
+    requires laid { IsLaid scope.now }
+    requires steady { SteadyStmt (view_stmt stmt.now) }
     ensures { IfOk result (λ _. out.new.items ≡ out.old.items ++ code.stmt_code scope.now (view_stmt stmt.now) pc) }
 {
     match stmt {
@@ -215,7 +218,8 @@ fn emit_branches(
     pc: u32,
     end: u32,
 ) -> Result<u32, AllocError>
-    requires { IsLaid scope.now }
+    requires laid { IsLaid scope.now }
+    requires steady { SteadyBranches (view_branches branches.now) }
     ensures { IfOk result (λ at. (last : ℕ → List Line) (n : ℕ) → pc + branches_long scope.now (view_branches branches.now) n ≡ end
         → out.new.items ++ last at ≡ out.old.items ++ code.branches_code scope.now place (view_branches branches.now) last n pc) }
 {
@@ -241,7 +245,8 @@ fn emit_branch(
     next: u32,
     end: u32,
 ) -> Result<(), AllocError>
-    requires { IsLaid scope.now }
+    requires laid { IsLaid scope.now }
+    requires steady { SteadyBody (view_branch branch.now).1 }
     ensures { IfOk result (λ _. out.new.items ≡ out.old.items ++ (code.expr_code scope.now place (view_branch branch.now).0 ++ ((JumpUnless next, place) ∷ (code.body_code scope.now (view_branch branch.now).1 body ++ (Jump end, place) ∷ [])))) }
 {
     emit_expr(scope, out, place, &branch.test)?;
@@ -261,7 +266,8 @@ fn emit_choices(
     pc: u32,
     end: u32,
 ) -> Result<u32, AllocError>
-    requires { IsLaid scope.now }
+    requires laid { IsLaid scope.now }
+    requires steady { SteadyChoices (view_choices choices.now) }
     ensures { IfOk result (λ at. (last : ℕ → List Line) (n : ℕ) → pc + choices_long scope.now (view_choices choices.now) n ≡ end
         → out.new.items ++ last at ≡ out.old.items ++ code.choices_code scope.now place (view_choices choices.now) last n pc) }
 {
@@ -290,7 +296,8 @@ fn emit_choice(
     next: u32,
     end: u32,
 ) -> Result<(), AllocError>
-    requires { IsLaid scope.now }
+    requires laid { IsLaid scope.now }
+    requires steady { SteadyBody (view_choice choice.now).1 }
     ensures { IfOk result (λ _. out.new.items ≡ out.old.items ++ (labels_code place (view_choice choice.now).0 body ++ ((Jump next, place) ∷ (code.body_code scope.now (view_choice choice.now).1 body ++ (Jump end, place) ∷ [])))) }
 {
     emit_labels(out, place, &choice.labels, body)?;
@@ -310,14 +317,16 @@ fn emit_loop(
     body: &[Stmt<usize>],
     pc: u32,
 ) -> Result<(), AllocError>
-    requires { IsLaid scope.now }
+    requires laid { IsLaid scope.now }
+    requires dints { IsSteady (Some span) }
+    requires steady { SteadyBody (view_body body.now) }
     ensures { IfOk result (λ _. out.new.items ≡ out.old.items ++ for_code place slot (Some span) (code.body_code scope.now (view_body body.now)) pc) }
 {
     let turns = count_turns(span);
     if turns == 0 {
         return Ok(());
     }
-    let left = left_of(turns - 1)?;
+    let left = left_of(turns - 1);
     let first = add(pc, 1)?;
     emit(
         out,

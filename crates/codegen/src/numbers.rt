@@ -1,6 +1,6 @@
 //! Numbers of slots, clocks and lines, refused from 2^32 on, and the bases of instances.
 
-ghost use Rattle.std.specs.Prelude.{◌≡◌, ℕ, ◌+◌, pos, slice_get, IfOk};
+ghost use Rattle.std.specs.Prelude.{◌≡◌, ◌<◌, ℕ, ◌+◌, ◌^◌, pos, slice_get, IfOk};
 ghost use Rattle.block_walk.specs.Walks.{HasRoom, slot_of, member_slot, base_of};
 ghost use Rattle.codegen.specs.Codes.{output_instr, pt_instr};
 
@@ -47,15 +47,12 @@ pub(crate) fn count(n: usize) -> Result<u32, AllocError>
     narrow(n as u128)
 }
 
-/// The turns that are left after the first one as a word; refused if they are 2^63 or more.
-pub(crate) fn left_of(turns: u128) -> Result<i64, AllocError>
-    ensures { IfOk result (λ n. n ≡ pos turns) }
+/// The turns that are left after the first one, as a word.
+pub(crate) fn left_of(turns: u128) -> i64
+    requires { turns < 2 ^ 63 }
+    ensures { result ≡ pos turns }
 {
-    if turns < 9_223_372_036_854_775_808 {
-        Ok(turns as i64)
-    } else {
-        Err(AllocError)
-    }
+    turns as i64
 }
 
 /// The slot of a variable.

@@ -1,9 +1,11 @@
-use Rattle.std.proofs.Common.{◌≡◌, ◌∙◌, ap, sym, refl, subst, arith, ℕ, ◌+◌, ◌<◌, ◌++◌, ◌∷◌, List, [], length, take, drop}
+use Rattle.std.proofs.Common.{◌≡◌, ◌∙◌, ap, sym, refl, subst, arith, ℕ, ◌+◌, ◌<◌, ◌++◌, ◌∷◌, List, [], length, take, drop, rules, to_z, of_z, w64}
 use Rattle.std.specs.Prelude.{IfOk}
-use denote.Param.Weighed.{most}
+use denote.Param.Weighed.{most, at_most}
 use Rattle.st_tree.specs.declared.tree.Stmt.{size-Stmt}
-use Rattle.st_tree.specs.declared.tree.Branch.{size-Branch}
-use Rattle.st_tree.specs.declared.tree.Choice.{size-Choice}
+use Rattle.st_tree.specs.declared.tree.Branch.{size-Branch, size_is-Branch}
+use Rattle.st_tree.specs.declared.tree.Choice.{size-Choice, size_is-Choice}
+use Rattle.st_tree.specs.declared.tree.Label.{Label}
+use Rattle.st_tree.specs.Plain.{PlainExpr, PlainBody}
 use Rattle.st_tree.specs.View.{view_expr, view_stmt, view_body, view_branch, view_branches, view_choice, view_choices}
 use Rattle.st_tree.proofs.Depth.{size-If, size-Case, size-For}
 use Rattle.st_tree.proofs.Views.{view_stmt-Case, view_branch_is, view_choice_is}
@@ -16,11 +18,12 @@ use Rattle.acc_vm.specs.declared.instr.Instr.TheVariants as instr
 use Rattle.code_sizes.specs.Sizes.{expr_lines, body_lines}
 use Rattle.code_sizes.specs.Counts.{lines_at}
 use Rattle.codegen.specs.Codes as codes
-use Rattle.codegen.specs.Codes.{Line, place_of}
+use Rattle.codegen.specs.Codes.{Line, place_of, IsSteady, SteadyBody, SteadyBranches, SteadyChoices}
 use Rattle.codegen.specs.Emission as code
 use Rattle.codegen.specs.Emission.{coders, branches_long, choices_long}
-use Rattle.codegen.proofs.Emitting.{nothing, one_after, seat_at, no_seat, laid_before, frame_coded, branches_at, choices_at, no_branches, no_choices, branch_on, choice_on, choice_passed, entered_none, entered_past, entered_frame, entered_standard, case_done, view_assigned}
+use Rattle.codegen.proofs.Emitting.{nothing, one_after, seat_at, no_seat, laid_before, frame_coded, branches_at, choices_at, no_branches, no_choices, branch_on, choice_on, choice_passed, entered_none, entered_past, entered_frame, entered_standard, case_done, loop_done, view_assigned}
 use Rattle.codegen.proofs.Numbered.{numbers_below}
+use Rattle.codegen.proofs.Steady.{steady_at, steady_branch, steady_choice, steady_if, steady_case, steady_for, turns_few}
 use Rattle.codegen.proofs.emission.+code.Goals as goal
 use Rattle.codegen.proofs.emission.+code.Goals.{emit_enter-then-not-seat-via-then-not-seat, emit_enter-then-not-seat-via-else-not-seat+then-k-scope, emit_choices-then-labels-gt0+in_ok-count+in_ok-add+in_ok-body+in_ok-inside+in_ok-add-2+in_ok-next+in_ok-emit_choice, emit_choices-else-labels-gt0}
 
@@ -107,7 +110,7 @@ emit_enter-emit_frame-requires t c =
     let at = seat_at s.seats.now c.args.instance seat (sym c.in-Some.ensures.lookup.0) c.in-Some.ensures.lookup.1 in
     let less : c.in-Frame.k < s.limit = omega (arith, c.if-k-scope.false) in
     let below = numbers_below s.frames.now s.limit c.in-Frame.k c.args.instance s.seats.now seat less c.requires.lines.within c.requires.own at c.in-Frame.is c.if-not-seat.false in
-    (omega arith, (less, (c.requires.lines, (c.base_of.ensures.room s.limit c.requires.bases, (omega (arith, below.1, c.requires.paths), c.requires.in_turn)))))
+    (omega arith, (less, (c.requires.lines, (c.base_of.ensures.room s.limit c.requires.bases, (omega (arith, below.1, c.requires.paths), (c.requires.in_turn, c.requires.steady))))))
 
 pub emit_enter-returns-else-k-scope : goal.emit_enter-returns-else-k-scope
 emit_enter-returns-else-k-scope t c =
@@ -131,13 +134,17 @@ emit_frame-emit_body-requires t c =
     let all = ap (λ (l : List Path). length l) (paths_is frames c.args.limit c.args.k c.index-frames-k.result c.requires.there at) in
     let own = ap (λ seats. length (routine_paths (frame_paths frames c.args.k) seats)) c.deref.ensures.value in (
       omega (arith, less),
-      record {
-        lines = laid_before frames c.args.limit c.args.k c.args.table.now c.requires.there c.requires.lines;
-        bases = (omega (arith, c.requires.there, c.requires.bases.0), omega (arith, c.requires.there, c.requires.bases.1));
-        paths = omega (arith, all, own, c.requires.paths);
-        own = subst (InTurn (frame_paths frames c.args.k)) (sym c.deref.ensures.value) (c.requires.in_turn c.args.k c.index-frames-k.result at);
-        in_turn = c.requires.in_turn;
-      },
+      (
+        record {
+          lines = laid_before frames c.args.limit c.args.k c.args.table.now c.requires.there c.requires.lines;
+          bases = (omega (arith, c.requires.there, c.requires.bases.0), omega (arith, c.requires.there, c.requires.bases.1));
+          paths = omega (arith, all, own, c.requires.paths);
+          own = subst (InTurn (frame_paths frames c.args.k)) (sym c.deref.ensures.value) (c.requires.in_turn c.args.k c.index-frames-k.result at);
+          in_turn = c.requires.in_turn;
+          steady = c.requires.steady;
+        },
+        subst (λ x. SteadyBody (view_body x)) (sym c.deref-2.ensures.value) (c.requires.steady c.args.k c.index-frames-k.result at),
+      ),
     )
 
 pub emit_frame-returns : goal.emit_frame-returns
@@ -153,31 +160,83 @@ pub emit_stmt-emit_branches-requires : goal.emit_stmt-emit_branches-requires
 emit_stmt-emit_branches-requires t c =
     let size = ap (size-Stmt ℕ) c.in-If.is ∙ size-If c.in-If.statement c.in-If.branches c.in-If.last in
     let same = ap (most (size-Branch ℕ)) c.deref-in-If-3.ensures.value in
-    (omega (arith, size, same), c.requires)
+    let steady = steady_if c.args.stmt.now c.in-If.statement c.in-If.branches c.in-If.last c.in-If.is c.requires.steady in
+    (omega (arith, size, same), (c.requires.laid, subst (λ x. SteadyBranches (view_branches x)) (sym c.deref-in-If-3.ensures.value) steady.0))
 
 pub emit_stmt-emit_body-requires : goal.emit_stmt-emit_body-requires
 emit_stmt-emit_body-requires t c =
     let size = ap (size-Stmt ℕ) c.in-If.is ∙ size-If c.in-If.statement c.in-If.branches c.in-If.last in
     let same = ap (most (size-Stmt ℕ)) c.deref-in-If-4.ensures.value in
-    (omega (arith, size, same), c.requires)
+    let steady = steady_if c.args.stmt.now c.in-If.statement c.in-If.branches c.in-If.last c.in-If.is c.requires.steady in
+    (omega (arith, size, same), (c.requires.laid, subst (λ x. SteadyBody (view_body x)) (sym c.deref-in-If-4.ensures.value) steady.1))
 
 pub emit_stmt-emit_choices-requires : goal.emit_stmt-emit_choices-requires
 emit_stmt-emit_choices-requires t c =
     let size = ap (size-Stmt ℕ) c.in-Case.is ∙ size-Case c.in-Case.statement c.in-Case.selector c.in-Case.choices c.in-Case.last in
     let same = ap (most (size-Choice ℕ)) c.deref-in-Case-3.ensures.value in
-    (omega (arith, size, same), c.requires)
+    let steady = steady_case c.args.stmt.now c.in-Case.statement c.in-Case.selector c.in-Case.choices c.in-Case.last c.in-Case.is c.requires.steady in
+    (omega (arith, size, same), (c.requires.laid, subst (λ x. SteadyChoices (view_choices x)) (sym c.deref-in-Case-3.ensures.value) steady.0))
 
 pub emit_stmt-emit_body-requires-in-Case : goal.emit_stmt-emit_body-requires-in-Case
 emit_stmt-emit_body-requires-in-Case t c =
     let size = ap (size-Stmt ℕ) c.in-Case.is ∙ size-Case c.in-Case.statement c.in-Case.selector c.in-Case.choices c.in-Case.last in
     let same = ap (most (size-Stmt ℕ)) c.deref-in-Case-4.ensures.value in
-    (omega (arith, size, same), c.requires)
+    let steady = steady_case c.args.stmt.now c.in-Case.statement c.in-Case.selector c.in-Case.choices c.in-Case.last c.in-Case.is c.requires.steady in
+    (omega (arith, size, same), (c.requires.laid, subst (λ x. SteadyBody (view_body x)) (sym c.deref-in-Case-4.ensures.value) steady.1))
 
 pub emit_stmt-emit_loop-requires : goal.emit_stmt-emit_loop-requires
 emit_stmt-emit_loop-requires t c =
     let size = ap (size-Stmt ℕ) c.in-For.is ∙ size-For c.in-For.number c.in-For.variable c.in-For.from c.in-For.to c.in-For.by c.in-For.body in
     let same = ap (most (size-Stmt ℕ)) c.deref-in-Some.ensures.value in
-    (omega (arith, size, same), c.requires)
+    let steady = steady_for c.args.stmt.now c.in-For.number c.in-For.variable c.in-For.from c.in-For.to c.in-For.by c.in-For.body c.in-For.is c.requires.steady in
+    (omega (arith, size, same), (c.requires.laid, (subst IsSteady (sym c.constant_span.ensures ∙ c.in-Some.is) steady.0, subst (λ x. SteadyBody (view_body x)) (sym c.deref-in-Some.ensures.value) steady.1)))
+
+pub emit_body-emit_stmt-requires : goal.emit_body-emit_stmt-requires
+emit_body-emit_stmt-requires t c =
+    let deep = at_most (size-Stmt ℕ) c.args.body.now c.loop-stmt.stmt-index c.stmt-item.result c.loop-stmt-test.true in
+    let same = ap (size-Stmt ℕ) c.stmt-item.is in
+    (omega arith, (c.requires.laid, steady_at c.args.body.now c.loop-stmt.stmt-index c.stmt-item.result c.loop-stmt-test.true c.stmt-item.is c.requires.steady))
+
+pub emit_branches-emit_branch-requires : goal.emit_branches-emit_branch-requires
+emit_branches-emit_branch-requires t c =
+    let deep = at_most (size-Branch ℕ) c.args.branches.now c.loop-branch.branch-index c.branch-item.result c.loop-branch-test.true in
+    let same = ap (size-Branch ℕ) c.branch-item.is in
+    (omega arith, (c.requires.laid, steady_branch c.args.branches.now c.loop-branch.branch-index c.branch-item.result c.loop-branch-test.true c.branch-item.is c.requires.steady))
+
+pub emit_branch-emit_body-requires : goal.emit_branch-emit_body-requires
+emit_branch-emit_body-requires t c =
+    let whole = size_is-Branch ℕ c.args.branch.now in
+    let part = ap (most (size-Stmt ℕ)) c.deref.ensures.value in
+    let steady = subst (λ (p : PlainExpr ℕ × PlainBody ℕ). SteadyBody p.1) (view_branch_is c.args.branch.now) c.requires.steady in
+    (omega arith, (c.requires.laid, subst (λ x. SteadyBody (view_body x)) (sym c.deref.ensures.value) steady))
+
+pub emit_choices-emit_choice-requires : goal.emit_choices-emit_choice-requires
+emit_choices-emit_choice-requires t c =
+    let deep = at_most (size-Choice ℕ) c.args.choices.now c.loop-choice.choice-index c.choice-item.result c.loop-choice-test.true in
+    let same = ap (size-Choice ℕ) c.choice-item.is in
+    (omega arith, (c.requires.laid, steady_choice c.args.choices.now c.loop-choice.choice-index c.choice-item.result c.loop-choice-test.true c.choice-item.is c.requires.steady))
+
+pub emit_choice-emit_body-requires : goal.emit_choice-emit_body-requires
+emit_choice-emit_body-requires t c =
+    let whole = size_is-Choice ℕ c.args.choice.now in
+    let part = ap (most (size-Stmt ℕ)) c.deref-2.ensures.value in
+    let steady = subst (λ (p : List Label × PlainBody ℕ). SteadyBody p.1) (view_choice_is c.args.choice.now) c.requires.steady in
+    (omega arith, (c.requires.laid, subst (λ x. SteadyBody (view_body x)) (sym c.deref-2.ensures.value) steady))
+
+pub emit_loop-left_of-left-requires : goal.emit_loop-left_of-left-requires
+emit_loop-left_of-left-requires t c = let few = turns_few c.args.span c.requires.dints in omega (arith, few, c.count_turns-turns.ensures)
+
+pub emit_loop-returns : goal.emit_loop-returns
+emit_loop-returns t c =
+    let inside = code.body_code c.args.scope.now (view_body c.args.body.now) in
+    let from : to_z w64 (of_z w64 c.args.span.from) ≡ c.args.span.from = search rules in
+    let left : to_z w64 (of_z w64 c.left_of-left.result) ≡ c.left_of-left.result = search rules in
+    let step : to_z w64 (of_z w64 c.args.span.step) ≡ c.args.span.step = search rules in
+    let begun = c.in_ok-emit.ensures ∙ (λ i. c.args.out.now.items ++ (instr.Begin c.args.slot (from i) (left i), c.args.place) ∷ []) in
+    let is =
+    loop_done c.args.place c.args.slot c.args.span c.count_turns-turns.result c.in_ok-first.first c.left_of-left.result inside c.args.pc c.args.out.now.items c.emit.new.out.items c.emit_body.new.out.items
+    c.count_turns-turns.ensures c.if-turns-eq0.false c.left_of-left.ensures c.in_ok-first.ensures begun c.in_ok-emit_body.ensures in
+    subst (λ z. IfOk c.emit-2.result (λ x. c.emit-2.new.out.items ≡ z)) (ap (λ n. c.emit_body.new.out.items ++ (instr.Turn c.args.slot n c.in_ok-first.first, c.args.place) ∷ []) step ∙ is) c.emit-2.ensures
 
 pub emit_stmt-returns-in_ok-emit_expr-in-Assign : goal.emit_stmt-returns-in_ok-emit_expr-in-Assign
 emit_stmt-returns-in_ok-emit_expr-in-Assign t c =
