@@ -1,7 +1,6 @@
 //! Further faults are looked for.
 
-ghost use Rattle.std.specs.Prelude.{◌≢◌};
-ghost use Rattle.plant_config.specs.declared.fault.ConfigFault.TheVariants as config_fault;
+ghost use Rattle.std.specs.Prelude.{◌≤◌, length, IfOk};
 
 use crate::refusal::refusal;
 use crate::rest::Rest;
@@ -57,16 +56,19 @@ fn is_among(found: &[Spot], spot: &Spot) -> bool {
     found.iter().any(|other| other.file == spot.file && other.cause.mark == spot.cause.mark)
 }
 
-/// Adds the further faults of a stage to the first. Fails if allocation fails; those that were found by then are there.
+/// Adds the further faults of a stage to those that were found, 20 in all at most. Fails if allocation fails; those that were found by then are there.
 fn add_further<H: Threads + Sync>(
     rt: &H,
     alloc: Global,
     texts: &PlantTexts<'_>,
     stage: Stage,
     found: &mut Vec<Spot>,
-) -> Result<(), AllocError> {
+) -> Result<(), AllocError>
+    requires { length found.old.items ≤ 20 }
+    ensures { length found.new.items ≤ 20 }
+{
     let mut rest = Rest::of(alloc, texts)?;
-    for _ in 0..MOST_READINGS {
+    'readings: for _ in 0..MOST_READINGS {
         let Some(last) = found.last() else {
             return Ok(());
         };
@@ -91,14 +93,16 @@ pub fn find_all<H: Threads + Sync>(
     texts: &PlantTexts<'_>,
     fault: &ConfigFault,
 ) -> Result<Vec<Spot>, AllocError>
-    requires { fault.now ≢ config_fault.Memory }
+    ensures { IfOk result (λ found. length found.items ≤ 20) }
 {
     let mut found = Vec::new(alloc);
     found.push(find(alloc, texts, fault)?)?;
-    if let Some(stage) = stage_of(fault) {
-        if size_of(texts) <= MOST_BYTES {
-            let _ = add_further(rt, alloc, texts, stage, &mut found);
-        }
+    let Some(stage) = stage_of(fault) else {
+        return Ok(found);
+    };
+    if size_of(texts) > MOST_BYTES {
+        return Ok(found);
     }
+    let _ = add_further(rt, alloc, texts, stage, &mut found);
     Ok(found)
 }
