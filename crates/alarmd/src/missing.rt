@@ -4,8 +4,19 @@ use std::alloc::{AllocError, Global};
 use std::fs;
 use std::rt::Files;
 
+/// What is said of a file that can be opened.
+const UNREAD: &str = "it can't be read to its end";
+
 /// The most bytes that a file may have.
 const MOST_BYTES: u64 = 16_777_217;
+
+/// What the system says when a file is opened. Fails if allocation fails.
+fn open_reason<R: Files>(rt: &R, alloc: Global, path: &str) -> Result<String, AllocError> {
+    match fs::open(rt, path) {
+        Ok(_) => String::from_str(alloc, UNREAD),
+        Err(error) => error.to_string(alloc),
+    }
+}
 
 /// What the system says of a path. Fails if allocation fails.
 fn reason<R: Files>(rt: &R, alloc: Global, path: &str) -> Result<String, AllocError> {
@@ -20,11 +31,9 @@ fn reason<R: Files>(rt: &R, alloc: Global, path: &str) -> Result<String, AllocEr
         return String::from_str(alloc, "it has more than 16777217 bytes");
     }
     if found.is_file() {
-        if let Err(error) = fs::open(rt, path) {
-            return error.to_string(alloc);
-        }
+        return open_reason(rt, alloc, path);
     }
-    String::from_str(alloc, "it can't be read to its end")
+    String::from_str(alloc, UNREAD)
 }
 
 /// What a person is told of a file that can't be read: its name as the refusal has it, the path under which it is sought, and the system's reason. The file

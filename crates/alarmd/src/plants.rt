@@ -28,6 +28,25 @@ fn ended<R: Eprint>(rt: &R, run: Result<RunEnd, ServeFault>) -> Ended {
     }
 }
 
+/// How the program ends after a check; tells a person first what there is to tell.
+fn checked<R: Files + Eprint + Threads + AllocGlobal + Sync>(
+    rt: &R,
+    telling: &Telling<'_, R>,
+    accepted: Result<bool, ServeFault>,
+) -> Ended {
+    match accepted {
+        Ok(is_accepted) => {
+            telling.tell(rt);
+            if is_accepted {
+                Ended::Done
+            } else {
+                Ended::Refused
+            }
+        }
+        Err(fault) => stopped(rt, fault),
+    }
+}
+
 /// Tells whether the plant of a plant file's path is accepted. A person is told why it is refused, or what is likely to be wrong in it; at a terminal also
 /// what there is in it.
 pub fn check<R: Files + Print + Eprint + Threads + AllocGlobal + Sync>(
@@ -48,17 +67,8 @@ pub fn check<R: Files + Print + Eprint + Threads + AllocGlobal + Sync>(
         folder: &Disk { files: rt },
         path,
     };
-    match check_from(rt, rt.alloc(), &files, &mut telling, &mut sink) {
-        Ok(is_accepted) => {
-            telling.tell(rt);
-            if is_accepted {
-                Ended::Done
-            } else {
-                Ended::Refused
-            }
-        }
-        Err(fault) => stopped(rt, fault),
-    }
+    let accepted = check_from(rt, rt.alloc(), &files, &mut telling, &mut sink);
+    checked(rt, &telling, accepted)
 }
 
 /// Serves the plant of a plant file's path over standard input and output, its programs run by the crew. A person is told why it is refused, and at a

@@ -1,9 +1,10 @@
 //! What a person is told of a plant on standard error.
 
+use crate::copies::Copies;
 use crate::missing::why_missing;
-use further_faults::explain_all;
+use further_faults::is_searched;
 use plant_config::{ConfigFault, Plant};
-use plant_explain::warn;
+use plant_explain::{explain, warn};
 use plant_listing::listing;
 use plant_service::{Folder, Listener, PlantTexts};
 use std::alloc::Global;
@@ -21,6 +22,13 @@ pub enum OfAccepted {
     Listing,
 }
 
+/// Tells a text on standard error, where there is one; nothing where it can't be written.
+fn tell_text(rt: &impl Eprint, text: &Option<String>) {
+    if let Some(text) = text {
+        let _ = eprint!(rt; "{text}");
+    }
+}
+
 /// A listener that keeps what a person is to be told of a plant, until the plant's line has been written: why it is refused, or where that is asked for,
 /// what there is in an accepted one, and what is likely to be wrong in it.
 #[derive(Drop)]
@@ -31,6 +39,8 @@ pub struct Telling<'a, R: Files> {
     listing: Option<String>,
     /// What else is to be told, likewise.
     text: Option<String>,
+    /// The texts of a refused plant of which further faults are to be told; then there is nothing else.
+    copies: Option<Copies>,
 }
 
 impl<'a, R: Files> Telling<'a, R> {
@@ -41,20 +51,21 @@ impl<'a, R: Files> Telling<'a, R> {
             of_accepted,
             listing: None,
             text: None,
+            copies: None,
         }
     }
 
     /// Tells on standard error what there is to tell; nothing where that can't be written.
-    pub fn tell(&self, rt: &impl Eprint) {
-        for text in [&self.listing, &self.text] {
-            if let Some(text) = text {
-                let _ = eprint!(rt; "{text}");
-            }
+    pub fn tell<H: Eprint + Threads + AllocGlobal + Sync>(&self, rt: &H) {
+        tell_text(rt, &self.listing);
+        tell_text(rt, &self.text);
+        if let Some(copies) = &self.copies {
+            tell_text(rt, &copies.explained(rt, rt.alloc()).ok());
         }
     }
 }
 
-impl<'a, R: Files + Threads + Sync> Listener for Telling<'a, R> {
+impl<'a, R: Files> Listener for Telling<'a, R> {
     fn accepted(&mut self, alloc: Global, texts: &PlantTexts<'_>, plant: &Plant) {
         match self.of_accepted {
             OfAccepted::Nothing => {}
@@ -67,7 +78,12 @@ impl<'a, R: Files + Threads + Sync> Listener for Telling<'a, R> {
     }
 
     fn refused(&mut self, alloc: Global, texts: &PlantTexts<'_>, fault: &ConfigFault) {
-        self.text = explain_all(self.rt, alloc, texts, fault).ok();
+        if is_searched(texts) {
+            self.copies = Copies::of(alloc, texts).ok();
+        }
+        if self.copies.is_none() {
+            self.text = explain(alloc, texts, fault).ok();
+        }
     }
 
     fn missing<F: Folder>(&mut self, alloc: Global, _folder: &F, path: &str, name: &str) {

@@ -8,20 +8,35 @@ use plant_service::{Failed, Sink};
 /// How many bytes of a line tell what it is.
 const HEAD: usize = 10;
 
+/// What is said of refusals to whoever looks on, by the beginnings of their lines.
+const HINTS: &[(&str, &str)] = &[
+    (
+        "REFUSED L1",
+        "L1: no command; these are: scan, ack, reset, shelve, unshelve, remove, return, restart, list, journal (docs/PROTOCOL.md). Ctrl-D ends\n",
+    ),
+    (
+        "REFUSED E1",
+        "E1: a moment is never before that of the last scan\n",
+    ),
+    ("REFUSED E2", "E2: a moment is at most 4000000000000\n"),
+    (
+        "REFUSED E3",
+        "E3: a name is none of the plant's inputs, or is there twice\n",
+    ),
+    (
+        "REFUSED E4",
+        "E4: a value doesn't fit its input: TRUE or FALSE for a BOOL, a number for a DINT, milliseconds for a TIME\n",
+    ),
+];
+
 /// What is said of a line to whoever looks on; empty where nothing is.
 fn hint(head: &[u8]) -> &'static str {
-    match head {
-        b"REFUSED L1" => {
-            "L1: no command; these are: scan, ack, reset, shelve, unshelve, remove, return, restart, list, journal (docs/PROTOCOL.md). Ctrl-D ends\n"
+    for (refused, said) in HINTS {
+        if refused.as_bytes() == head {
+            return *said;
         }
-        b"REFUSED E1" => "E1: a moment is never before that of the last scan\n",
-        b"REFUSED E2" => "E2: a moment is at most 4000000000000\n",
-        b"REFUSED E3" => { "E3: a name is none of the plant's inputs, or is there twice\n" }
-        b"REFUSED E4" => {
-            "E4: a value doesn't fit its input: TRUE or FALSE for a BOOL, a number for a DINT, milliseconds for a TIME\n"
-        }
-        _ => "",
     }
+    ""
 }
 
 /// What is said of so many events; empty where nothing is.

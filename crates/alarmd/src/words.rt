@@ -44,11 +44,18 @@ fn borrowed(alloc: Global, words: &[String]) -> Result<Vec<&str>, AllocError> {
     Ok(texts)
 }
 
+/// What lent words choose.
+fn chosen(alloc: Global, words: &[String]) -> Result<Choice, UsageFault>
+    ensures { IfOk result HasWorkers }
+{
+    let texts = borrowed(alloc, words)?;
+    choose(alloc, texts.as_slice())
+}
+
 /// What the program is asked for, by its words.
 pub fn choice(rt: &(impl Env + AllocGlobal)) -> Result<Choice, UsageFault>
     ensures { IfOk result HasWorkers }
 {
     let words = words(rt)?;
-    let texts = borrowed(rt.alloc(), words.as_slice())?;
-    choose(rt.alloc(), texts.as_slice())
+    chosen(rt.alloc(), words.as_slice())
 }

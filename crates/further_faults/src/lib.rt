@@ -21,5 +21,5 @@ mod stage;
 mod telling;
 
 pub use plant_explain::{PlantTexts, Spot};
-pub use search::find_all;
+pub use search::{find_all, is_searched};
 pub use telling::explain_all;

@@ -30,6 +30,11 @@ fn size_of(texts: &PlantTexts<'_>) -> usize {
     size
 }
 
+/// Whether further faults of a plant are looked for: its texts have at most 1,048,576 bytes together.
+pub fn is_searched(texts: &PlantTexts<'_>) -> bool {
+    size_of(texts) <= MOST_BYTES
+}
+
 /// The first fault of what is left of a plant, where it is one of a stage. Fails if allocation fails.
 fn next_fault<H: Threads + Sync>(
     rt: &H,
@@ -100,7 +105,7 @@ pub fn find_all<H: Threads + Sync>(
     let Some(stage) = stage_of(fault) else {
         return Ok(found);
     };
-    if size_of(texts) > MOST_BYTES {
+    if !is_searched(texts) {
         return Ok(found);
     }
     let _ = add_further(rt, alloc, texts, stage, &mut found);
