@@ -1,11 +1,12 @@
 #!/usr/bin/env python3
 """Makes a large house for the control room, and a day of it.
 
-    python3 tools/bench/house.py FOLDER [--consoles N] [--alarms N] [--scans N] [--changes N]
+    python3 tools/bench/house.py FOLDER [--consoles N] [--alarms N] [--scans N] [--changes N] [--turns N]
     cd FOLDER && time /path/to/crates/control_room/out/control_room < stdin
 
 FOLDER gets the plant (house/) and the script (stdin). Each console has an area of its own, and each alarm a condition of its own; in each scan --changes alarms, chosen at
-random but the same each time, come up, and those of the scan before return. What the program prints says whether anything was lost: each console's answers as in the history,
+random but the same each time, come up, and those of the scan before return. Each of its four programs has a FOR of so many --turns: a crew keeps rounds that cost less than
+20,000 with the caller, so its workers have work from some 600 turns on. What the program prints says whether anything was lost: each console's answers as in the history,
 no order left, what it saw within the history.
 """
 
@@ -17,7 +18,7 @@ PROGRAM = """PROGRAM p{0}
 VAR i : DINT; s : DINT; END_VAR
 VAR_EXTERNAL y{0} : DINT; END_VAR
 s := 0;
-FOR i := 1 TO 200 DO s := s + i MOD 7; END_FOR;
+FOR i := 1 TO {1} DO s := s + i MOD 7; END_FOR;
 y{0} := s;
 END_PROGRAM
 """
@@ -28,13 +29,13 @@ def write(folder, name, text):
         file.write(text)
 
 
-def plant(folder, consoles, alarms):
+def plant(folder, consoles, alarms, turns=200):
     os.makedirs(folder, exist_ok=True)
     areas = ", ".join(f'"a{k}"' for k in range(consoles))
     head = f'name = "Large house"\nepoch = "2026-11-23T06:00:00Z"\nareas = [{areas}]\nsources = ["p.st"]\nalarms = "alarms.csv"\n'
     write(folder, "plant.toml", head + "".join(f'\n[[console]]\nnumber = {k + 1}\nareas = ["a{k}"]\n' for k in range(consoles)))
     declared = "".join(f"c{n} AT %IX{n // 8}.{n % 8} : BOOL;\n" for n in range(alarms)) + "".join(f"y{k} AT %QD{k} : DINT;\n" for k in range(4))
-    write(folder, "p.st", f"VAR_GLOBAL\n{declared}END_VAR\n" + "".join(PROGRAM.format(k) for k in range(4)))
+    write(folder, "p.st", f"VAR_GLOBAL\n{declared}END_VAR\n" + "".join(PROGRAM.format(k, turns) for k in range(4)))
     rows = "".join(f"T{n},a{n % consoles},{n % 4 + 1},c{n},,FALSE,600000,alarm {n}\n" for n in range(alarms))
     write(folder, "alarms.csv", "tag,area,priority,condition,suppress,latch,max_shelve_ms,text\n" + rows)
 
@@ -55,8 +56,9 @@ def main():
     reads.add_argument("--alarms", type=int, default=20000, help="how many alarms (20000)")
     reads.add_argument("--scans", type=int, default=2000, help="how many scans change alarms (2000)")
     reads.add_argument("--changes", type=int, default=200, help="how many alarms come up in each (200)")
+    reads.add_argument("--turns", type=int, default=200, help="how many turns each program's FOR has (200)")
     options = reads.parse_args()
-    plant(os.path.join(options.folder, "house"), options.consoles, options.alarms)
+    plant(os.path.join(options.folder, "house"), options.consoles, options.alarms, options.turns)
     write(options.folder, "stdin", "".join(line + "\n" for line in day(options.alarms, options.scans, options.changes)))
 
 

@@ -3,14 +3,14 @@
 
     git clone . /tmp/clone && python3 tools/bench/turns.py /tmp/clone [KIND ..] [--repeat N] [--ahead] [--workers N] [--keep DIR]
 
-/tmp/clone is a clone of this repository that is spoiled: the program of tools/bench/turns becomes its crate `turns`, crates that it doesn't need are removed, and `rt ci` proves and builds the rest
+/tmp/clone is a clone of this repository that is spoiled: the program of tools/bench/turns becomes its crate `turns`, crates that it doesn't need are removed, with all wrong bodies, and `rt ci` proves and builds the rest
 there. What a gate has proved on this machine it takes from there: the program itself takes some minutes. KIND is one of these, the first three where none is named:
 
 | kind | what is measured |
 |---|---|
-| turns | the clock's time of a turn, by the program's own clock: 20,000 alarms, with and without orders and changes of alarms |
+| turns | the clock's time of a turn, by the program's own clock: 20,000 alarms, with and without orders and changes of alarms; and of the same events in an engine alone |
 | allocations | what such a turn allocates: twice as many turns less so many, divided (tools/allocations/count.c stands before malloc; needs gcc) |
-| looks | 100,000 looks at the board by a console in a thread of its own, beside an owner who turns without pause |
+| looks | looks at the board by a console in a thread of its own, beside an owner who turns without pause: the call, with the states of its area until the view is let go, the clock alone, and the owner's turns (least, median, 99th percentile, most) |
 | parts | instructions of a turn and of its parts, as valgrind counts them: 40 turns less 20, divided |
 | room | the control room on the house of 20,000 alarms, with `--workers` workers (4), of which the owner is one: for this its const is changed in the clone |
 
@@ -44,13 +44,13 @@ TURNS = [
     ("the same, all refused", 32, 32, 64, "refused", 0, 400),
     ("32 consoles send 64 orders each, 200 alarms change", 32, 32, 64, "done", 200, 400),
 ]
-# name, whether the area is the whole plant, pause in nanoseconds, consoles that send, alarms that change
+# name, whether the area is the whole plant, looks, pause in nanoseconds, consoles that send, alarms that change
 LOOKS = [
-    ("area of 625, no orders, 200 alarms change", False, 5000, 0, 200),
-    ("area of 625, 31 others send 64 orders each", False, 5000, 31, 200),
-    ("area of 625, the same, no pause", False, 0, 31, 200),
-    ("area of 20,000, no orders, 200 alarms change", True, 5000, 0, 200),
-    ("area of 20,000, 31 others send 64 orders each", True, 5000, 31, 200),
+    ("area of 625, no orders, 200 alarms change", False, 100000, 5000, 0, 200),
+    ("area of 625, 31 others send 64 orders each", False, 100000, 5000, 31, 200),
+    ("area of 625, the same, no pause", False, 100000, 0, 31, 200),
+    ("area of 20,000, no orders, 200 alarms change", True, 20000, 5000, 0, 200),
+    ("area of 20,000, 31 others send 64 orders each", True, 20000, 5000, 31, 200),
 ]
 
 
@@ -62,6 +62,8 @@ def read(path):
 def install(clone):
     """Makes the program a crate of the clone."""
     crate, kept = f"{clone}/crates/turns", f"{HERE}/turns"
+    if os.path.exists(crate):
+        sys.exit("a clone without the crate turns is wanted")
     for folder, _, names in os.walk(kept):
         there = os.path.join(crate, os.path.relpath(folder, kept))
         os.makedirs(there, exist_ok=True)
@@ -84,8 +86,9 @@ def reduce(clone, names):
             wanted.add(name)
             left += below[name].split()
     house.write(clone, "crates.txt", "".join(f"{name}:{crates}\n" for name, crates in below.items() if name in wanted))
-    for name in set(os.listdir(f"{clone}/crates")) - wanted:
-        shutil.rmtree(f"{clone}/crates/{name}")
+    for name in os.listdir(f"{clone}/crates"):
+        # wrong bodies aren't tried here
+        shutil.rmtree(f"{clone}/crates/{name}" + ("/must-fail" if name in wanted else ""), ignore_errors=True)
 
 
 def build(clone, names):
@@ -131,15 +134,19 @@ class Bench:
         return {line.split()[0]: line.split()[1:] for line in ran.stdout.splitlines()}
 
     def turns(self):
-        for name, consoles, senders, orders, fate, changes, turns in TURNS:
-            place, times = self.house(consoles), []
-            for _ in range(self.options.repeat):
-                told = self.run(place, f"turns {turns} {senders} {orders} {fate}\n" + scans(changes), self.ahead)
-                if told["TAKEN"] != [str(turns * senders * orders), "WHOLE"]:
-                    sys.exit(f"{name}: {told}")
-                times.append([int(it) / 1000 for it in told["TURN"]])
-                time.sleep(self.options.rest)
-            print(f"{name:<52} best {min(it[1] for it in times):9.1f}  medians {', '.join(f'{it[2]:.1f}' for it in sorted(times, key=lambda it: it[2]))}  99 % {min(it[3] for it in times):.1f}  most {', '.join(f'{it[4]:.0f}' for it in times)}", flush=True)
+        for name, consoles, senders, orders, fate, changes, most in TURNS:
+            turns = most // 2
+            for word in ("turns", "engine"):
+                times = []
+                for _ in range(self.options.repeat):
+                    told = self.run(self.house(consoles), f"{word} {turns} {senders} {orders} {fate}\n" + scans(changes), self.ahead)
+                    if told["TAKEN"] != [str(turns * senders * orders), "WHOLE"]:
+                        sys.exit(f"{name}: {told}")
+                    times.append([int(it) / 1000 for it in told["TURN"]])
+                    time.sleep(self.options.rest)
+                _, best, medians, late, most, sums = zip(*sorted(times, key=lambda it: it[2]))
+                shown = f"best {min(best):.1f}  medians {', '.join(f'{it:.1f}' for it in medians)}  99 % {min(late):.1f}  most {min(most):.0f}, {max(most):.0f}  mean {min(sums) / turns:.1f}"
+                print(f"{name if word == 'turns' else '  in an engine alone':<52} {shown}", flush=True)
 
     def allocations(self):
         counter, library = f"{self.folder}/counter", f"{self.folder}/count.so"
@@ -155,11 +162,11 @@ class Bench:
             print(f"{name:<52} {(counts[1] - counts[0]) / (turns // 4):.2f} and {(counts[2] - counts[1]) / (turns // 2):.2f} allocations a turn", flush=True)
 
     def looks(self):
-        for name, whole, pause, senders, changes in LOOKS:
+        for name, whole, looks, pause, senders, changes in LOOKS:
             for _ in range(self.options.repeat):
-                told = self.run(self.house(32, whole), f"looks 100000 {pause} {senders} 64 done\n" + scans(changes), self.ahead)
+                told = self.run(self.house(32, whole), f"looks {looks} {pause} {senders} 64 done\n" + scans(changes), self.ahead)
                 shown = "  ".join(f"{word.lower()} {', '.join(f'{int(it) / 1000:.2f}' for it in told[word][1:5])}" for word in ("BOARD", "VIEW", "CLOCK", "TURN"))
-                print(f"{name:<46} {shown}  turns {told['TURN'][0]}, taken {' '.join(told['TAKEN'])}, none {told['NONE']}", flush=True)
+                print(f"{name:<46} {shown}  turns {told['TURN'][0]}, taken {' '.join(told['TAKEN'])}, none {' '.join(told['NONE']).lower()}", flush=True)
                 time.sleep(self.options.rest)
 
     def parts(self):
@@ -168,29 +175,31 @@ class Bench:
             counts = []
             for turns in (20, 40):
                 out = f"{self.folder}/callgrind.out"
-                self.run(self.house(consoles), f"turns {turns} {senders} {orders} {fate}\n" + scans(changes), ["valgrind", "--tool=callgrind", f"--callgrind-out-file={out}"])
+                self.run(self.house(consoles), f"turns {turns} {senders} {orders} {fate}\n" + scans(changes), ["valgrind", "-q", "--tool=callgrind", f"--callgrind-out-file={out}"])
                 told = subprocess.run(["callgrind_annotate", "--inclusive=yes", "--threshold=100", "--show-percs=no", out], stdout=subprocess.PIPE, text=True, check=True).stdout
                 counts.append({it[2]: int(it[1].replace(",", "")) for it in re.finditer(r"^\s*([\d,]+)(?: \([^)]*\))?\s+\?\?\?:(.*?)(?: \[.*\])?$", told, re.M)})
             print(f"== {name}", flush=True)
             fewer, more = counts
             grown = sorted(((more[it] - fewer.get(it, 0)) / 20, it) for it in more)
-            for count, it in reversed(grown[-self.options.top:]):
-                print(f"{count:14,.0f}  {it}", flush=True)
+            for count, it in reversed(grown):
+                if count * 1000 >= grown[-1][0]:
+                    print(f"{count:14,.0f}  {it}", flush=True)
 
     def room(self):
         """The control room on the house of 20,000 alarms; what it prints says whether anything was lost."""
-        place = f"{self.folder}/room"
-        house.plant(f"{place}/house", 4, ALARMS)
-        house.write(place, "stdin", "".join(line + "\n" for line in house.day(ALARMS, 2000, 200)))
-        for _ in range(self.options.repeat):
-            with open(f"{place}/stdin") as given:
-                began = time.monotonic()
-                ran = subprocess.run([*self.ahead, self.programs["control_room"]], cwd=place, stdin=given, stdout=subprocess.PIPE, text=True)
-                took = time.monotonic() - began
-            orders = int(re.search(r"AND (\d+) ORDERS", ran.stdout)[1])
-            lost = re.findall(r".*(?:LEFT [1-9]|APART [1-9]|ANSWERED ORDER [1-9]|FALSE).*", ran.stdout)
-            whole = ran.returncode == 0 and not lost and ran.stdout.endswith("THE SCRIPT IS OVER\n")
-            print(f"{self.options.workers} workers: {took:.1f} s, {orders} orders, {orders / took:.0f} a second: {'nothing lost' if whole else 'LOST: ' + str(lost)}", flush=True)
+        for loops in (200, 2000):
+            place = f"{self.folder}/room_{loops}"
+            house.plant(f"{place}/house", 4, ALARMS, loops)
+            house.write(place, "stdin", "".join(line + "\n" for line in house.day(ALARMS, 2000, 200)))
+            for _ in range(self.options.repeat):
+                with open(f"{place}/stdin") as given:
+                    began = time.monotonic()
+                    ran = subprocess.run([*self.ahead, self.programs["control_room"]], cwd=place, stdin=given, stdout=subprocess.PIPE, text=True)
+                    took = time.monotonic() - began
+                orders = int(re.search(r"AND (\d+) ORDERS", ran.stdout)[1])
+                lost = re.findall(r".*(?:LEFT [1-9]|APART [1-9]|ANSWERED ORDER [1-9]|FALSE).*", ran.stdout)
+                whole = ran.returncode == 0 and not lost and ran.stdout.endswith("THE SCRIPT IS OVER\n")
+                print(f"programs of {loops} turns: {took:.1f} s, {orders} orders, {orders / took:.0f} a second: {'nothing lost' if whole else 'LOST: ' + str(lost)}", flush=True)
 
 
 def main():
@@ -201,7 +210,6 @@ def main():
     reads.add_argument("--rest", type=float, default=0.5, help="seconds between runs")
     reads.add_argument("--ahead", action="store_true")
     reads.add_argument("--workers", type=int, default=4)
-    reads.add_argument("--top", type=int, default=60, help="how many parts are shown")
     reads.add_argument("--keep", help="a folder for plants, which stays")
     options = reads.parse_args()
     kinds = options.kinds or KINDS[:3]
