@@ -209,6 +209,7 @@ class Trial:
 
     def judge_memory(self, what, detail, words, workers, ran, least):
         """The whole answer; or memory (or a thread) is refused after a beginning of it that has so many bytes at least."""
+        ran = unwarned(ran)
         refused = ran.status == 1 and (ran.error == b"RUN MEMORY\n" or (ran.error == b"RUN CREW\n" and workers > 1))
         fits = ran == Ran(self.wanted, b"", 0) or (refused and len(ran.out) >= least and self.wanted.startswith(ran.out))
         self.judge(what, detail, words, self.given, self.wanted, ran, fits)
