@@ -39,8 +39,8 @@ class Target:
         self.name, self.words, self.given, self.folder, self.begun, self.errors = name, words, given, folder, begun, errors
 
     def judged(self, ran, right):
-        """What came of a run."""
-        told = ran.error == right.error or (right.status == 3 and ran.error == b"")
+        """What came of a run. Of a refused plant standard error may say less, or nothing: what it says begins with the refusal's own line."""
+        told = ran.error == right.error or (right.status == 3 and (ran.error == b"" or ran.error.startswith(right.out)))
         if (ran.out, ran.status) == (right.out, right.status) and told:
             return SAME
         if ran.status != 1 or (self.errors and ran.error not in self.errors):
