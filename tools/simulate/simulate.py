@@ -154,7 +154,7 @@ class Trial:
         given, wanted = self.first(at)
         if at < len(self.parts):
             given += self.parts[at].split(b"\n")[0][: self.some.choice([0, 5, 10**9])]
-        ran = runs.cut_off(words, given, len(wanted), self.bench.seconds)
+        ran = unwarned(runs.cut_off(words, given, len(wanted), self.bench.seconds))
         self.judge("inputs that fail", "", words, given, wanted, ran, ran == Ran(wanted, b"RUN READ\n", 1))
 
     # ---- outputs
@@ -165,7 +165,7 @@ class Trial:
         before, answers = self.first(some.randrange(self.ended + 1))
         most = some.choice([some.randrange(len(answers) + 1), len(answers)])
         wanted = self.wanted[:most]
-        ran = runs.broken(words, before, most, self.given[len(before) :], self.bench.seconds)
+        ran = unwarned(runs.broken(words, before, most, self.given[len(before) :], self.bench.seconds))
         fits = ran == Ran(wanted, b"RUN WRITE\n", 1) or (len(answers) == len(self.wanted) and ran == Ran(wanted, b"", 0))
         self.judge("broken pipes", f"after {most} bytes, and {len(before)} of the input", words, self.given, wanted, ran, fits)
 
