@@ -11,6 +11,7 @@ pub mod Frames
 pub mod Runs
 pub mod Emitting
 pub mod Steady
+pub mod Naming
 pub mod Numbered
 pub mod Ends
 pub mod Places

@@ -213,7 +213,7 @@ module _ (has_value has_clock : ℕ → Bool) where
     nothing_in : (limit k : ℕ) → frame_part globals frames limit k ≡ none → FrameIn limit k
     nothing_in limit k e base path pc h = subst (λ (p : Part). Within (p.code base path pc)) (sym e) tt
 
-    reached_is : (limit k : ℕ) (frame : Frame) → k < limit → slice_get frames k ≡ Some frame → reached limit k ≡ routine_there has_value has_clock globals (reached k) frame
+    pub reached_is : (limit k : ℕ) (frame : Frame) → k < limit → slice_get frames k ≡ Some frame → reached limit k ≡ routine_there has_value has_clock globals (reached k) frame
     reached_is limit k frame less at = first_is (λ base. true) (routine_there has_value has_clock globals) frames limit k frame less at
 
     frame_by : (limit k : ℕ) (at : Option Frame) → slice_get frames k ≡ at → k < limit → ((j : ℕ) → FrameIn k j) → FrameIn limit k

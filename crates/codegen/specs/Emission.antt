@@ -4,6 +4,7 @@ use Rattle.plant_types.specs.declared.values.Place.{Place}
 use Rattle.st_tree.specs.declared.tree.Binary.{Binary}
 use Rattle.st_tree.specs.Plain.{PlainExpr, literal, read, output_of, unary, binary, PlainArgument, PlainStmt, PlainBody, Branches, Choices}
 use Rattle.st_tree.specs.Meaning.{literal_worth}
+use Rattle.st_tree.specs.Mapping.{Known}
 use Rattle.block_walk.specs.declared.frame.Seat.{Seat}
 use Rattle.block_walk.specs.declared.frame.Base.{Base}
 use Rattle.block_walk.specs.declared.frame.Frame.{Frame}
@@ -16,6 +17,7 @@ use Rattle.code_sizes.specs.Counts.{lines_at}
 use Rattle.codegen.specs.declared.scope.Scope.{Scope}
 use Rattle.codegen.specs.Codes as codes
 use Rattle.codegen.specs.Codes.{Line, Coder, frame_part, AreSteady}
+use Rattle.codegen.specs.Within.{there, frame_there, fits}
 
 -- a table has the lines of so many first frames
 pub record AreLines (frames : List Frame) (limit : ℕ) (table : List Count) : Type 0 where
@@ -32,6 +34,10 @@ pub record IsLaid (s : Scope) : Type 0 where
   pub own : InTurn (frame_paths s.frames.now s.limit) s.seats.now
   pub in_turn : AreInTurn s.frames.now
   pub steady : AreSteady s.frames.now
+
+-- which names of a scope's routine stand for numbers of 32 bits: those of its variables and of its instances, with all that the frames name that it comes to call
+abbrev pub named : Scope → Known ℕ
+named s = there fits fits s.globals (frame_there fits fits s.globals s.frames.now s.limit) s.seats.now s.base
 
 -- the code of each of so many first frames
 abbrev pub coders : ℕ → List Frame → ℕ → ℕ → Coder

@@ -1,5 +1,5 @@
 -- Whether what a frame names, and what its code names, is among given values and clocks.
-use Rattle.std.specs.Prelude.{◌≡◌, ◌<◌, ◌≤◌, ℕ, ◌+◌, Bool, true, ◌&&◌, if◌then◌else◌, List, length, Option, Some, None, slice_get}
+use Rattle.std.specs.Prelude.{◌≡◌, ◌<◌, ◌≤◌, ℕ, ◌+◌, Bool, true, nat_lt, ◌&&◌, if◌then◌else◌, List, length, Option, Some, None, slice_get}
 use Rattle.st_tree.specs.View.{view_body}
 use Rattle.st_tree.specs.Mapping.{Known, body_known}
 use Rattle.plant_cells.specs.declared.clock.Standard.{Standard}
@@ -65,6 +65,14 @@ module _ (has_value has_clock : ℕ → Bool) where
 -- what the frame of a number names as a program at a base is there, by the tests
 abbrev pub IsThere : (has_value has_clock : ℕ → Bool) → (globals : ℕ) → List Frame → (first : ℕ) → Base → Type 0
 IsThere has_value has_clock globals frames first base = frame_there has_value has_clock globals frames (length frames) first base ≡ true
+
+-- a number is one of 32 bits
+abbrev pub fits : ℕ → Bool
+fits n = nat_lt n 4294967296
+
+-- each slot and each clock that the frame of a number names as a program at a base is a number of 32 bits
+abbrev pub NamesFit : (globals : ℕ) → List Frame → (first : ℕ) → Base → Type 0
+NamesFit globals frames first base = IsThere fits fits globals frames first base
 
 -- code names values and clocks alone that are there, by the tests, and needs no more cells than up to the last of them
 pub record NamesOnly (has_value has_clock : ℕ → Bool) (code : PlainCode) : Type 0 where

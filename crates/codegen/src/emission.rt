@@ -1,13 +1,16 @@
 //! Emits statements, and the bodies of the frames that they call.
 
-ghost use Rattle.std.specs.Prelude.{◌≡◌, ◌<◌, ◌≤◌, ◌+◌, ◌^◌, ◌++◌, ◌∷◌, [], ℕ, List, length, map, Some, slice_get, IfOk};
+ghost use Rattle.std.specs.Prelude.{◌≡◌, ◌<◌, ◌≤◌, ◌+◌, ◌^◌, ◌++◌, ◌∷◌, [], ℕ, List, length, map, Some, true, slice_get, IfOk};
+ghost use Rattle.std.specs.List.{list_all};
 ghost use Rattle.st_tree.specs.View.{view_argument, view_stmt, view_body, view_branch, view_branches, view_choice, view_choices};
+ghost use Rattle.st_tree.specs.Mapping.{argument_known, stmt_known, body_known, expr_known, branches_known, choices_known};
 ghost use Rattle.block_walk.specs.Frames.{AreInTurn, frame_paths};
 ghost use Rattle.block_walk.specs.Walks.{HasRoom};
 ghost use Rattle.acc_vm.specs.declared.instr.Instr.TheVariants.{Jump, JumpUnless};
 ghost use Rattle.codegen.specs.Codes.{Line, labels_code, for_code, IsSteady, SteadyStmt, SteadyBody, SteadyBranches, SteadyChoices, AreSteady};
 ghost use Rattle.codegen.specs.Emission as code;
-ghost use Rattle.codegen.specs.Emission.{AreLines, IsLaid, coders, branches_long, choices_long};
+ghost use Rattle.codegen.specs.Emission.{AreLines, IsLaid, named, coders, branches_long, choices_long};
+ghost use Rattle.codegen.specs.Within.{fits, frame_there};
 
 use crate::arguments::{emit_inputs, emit_outputs, emit_standard};
 use crate::expressions::emit_expr;
@@ -43,6 +46,7 @@ pub(crate) fn emit_frame(
     requires paths { path + length (frame_paths frames.now limit k) ≤ 2 ^ 32 }
     requires in_turn { AreInTurn frames.now }
     requires steady { AreSteady frames.now }
+    requires named { frame_there fits fits globals frames.now limit k base ≡ true }
     ensures { IfOk result (λ _. out.new.items ≡ out.old.items ++ coders globals frames.now limit k base path pc) }
 {
     let frame = &frames[k];
@@ -68,6 +72,7 @@ fn emit_body(
 ) -> Result<(), AllocError>
     requires laid { IsLaid scope.now }
     requires steady { SteadyBody (view_body body.now) }
+    requires named { body_known (named scope.now) (view_body body.now) ≡ true }
     ensures { IfOk result (λ _. out.new.items ≡ out.old.items ++ code.body_code scope.now (view_body body.now) pc) }
 {
     let mut at = pc;
@@ -88,6 +93,7 @@ fn emit_stmt(
 ) -> Result<(), AllocError>
     requires laid { IsLaid scope.now }
     requires steady { SteadyStmt (view_stmt stmt.now) }
+    requires named { stmt_known (named scope.now) (view_stmt stmt.now) ≡ true }
     ensures { IfOk result (λ _. out.new.items ≡ out.old.items ++ code.stmt_code scope.now (view_stmt stmt.now) pc) }
 {
     match stmt {
@@ -97,7 +103,7 @@ fn emit_stmt(
                 path: scope.path,
                 statement: *statement,
             };
-            let slot = slot_of(scope.globals, scope.base, *variable)?;
+            let slot = slot_of(scope.globals, scope.base, *variable);
             emit_expr(scope, out, place, expr)?;
             emit(out, Instr::Store(slot), place)
         }
@@ -144,7 +150,7 @@ fn emit_stmt(
                 path: scope.path,
                 statement: *number,
             };
-            let slot = slot_of(scope.globals, scope.base, *variable)?;
+            let slot = slot_of(scope.globals, scope.base, *variable);
             match constant_span(from, to, by) {
                 Some(span) => emit_loop(scope, out, place, slot, span, body, pc),
                 None => Ok(()),
@@ -163,7 +169,9 @@ fn emit_call(
     arguments: &[Argument<usize>],
     pc: u32,
 ) -> Result<(), AllocError>
-    requires { IsLaid scope.now }
+    requires laid { IsLaid scope.now }
+    requires there { (named scope.now).has_instance instance ≡ true }
+    requires named { list_all (argument_known (named scope.now) instance) (map view_argument arguments.now) ≡ true }
     ensures { IfOk result (λ _. out.new.items ≡ out.old.items ++ code.call_code scope.now place (slice_get scope.now.seats.now instance) (map view_argument arguments.now) pc) }
 {
     emit_inputs(scope, out, place, instance, arguments)?;
@@ -181,7 +189,8 @@ fn emit_enter(
     instance: usize,
     pc: u32,
 ) -> Result<(), AllocError>
-    requires { IsLaid scope.now }
+    requires laid { IsLaid scope.now }
+    requires named { (named scope.now).has_instance instance ≡ true }
     ensures { IfOk result (λ _. out.new.items ≡ out.old.items ++ code.enter_code scope.now place (slice_get scope.now.seats.now instance) pc) }
 {
     match scope.seats.get(instance) {
@@ -220,6 +229,7 @@ fn emit_branches(
 ) -> Result<u32, AllocError>
     requires laid { IsLaid scope.now }
     requires steady { SteadyBranches (view_branches branches.now) }
+    requires named { branches_known (named scope.now) (view_branches branches.now) ≡ true }
     ensures { IfOk result (λ at. (last : ℕ → List Line) (n : ℕ) → pc + branches_long scope.now (view_branches branches.now) n ≡ end
         → out.new.items ++ last at ≡ out.old.items ++ code.branches_code scope.now place (view_branches branches.now) last n pc) }
 {
@@ -247,6 +257,8 @@ fn emit_branch(
 ) -> Result<(), AllocError>
     requires laid { IsLaid scope.now }
     requires steady { SteadyBody (view_branch branch.now).1 }
+    requires test { expr_known (named scope.now) (view_branch branch.now).0 ≡ true }
+    requires named { body_known (named scope.now) (view_branch branch.now).1 ≡ true }
     ensures { IfOk result (λ _. out.new.items ≡ out.old.items ++ (code.expr_code scope.now place (view_branch branch.now).0 ++ ((JumpUnless next, place) ∷ (code.body_code scope.now (view_branch branch.now).1 body ++ (Jump end, place) ∷ [])))) }
 {
     emit_expr(scope, out, place, &branch.test)?;
@@ -268,6 +280,7 @@ fn emit_choices(
 ) -> Result<u32, AllocError>
     requires laid { IsLaid scope.now }
     requires steady { SteadyChoices (view_choices choices.now) }
+    requires named { choices_known (named scope.now) (view_choices choices.now) ≡ true }
     ensures { IfOk result (λ at. (last : ℕ → List Line) (n : ℕ) → pc + choices_long scope.now (view_choices choices.now) n ≡ end
         → out.new.items ++ last at ≡ out.old.items ++ code.choices_code scope.now place (view_choices choices.now) last n pc) }
 {
@@ -298,6 +311,7 @@ fn emit_choice(
 ) -> Result<(), AllocError>
     requires laid { IsLaid scope.now }
     requires steady { SteadyBody (view_choice choice.now).1 }
+    requires named { body_known (named scope.now) (view_choice choice.now).1 ≡ true }
     ensures { IfOk result (λ _. out.new.items ≡ out.old.items ++ (labels_code place (view_choice choice.now).0 body ++ ((Jump next, place) ∷ (code.body_code scope.now (view_choice choice.now).1 body ++ (Jump end, place) ∷ [])))) }
 {
     emit_labels(out, place, &choice.labels, body)?;
@@ -320,6 +334,7 @@ fn emit_loop(
     requires laid { IsLaid scope.now }
     requires dints { IsSteady (Some span) }
     requires steady { SteadyBody (view_body body.now) }
+    requires named { body_known (named scope.now) (view_body body.now) ≡ true }
     ensures { IfOk result (λ _. out.new.items ≡ out.old.items ++ for_code place slot (Some span) (code.body_code scope.now (view_body body.now)) pc) }
 {
     let turns = count_turns(span);

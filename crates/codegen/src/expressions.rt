@@ -1,9 +1,10 @@
 //! Emits expressions.
 
-ghost use Rattle.std.specs.Prelude.{◌≡◌, ◌++◌, IfOk};
+ghost use Rattle.std.specs.Prelude.{◌≡◌, ◌++◌, true, IfOk};
 ghost use Rattle.st_tree.specs.View.{view_expr};
+ghost use Rattle.st_tree.specs.Mapping.{expr_known};
 ghost use Rattle.codegen.specs.Emission as code;
-ghost use Rattle.codegen.specs.Emission.{operator_code};
+ghost use Rattle.codegen.specs.Emission.{operator_code, named};
 
 use crate::lines::emit;
 use crate::numbers::{output_instr, slot_of};
@@ -21,16 +22,17 @@ pub(crate) fn emit_expr(
     place: Place,
     expr: &Expr<usize>,
 ) -> Result<(), AllocError>
+    requires { expr_known (named scope.now) (view_expr expr.now) ≡ true }
     ensures { IfOk result (λ _. out.new.items ≡ out.old.items ++ code.expr_code scope.now place (view_expr expr.now)) }
 {
     match expr {
         Expr::Literal(literal) => emit(out, Instr::Literal(literal.worth()), place),
         Expr::Read(variable) => {
-            let slot = slot_of(scope.globals, scope.base, *variable)?;
+            let slot = slot_of(scope.globals, scope.base, *variable);
             emit(out, Instr::Load(slot), place)
         }
         Expr::Output(instance, name) => {
-            let load = output_instr(scope.seats, *instance, scope.base, *name)?;
+            let load = output_instr(scope.seats, *instance, scope.base, *name);
             emit(out, load, place)
         }
         Expr::Unary(op, a) => {
@@ -53,12 +55,13 @@ fn emit_operator(
     op: Binary,
     right: &Expr<usize>,
 ) -> Result<(), AllocError>
+    requires { expr_known (named scope.now) (view_expr right.now) ≡ true }
     ensures { IfOk result (λ _. out.new.items ≡ out.old.items ++ operator_code scope.now.globals scope.now.base place op (view_expr right.now) (code.expr_code scope.now place (view_expr right.now))) }
 {
     match right {
         Expr::Literal(literal) => emit(out, Instr::BinaryLiteral(op, literal.worth()), place),
         Expr::Read(variable) => {
-            let slot = slot_of(scope.globals, scope.base, *variable)?;
+            let slot = slot_of(scope.globals, scope.base, *variable);
             emit(out, Instr::BinarySlot(op, slot), place)
         }
         Expr::Output(_, _) | Expr::Unary(_, _) | Expr::Binary(_, _, _) => {

@@ -1,8 +1,9 @@
-//! Numbers of slots, clocks and lines, refused from 2^32 on, and the bases of instances.
+//! Numbers of slots, clocks and lines, and the bases of instances. A slot and a clock are below 2^32; a line is refused from there on.
 
-ghost use Rattle.std.specs.Prelude.{◌≡◌, ◌<◌, ℕ, ◌+◌, ◌^◌, pos, slice_get, IfOk};
+ghost use Rattle.std.specs.Prelude.{◌≡◌, ◌<◌, ℕ, ◌+◌, ◌^◌, pos, true, slice_get, IfOk};
 ghost use Rattle.block_walk.specs.Walks.{HasRoom, slot_of, member_slot, base_of};
 ghost use Rattle.codegen.specs.Codes.{output_instr, pt_instr};
+ghost use Rattle.codegen.specs.Within.{fits, has_output, has_pt};
 
 use acc_vm::Instr;
 use block_walk::{Base, Seat, SeatOf};
@@ -19,18 +20,8 @@ pub(crate) fn add(a: u32, b: u32) -> Result<u32, AllocError>
     }
 }
 
-/// The sum of two wide numbers; refused if it is 2^128 or more.
-fn add_wide(a: u128, b: u128) -> Result<u128, AllocError>
-    ensures { IfOk result (λ n. n ≡ a + b) }
-{
-    match a.checked_add(b) {
-        Some(n) => Ok(n),
-        None => Err(AllocError),
-    }
-}
-
-/// A wide number as a word of an instruction; refused if it is 2^32 or more.
-fn narrow(n: u128) -> Result<u32, AllocError>
+/// The number of labels of a choice; refused if it is 2^32 or more.
+pub(crate) fn count(n: usize) -> Result<u32, AllocError>
     ensures { IfOk result (λ m. m ≡ n) }
 {
     if n < 4_294_967_296 {
@@ -38,13 +29,6 @@ fn narrow(n: u128) -> Result<u32, AllocError>
     } else {
         Err(AllocError)
     }
-}
-
-/// The number of labels of a choice; refused if it is 2^32 or more.
-pub(crate) fn count(n: usize) -> Result<u32, AllocError>
-    ensures { IfOk result (λ m. m ≡ n) }
-{
-    narrow(n as u128)
 }
 
 /// The turns that are left after the first one, as a word.
@@ -56,29 +40,31 @@ pub(crate) fn left_of(turns: u128) -> i64
 }
 
 /// The slot of a variable.
-pub(crate) fn slot_of(globals: usize, base: Base, variable: usize) -> Result<u32, AllocError>
-    ensures { IfOk result (λ n. n ≡ slot_of globals base variable) }
+pub(crate) fn slot_of(globals: usize, base: Base, variable: usize) -> u32
+    requires { fits (slot_of globals base variable) ≡ true }
+    ensures { result ≡ slot_of globals base variable }
 {
     if variable < globals {
-        narrow(variable as u128)
+        variable as u32
     } else {
-        narrow(add_wide(base.values, (variable - globals) as u128)?)
+        (base.values + (variable - globals) as u128) as u32
     }
 }
 
 /// The slot of an input or output of an instance.
-pub(crate) fn member_slot(base: Base, seat: &Seat, name: usize) -> Result<u32, AllocError>
-    ensures { IfOk result (λ n. n ≡ member_slot base seat.now name) }
+pub(crate) fn member_slot(base: Base, seat: &Seat, name: usize) -> u32
+    requires { fits (member_slot base seat.now name) ≡ true }
+    ensures { result ≡ member_slot base seat.now name }
 {
-    let first = add_wide(base.values, seat.values as u128)?;
-    narrow(add_wide(first, name as u128)?)
+    (base.values + seat.values as u128 + name as u128) as u32
 }
 
 /// The clock of an instance.
-pub(crate) fn clock_of(base: Base, seat: &Seat) -> Result<u32, AllocError>
-    ensures { IfOk result (λ n. n ≡ base.clocks + seat.now.clocks) }
+pub(crate) fn clock_of(base: Base, seat: &Seat) -> u32
+    requires { fits (base.clocks + seat.now.clocks) ≡ true }
+    ensures { result ≡ base.clocks + seat.now.clocks }
 {
-    narrow(add_wide(base.clocks, seat.clocks as u128)?)
+    (base.clocks + seat.clocks as u128) as u32
 }
 
 /// Where the values and the clocks of an instance begin.
@@ -94,36 +80,33 @@ pub(crate) fn base_of(base: Base, seat: &Seat) -> Base
 }
 
 /// What loads an output of an instance.
-pub(crate) fn output_instr(
-    seats: &[Seat],
-    instance: usize,
-    base: Base,
-    name: usize,
-) -> Result<Instr, AllocError>
-    ensures { IfOk result (λ i. i ≡ output_instr (slice_get seats.now instance) base name) }
+pub(crate) fn output_instr(seats: &[Seat], instance: usize, base: Base, name: usize) -> Instr
+    requires { has_output fits fits (slice_get seats.now instance) base name ≡ true }
+    ensures { result ≡ output_instr (slice_get seats.now instance) base name }
 {
     match seats.get(instance) {
         Some(seat) => match seat.of {
             SeatOf::Standard(_) => {
-                let clock = clock_of(base, seat)?;
+                let clock = clock_of(base, seat);
                 if name > 0 {
-                    Ok(Instr::ClockEt(clock))
+                    Instr::ClockEt(clock)
                 } else {
-                    Ok(Instr::ClockQ(clock))
+                    Instr::ClockQ(clock)
                 }
             }
-            SeatOf::Frame(_) => Ok(Instr::Load(member_slot(base, seat, name)?)),
+            SeatOf::Frame(_) => Instr::Load(member_slot(base, seat, name)),
         },
-        None => Ok(Instr::Literal(0)),
+        None => Instr::Literal(0),
     }
 }
 
 /// What loads PT of a standard block's instance; R_TRIG has none.
-pub(crate) fn pt_instr(of: Standard, base: Base, seat: &Seat) -> Result<Instr, AllocError>
-    ensures { IfOk result (λ i. i ≡ pt_instr of base seat.now) }
+pub(crate) fn pt_instr(of: Standard, base: Base, seat: &Seat) -> Instr
+    requires { has_pt fits fits of base seat.now ≡ true }
+    ensures { result ≡ pt_instr of base seat.now }
 {
     match of {
-        Standard::Ton | Standard::Tof => Ok(Instr::Load(member_slot(base, seat, 1)?)),
-        Standard::RTrig => Ok(Instr::Literal(0)),
+        Standard::Ton | Standard::Tof => Instr::Load(member_slot(base, seat, 1)),
+        Standard::RTrig => Instr::Literal(0),
     }
 }

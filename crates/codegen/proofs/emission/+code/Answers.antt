@@ -1,4 +1,4 @@
-use Rattle.std.proofs.Common.{◌≡◌, ◌∙◌, ap, sym, refl, subst, arith, ℕ, ◌+◌, ◌<◌, ◌++◌, ◌∷◌, List, [], length, take, drop, rules, to_z, of_z, w64}
+use Rattle.std.proofs.Common.{◌≡◌, ◌∙◌, ap, sym, refl, subst, arith, ℕ, ◌+◌, ◌<◌, ◌++◌, ◌∷◌, List, [], length, take, drop, Bool, true, rules, to_z, of_z, w64}
 use Rattle.std.specs.Prelude.{IfOk}
 use denote.Param.Weighed.{most, at_most}
 use Rattle.st_tree.specs.declared.tree.Stmt.{size-Stmt}
@@ -6,10 +6,12 @@ use Rattle.st_tree.specs.declared.tree.Branch.{size-Branch, size_is-Branch}
 use Rattle.st_tree.specs.declared.tree.Choice.{size-Choice, size_is-Choice}
 use Rattle.st_tree.specs.declared.tree.Label.{Label}
 use Rattle.st_tree.specs.Plain.{PlainExpr, PlainBody}
+use Rattle.st_tree.specs.Mapping.{body_known, branches_known, choices_known}
 use Rattle.st_tree.specs.View.{view_expr, view_stmt, view_body, view_branch, view_branches, view_choice, view_choices}
 use Rattle.st_tree.proofs.Depth.{size-If, size-Case, size-For}
 use Rattle.st_tree.proofs.Views.{view_stmt-Case, view_branch_is, view_choice_is}
 use Rattle.plant_cells.specs.Runs.{Path}
+use Rattle.block_walk.specs.declared.frame.Base.{Base}
 use Rattle.block_walk.specs.Frames.{InTurn, frame_paths, routine_paths}
 use Rattle.block_walk.proofs.Firsts.{paths_is}
 use Rattle.block_walk.proofs.Ranks.{frame_at, frame_less}
@@ -20,10 +22,13 @@ use Rattle.code_sizes.specs.Counts.{lines_at}
 use Rattle.codegen.specs.Codes as codes
 use Rattle.codegen.specs.Codes.{Line, place_of, IsSteady, SteadyBody, SteadyBranches, SteadyChoices}
 use Rattle.codegen.specs.Emission as code
-use Rattle.codegen.specs.Emission.{coders, branches_long, choices_long}
+use Rattle.codegen.specs.Emission.{coders, named, branches_long, choices_long}
+use Rattle.codegen.specs.Within.{there, frame_there, fits}
+use Rattle.codegen.proofs.Within.{reached_is}
 use Rattle.codegen.proofs.Emitting.{nothing, one_after, seat_at, no_seat, laid_before, frame_coded, branches_at, choices_at, no_branches, no_choices, branch_on, choice_on, choice_passed, entered_none, entered_past, entered_frame, entered_standard, case_done, loop_done, view_assigned}
 use Rattle.codegen.proofs.Numbered.{numbers_below}
 use Rattle.codegen.proofs.Steady.{steady_at, steady_branch, steady_choice, steady_if, steady_case, steady_for, turns_few}
+use Rattle.codegen.proofs.Naming.{known_at, known_branch, known_choice, known_if, known_case, known_for, known_frame}
 use Rattle.codegen.proofs.emission.+code.Goals as goal
 use Rattle.codegen.proofs.emission.+code.Goals.{emit_enter-then-not-seat-via-then-not-seat, emit_enter-then-not-seat-via-else-not-seat+then-k-scope, emit_choices-then-labels-gt0+in_ok-count+in_ok-add+in_ok-body+in_ok-inside+in_ok-add-2+in_ok-next+in_ok-emit_choice, emit_choices-else-labels-gt0}
 
@@ -100,8 +105,8 @@ emit_enter-overflow_add-scope t c =
     let seat = c.in-Some.seat.now in
     let at = seat_at s.seats.now c.args.instance seat (sym c.in-Some.ensures.lookup.0) c.in-Some.ensures.lookup.1 in
     let less : c.in-Frame.k < s.limit = omega (arith, c.if-k-scope.false) in
-    let below = numbers_below s.frames.now s.limit c.in-Frame.k c.args.instance s.seats.now seat less c.requires.lines.within c.requires.own at c.in-Frame.is c.if-not-seat.false in
-    omega (arith, below.0, below.1, c.requires.paths)
+    let below = numbers_below s.frames.now s.limit c.in-Frame.k c.args.instance s.seats.now seat less c.requires.laid.lines.within c.requires.laid.own at c.in-Frame.is c.if-not-seat.false in
+    omega (arith, below.0, below.1, c.requires.laid.paths)
 
 pub emit_enter-emit_frame-requires : goal.emit_enter-emit_frame-requires
 emit_enter-emit_frame-requires t c =
@@ -109,8 +114,9 @@ emit_enter-emit_frame-requires t c =
     let seat = c.in-Some.seat.now in
     let at = seat_at s.seats.now c.args.instance seat (sym c.in-Some.ensures.lookup.0) c.in-Some.ensures.lookup.1 in
     let less : c.in-Frame.k < s.limit = omega (arith, c.if-k-scope.false) in
-    let below = numbers_below s.frames.now s.limit c.in-Frame.k c.args.instance s.seats.now seat less c.requires.lines.within c.requires.own at c.in-Frame.is c.if-not-seat.false in
-    (omega arith, (less, (c.requires.lines, (c.base_of.ensures.room s.limit c.requires.bases, (omega (arith, below.1, c.requires.paths), (c.requires.in_turn, c.requires.steady))))))
+    let below = numbers_below s.frames.now s.limit c.in-Frame.k c.args.instance s.seats.now seat less c.requires.laid.lines.within c.requires.laid.own at c.in-Frame.is c.if-not-seat.false in
+    let names = known_frame s c.args.instance seat at c.requires.named c.in-Frame.k c.base_of.result c.in-Frame.is c.if-not-seat.false c.base_of.ensures.is in
+    (omega arith, (less, (c.requires.laid.lines, (c.base_of.ensures.room s.limit c.requires.laid.bases, (omega (arith, below.1, c.requires.laid.paths), (c.requires.laid.in_turn, (c.requires.laid.steady, names)))))))
 
 pub emit_enter-returns-else-k-scope : goal.emit_enter-returns-else-k-scope
 emit_enter-returns-else-k-scope t c =
@@ -132,7 +138,11 @@ emit_frame-emit_body-requires t c =
     let less = frame_less frames c.args.limit c.args.k c.index-frames-k.result c.deref-2.result.now c.requires.there inside c.index-frames-k.is c.deref-2.ensures.value in
     let at = frame_at frames c.args.k c.index-frames-k.result inside c.index-frames-k.is in
     let all = ap (λ (l : List Path). length l) (paths_is frames c.args.limit c.args.k c.index-frames-k.result c.requires.there at) in
-    let own = ap (λ seats. length (routine_paths (frame_paths frames c.args.k) seats)) c.deref.ensures.value in (
+    let own = ap (λ seats. length (routine_paths (frame_paths frames c.args.k) seats)) c.deref.ensures.value in
+    let inner = frame_there fits fits c.args.globals frames c.args.k in
+    let names =
+    (λ i. body_known (there fits fits c.args.globals inner (c.deref.ensures.value i) c.args.base) (view_body (c.deref-2.ensures.value i)))
+    ∙ ap (λ (f : Base → Bool). f c.args.base) (sym (reached_is fits fits c.args.globals frames c.args.limit c.args.k c.index-frames-k.result c.requires.there at)) ∙ c.requires.named in (
       omega (arith, less),
       (
         record {
@@ -143,7 +153,7 @@ emit_frame-emit_body-requires t c =
           in_turn = c.requires.in_turn;
           steady = c.requires.steady;
         },
-        subst (λ x. SteadyBody (view_body x)) (sym c.deref-2.ensures.value) (c.requires.steady c.args.k c.index-frames-k.result at),
+        (subst (λ x. SteadyBody (view_body x)) (sym c.deref-2.ensures.value) (c.requires.steady c.args.k c.index-frames-k.result at), names),
       ),
     )
 
@@ -161,67 +171,87 @@ emit_stmt-emit_branches-requires t c =
     let size = ap (size-Stmt ℕ) c.in-If.is ∙ size-If c.in-If.statement c.in-If.branches c.in-If.last in
     let same = ap (most (size-Branch ℕ)) c.deref-in-If-3.ensures.value in
     let steady = steady_if c.args.stmt.now c.in-If.statement c.in-If.branches c.in-If.last c.in-If.is c.requires.steady in
-    (omega (arith, size, same), (c.requires.laid, subst (λ x. SteadyBranches (view_branches x)) (sym c.deref-in-If-3.ensures.value) steady.0))
+    let known = named c.args.scope.now in
+    let names = known_if known c.args.stmt.now c.in-If.statement c.in-If.branches c.in-If.last c.in-If.is c.requires.named in
+    (omega (arith, size, same), (c.requires.laid, (subst (λ x. SteadyBranches (view_branches x)) (sym c.deref-in-If-3.ensures.value) steady.0, subst (λ x. branches_known known (view_branches x) ≡ true) (sym c.deref-in-If-3.ensures.value) names.0)))
 
 pub emit_stmt-emit_body-requires : goal.emit_stmt-emit_body-requires
 emit_stmt-emit_body-requires t c =
     let size = ap (size-Stmt ℕ) c.in-If.is ∙ size-If c.in-If.statement c.in-If.branches c.in-If.last in
     let same = ap (most (size-Stmt ℕ)) c.deref-in-If-4.ensures.value in
     let steady = steady_if c.args.stmt.now c.in-If.statement c.in-If.branches c.in-If.last c.in-If.is c.requires.steady in
-    (omega (arith, size, same), (c.requires.laid, subst (λ x. SteadyBody (view_body x)) (sym c.deref-in-If-4.ensures.value) steady.1))
+    let known = named c.args.scope.now in
+    let names = known_if known c.args.stmt.now c.in-If.statement c.in-If.branches c.in-If.last c.in-If.is c.requires.named in
+    (omega (arith, size, same), (c.requires.laid, (subst (λ x. SteadyBody (view_body x)) (sym c.deref-in-If-4.ensures.value) steady.1, subst (λ x. body_known known (view_body x) ≡ true) (sym c.deref-in-If-4.ensures.value) names.1)))
 
 pub emit_stmt-emit_choices-requires : goal.emit_stmt-emit_choices-requires
 emit_stmt-emit_choices-requires t c =
     let size = ap (size-Stmt ℕ) c.in-Case.is ∙ size-Case c.in-Case.statement c.in-Case.selector c.in-Case.choices c.in-Case.last in
     let same = ap (most (size-Choice ℕ)) c.deref-in-Case-3.ensures.value in
     let steady = steady_case c.args.stmt.now c.in-Case.statement c.in-Case.selector c.in-Case.choices c.in-Case.last c.in-Case.is c.requires.steady in
-    (omega (arith, size, same), (c.requires.laid, subst (λ x. SteadyChoices (view_choices x)) (sym c.deref-in-Case-3.ensures.value) steady.0))
+    let known = named c.args.scope.now in
+    let names = known_case known c.args.stmt.now c.in-Case.statement c.in-Case.selector c.in-Case.choices c.in-Case.last c.in-Case.is c.requires.named in
+    (omega (arith, size, same), (c.requires.laid, (subst (λ x. SteadyChoices (view_choices x)) (sym c.deref-in-Case-3.ensures.value) steady.0, subst (λ x. choices_known known (view_choices x) ≡ true) (sym c.deref-in-Case-3.ensures.value) names.1)))
 
 pub emit_stmt-emit_body-requires-in-Case : goal.emit_stmt-emit_body-requires-in-Case
 emit_stmt-emit_body-requires-in-Case t c =
     let size = ap (size-Stmt ℕ) c.in-Case.is ∙ size-Case c.in-Case.statement c.in-Case.selector c.in-Case.choices c.in-Case.last in
     let same = ap (most (size-Stmt ℕ)) c.deref-in-Case-4.ensures.value in
     let steady = steady_case c.args.stmt.now c.in-Case.statement c.in-Case.selector c.in-Case.choices c.in-Case.last c.in-Case.is c.requires.steady in
-    (omega (arith, size, same), (c.requires.laid, subst (λ x. SteadyBody (view_body x)) (sym c.deref-in-Case-4.ensures.value) steady.1))
+    let known = named c.args.scope.now in
+    let names = known_case known c.args.stmt.now c.in-Case.statement c.in-Case.selector c.in-Case.choices c.in-Case.last c.in-Case.is c.requires.named in
+    (omega (arith, size, same), (c.requires.laid, (subst (λ x. SteadyBody (view_body x)) (sym c.deref-in-Case-4.ensures.value) steady.1, subst (λ x. body_known known (view_body x) ≡ true) (sym c.deref-in-Case-4.ensures.value) names.2)))
 
 pub emit_stmt-emit_loop-requires : goal.emit_stmt-emit_loop-requires
 emit_stmt-emit_loop-requires t c =
     let size = ap (size-Stmt ℕ) c.in-For.is ∙ size-For c.in-For.number c.in-For.variable c.in-For.from c.in-For.to c.in-For.by c.in-For.body in
     let same = ap (most (size-Stmt ℕ)) c.deref-in-Some.ensures.value in
     let steady = steady_for c.args.stmt.now c.in-For.number c.in-For.variable c.in-For.from c.in-For.to c.in-For.by c.in-For.body c.in-For.is c.requires.steady in
-    (omega (arith, size, same), (c.requires.laid, (subst IsSteady (sym c.constant_span.ensures ∙ c.in-Some.is) steady.0, subst (λ x. SteadyBody (view_body x)) (sym c.deref-in-Some.ensures.value) steady.1)))
+    let known = named c.args.scope.now in
+    let names = known_for known c.args.stmt.now c.in-For.number c.in-For.variable c.in-For.from c.in-For.to c.in-For.by c.in-For.body c.in-For.is c.requires.named in
+    (omega (arith, size, same), (c.requires.laid, (subst IsSteady (sym c.constant_span.ensures ∙ c.in-Some.is) steady.0, (subst (λ x. SteadyBody (view_body x)) (sym c.deref-in-Some.ensures.value) steady.1, subst (λ x. body_known known (view_body x) ≡ true) (sym c.deref-in-Some.ensures.value) names.1))))
 
 pub emit_body-emit_stmt-requires : goal.emit_body-emit_stmt-requires
 emit_body-emit_stmt-requires t c =
     let deep = at_most (size-Stmt ℕ) c.args.body.now c.loop-stmt.stmt-index c.stmt-item.result c.loop-stmt-test.true in
     let same = ap (size-Stmt ℕ) c.stmt-item.is in
-    (omega arith, (c.requires.laid, steady_at c.args.body.now c.loop-stmt.stmt-index c.stmt-item.result c.loop-stmt-test.true c.stmt-item.is c.requires.steady))
+    let steady = steady_at c.args.body.now c.loop-stmt.stmt-index c.stmt-item.result c.loop-stmt-test.true c.stmt-item.is c.requires.steady in
+    let names = known_at (named c.args.scope.now) c.args.body.now c.loop-stmt.stmt-index c.stmt-item.result c.loop-stmt-test.true c.stmt-item.is c.requires.named in
+    (omega arith, (c.requires.laid, (steady, names)))
 
 pub emit_branches-emit_branch-requires : goal.emit_branches-emit_branch-requires
 emit_branches-emit_branch-requires t c =
     let deep = at_most (size-Branch ℕ) c.args.branches.now c.loop-branch.branch-index c.branch-item.result c.loop-branch-test.true in
     let same = ap (size-Branch ℕ) c.branch-item.is in
-    (omega arith, (c.requires.laid, steady_branch c.args.branches.now c.loop-branch.branch-index c.branch-item.result c.loop-branch-test.true c.branch-item.is c.requires.steady))
+    let steady = steady_branch c.args.branches.now c.loop-branch.branch-index c.branch-item.result c.loop-branch-test.true c.branch-item.is c.requires.steady in
+    let names = known_branch (named c.args.scope.now) c.args.branches.now c.loop-branch.branch-index c.branch-item.result c.loop-branch-test.true c.branch-item.is c.requires.named in
+    (omega arith, (c.requires.laid, (steady, names)))
 
 pub emit_branch-emit_body-requires : goal.emit_branch-emit_body-requires
 emit_branch-emit_body-requires t c =
     let whole = size_is-Branch ℕ c.args.branch.now in
     let part = ap (most (size-Stmt ℕ)) c.deref.ensures.value in
     let steady = subst (λ (p : PlainExpr ℕ × PlainBody ℕ). SteadyBody p.1) (view_branch_is c.args.branch.now) c.requires.steady in
-    (omega arith, (c.requires.laid, subst (λ x. SteadyBody (view_body x)) (sym c.deref.ensures.value) steady))
+    let known = named c.args.scope.now in
+    let names = subst (λ (p : PlainExpr ℕ × PlainBody ℕ). body_known known p.1 ≡ true) (view_branch_is c.args.branch.now) c.requires.named in
+    (omega arith, (c.requires.laid, (subst (λ x. SteadyBody (view_body x)) (sym c.deref.ensures.value) steady, subst (λ x. body_known known (view_body x) ≡ true) (sym c.deref.ensures.value) names)))
 
 pub emit_choices-emit_choice-requires : goal.emit_choices-emit_choice-requires
 emit_choices-emit_choice-requires t c =
     let deep = at_most (size-Choice ℕ) c.args.choices.now c.loop-choice.choice-index c.choice-item.result c.loop-choice-test.true in
     let same = ap (size-Choice ℕ) c.choice-item.is in
-    (omega arith, (c.requires.laid, steady_choice c.args.choices.now c.loop-choice.choice-index c.choice-item.result c.loop-choice-test.true c.choice-item.is c.requires.steady))
+    let steady = steady_choice c.args.choices.now c.loop-choice.choice-index c.choice-item.result c.loop-choice-test.true c.choice-item.is c.requires.steady in
+    let names = known_choice (named c.args.scope.now) c.args.choices.now c.loop-choice.choice-index c.choice-item.result c.loop-choice-test.true c.choice-item.is c.requires.named in
+    (omega arith, (c.requires.laid, (steady, names)))
 
 pub emit_choice-emit_body-requires : goal.emit_choice-emit_body-requires
 emit_choice-emit_body-requires t c =
     let whole = size_is-Choice ℕ c.args.choice.now in
     let part = ap (most (size-Stmt ℕ)) c.deref-2.ensures.value in
     let steady = subst (λ (p : List Label × PlainBody ℕ). SteadyBody p.1) (view_choice_is c.args.choice.now) c.requires.steady in
-    (omega arith, (c.requires.laid, subst (λ x. SteadyBody (view_body x)) (sym c.deref-2.ensures.value) steady))
+    let known = named c.args.scope.now in
+    let names = subst (λ (p : List Label × PlainBody ℕ). body_known known p.1 ≡ true) (view_choice_is c.args.choice.now) c.requires.named in
+    (omega arith, (c.requires.laid, (subst (λ x. SteadyBody (view_body x)) (sym c.deref-2.ensures.value) steady, subst (λ x. body_known known (view_body x) ≡ true) (sym c.deref-2.ensures.value) names)))
 
 pub emit_loop-left_of-left-requires : goal.emit_loop-left_of-left-requires
 emit_loop-left_of-left-requires t c = let few = turns_few c.args.span c.requires.dints in omega (arith, few, c.count_turns-turns.ensures)
@@ -243,8 +273,8 @@ emit_stmt-returns-in_ok-emit_expr-in-Assign t c =
     let s = c.args.scope.now in
     let place = place_of s.path c.in-Assign.statement in
     let viewed = ap view_stmt c.in-Assign.is ∙ view_assigned c.in-Assign.statement c.in-Assign.variable c.in-Assign.expr in
-    let line : c.in_ok-slot-in-Assign.slot ≡ slot_of s.globals s.base c.in-Assign.variable = c.in_ok-slot-in-Assign.ensures in
-    let is = one_after c.args.out.now.items c.emit_expr.new.out.items (code.expr_code s place (view_expr c.in-Assign.expr)) ((instr.Store c.in_ok-slot-in-Assign.slot, place) ∷ []) c.in_ok-emit_expr-in-Assign.ensures
+    let line : c.slot_of-slot.result ≡ slot_of s.globals s.base c.in-Assign.variable = c.slot_of-slot.ensures in
+    let is = one_after c.args.out.now.items c.emit_expr.new.out.items (code.expr_code s place (view_expr c.in-Assign.expr)) ((instr.Store c.slot_of-slot.result, place) ∷ []) c.in_ok-emit_expr-in-Assign.ensures
     ∙ ap (λ n. c.args.out.now.items ++ (code.expr_code s place (view_expr c.in-Assign.expr) ++ (instr.Store n, place) ∷ [])) line ∙ ap (λ p. c.args.out.now.items ++ code.stmt_code s p c.args.pc) (sym viewed) in
     subst (λ z. IfOk c.emit.result (λ x. c.emit.new.out.items ≡ z)) is c.emit.ensures
 
