@@ -16,7 +16,7 @@ use Rattle.block_frames.specs.Frames.{IsFrames}
 use Rattle.acc_vm.specs.Machine.{Over}
 use Rattle.acc_vm.specs.Codes.{PlainCode, SameShape, run_of}
 use Rattle.codegen.specs.Codes.{AreSteady, paths_at}
-use Rattle.program_codes.specs.Codes.{IsCodeOf, AreCodes}
+use Rattle.program_codes.specs.Codes.{IsCodeOf, AreCodes, AllNamesFit}
 use Rattle.plant_walk.specs.Sound.{IsSound}
 use Rattle.plant_walk.specs.Runs.{HasCells}
 use Rattle.plant_walk.proofs.Steady.{frames_are_steady}
@@ -54,6 +54,13 @@ module _ (frames : List Frame) (globals first : ℕ) (base : Base) (cost : ℕ) 
 -- cells of the same shape have what the source has
 pub shape_kept : (source : Source) (old new : PlainCells) → SameShape new old → HasCells source old → HasCells source new
 shape_kept source old new same has = record { values = same.values ∙ has.values; clocks = same.clocks ∙ has.clocks }
+
+-- what programs of equal parts name
+pub names_same : (fs gs : List Frame) (a b first : ℕ) (values v clocks w costs s : List ℕ)
+    → fs ≡ gs → a ≡ b → values ≡ v → clocks ≡ w → costs ≡ s → AllNamesFit fs a first values clocks costs → AllNamesFit gs b first v w s
+names_same fs gs a b first values v clocks w costs s e1 e2 e3 e4 e5 h =
+    subst (λ x. AllNamesFit x b first v w s) e1 (subst (λ x. AllNamesFit fs x first v w s) e2 (subst (λ x. AllNamesFit fs a first x w s) e3
+    (subst (λ x. AllNamesFit fs a first values x s) e4 (subst (λ x. AllNamesFit fs a first values clocks x) e5 h))))
 
 -- codes of equal parts
 pub codes_same : (fs gs : List Frame) (a b c d : ℕ) (values v clocks w costs s : List ℕ) (codes : List PlainCode)

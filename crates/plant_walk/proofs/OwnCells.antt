@@ -1,5 +1,5 @@
 -- A program's code names, beside the globals, only the program's own values and clocks, and no two programs have one of these in common.
-use Rattle.std.proofs.Common.{◌≡◌, ◌∙◌, ap, subst, ℕ, zero, suc, ◌+◌, ◌-◌, ◌<◌, ◌≤◌, Bool, true, false, List, [], ◌∷◌, length, length-append, ◌⊎◌, inl, inr, Some, slice_get, arith}
+use Rattle.std.proofs.Common.{◌≡◌, ◌∙◌, ap, sym, subst, ℕ, zero, suc, ◌+◌, ◌-◌, ◌<◌, ◌≤◌, Bool, true, false, List, [], ◌∷◌, length, length-append, ◌⊎◌, inl, inr, Some, slice_get, arith}
 use Rattle.std.specs.Prelude.{◌&&◌, ◌||◌, nat_lt}
 use borrow.Author.Tests.{ltb-true}
 use Rattle.std.proofs.lemmas.Bool.{cases_lt, lt-ltb, and_parts, or_cases, or_left, or_right}
@@ -16,18 +16,20 @@ use Rattle.plant_logic.specs.Worlds.{Path}
 use Rattle.plant_logic.specs.Layout.{ClockAt, values_rule, routine_values, clocks_rule, routine_clocks, global_values, program_values, cell_paths, all_clocks}
 use Rattle.plant_logic.specs.Seats.{StandsFrom, program_values_before, program_clocks_before, program_values_base, program_clocks_base, is_of_standard}
 use Rattle.plant_logic.proofs.Seats.{values_length, routine_length, clocks_length, routine_clocks_length, program_stands, program_clocks_stand}
+use Rattle.plant_limits.specs.Limits.{KeepsSlots}
 use Rattle.block_walk.specs.declared.frame.Base.{Base}
 use Rattle.block_walk.specs.declared.frame.Frame.{Frame}
 use Rattle.block_frames.specs.Numbers.{HasAllNames}
 use Rattle.block_frames.specs.Frames.{IsFrames, program_base}
 use Rattle.acc_vm.specs.Codes.{PlainCode}
 use Rattle.code_slices.specs.Slots.{Names, NamesClock}
-use Rattle.codegen.specs.Within.{IsThere, NamesOnly}
-use Rattle.program_codes.specs.Codes.{IsCodeOf, base_in}
+use Rattle.codegen.specs.Within.{IsThere, fits, NamesFit, NamesOnly}
+use Rattle.program_codes.specs.Codes.{IsCodeOf, base_in, AllNamesFit}
 use Rattle.plant_walk.specs.Bases.{AreBases, IsOwnValue, IsOwnClock}
 use Rattle.plant_walk.specs.Runs.{NamesOwn, IsProgramCode}
 use Rattle.plant_walk.proofs.Bases.{values_next, clocks_next}
 use Rattle.plant_walk.proofs.Costs.{element}
+use Rattle.plant_walk.proofs.Few.{cells_few}
 use Rattle.plant_walk.proofs.Known.{both}
 use Rattle.plant_walk.proofs.Within.{program_there}
 
@@ -127,6 +129,25 @@ module _ (source : Source) (order : List ℕ) (below : AreBelow source.blocks or
       program_there source order below (behind [] (program_values_base source n) own_values) (behind no_clock (program_clocks_base source n) own_clocks) has_value has_clock value_there clock_there global_there
       frames are types names n p at (folded p.name ∷ []) (program_base source n) (behind_stands [] (program_values_base source n) own_values) (behind_stands no_clock (program_clocks_base source n) own_clocks)
 
+  -- where the source keeps the limit on slots, all that it names are numbers of 32 bits
+  pub names_fit : KeepsSlots source → NamesFit (length source.globals) frames (length order + n) (program_base source n)
+  names_fit keeps =
+      let few = cells_few source keeps in
+      let value_fits : (k : ℕ) (word : List ℕ) (q : Path) → slice_get (behind [] (program_values_base source n) own_values) k ≡ Some (word ∷ q) → fits k ≡ true =
+      λ k word q here.
+      let within = stands_within (cell_paths source) (program_values_base source n) own_values k (program_stands source n p at) (behind_at [] (program_values_base source n) own_values k (word ∷ q) (no_word word q) here) in
+      lt-ltb k 4294967296 (omega (arith, within, few.0))
+      in
+      let clock_fits : (k : ℕ) (b : BlockRef) (q : Path) → is_of_standard b ≡ true → slice_get (behind no_clock (program_clocks_base source n) own_clocks) k ≡ Some (record { of = b; path = q }) → fits k ≡ true =
+      λ k b q standard here.
+      let within = stands_within (all_clocks source) (program_clocks_base source n) own_clocks k (program_clocks_stand source n p at)
+      (behind_at no_clock (program_clocks_base source n) own_clocks k (record { of = b; path = q }) (not_standard b q standard) here) in
+      lt-ltb k 4294967296 (omega (arith, within, few.1))
+      in
+      let global_fits : (j : ℕ) → j < length source.globals → fits j ≡ true = λ j less. let within = globals_within source j less in lt-ltb j 4294967296 (omega (arith, within, few.0)) in
+      program_there source order below (behind [] (program_values_base source n) own_values) (behind no_clock (program_clocks_base source n) own_clocks) fits fits value_fits clock_fits global_fits
+      frames are types names n p at (folded p.name ∷ []) (program_base source n) (behind_stands [] (program_values_base source n) own_values) (behind_stands no_clock (program_clocks_base source n) own_clocks)
+
   module _ (cost : ℕ) (code : PlainCode) (is : IsCodeOf frames (length source.globals) (length order + n) (program_base source n) cost code) where
     names_only : NamesOnly has_value has_clock code
     names_only = is.within has_value has_clock own_there
@@ -168,6 +189,17 @@ code_there source order below frames are types names values stood values_begin c
     let clocks_are = clocks_begin.each n (omega (arith, less)) in
     code_within source order below frames are types names n p.0 p.1 cost code
     (subst (λ (base : Base). IsCodeOf frames (length source.globals) (length order + n) base cost code) (λ i. record { values = values_are i; clocks = clocks_are i }) is)
+
+-- by the rows, all that programs name are numbers of 32 bits
+pub all_names_fit : (source : Source) (order : List ℕ) → AreBelow source.blocks order → (frames : List Frame) → IsFrames source order frames → HasItsTypes source → HasAllNames source → KeepsSlots source
+    → (values stood costs : List ℕ) → AreBases (program_values_base source) (length source.programs) values → AreBases (program_clocks_base source) (length source.programs) stood → length costs ≡ length source.programs
+    → AllNamesFit frames (length source.globals) (length order) values stood costs
+all_names_fit source order below frames are types names keeps values stood costs values_begin clocks_begin many n less =
+    let p = element source.programs n (omega (arith, less, many)) in
+    let values_are = values_begin.each n (omega (arith, less, many)) in
+    let clocks_are = clocks_begin.each n (omega (arith, less, many)) in
+    let base_is : program_base source n ≡ base_in values stood n = λ i. record { values = sym values_are i; clocks = sym clocks_are i } in
+    subst (NamesFit (length source.globals) frames (length order + n)) base_is (names_fit source order below frames are types names n p.0 p.1 keeps)
 
 -- programs lie one behind another
 values_rise : (blocks ps : List PlainRoutine) (j k : ℕ) → j ≤ k → program_values_before blocks ps j ≤ program_values_before blocks ps k

@@ -74,7 +74,7 @@ module _ (view : Frame → PlainFrame) (kept : IsKept view) (fs gs : List Frame)
         (λ inner f g e i base. ((λ j. body_known (there has_value has_clock globals inner (same_seats f g e j) base) (e j).body) ∙ kept.names (there has_value has_clock globals inner f.seats.items base) f) i)
         fs gs (at_place view fs gs seen)
 
-    there_kept : (first : ℕ) (base : Base) → IsThere has_value has_clock globals fs first base → IsThere has_value has_clock globals gs first base
+    pub there_kept : (first : ℕ) (base : Base) → IsThere has_value has_clock globals fs first base → IsThere has_value has_clock globals gs first base
     there_kept first base h = ap (λ n. frame_there has_value has_clock globals gs n first base) (same_length view fs gs seen) ∙ (λ i. there_same (length fs) first i base) ∙ h
 
   routine_less : (inner outer : ℕ → ℕ) → ((k : ℕ) → inner k ≤ outer k) → (f g : Frame) → view_frame g ≡ view f → routine_cost inner g ≤ routine_cost outer f

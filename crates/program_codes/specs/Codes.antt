@@ -6,7 +6,7 @@ use Rattle.block_walk.specs.Frames.{frame_paths}
 use Rattle.code_sizes.specs.Sizes.{frame_cost}
 use Rattle.acc_vm.specs.Codes.{PlainCode}
 use Rattle.codegen.specs.Codes.{code_of, RunsFrame}
-use Rattle.codegen.specs.Within.{NamesAsFrame}
+use Rattle.codegen.specs.Within.{NamesFit, NamesAsFrame}
 use Rattle.program_codes.specs.Folded.{AreFolded}
 
 -- code is that of the frame of a number as a program, at a base: it runs as the frame does, has the frame's paths, names only what is there wherever what the frame names is there, and tells a cost
@@ -23,6 +23,10 @@ base_in values clocks n = record { values = get_or values n 0; clocks = get_or c
 -- no program costs more than is told: the programs are the frames from one on
 abbrev pub CostNoMore : (frames : List Frame) → (first : ℕ) → (costs : List ℕ) → Type 0
 CostNoMore frames first costs = (n : ℕ) → n < length costs → frame_cost frames (length frames) (first + n) ≤ get_or costs n 0
+
+-- each slot and each clock that a program names is a number of 32 bits: the programs are the frames from one on, and the rows tell where each begins
+abbrev pub AllNamesFit : (frames : List Frame) → (globals first : ℕ) → (values clocks costs : List ℕ) → Type 0
+AllNamesFit frames globals first values clocks costs = (n : ℕ) → n < length costs → NamesFit globals frames (first + n) (base_in values clocks n)
 
 -- each of the codes is that of its program, and tells its cost
 abbrev pub EachIsCode : (frames : List Frame) → (globals first : ℕ) → (values clocks costs : List ℕ) → List PlainCode → Type 0

@@ -5,8 +5,9 @@ ghost use Rattle.block_walk.specs.Frames.{AreInTurn};
 ghost use Rattle.code_sizes.specs.Sizes.{frame_cost};
 ghost use Rattle.code_sizes.specs.Counts.{AreCounts};
 ghost use Rattle.codegen.specs.Codes.{code_of, AreSteady};
+ghost use Rattle.codegen.specs.Within.{NamesFit};
 ghost use Rattle.program_codes.specs.Folded.{AreFolded};
-ghost use Rattle.program_codes.specs.Codes.{IsCodeOf, AreCodes, CostNoMore};
+ghost use Rattle.program_codes.specs.Codes.{IsCodeOf, AreCodes, AllNamesFit, CostNoMore};
 
 use crate::folding::fold_frames;
 use acc_vm::Code;
@@ -35,6 +36,7 @@ fn code_of(
     requires counted { AreCounts folded.now counts.now }
     requires in_turn { AreInTurn folded.now }
     requires steady { AreSteady folded.now }
+    requires named { NamesFit globals folded.now first (record { values = values; clocks = clocks }) }
     requires cost { frame_cost folded.now (length folded.now) first ≤ cost }
     ensures runs { IfOk result (IsCodeOf folded.now globals first (record { values = values; clocks = clocks }) cost) }
     ensures is { IfOk result (λ code. code ≡ code_of globals folded.now first (record { values = values; clocks = clocks }) cost) }
@@ -45,10 +47,10 @@ fn code_of(
 
 /// The codes of the programs of a table, which are its frames from a number on, in their order. The rows have the numbers at which the values
 /// and the clocks of each program begin, and behind them where those of the last one end. The costs are told by the codes: no program costs more
-/// before its constants are folded.
+/// before its constants are folded. Each slot and each clock that a program names is to be a number of 32 bits.
 ///
-/// Fails if allocation fails; and if a code can't be numbered in 32 bits, which is answered as refused memory too: no accepted source has such
-/// a program.
+/// Fails if allocation fails; and if the lines of a code can't be numbered in 32 bits, which is answered as refused memory too: no accepted source
+/// has such a program.
 pub fn codes_of(
     alloc: Global,
     frames: &[Frame],
@@ -60,6 +62,7 @@ pub fn codes_of(
 ) -> Result<Vec<Code>, AllocError>
     requires in_turn { AreInTurn frames.now }
     requires steady { AreSteady frames.now }
+    requires named { AllNamesFit frames.now globals first values.now clocks.now costs.now }
     requires values { length frames.now + 1 ≡ first + length values.now }
     requires clocks { length clocks.now ≡ length values.now }
     requires costs { length costs.now + 1 ≡ length values.now }

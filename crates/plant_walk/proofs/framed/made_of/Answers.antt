@@ -6,12 +6,13 @@ use Rattle.plant_logic.specs.Names.{global_words}
 use Rattle.plant_limits.specs.Counts.{routine_cost, type_cost, program_costs}
 use Rattle.block_frames.specs.Numbers.{HasAllNames}
 use Rattle.codegen.specs.Codes.{AreSteady}
-use Rattle.program_codes.specs.Codes.{CostNoMore}
+use Rattle.program_codes.specs.Codes.{AllNamesFit, CostNoMore}
 use Rattle.plant_walk.specs.Framed.{global_names}
-use Rattle.plant_walk.proofs.Coded.{sound_steady, codes_same}
+use Rattle.plant_walk.proofs.Coded.{sound_steady, names_same, codes_same}
 use Rattle.plant_walk.proofs.Small.{sound_named, sound_types}
 use Rattle.plant_walk.proofs.Little.{sound_small}
 use Rattle.plant_walk.proofs.Costs.{costs_listed}
+use Rattle.plant_walk.proofs.OwnCells.{all_names_fit}
 use Rattle.plant_walk.proofs.framed.made_of.Goals as goal
 
 pub value_bases-requires-clause-slots : goal.value_bases-requires-clause-slots
@@ -36,6 +37,24 @@ pub codes_of-requires-clause-steady : goal.codes_of-requires-clause-steady
 codes_of-requires-clause-steady c =
     let source = source_of c.args.logic.now in
     subst AreSteady (sym c.deref-3.ensures.value) (sound_steady source c.args.order.now c.in_ok-frames.frames.items c.requires.sound c.requires.below c.in_ok-frames.ensures.frames)
+
+pub codes_of-requires-clause-named : goal.codes_of-requires-clause-named
+codes_of-requires-clause-named c =
+    let source = source_of c.args.logic.now in
+    let sound = c.requires.sound in
+    let frames = c.in_ok-frames.frames.items in
+    let order = c.args.order.now in
+    let values = c.in_ok-values.values.items in
+    let clocks = c.in_ok-standards.standards.bases.items in
+    let names : HasAllNames source = subst HasAllNames (sym sound.are_theirs) (c.typed_names_are_known.ensures sound.units sound.typed) in
+    let many = length-map source.programs (routine_cost (type_cost source.blocks)) in
+    let fit : AllNamesFit frames (length source.globals) (length order) values clocks (program_costs source) =
+    all_names_fit source order c.requires.below frames c.in_ok-frames.ensures.frames (sound_types source sound) names sound.limits.slots values clocks (program_costs source) c.in_ok-values.ensures c.in_ok-standards.ensures.bases many in
+    let globals_ok = c.args.logic.now.globals.ok in
+    let globals_len = c.len.ensures in
+    let globals_are : c.len.result ≡ length source.globals = omega (arith, globals_ok.0, globals_len) in
+    names_same frames c.deref-3.result.now (length source.globals) c.len.result (length order) values c.deref-4.result.now clocks c.deref-5.result.now (program_costs source) c.deref-6.result.now
+    (sym c.deref-3.ensures.value) (sym globals_are) (sym c.deref-4.ensures.value) (sym c.deref-5.ensures.value) (sym (c.deref-6.ensures.value ∙ c.in_ok-costs.ensures.kept sound.limits.cost)) fit
 
 pub codes_of-requires-clause-costs : goal.codes_of-requires-clause-costs
 codes_of-requires-clause-costs c =

@@ -2,10 +2,11 @@ use Rattle.std.proofs.Common.{◌≡◌, ◌∙◌, ℕ, ◌+◌, ◌≤◌, ◌
 use Rattle.block_walk.specs.Frames.{AreInTurn}
 use Rattle.code_sizes.specs.Sizes.{frame_turns, frame_cost}
 use Rattle.codegen.specs.Codes.{code_of, AreSteady}
+use Rattle.codegen.specs.Within.{fits, NamesFit}
 use Rattle.program_codes.specs.Codes.{IsCodeOf, IsMade, base_in}
 use Rattle.program_codes.proofs.Tables.{same_length}
 use Rattle.program_codes.proofs.Bodies.{turns_by_constants}
-use Rattle.program_codes.proofs.Kept.{IsKept, in_turn_kept, steady_kept, all_costs, code_kept}
+use Rattle.program_codes.proofs.Kept.{IsKept, in_turn_kept, steady_kept, there_kept, all_costs, code_kept}
 use Rattle.program_codes.proofs.Keeping.{folded_view, folding_keeps}
 use Rattle.program_codes.proofs.Rows.{none_yet, one_more}
 use Rattle.program_codes.proofs.codes.codes_of.Goals as goal
@@ -28,6 +29,14 @@ pub code_of-requires-clause-steady : goal.code_of-requires-clause-steady
 code_of-requires-clause-steady c =
     let kept : IsKept folded_view = folding_keeps c.folded_body_does_same.ensures c.folded_constants_are_literals.ensures.constants (λ called body. c.folded_body_costs_at_most.ensures frame_turns turns_by_constants called body) c.folded_names_stay.ensures in
     subst AreSteady (sym c.deref-in-loop-n.ensures.value) (steady_kept folded_view kept c.args.frames.now c.in_ok-folded.folded.items c.in_ok-folded.ensures c.requires.steady)
+
+pub code_of-requires-clause-named : goal.code_of-requires-clause-named
+code_of-requires-clause-named c =
+    let kept : IsKept folded_view = folding_keeps c.folded_body_does_same.ensures c.folded_constants_are_literals.ensures.constants (λ called body. c.folded_body_costs_at_most.ensures frame_turns turns_by_constants called body) c.folded_names_stay.ensures in
+    let k = c.args.first + c.loop-n.n in
+    let base = base_in c.args.values.now c.args.clocks.now c.loop-n.n in
+    let fit = there_kept folded_view kept c.args.frames.now c.in_ok-folded.folded.items c.in_ok-folded.ensures fits fits c.args.globals k base (c.requires.named c.loop-n.n c.loop-n-test.true) in
+    subst (λ fs. NamesFit c.args.globals fs k base) (sym c.deref-in-loop-n.ensures.value) fit
 
 pub code_of-requires-clause-cost : goal.code_of-requires-clause-cost
 code_of-requires-clause-cost c =
