@@ -70,12 +70,11 @@ impl Model for Engine {
 fn opening(alloc: Global, plant: &Plant) -> Result<(State, Room), AllocError>
     ensures { IfOk result (λ made. IsEngine plant.now [] [] made.0) }
 {
-    let space = Workspace::new(alloc);
     let state = opening_state(alloc, plant)?;
     let run = RunRoom {
         spare: None,
         report: None,
-        space,
+        space: Workspace::new(alloc),
         marks: Vec::new(alloc),
     };
     let room = Room {
@@ -105,7 +104,10 @@ impl Engine {
     pub fn new(alloc: Global, plant: Plant) -> Result<Engine, AllocError>
         ensures { IfOk result (λ e. (e.plant ≡ plant) × (e.history ≡ [])) }
     {
-        let (state, room) = opening(alloc, &plant)?;
+        let Ok((state, room)) = opening(alloc, &plant) else {
+            drop(plant);
+            return Err(AllocError);
+        };
         Ok(Engine {
             plant,
             history: History::new(),
@@ -226,7 +228,10 @@ impl Engine {
         };
         let room = &mut self.room;
         let prepared = prepared_scan(rt, alloc, crew, &before, room, pairs, moment)?;
-        self.log.reserve(row_count(&prepared.report))?;
+        let Ok(()) = self.log.reserve(row_count(&prepared.report)) else {
+            drop(prepared);
+            return Err(EngineFault::Memory);
+        };
         Ok(prepared)
     }
 
@@ -284,9 +289,8 @@ impl Engine {
         if self.history.len() >= MOST_EVENTS {
             return Err(EngineFault::HistoryFull);
         }
-        let prepared = prepared_order(&self.plant, &self.state, console, order);
         self.log.reserve(2)?;
-        Ok(prepared)
+        Ok(prepared_order(&self.plant, &self.state, console, order))
     }
 
     /// Adds an order that was made ready to the history, does it, and returns the reply: the change of the alarm's code if there is one,

@@ -9,15 +9,15 @@ returns-then-len-ge-MOST_EVENTS-clause-err c =
     let len : c.len.result ≡ length c.self.inside.history = search rules in
     rw (← c.self.view_is) (order_event_full c.self.inside.plant c.self.inside.history c.args.console c.args.order (omega (arith, len)))
 
-pub prepared_order-prepared-requires-clause-alarms : goal.prepared_order-prepared-requires-clause-alarms
-prepared_order-prepared-requires-clause-alarms c = (ready _ _ _ _ c.self.invariant.0).alarms
+pub prepared_order-requires-clause-alarms : goal.prepared_order-requires-clause-alarms
+prepared_order-requires-clause-alarms c = (ready _ _ _ _ c.self.invariant.0).alarms
 
 pub returns-clause-ok : goal.returns-clause-ok
 returns-clause-ok c =
     let len : c.len.result ≡ length c.self.inside.history = search rules in
-    let made = c.prepared_order-prepared.ensures in (
-      order_fits _ c.self.inside.state c.args.console c.args.order c.prepared_order-prepared.result c.self.invariant.0.state_is made (omega (arith, len)) (omega (arith, c.in_ok-reserve.ensures.ok)),
-      rw (← c.self.view_is) (order_event_ready c.self.inside.plant c.self.inside.history c.args.console c.args.order c.prepared_order-prepared.result (omega (arith, len)) made.console_is made.order_is),
+    let made = c.prepared_order.ensures in (
+      order_fits _ c.self.inside.state c.args.console c.args.order c.prepared_order.result c.self.invariant.0.state_is made (omega (arith, len)) (omega (arith, c.in_ok-reserve.ensures.ok)),
+      rw (← c.self.view_is) (order_event_ready c.self.inside.plant c.self.inside.history c.args.console c.args.order c.prepared_order.result (omega (arith, len)) made.console_is made.order_is),
       made.console_is,
       made.order_is,
     )
