@@ -1,7 +1,7 @@
 //! The texts of a refused plant, kept until its line is written.
 
-use further_faults::explain_all;
 use plant_config::{ConfigFault, Plant};
+use plant_explain::explain_all;
 use plant_service::PlantTexts;
 use std::alloc::{AllocError, Global};
 use std::thread::Threads;

@@ -2,9 +2,8 @@
 
 use crate::copies::Copies;
 use crate::missing::why_missing;
-use further_faults::is_searched;
 use plant_config::{ConfigFault, Plant};
-use plant_explain::{explain, warn};
+use plant_explain::{explain, is_searched, warn};
 use plant_listing::listing;
 use plant_service::{Folder, Listener, PlantTexts};
 use std::alloc::Global;

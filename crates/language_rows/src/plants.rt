@@ -1,9 +1,8 @@
 //! The files of a plant, and what is told of it.
 
 use crate::faults::fault_of;
-use further_faults::explain_all;
 use plant_config::ConfigFault;
-use plant_explain::{PlantTexts, explain, warn};
+use plant_explain::{PlantTexts, explain, explain_all, warn};
 use row_text::Source;
 use std::alloc::{AllocError, Global};
 use std::thread::Threads;

@@ -4,12 +4,12 @@ use crate::turns::too_many_turns;
 use crate::units::cause_in;
 use plant_config::{ConfigFault, Limit};
 use plant_folder::PlantTexts;
-use plant_places::{FileOf, Spot, byte_at, text_of};
+use plant_places::{
+    FileOf, Spot, byte_at, doubled, malformed, no_epoch, not_toml, over_limit, text_of, uneven,
+    unknown, wrong_keys,
+};
 use plant_types::Text;
 use std::alloc::{AllocError, Global};
-use table_causes::{
-    doubled, malformed, no_epoch, not_toml, over_limit, uneven, unknown, wrong_keys,
-};
 use token_causes::{Cause, misspelled, ungrammatical};
 use unit_causes::Rule;
 

@@ -1,21 +1,41 @@
 //! What a person is told when a plant is refused: the line of the refusal, and then the place, the line that stands there with a mark under what is
-//! wrong, a sentence, and the page on which to read on.
+//! wrong, a sentence, and the page on which to read on; and further faults of the same stage that are certain, 20 at most.
 //!
 //! It hears of the refusal with the texts that were judged, and finds the place. It promises that its text begins with the whole line of the
 //! refusal, and that a place is that of the byte at which its cause begins; what else is said is tried on examples. Of a plant that is accepted `warn`
 //! tells what is likely to be wrong in it.
+//!
+//! For further faults the plant is read again without what was at fault: in a copy of its texts blanks stand in place of that, and all else stands where it
+//! stood. Why this copy is refused is by `Plant::read` too, and so on. A fault of another stage ends the search, since it may come of what was left out. So
+//! what is told is a fault of the plant itself:
+//!
+//! - **C4, C5**: how a source is spelled is a matter of its text alone. The whole source is left out.
+//! - **C6, C7, C9**: what is asked of a unit is asked of each of its declarations and statements, and what a word there means is by declarations. Left out
+//!   is a statement; where none can be told, a body; and where the body has none, what a program declares, which no other unit sees. The names of
+//!   units, globals, and all that a block declares stay, so that each word left means what it meant. Where these are at fault, the search ends.
+//! - **C11 to C14**: what is asked of a row is asked of the row alone, or that no earlier row has its tag, by the plant file and the globals, which stay. The row is
+//!   left out. Where the header is at fault, the search ends.
+//!
+//! Proved is that the text begins with the line of the refusal, and that the copies are refused so; that a word is told which is wrong is tried on examples.
 #![tactic(auto)]
 
+mod all_told;
 mod finding;
+mod refusal;
+mod rest;
+mod search;
+mod stage;
 mod telling;
 mod turns;
 mod units;
 mod uses;
 mod warnings;
 
+pub use all_told::explain_all;
 pub use finding::find;
 pub use plant_folder::PlantTexts;
 pub use plant_places::{FileOf, Place, Spot, place_of};
+pub use search::{find_all, is_searched};
 pub use telling::{explain, under, warn};
 pub use token_causes::Cause;
 pub use warnings::find_warnings;

@@ -2,10 +2,9 @@
 
 use plant_config::Limit;
 use plant_folder::PlantTexts;
-use plant_places::{FileOf, Spot};
+use plant_places::{FileOf, Spot, over_limit};
 use st_lexer::{Keyword, Token, TokenKind};
 use std::alloc::{AllocError, Global};
-use table_causes::over_limit;
 use token_causes::{cause_at, kind_at, span_of, tokens_of};
 
 /// The most turns that a FOR may have.

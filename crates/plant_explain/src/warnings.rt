@@ -2,12 +2,11 @@
 
 use crate::uses::{Use, Variables, use_by};
 use plant_folder::PlantTexts;
-use plant_places::{FileOf, Spot};
+use plant_places::{FileOf, Spot, first_field, next_field, unquoted};
 use plant_types::Region;
 use st_lexer::{Keyword, TokenKind};
 use std::alloc::{AllocError, Global};
 use std::str;
-use table_causes::{first_field, next_field, unquoted};
 use token_causes::{Role, cause_at, kind_at, role_of, section_after, span_of, word_at};
 use unit_words::{Entry, Source, What, entries_of, sources_of};
 

@@ -1,9 +1,10 @@
 //! The limit that isn't kept (C10).
 
 use crate::keys::key_mark;
+use crate::place::FileOf;
+use crate::texts::Spot;
 use plant_config::Limit;
 use plant_folder::PlantTexts;
-use plant_places::{FileOf, Spot};
 use std::alloc::{AllocError, Global};
 use token_causes::{Cause, cause_at, cause_of};
 

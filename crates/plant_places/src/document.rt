@@ -2,7 +2,7 @@
 
 use crate::keys::{key_mark, value_start};
 use crate::lists::{is_involved, strange_area, strange_key};
-use plant_places::mark_len;
+use crate::place::mark_len;
 use std::alloc::{AllocError, Global};
 use std::str;
 use token_causes::{Cause, cause_at, cause_of, part};

@@ -1,5 +1,5 @@
 use Rattle.std.proofs.Common.{◌≤◌, length}
-use Rattle.further_faults.proofs.search.add_further.Given as goal
+use Rattle.plant_explain.proofs.search.add_further.Given as goal
 
 abbrev pub invariant-readings : goal.invariant-readings
 invariant-readings g l = length l.found.items ≤ 20

@@ -6,8 +6,8 @@ ghost use Rattle.plant_folder.specs.Verdicts.{refusal_line};
 ghost use Rattle.plant_explain.specs.Told.{BeginsWith};
 
 use crate::search::{MOST_FAULTS, find_all};
+use crate::telling::under;
 use plant_config::ConfigFault;
-use plant_explain::under;
 use plant_folder::PlantTexts;
 use plant_places::{Spot, shown, shown_alone};
 use std::alloc::{AllocError, Global};

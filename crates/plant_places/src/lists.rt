@@ -2,7 +2,7 @@
 
 use crate::document::KEYS;
 use crate::keys::{key_mark, unblanked};
-use plant_places::mark_len;
+use crate::place::mark_len;
 use std::alloc::{AllocError, Global};
 use std::str;
 use token_causes::{Cause, cause_at, part};

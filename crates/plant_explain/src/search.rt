@@ -2,11 +2,11 @@
 
 ghost use Rattle.std.specs.Prelude.{◌≤◌, length, IfOk};
 
+use crate::finding::find;
 use crate::refusal::refusal;
 use crate::rest::Rest;
 use crate::stage::{Stage, stage_of};
 use plant_config::ConfigFault;
-use plant_explain::find;
 use plant_folder::PlantTexts;
 use plant_places::Spot;
 use std::alloc::{AllocError, Global};

@@ -1,6 +1,6 @@
 //! Where the keys of a plant file stand, line by line.
 
-use plant_places::mark_len;
+use crate::place::mark_len;
 use std::str;
 use token_causes::part;
 

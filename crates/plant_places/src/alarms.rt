@@ -1,9 +1,9 @@
 //! What is wrong in the alarm database (C11 to C14).
 
 use crate::fields::{Field, field_at, first_field, first_uneven, next_field};
+use crate::place::place_at;
 use alarm_db::Column;
 use plant_folder::PlantTexts;
-use plant_places::place_at;
 use std::alloc::{AllocError, Global};
 use std::str;
 use token_causes::{Cause, cause_at, cause_of, part};

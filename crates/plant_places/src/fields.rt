@@ -1,6 +1,6 @@
 //! The fields of a table of comma-separated values, by their bytes.
 
-use plant_places::mark_len;
+use crate::place::mark_len;
 use token_causes::part;
 
 /// A field: its record, from 0, its number in it, from 0, and its bytes, from one number to before another.

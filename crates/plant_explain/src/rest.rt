@@ -2,9 +2,8 @@
 
 use crate::stage::Stage;
 use plant_folder::PlantTexts;
-use plant_places::{FileOf, Spot};
+use plant_places::{FileOf, Spot, first_field, next_field};
 use std::alloc::{AllocError, Global};
-use table_causes::{first_field, next_field};
 use text_blanks::{blanked, part_at};
 use token_causes::tokens_of;
 
