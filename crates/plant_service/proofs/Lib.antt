@@ -1,2 +1,3 @@
 pub mod AdmitLaws
+pub mod LevelLaws
 pub mod ServiceLaws

@@ -2,8 +2,7 @@
 
 use engine::{CrewFault, EngineFault};
 use plant_config::{AlarmRow, ConfigFault, Limit, Plant};
-use plant_listing::listing;
-use plant_service::ServeFault;
+use plant_service::{ServeFault, listing};
 use plant_types::{Kind, Region};
 use plant_walk::{Framed, Walked, walk};
 use row_text::push_line;

@@ -1,5 +1,5 @@
-use Rattle.plant_listing.proofs.LevelLaws.{level_is_there}
-use Rattle.plant_listing.proofs.tables.level_of.Goals as goal
+use Rattle.plant_service.proofs.LevelLaws.{level_is_there}
+use Rattle.plant_service.proofs.tables.level_of.Goals as goal
 
 -- each program has a level
 pub of-requires : goal.of-requires
