@@ -11,8 +11,8 @@ use crate::printing::{number_of, parts_of, push_all};
 use crate::sources::push_source;
 use crate::trees::{push_copied, push_labels, push_named_body, push_named_sum};
 use crate::values::{push_fitted, push_lists, push_name, push_names, push_same, push_truths};
-use gathered_runs::{push_level_row, push_seed};
 use std::alloc::{AllocError, Global};
+use twin_runs::{push_level_row, push_seed};
 
 /// Adds the answer to a row of words, values, alarms or blocks; of any other row that of `push_other`.
 fn push_answer(alloc: Global, text: &mut String, word: &str, rest: &str) -> Result<(), AllocError> {
