@@ -1,7 +1,7 @@
 use alarm_machine::Code;
 
 /// To which area an alarm belongs, and its priority.
-#[derive(Clone, Copy, Debug, PartialEq, Eq, Drop)]
+#[derive(Clone, Copy, Drop)]
 pub struct Site {
     /// The number of its area, from 0.
     pub area: u32,
@@ -10,7 +10,7 @@ pub struct Site {
 }
 
 /// An alarm as a summary counts it: its area, its priority and the code of its state.
-#[derive(Clone, Copy, Debug, PartialEq, Eq, Drop)]
+#[derive(Clone, Copy, Drop)]
 pub struct Counted {
     pub area: u32,
     pub priority: u32,

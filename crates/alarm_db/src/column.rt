@@ -7,7 +7,7 @@ ghost use Rattle.alarm_db.specs.Columns.{columns, column_name, column_place, fie
 use csv::ByteRecord;
 
 /// A column of an alarm database.
-#[derive(Clone, Copy, Debug, PartialEq, Eq, Drop)]
+#[derive(Clone, Copy, Drop)]
 pub enum Column {
     Tag,
     Area,

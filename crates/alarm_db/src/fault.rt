@@ -4,7 +4,7 @@ use crate::column::Column;
 use std::alloc::{AllocError, AllocFailed};
 
 /// Why an alarm database is refused; the first that holds, in this order, `Memory` apart. Rows count from 1 after the header.
-#[derive(Clone, Copy, Debug, PartialEq, Eq, Drop)]
+#[derive(Clone, Copy, Drop)]
 pub enum DbFault {
     /// Allocation failed.
     Memory,

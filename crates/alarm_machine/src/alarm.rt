@@ -10,7 +10,7 @@ use std::marker::Model;
 
 /// One alarm: whether it latches, its longest shelving, its state, and the condition and suppression of the last scan.
 // The fields stand in this order, and the longest shelving in 32 bits, so that an alarm takes 24 bytes: a plant has many.
-#[derive(Clone, Copy, Debug, PartialEq, Eq, Drop)]
+#[derive(Clone, Copy, PartialEq, Eq, Drop)]
 pub struct Alarm {
     latching: bool,
     condition: bool,

@@ -5,7 +5,7 @@ use crate::states::Code;
 use std::marker::Model;
 
 /// A change of an alarm's code: two codes that differ.
-#[derive(Clone, Copy, Debug, PartialEq, Eq, Drop)]
+#[derive(Clone, Copy, Drop)]
 pub struct Change {
     from: Code,
     to: Code,

@@ -4,7 +4,7 @@ ghost use Rattle.alarm_machine.specs.Codes.{code_of, code_text, rank};
 ghost use Rattle.alarm_machine.specs.Orders.{order_fault_text, verb_text};
 
 /// The name of a state, as it is printed and counted (this profile's codes), in the order in which codes are listed.
-#[derive(Clone, Copy, Debug, PartialEq, Eq, Drop)]
+#[derive(Clone, Copy, Drop)]
 pub enum Code {
     /// Normal.
     Norm,
@@ -70,7 +70,7 @@ impl Code {
 }
 
 /// What an operator orders of an alarm, or of a program (`Restart`).
-#[derive(Clone, Copy, Debug, PartialEq, Eq, Drop)]
+#[derive(Clone, Copy, PartialEq, Eq, Drop)]
 pub enum Verb {
     /// Acknowledge the alarm.
     Ack,
@@ -106,7 +106,7 @@ impl Verb {
 }
 
 /// Why an order is refused; the first reason that holds, in this order, is the reply (this profile). An alarm itself returns only `WrongState` and `ShelveTime`.
-#[derive(Clone, Copy, Debug, PartialEq, Eq, Drop)]
+#[derive(Clone, Copy, Drop)]
 pub enum OrderFault {
     /// O1: there is no such alarm or program.
     UnknownTarget,
@@ -136,7 +136,7 @@ impl OrderFault {
 }
 
 /// The state of an alarm (ANSI/ISA-18.2, IEC 62682). `Code` explains each.
-#[derive(Clone, Copy, Debug, PartialEq, Eq, Drop)]
+#[derive(Clone, Copy, PartialEq, Eq, Drop)]
 pub enum AlarmState {
     Norm,
     Unack,

@@ -1,7 +1,7 @@
 use std::alloc::AllocError;
 
 /// Why block types can't be put in order.
-#[derive(Clone, Copy, Debug, PartialEq, Eq, Drop)]
+#[derive(Clone, Copy, Drop)]
 pub enum NestingFault {
     /// Allocation failed.
     Memory,

@@ -13,7 +13,7 @@ use std::alloc::{AllocError, Global};
 use word_index::Names;
 
 /// How many values, clocks and path numbers something has.
-#[derive(Clone, Copy, Debug, PartialEq, Eq, Drop)]
+#[derive(Clone, Copy, Drop)]
 pub struct Extent {
     pub values: usize,
     pub clocks: usize,
@@ -21,7 +21,7 @@ pub struct Extent {
 }
 
 /// What an instance of a block type has, the place of its frame, and whether it has initial values below it.
-#[derive(Clone, Copy, Debug, PartialEq, Eq, Drop)]
+#[derive(Clone, Copy, Drop)]
 pub struct Callee {
     pub extent: Extent,
     pub place: usize,

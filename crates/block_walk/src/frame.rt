@@ -5,7 +5,7 @@ use plant_types::Text;
 use st_tree::Stmt;
 
 /// What an instance is of: a standard block, or the frame of a number in the table.
-#[derive(Clone, Copy, Debug, PartialEq, Eq, Drop)]
+#[derive(Clone, Copy, Drop)]
 pub enum SeatOf {
     Standard(Standard),
     Frame(usize),
@@ -58,7 +58,7 @@ impl Drop for Frame {
 }
 
 /// Where the values and the clocks of the instance that runs begin in the cells.
-#[derive(Clone, Copy, Debug, Drop)]
+#[derive(Clone, Copy, Drop)]
 pub struct Base {
     pub values: u128,
     pub clocks: u128,

@@ -5,7 +5,7 @@ ghost use Rattle.boards.specs.Counts.{counted, tallied};
 use crate::entry::Entry;
 
 /// A console, by its number, and how many of its orders there are.
-#[derive(Clone, Copy, Debug, PartialEq, Eq, Drop)]
+#[derive(Clone, Copy, Drop)]
 pub struct Tally {
     pub console: u32,
     pub orders: u64,

@@ -5,7 +5,7 @@ use std::io::{Read, Write};
 use std::marker::Model;
 
 /// The error of a read or a write that failed.
-#[derive(Clone, Copy, Debug, PartialEq, Eq, Drop)]
+#[derive(Clone, Copy, Drop)]
 pub struct Failed;
 
 /// A source of bytes.

@@ -11,7 +11,7 @@ use std::alloc::{AllocError, Global};
 
 /// What a frame becomes as code: how many instructions, words of stack and paths it has. 2^64 - 1 words or paths stand for each number of them
 /// from there on.
-#[derive(Clone, Copy, Debug, PartialEq, Eq, Drop)]
+#[derive(Clone, Copy, Drop)]
 pub struct Count {
     pub lines: u32,
     pub words: usize,

@@ -226,7 +226,7 @@ fn answer_order(
 }
 
 /// Where the answer to a line is.
-#[derive(Clone, Copy, Debug, PartialEq, Eq, Drop)]
+#[derive(Clone, Copy, Drop)]
 pub enum Said {
     /// All of it stands in the text.
     Text,

@@ -50,7 +50,7 @@ fn write_end<S: Sink>(sink: &mut S, text: &mut Vec<u8>, lines: u64) -> Result<()
 }
 
 /// A half of the list of alarms.
-#[derive(Clone, Copy, Debug, PartialEq, Eq, Drop)]
+#[derive(Clone, Copy, Drop)]
 pub(crate) enum Half {
     /// The STATE lines, by alarms.
     States,

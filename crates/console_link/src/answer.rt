@@ -1,5 +1,5 @@
 /// An order with its reply.
-#[derive(Clone, Copy, Debug, PartialEq, Eq, Drop)]
+#[derive(Clone, Copy, Drop)]
 pub struct Answer<O, R> {
     pub order: O,
     pub reply: R,

@@ -5,7 +5,7 @@ use alarm_machine::Verb;
 use plant_types::{Items, Value};
 
 /// What an operator asks: a verb, and the number of an alarm, or of a program for a restart; `None` for one that isn't there.
-#[derive(Clone, Copy, Debug, PartialEq, Eq, Drop)]
+#[derive(Clone, Copy, Drop)]
 pub struct Order {
     pub verb: Verb,
     pub target: Option<u32>,

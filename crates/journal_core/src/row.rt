@@ -2,7 +2,7 @@ use alarm_machine::{Change, OrderFault, Verb};
 use plant_types::{Place, Trap};
 
 /// What a row tells.
-#[derive(Clone, Copy, Debug, PartialEq, Eq, Drop)]
+#[derive(Clone, Copy, Drop)]
 pub enum Entry {
     /// A program was faulted: where, and why.
     Fault(Place, Trap),
@@ -22,7 +22,7 @@ pub enum Entry {
 }
 
 /// One row of a journal.
-#[derive(Clone, Copy, Debug, PartialEq, Eq, Drop)]
+#[derive(Clone, Copy, Drop)]
 pub struct Row {
     /// The row's number, from 1.
     pub number: u64,

@@ -10,7 +10,7 @@ use std::alloc::{AllocError, Global};
 use std_blocks::{TofState, TonState, TrigState};
 
 /// A standard block of IEC 61131-3: an on-delay timer, an off-delay timer, a rising-edge detector.
-#[derive(Clone, Copy, Debug, PartialEq, Eq, Drop)]
+#[derive(Clone, Copy, Drop)]
 pub enum Standard {
     Ton,
     Tof,
@@ -18,7 +18,7 @@ pub enum Standard {
 }
 
 /// The state of a standard block.
-#[derive(Clone, Copy, Debug, Drop)]
+#[derive(Clone, Copy, Drop)]
 pub enum Timer {
     Ton(TonState),
     Tof(TofState),
@@ -26,7 +26,7 @@ pub enum Timer {
 }
 
 /// The state of a standard block's instance, and what its outputs show since its last call: Q, and ET in milliseconds (0 for R_TRIG).
-#[derive(Clone, Copy, Debug, Drop)]
+#[derive(Clone, Copy, Drop)]
 pub struct Clock {
     pub timer: Timer,
     pub q: bool,

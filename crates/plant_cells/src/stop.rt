@@ -3,7 +3,7 @@
 use plant_types::{Place, Trap};
 
 /// A run stopped before its end: where, and with which trap. The path has a number among those of what was run.
-#[derive(Clone, Copy, Debug, Drop)]
+#[derive(Clone, Copy, Drop)]
 pub struct Stop {
     pub place: Place,
     pub trap: Trap,

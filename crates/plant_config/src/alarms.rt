@@ -11,7 +11,7 @@ use plant_walk::Framed;
 use std::alloc::{AllocError, AllocFailed, Global};
 
 /// Why there are no alarms of rows. Rows count from 1.
-#[derive(Clone, Copy, Debug, PartialEq, Eq, Drop)]
+#[derive(Clone, Copy, Drop)]
 pub enum AlarmFault {
     /// Allocation failed.
     Memory,

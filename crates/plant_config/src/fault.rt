@@ -13,7 +13,7 @@ use std::fmt;
 use thiserror::Error;
 
 /// What a plant has too much of (C10).
-#[derive(Clone, Copy, Debug, PartialEq, Eq, Drop)]
+#[derive(Clone, Copy, Drop)]
 pub enum Limit {
     /// More than 64 sources.
     Sources,

@@ -3,7 +3,7 @@
 use plant_config::ConfigFault;
 
 /// What is judged.
-#[derive(Clone, Copy, Debug, PartialEq, Eq, Drop)]
+#[derive(Clone, Copy, PartialEq, Eq, Drop)]
 pub enum Stage {
     /// The text of each source by itself (C4, C5).
     Sources,

@@ -6,7 +6,7 @@ use unit_words::Entry;
 use word_index::Names;
 
 /// What is done with a variable.
-#[derive(Clone, Copy, Debug, PartialEq, Eq, Drop)]
+#[derive(Clone, Copy, Drop)]
 pub struct Use {
     pub is_read: bool,
     pub is_assigned: bool,

@@ -3,7 +3,7 @@
 use std::alloc::AllocError;
 
 /// Why a plant file can't be read.
-#[derive(Clone, Copy, Debug, PartialEq, Eq, Drop)]
+#[derive(Clone, Copy, Drop)]
 pub enum PlantFileFault {
     /// Allocation failed.
     Memory,

@@ -15,7 +15,7 @@ use std::rt::Files;
 const MOST_BYTES: usize = 16_777_217;
 
 /// Why the bytes of a file aren't there.
-#[derive(Clone, Copy, Debug, PartialEq, Eq, Drop)]
+#[derive(Clone, Copy, Drop)]
 pub enum FileFault {
     /// Allocation failed.
     Memory,

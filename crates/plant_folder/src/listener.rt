@@ -46,7 +46,7 @@ pub trait Listener {
 }
 
 /// The listener where nobody listens.
-#[derive(Clone, Copy, Debug, PartialEq, Eq, Drop)]
+#[derive(Clone, Copy, Drop)]
 pub struct Deaf;
 
 impl Listener for Deaf {

@@ -3,7 +3,7 @@
 use std::alloc::AllocError;
 
 /// Why the limits of a source aren't kept: the first that it is past, in this order.
-#[derive(Clone, Copy, Debug, PartialEq, Eq, Drop)]
+#[derive(Clone, Copy, Drop)]
 pub enum LimitFault {
     /// Allocation failed.
     Memory,

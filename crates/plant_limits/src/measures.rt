@@ -19,7 +19,7 @@ pub const LAST_SIZE: u64 = 1_000_001;
 pub const LAST_COST: u64 = 2_000_001;
 
 /// What a routine counts, each number up to one above its limit.
-#[derive(Clone, Copy, Debug, PartialEq, Eq, Drop)]
+#[derive(Clone, Copy, Drop)]
 pub struct Counts {
     pub slots: u64,
     pub size: u64,
@@ -27,7 +27,7 @@ pub struct Counts {
 }
 
 /// A way of weighing a body.
-#[derive(Clone, Copy, Debug, PartialEq, Eq, Drop)]
+#[derive(Clone, Copy, Drop)]
 pub enum Measure {
     /// All branches count, and one turn of a FOR.
     Size,

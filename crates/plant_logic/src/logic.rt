@@ -57,7 +57,7 @@ impl Drop for Local {
 }
 
 /// What an instance is of: a standard block (IEC 61131-3), or the declared block type of a number.
-#[derive(Clone, Copy, PartialEq, Eq, Debug, Drop)]
+#[derive(Clone, Copy, Drop)]
 pub enum BlockRef {
     /// The on-delay timer `TON`.
     Ton,

@@ -4,7 +4,7 @@ use crate::place::mark_len;
 use token_causes::part;
 
 /// A field: its record, from 0, its number in it, from 0, and its bytes, from one number to before another.
-#[derive(Clone, Copy, Debug, PartialEq, Eq, Drop)]
+#[derive(Clone, Copy, Drop)]
 pub struct Field {
     pub record: usize,
     pub number: usize,

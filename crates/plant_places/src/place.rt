@@ -6,7 +6,7 @@ ghost use Rattle.st_lexer.specs.Lexes.{mark_len};
 ghost use Rattle.plant_places.specs.Places.{place_in};
 
 /// A file of a plant.
-#[derive(Clone, Copy, Debug, PartialEq, Eq, Drop)]
+#[derive(Clone, Copy, PartialEq, Eq, Drop)]
 pub enum FileOf {
     /// The plant file.
     Plant,
@@ -17,7 +17,7 @@ pub enum FileOf {
 }
 
 /// A place in a text. Lines count from 1, and so do the bytes of a line; a byte order mark at the text's start isn't counted.
-#[derive(Clone, Copy, Debug, PartialEq, Eq, Drop)]
+#[derive(Clone, Copy, Drop)]
 pub struct Place {
     pub line: usize,
     pub column: usize,

@@ -4,7 +4,7 @@ use std::alloc::{AllocError, AllocFailed};
 
 /// Why sources spell no units: the fault of the first, in their order, that spells none. Sources count from 0, lines of a source and bytes
 /// of a line from 1.
-#[derive(Clone, Copy, PartialEq, Eq, Debug, Drop)]
+#[derive(Clone, Copy, Drop)]
 pub enum SourceFault {
     /// Allocation failed.
     Memory,

@@ -9,7 +9,7 @@ use thiserror::Error;
 pub const MOST_EVENTS: usize = 1_000_000;
 
 /// The reply to an order.
-#[derive(Clone, Copy, Debug, PartialEq, Eq, Drop)]
+#[derive(Clone, Copy, Drop)]
 pub enum Reply {
     /// It was done, with the change of the alarm's code, if there is one.
     Done(Option<Change>),
@@ -39,7 +39,7 @@ impl Model for Report {
 }
 
 /// Why an event is refused. A refused event changes nothing and isn't in the history.
-#[derive(Clone, Copy, Debug, PartialEq, Eq, Drop, Error)]
+#[derive(Clone, Copy, Debug, Drop, Error)]
 pub enum EngineFault {
     /// Allocation failed. It has no place in the order of the others.
     #[error("memory was refused")]

@@ -2,7 +2,7 @@ ghost use Rattle.std.specs.Prelude.{◌≡◌, IsTrue};
 ghost use Rattle.plant_types.specs.Values.{kind_of, worth, value_of_kind, is_in_range, fitted, trap_text};
 
 /// What a variable can hold (IEC 61131-3's BOOL, DINT and TIME).
-#[derive(Clone, Copy, Debug, PartialEq, Eq, Drop)]
+#[derive(Clone, Copy, PartialEq, Eq, Drop)]
 pub enum Kind {
     /// TRUE or FALSE.
     Bool,
@@ -13,7 +13,7 @@ pub enum Kind {
 }
 
 /// A variable's value, within its kind's range.
-#[derive(Clone, Copy, PartialEq, Eq, Drop)]
+#[derive(Clone, Copy, Drop)]
 pub enum Value {
     Bool(bool),
     Dint(i32),
@@ -30,7 +30,7 @@ pub enum Region {
 }
 
 /// Why a program stopped before its end (this profile).
-#[derive(Clone, Copy, Debug, PartialEq, Eq, Drop)]
+#[derive(Clone, Copy, PartialEq, Eq, Drop)]
 pub enum Trap {
     /// A result out of its kind's range.
     Overflow,
@@ -51,14 +51,14 @@ impl Trap {
 }
 
 /// A statement of a program: the number of its body's path of names, and its own number in that body, from 1.
-#[derive(Clone, Copy, Debug, PartialEq, Eq, Drop)]
+#[derive(Clone, Copy, PartialEq, Eq, Drop)]
 pub struct Place {
     pub path: u32,
     pub statement: u32,
 }
 
 /// What a scan gives for an input: a truth value, or a whole number, which may be outside every kind's range.
-#[derive(Clone, Copy, PartialEq, Eq, Drop)]
+#[derive(Clone, Copy, Drop)]
 pub enum Given {
     Truth(bool),
     Whole(i128),

@@ -13,7 +13,7 @@ use program_codes::Stack;
 use std::alloc::AllocError;
 
 /// How a run of a program ends.
-#[derive(Clone, Copy, Debug, PartialEq, Eq, Drop)]
+#[derive(Clone, Copy, PartialEq, Eq, Drop)]
 pub enum Walked {
     /// After the last statement.
     Done,

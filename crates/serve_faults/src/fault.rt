@@ -4,7 +4,7 @@ ghost use Rattle.serve_faults.specs.Faults.{serve_fault_text};
 use std::alloc::AllocError;
 
 /// Why the server stopped before its input ended.
-#[derive(Clone, Copy, Debug, PartialEq, Eq, Drop)]
+#[derive(Clone, Copy, Drop)]
 pub enum ServeFault {
     /// An allocation failed.
     Memory,

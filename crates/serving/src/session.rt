@@ -196,7 +196,7 @@ impl Lines {
 }
 
 /// How a step of a session went.
-#[derive(Clone, Copy, Debug, PartialEq, Eq, Drop)]
+#[derive(Clone, Copy, Drop)]
 pub enum Step {
     /// A byte or more was read, and the requests that ended in these bytes were answered.
     More,

@@ -81,7 +81,7 @@ pub enum Argument<V> {
 }
 
 /// A label of a `CASE`: the numbers from `low` to `high`. A single number is both.
-#[derive(Clone, Copy, PartialEq, Eq, Drop)]
+#[derive(Clone, Copy, Drop)]
 pub struct Label {
     pub low: i64,
     pub high: i64,

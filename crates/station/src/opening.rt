@@ -11,7 +11,7 @@ use operator_console::Console;
 use std::alloc::{AllocError, AllocFailed, Global};
 
 /// Why there is no station.
-#[derive(Clone, Copy, Debug, PartialEq, Eq)]
+#[derive(Clone, Copy)]
 pub enum StationFault {
     /// Allocation failed.
     Memory,

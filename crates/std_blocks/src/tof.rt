@@ -7,7 +7,7 @@ use crate::preset::preset;
 use std::marker::Model;
 
 /// What an off-delay timer has seen of IN.
-#[derive(Clone, Copy, Debug, PartialEq, Eq, Drop)]
+#[derive(Clone, Copy, PartialEq, Eq, Drop)]
 pub enum Fall {
     /// IN was never TRUE.
     Never,
@@ -18,7 +18,7 @@ pub enum Fall {
 }
 
 /// The state of an off-delay timer (IEC 61131-3's TOF).
-#[derive(Clone, Copy, Debug, PartialEq, Eq, Drop)]
+#[derive(Clone, Copy, PartialEq, Eq, Drop)]
 pub struct TofState {
     fall: Fall,
 }

@@ -7,7 +7,7 @@ use crate::preset::preset;
 use std::marker::Model;
 
 /// The state of an on-delay timer (IEC 61131-3's TON): when the present run of calls with IN TRUE began, if there is one.
-#[derive(Clone, Copy, Debug, PartialEq, Eq, Drop)]
+#[derive(Clone, Copy, PartialEq, Eq, Drop)]
 pub struct TonState {
     start: Option<u64>,
 }

@@ -4,7 +4,7 @@ ghost use Rattle.std_blocks.specs.Edges.{r_trig, trig_state, trig_step, trig_sho
 use std::marker::Model;
 
 /// The state of a rising-edge detector (IEC 61131-3's R_TRIG): CLK of the last call.
-#[derive(Clone, Copy, Debug, PartialEq, Eq, Drop)]
+#[derive(Clone, Copy, PartialEq, Eq, Drop)]
 pub struct TrigState {
     last: bool,
 }

@@ -5,7 +5,7 @@ use st_lexer::{Keyword, Symbol, Token, TokenKind};
 use std::str;
 
 /// What a word is there for.
-#[derive(Clone, Copy, Debug, PartialEq, Eq, Drop)]
+#[derive(Clone, Copy, Drop)]
 pub enum Role {
     /// It is no word, or a keyword.
     Other,

@@ -15,7 +15,7 @@ const LAST_MOMENT: u64 = 4_000_000_000_000;
 const MOST_EVENTS: u64 = 1_000_000;
 
 /// What became of a scan.
-#[derive(Clone, Copy, PartialEq, Eq, Drop)]
+#[derive(Clone, Copy, Drop)]
 pub enum Scanned {
     /// It was refused, and changed nothing.
     Refused,

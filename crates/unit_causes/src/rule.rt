@@ -1,7 +1,7 @@
 //! The rules that a unit has to keep.
 
 /// The rule that a unit doesn't keep.
-#[derive(Clone, Copy, Debug, PartialEq, Eq, Drop)]
+#[derive(Clone, Copy, Drop)]
 pub enum Rule {
     /// Each name is there once (C6).
     Names,

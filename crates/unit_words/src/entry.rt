@@ -14,7 +14,7 @@ pub struct Source<'a> {
 }
 
 /// What a name is.
-#[derive(Clone, Copy, Debug, PartialEq, Eq, Drop)]
+#[derive(Clone, Copy, PartialEq, Eq, Drop)]
 pub enum What {
     /// A global that isn't an input.
     Global,

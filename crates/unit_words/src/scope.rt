@@ -114,7 +114,7 @@ pub fn is_member_of(entry: &Entry<'_>, unit: usize, are_inputs: bool) -> bool {
 }
 
 /// What is known of a member that is sought.
-#[derive(Clone, Copy, Debug, PartialEq, Eq, Drop)]
+#[derive(Clone, Copy, PartialEq, Eq, Drop)]
 pub enum Found {
     /// The block isn't there, and nothing is known.
     NoBlock,
