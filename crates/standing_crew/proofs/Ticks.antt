@@ -1,10 +1,12 @@
 -- Ticking off one run more, and what ticks say at the end.
-use Rattle.std.proofs.Common.{◌≡◌, ℕ, ◌+◌, ◌<◌, List, [], ◌∷◌, ◌++◌, length, slice_index_or, slice_set, Contains, Bool, true, false, sym, ◌∙◌, subst, arith, zero, suc, ⊎_elim, get_or-set_same, get_or-set_other, length-append, map, take, drop, ap}
-use Rattle.std.proofs.lemmas.Bool.{cases_eq}
-use Rattle.std.proofs.lemmas.List.{get_or_default, get_or_append_left, get_or_push, get_or-map, length-set, length-map, length-take, map_more, map-append, take-append-drop}
+use Rattle.std.proofs.Common.{◌≡◌, ℕ, ◌+◌, ◌-◌, ◌<◌, ◌≤◌, Option, Some, None, Result, Ok, Err, IfOk, inl, inr, List, [], ◌∷◌, ◌++◌, length, slice_index_or, slice_set, Contains, Bool, true, false, sym, ◌∙◌, subst, arith, zero, suc, ⊎_elim, get_or-set_same, get_or-set_other, length-append, map, take, drop, ap, refl, replicate}
+use Rattle.std.proofs.lemmas.Bool.{cases_eq, cases_lt}
+use Rattle.std.proofs.lemmas.List.{get_or_default, get_or_append_left, get_or_push, get_or-map, get_or-append-add, get_or-append_right, take-map, length-set, length-map, length-replicate, length-take, map_more, map-append, take-append-drop}
 use Rattle.std.proofs.lemmas.List.Elements.{Contains-append_left, Contains-append_right, Contains-append_cases}
+use Rattle.std.proofs.Math.Seq.{take-append_seam}
 use Rattle.crew.specs.Runs.{IsDistinct, IsEachOnce}
-use Rattle.standing_crew.specs.Assembled.{IsTicked, HasStranger, HasDouble, LacksOne}
+use Rattle.crew.specs.declared.fault.CrewFault.{CrewFault}
+use Rattle.standing_crew.specs.Assembled.{IsTicked, IsGathered, HasStranger, HasDouble, LacksOne}
 
 pub no_stranger : {S : Type 0} (starts runs : List S) → ((s : S) → Contains runs s → Contains starts s) → HasStranger starts runs → ⊥
 no_stranger starts runs known h = h.2 (known h.0 h.1)
@@ -75,6 +77,15 @@ none_ticked starts ticks n clear = record {
   once = λ i j x hi hj a b. absurd (omega (arith, hi));
 }
 
+-- the same, where the ticks are so many, all off
+pub all_off : {S : Type 0} (starts : List S) (ticks : List Bool) (n : ℕ) → ticks ≡ replicate n false → n ≡ length starts → IsTicked starts ticks []
+all_off starts ticks n are many = none_ticked starts ticks (ap length are ∙ length-replicate n false ∙ many) (λ i inside. ap (λ (ts : List Bool). slice_index_or ts i false) are ∙ off n i)
+  where
+    off : (n i : ℕ) → slice_index_or (replicate n false) i false ≡ false
+    off zero i = refl
+    off (suc n) zero = refl
+    off (suc n) (suc i) = off n i
+
 -- where all is ticked off, there is one run of each job
 pub all_there : {S : Type 0} (starts runs : List S) (ticks : List Bool) → IsTicked starts ticks runs → ((i : ℕ) → i < length ticks → slice_index_or ticks i false ≡ true) → IsEachOnce starts runs
 all_there starts runs ticks h all = record {
@@ -118,3 +129,84 @@ double_next {S} {D} f starts got n ended ticks place h inside is lt here on =
     let whole : map f (take n got) ++ map f (drop n got) ≡ map f got = sym (map-append f (take n got) (drop n got)) ∙ ap (λ (xs : List D). map f xs) (take-append-drop n got) in
     let before : slice_index_or (map f got) has.0 (f ended) ≡ f ended = subst (λ (xs : List S). slice_index_or xs has.0 (f ended) ≡ f ended) whole (get_or_append_left (map f (take n got)) (map f (drop n got)) (f ended) has.0 has.1 ∙ has.2) in
     (f ended, has.0, n, omega (arith, has.1, few), omega (arith, length-map got f), before, at)
+
+-- of two lists of different values that share none, no two places hold the same
+distinct_join : {S : Type 0} (xs ys : List S) → IsDistinct xs → IsDistinct ys → ((x : S) → Contains xs x → Contains ys x → ⊥) → IsDistinct (xs ++ ys)
+distinct_join xs ys first second apart i j x hi hj a b =
+    let n : length (xs ++ ys) ≡ length xs + length ys = length-append xs ys in
+    let left : (k : ℕ) → k < length xs → slice_index_or (xs ++ ys) k x ≡ x → slice_index_or xs k x ≡ x = (λ k lt e. sym (get_or_append_left xs ys x k lt) ∙ e) in
+    let right : (k : ℕ) → length xs ≤ k → slice_index_or (xs ++ ys) k x ≡ x → slice_index_or ys (k - length xs) x ≡ x = (λ k le e. sym (get_or-append_right xs ys (length xs) k x refl le) ∙ e) in
+    elim (cases_lt i (length xs)) [
+      | inl p ↦ elim (cases_lt j (length xs)) [
+        | inl q ↦ first i j x p q (left i p a) (left j q b)
+        | inr q ↦ absurd (apart x (i, p, left i p a) (j - length xs, omega (arith, hj, n, q), right j (omega (arith, q)) b))
+      ]
+      | inr p ↦ elim (cases_lt j (length xs)) [
+        | inl q ↦ absurd (apart x (j, q, left j q b) (i - length xs, omega (arith, hi, n, p), right i (omega (arith, p)) a))
+        | inr q ↦
+            let same : i - length xs ≡ j - length xs = second (i - length xs) (j - length xs) x (omega (arith, hi, n, p)) (omega (arith, hj, n, q)) (right i (omega (arith, p)) a) (right j (omega (arith, q)) b) in
+            omega (arith, same, p, q)
+      ]
+    ]
+
+-- what two lists hold that have different values together: the first has different values, and none of the second's
+first_distinct : {S : Type 0} (xs ys : List S) → IsDistinct (xs ++ ys) → IsDistinct xs
+first_distinct xs ys h i j x hi hj a b =
+    let n : length (xs ++ ys) ≡ length xs + length ys = length-append xs ys in
+    h i j x (omega (arith, hi, n)) (omega (arith, hj, n)) (get_or_append_left xs ys x i hi ∙ a) (get_or_append_left xs ys x j hj ∙ b)
+
+share_none : {S : Type 0} (xs ys : List S) → IsDistinct (xs ++ ys) → (x : S) → Contains xs x → Contains ys x → ⊥
+share_none xs ys h x (i, hi, a) (j, hj, b) =
+    let n : length (xs ++ ys) ≡ length xs + length ys = length-append xs ys in
+    let same : i ≡ length xs + j = h i (length xs + j) x (omega (arith, hi, n)) (omega (arith, hj, n)) (get_or_append_left xs ys x i hi ∙ a) (get_or-append-add xs ys j x ∙ b) in
+    omega (arith, same, hi)
+
+pub second_distinct : {S : Type 0} (xs ys : List S) → IsDistinct (xs ++ ys) → IsDistinct ys
+second_distinct xs ys h i j x hi hj a b =
+    let n : length (xs ++ ys) ≡ length xs + length ys = length-append xs ys in
+    let same : length xs + i ≡ length xs + j = h (length xs + i) (length xs + j) x (omega (arith, hi, n)) (omega (arith, hj, n)) (get_or-append-add xs ys i x ∙ a) (get_or-append-add xs ys j x ∙ b) in
+    omega (arith, same)
+
+-- one run of each of some jobs, and of others that came back, are one run of each of all
+pub shared_once : {S : Type 0} (own others got : List S) → IsDistinct (own ++ others) → IsEachOnce others got → IsEachOnce (own ++ others) (own ++ got)
+shared_once {S} own others got d h = record {
+  no_stranger = λ s has. ⊎_elim
+      (λ (a : Contains own s). Contains-append_left own others s a)
+      (λ (b : Contains got s). Contains-append_right own others s (h.no_stranger s b))
+      (Contains-append_cases own got s has);
+  no_double = distinct_join own got (first_distinct own others d) h.no_double (λ x a b. share_none own others d x a (h.no_stranger x b));
+  none_lacking = λ s has. ⊎_elim
+      (λ (a : Contains own s). Contains-append_left own got s a)
+      (λ (b : Contains others s). Contains-append_right own got s (h.none_lacking s b))
+      (Contains-append_cases own others s has);
+}
+
+-- the same of runs, where the first are those of the caller's own jobs
+pub joined_once : {S D : Type 0} (f : D → S) (own others : List S) (runs got all : List D) → map f runs ≡ own → all ≡ runs ++ got → IsDistinct (own ++ others) → IsEachOnce others (map f got) → IsEachOnce (own ++ others) (map f all)
+joined_once {S} {D} f own others runs got all mine are d h =
+    let e : own ++ map f got ≡ map f all = sym (ap (λ (xs : List D). map f xs) are ∙ map-append f runs got ∙ ap (λ (xs : List S). xs ++ map f got) mine) in
+    subst (λ (xs : List S). IsEachOnce (own ++ others) xs) e (shared_once own others (map f got) d h)
+
+-- the first and the last of jobs are the jobs
+pub parted : {J S : Type 0} (f : J → S) (jobs own others : List J) (n : ℕ) → own ≡ take n jobs → others ≡ drop n jobs → map f own ++ map f others ≡ map f jobs
+parted {J} {S} f jobs own others n a b =
+    ap (λ (xs : List J). map f xs ++ map f others) a ∙ ap (λ (xs : List J). map f (take n jobs) ++ map f xs) b ∙ sym (map-append f (take n jobs) (drop n jobs)) ∙ ap (λ (xs : List J). map f xs) (take-append-drop n jobs)
+
+-- the runs that were there before others came
+pub first_runs : {S D : Type 0} (f : D → S) (old new : List D) (more : List S) (n : ℕ) → map f new ≡ map f old ++ more → n ≡ length old → map f (take n new) ≡ map f old
+first_runs {S} {D} f old new more n e is =
+    let many : n ≡ length (map f old) = omega (arith, is, length-map old f) in
+    sym (take-map f n new) ∙ ap (λ (xs : List S). take n xs) e ∙ ap (λ (k : ℕ). take k (map f old ++ more)) many ∙ take-append_seam (map f old) more
+
+-- what is ticked off is gathered, whatever the fault; and where there is no fault the other way round
+pub still_gathered : {S : Type 0} (starts : List S) (fault : Option CrewFault) (ticks : List Bool) (runs : List S) → IsTicked starts ticks runs → IsGathered starts fault ticks runs
+still_gathered starts None ticks runs h = h
+still_gathered starts (Some fault) ticks runs h = tt
+
+pub was_ticked : {S : Type 0} (starts : List S) (fault : Option CrewFault) (ticks : List Bool) (runs : List S) → fault ≡ None → IsGathered starts fault ticks runs → IsTicked starts ticks runs
+was_ticked starts fault ticks runs e h = subst (λ (o : Option CrewFault). IsGathered starts o ticks runs) e h
+
+-- what holds where a call was Ok
+pub if_ok : {T E : Type 0} (P Q : T → Type 0) (r : Result T E) → ((x : T) → P x → Q x) → IfOk r P → IfOk r Q
+if_ok P Q (Ok x) f h = f x h
+if_ok P Q (Err e) f h = tt

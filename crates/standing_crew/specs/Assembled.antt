@@ -1,5 +1,5 @@
 -- How runs that came back compare with what was handed out. Both are lists of what jobs start from.
-use Rattle.std.specs.Prelude.{◌≡◌, ◌⊎◌, ℕ, ◌<◌, Bool, true, false, List, length, slice_index_or, Contains, Result, Ok, Err}
+use Rattle.std.specs.Prelude.{◌≡◌, ◌⊎◌, ℕ, ◌<◌, Bool, true, false, List, length, slice_index_or, Contains, Option, Some, None, Result, Ok, Err}
 use Rattle.crew.specs.Runs.{IsDistinct}
 use Rattle.crew.specs.declared.fault.CrewFault.{CrewFault}
 use Rattle.crew.specs.declared.fault.CrewFault.TheVariants.{Memory, NoThread, Lost, Misfit}
@@ -38,3 +38,8 @@ pub record IsTicked {S : Type 0} (starts : List S) (ticks : List Bool) (runs : L
   pub came : (i : ℕ) → i < length starts → slice_index_or ticks i false ≡ true → (s : S) → slice_index_or starts i s ≡ s → Contains runs s
   pub ticked : (s : S) → Contains runs s → (i : ℕ) → i < length starts → slice_index_or starts i s ≡ s → slice_index_or ticks i false ≡ true
   pub once : IsDistinct runs
+
+-- the runs that came back are ticked off, unless there was a fault
+abbrev pub IsGathered : {S : Type 0} → List S → Option CrewFault → List Bool → List S → Type 0
+IsGathered starts None ticks runs = IsTicked starts ticks runs
+IsGathered starts (Some fault) ticks runs = Unit {0}

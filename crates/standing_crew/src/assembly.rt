@@ -1,10 +1,11 @@
 //! Runs that came back, held against what was handed out.
-ghost use Rattle.std.specs.Prelude.{◌≡◌, ◌⊎◌, ℕ, ◌<◌, true, false, length, map, slice_index_or, Contains, IsTrue, IsFalse, MatchOption, MatchResult};
+ghost use Rattle.std.specs.Prelude.{◌≡◌, ◌⊎◌, ℕ, ◌<◌, ◌≤◌, [], true, false, length, map, take, slice_index_or, Contains, IfOk, IsTrue, IsFalse, MatchOption, MatchResult};
 ghost use Rattle.crew.specs.Runs.{IsDistinct, IsEachOnce};
 ghost use Rattle.standing_crew.specs.Assembled.{HasStranger, HasDouble, IsTicked, IsCollectFault};
 
 use crate::Begun;
 use crew::{CrewFault, Work};
+use std::alloc::AllocError;
 
 /// The runs that came back, where there is one of each job that was handed out, in any order. `Misfit` where one is of no job that was handed
 /// out, or comes twice; else `Lost` where one is missing. It ticks them off in a list, whatever that holds.
@@ -16,48 +17,47 @@ pub fn assemble<J: Work<S, D>, S, D: Drop>(
     requires { IsDistinct starts.now }
     ensures { MatchResult result (λ runs. (runs ≡ got) × IsEachOnce starts.now (map J.ended_from got.items)) (λ fault. IsCollectFault starts.now (map J.ended_from got.items) fault) }
 {
-    ticks.clear();
-    let Ok(()) = ticks.resize(starts.len(), false) else {
+    let Ok(()) = begin_ticks(starts, ticks) else {
         return Err(CrewFault::Memory);
     };
-    match match_up::<J, S, D>(starts, got.as_slice(), ticks.as_mut_slice()) {
+    if !tick_off::<J, S, D>(starts, got.as_slice(), 0, 0, ticks.as_mut_slice()) {
+        return Err(CrewFault::Misfit);
+    }
+    match all_there::<J, S, D>(starts, got.as_slice(), ticks.as_slice()) {
         Ok(()) => Ok(got),
         Err(fault) => Err(fault),
     }
 }
 
-/// Compares runs with what was handed out. Every tick has to be off.
-#[tactic(auto, using(crate::proofs::Ticks::all_there))]
-fn match_up<J: Work<S, D>, S, D>(
-    starts: &[Begun<S>],
-    got: &[D],
-    ticks: &mut [bool],
-) -> Result<(), CrewFault>
-    requires sized { length ticks.old ≡ length starts.now }
-    requires clear { (i : ℕ) → i < length ticks.old → slice_index_or ticks.old i false ≡ false }
-    requires distinct { IsDistinct starts.now }
-    ensures { MatchResult result (λ _. IsEachOnce starts.now (map J.ended_from got.now)) (λ fault. IsCollectFault starts.now (map J.ended_from got.now) fault) }
+/// A tick for each job that was handed out, all off, in the room of other ticks. Fails if memory was refused.
+#[tactic(auto, using(crate::proofs::Ticks::all_off))]
+pub(crate) fn begin_ticks<S>(starts: &[Begun<S>], ticks: &mut Vec<bool>) -> Result<(), AllocError>
+    ensures { IfOk result (λ _. IsTicked starts.now ticks.new.items []) }
 {
-    if !tick_off::<J, S, D>(starts, got, ticks) {
-        return Err(CrewFault::Misfit);
-    }
-    if !all_ticked(ticks) {
-        return Err(CrewFault::Lost);
-    }
+    ticks.clear();
+    ticks.resize(starts.len(), false)?;
     Ok(())
 }
 
-/// Ticks off each run, and tells whether all are known and none comes twice.
-#[tactic(auto, using(crate::proofs::Ticks::none_ticked, crate::proofs::Ticks::tick_next, crate::proofs::Ticks::stranger_next, crate::proofs::Ticks::double_next))]
-fn tick_off<J: Work<S, D>, S, D>(starts: &[Begun<S>], got: &[D], ticks: &mut [bool]) -> bool
-    requires sized { length ticks.old ≡ length starts.now }
-    requires clear { (i : ℕ) → i < length ticks.old → slice_index_or ticks.old i false ≡ false }
+/// Ticks off the runs from a place on, where those before it are ticked off, and tells whether all are known and none comes twice. The first
+/// is sought near the start of a place.
+#[tactic(auto, using(crate::proofs::Ticks::tick_next, crate::proofs::Ticks::stranger_next, crate::proofs::Ticks::double_next))]
+pub(crate) fn tick_off<J: Work<S, D>, S, D>(
+    starts: &[Begun<S>],
+    got: &[D],
+    from: usize,
+    near: usize,
+    ticks: &mut [bool],
+) -> bool
+    requires before { from ≤ length got.now }
+    requires ticked { IsTicked starts.now ticks.old (map J.ended_from (take from got.now)) }
     requires distinct { IsDistinct starts.now }
     ensures ticked { IsTrue result → IsTicked starts.now ticks.new (map J.ended_from got.now) }
     ensures misfit { IsFalse result → HasStranger starts.now (map J.ended_from got.now) ⊎ HasDouble (map J.ended_from got.now) }
 {
-    let mut next = 0usize;
-    for ended in got {
+    let mut next = near;
+    for at in from..got.len() {
+        let ended = &got[at];
         let Some(place) = place_near::<J, S, D>(starts, ended, next) else {
             return false;
         };
@@ -90,6 +90,22 @@ fn place_of<J: Work<S, D>, S, D>(starts: &[Begun<S>], ended: &D) -> Option<usize
         }
     }
     None
+}
+
+/// Whether there is a run of each job, where those that came back are ticked off; else `Lost`.
+#[tactic(auto, using(crate::proofs::Ticks::all_there))]
+pub(crate) fn all_there<J: Work<S, D>, S, D>(
+    starts: &[Begun<S>],
+    got: &[D],
+    ticks: &[bool],
+) -> Result<(), CrewFault>
+    requires { IsTicked starts.now ticks.now (map J.ended_from got.now) }
+    ensures { MatchResult result (λ _. IsEachOnce starts.now (map J.ended_from got.now)) (λ fault. IsCollectFault starts.now (map J.ended_from got.now) fault) }
+{
+    if !all_ticked(ticks) {
+        return Err(CrewFault::Lost);
+    }
+    Ok(())
 }
 
 /// Whether all are ticked.

@@ -1,10 +1,12 @@
 //! A crew of workers that stand ready from one call to the next.
 //!
-//! The caller is one of the workers: it hands out all shares but its own, runs its own, then takes back what nobody has begun, and hears
-//! of the rest. What comes back is known by its type alone, so each run is held against what was handed out before the crew answers Ok.
+//! The caller is one of the workers: it keeps some jobs to itself and hands out the others, runs its own, then takes back what nobody has begun,
+//! and hears of the rest. What comes back is known by its type alone, so each run is held against what was handed out before the crew answers
+//! Ok. The caller does so as runs come, between jobs, while others still run; of its own jobs it knows the runs.
 #![tactic(auto)]
 
 mod assembly;
+mod gathered;
 mod message;
 mod share;
 mod standing;

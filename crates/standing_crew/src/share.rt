@@ -1,5 +1,5 @@
 //! How jobs are shared out: several in one message, by their costs.
-ghost use Rattle.std.specs.Prelude.{◌<◌, length};
+ghost use Rattle.std.specs.Prelude.{◌<◌, ◌≤◌, length};
 
 use crew::Work;
 
@@ -10,29 +10,43 @@ const LEAST_SHARE: u64 = 2_000;
 /// to run them.
 pub(crate) const LEAST_ROUND: u64 = 20_000;
 
-/// Whether jobs cost so much together.
-pub(crate) fn costs_at_least<J: Work<S, D>, S, D>(jobs: &[J], least: u64) -> bool {
-    cost_of::<J, S, D>(jobs) >= least
-}
-
-/// The cost that a message is to carry, where jobs are shared out among so many hands: a fraction of the whole, so that nobody waits long for
-/// the last one, but no less than a message costs, and never so much that two jobs would go to one of two hands.
-pub(crate) fn share_of<J: Work<S, D>, S, D>(jobs: &[J], hands: u32) -> u64 {
-    if hands < 2 {
-        return u64::MAX;
-    }
-    let whole = cost_of::<J, S, D>(jobs);
-    let fraction = whole / (4 * u64::from(hands)) + 1;
-    fraction.max(LEAST_SHARE).min(whole / 2)
-}
-
 /// The cost of jobs. Each costs something.
-fn cost_of<J: Work<S, D>, S, D>(jobs: &[J]) -> u64 {
+pub(crate) fn cost_of<J: Work<S, D>, S, D>(jobs: &[J]) -> u64 {
     let mut whole = 0u64;
     for job in jobs {
         whole = whole.saturating_add(job.cost().max(1));
     }
     whole
+}
+
+/// The cost that a message is to carry, where jobs of a cost are shared out among so many hands: a fraction of the whole, so that nobody waits
+/// long for the last one, but no less than a message costs, and never so much that two jobs would go to one of two hands.
+pub(crate) fn share_of(whole: u64, hands: u32) -> u64 {
+    if hands < 2 {
+        return u64::MAX;
+    }
+    let fraction = whole / (4 * u64::from(hands)) + 1;
+    fraction.max(LEAST_SHARE).min(whole / 2)
+}
+
+/// What of a cost the caller keeps to itself, where jobs are shared out among so many hands: half of what it will run, since it also hands out,
+/// and compares what comes back.
+pub(crate) fn own_of(whole: u64, hands: u32) -> u64 {
+    whole / (2 * u64::from(hands.max(2)))
+}
+
+/// How many of the first jobs cost no more than a share, but for the first one.
+pub(crate) fn kept<J: Work<S, D>, S, D>(jobs: &[J], share: u64) -> usize
+    ensures { result ≤ length jobs.now }
+{
+    let mut cost = 0u64;
+    for (at, job) in jobs.iter().enumerate() {
+        cost = cost.saturating_add(job.cost().max(1));
+        if at > 0 && cost > share {
+            return at;
+        }
+    }
+    jobs.len()
 }
 
 /// The place from which the last jobs cost no more than a share, but for the last one.

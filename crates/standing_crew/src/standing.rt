@@ -1,17 +1,18 @@
 //! The workers, and the rounds in which they run jobs.
-ghost use Rattle.std.specs.Prelude.{◌≡◌, ◌<◌, ◌≤◌, true, IfOk, IfErr, map};
+ghost use Rattle.std.specs.Prelude.{◌≡◌, ◌++◌, ◌<◌, ◌≤◌, true, IfOk, IfErr, map};
 ghost use Rattle.crew.specs.Faults.{faults_after};
-ghost use Rattle.crew.specs.Runs.{AreNumbered, IsEachOnce};
-ghost use Rattle.standing_crew.specs.Assembled.{IsLost};
+ghost use Rattle.crew.specs.Runs.{AreNumbered, IsDistinct, IsEachOnce};
+ghost use Rattle.standing_crew.specs.Assembled.{IsGathered, IsLost, IsTicked};
 
-use crate::assembly::assemble;
-use crate::message::{Answer, Parcel, run_all, run_in_turn};
-use crate::share::{LEAST_ROUND, costs_at_least, cut, share_of};
+use crate::assembly::begin_ticks;
+use crate::gathered::{Gathered, gathered_all, run_in, take_in};
+use crate::message::{Answer, Parcel, run_all};
+use crate::share::{LEAST_ROUND, cost_of, cut, kept, own_of, share_of};
 use crate::starts::{Begun, starts_of};
 use crate::waiting::next_of;
 use crew::{Crew, CrewFault, Gate, Work};
 use crossbeam_channel::{Receiver, SendError, Sender};
-use std::alloc::Global;
+use std::alloc::{AllocError, Global};
 use std::marker::Model;
 use std::mem::replace;
 use std::sync::{Arc, Wait};
@@ -65,26 +66,15 @@ impl<J, S, D, G> Model for Standing<J, S, D, G> {
     ghost view = { λ s. record { lost = s.lost; faults = s.faults } };
 }
 
-/// The runs of a round that are here, how many messages are away, and the first fault.
-#[derive(Drop)]
-struct Gathered<D> {
-    runs: Vec<D>,
-    away: u64,
-    fault: Option<CrewFault>,
-}
-
-/// The jobs that stay with the caller, how many messages went out, and the fault that ended the handing out.
-#[derive(Drop)]
-struct HandedOut<J> {
-    own: Vec<J>,
+/// How many messages of a round went out, and the fault that ended the handing out.
+struct HandedOut {
     messages: u64,
     fault: Option<CrewFault>,
 }
 
 /// The handing out ends, and the jobs that are left are given up.
-fn given_up<J>(alloc: Global, messages: u64, fault: CrewFault) -> HandedOut<J> {
+fn given_up(messages: u64, fault: CrewFault) -> HandedOut {
     HandedOut {
-        own: Vec::new(alloc),
         messages,
         fault: Some(fault),
     }
@@ -208,12 +198,30 @@ fn stand<J: Work<S, D>, S, D: Drop, G: Gate, H: Wait>(
         let Some(parcel) = next_of(rt, waiting) else {
             break;
         };
-        let Parcel { round, jobs, alloc } = parcel;
-        let mut runs = Vec::new(alloc);
-        let whole = run_all::<J, S, D, G>(&**gate, jobs, &mut runs);
-        if done.send(rt, Answer { round, runs, whole }).is_err() {
+        if done
+            .send(rt, answer_of::<J, S, D, G>(&**gate, parcel))
+            .is_err()
+        {
             break;
         }
+    }
+}
+
+/// Runs the jobs of a message.
+fn answer_of<J: Work<S, D>, S, D: Drop, G: Gate>(gate: &G, parcel: Parcel<J>) -> Answer<D> {
+    let Parcel {
+        round,
+        place,
+        jobs,
+        alloc,
+    } = parcel;
+    let mut runs = Vec::new(alloc);
+    let whole = run_all::<J, S, D, G>(gate, jobs, &mut runs);
+    Answer {
+        round,
+        place,
+        runs,
+        whole,
     }
 }
 
@@ -251,13 +259,16 @@ impl<J: Work<S, D>, S: Drop, D: Drop, G: Gate> Standing<J, S, D, G> {
         requires { AreNumbered J.number_of (map J.start_of jobs.items) }
         ensures { IfOk result (λ runs. IsEachOnce (map J.start_of jobs.items) (map J.ended_from runs.items)) }
     {
-        match run_in_turn::<J, S, D, G>(alloc, &*self.gate, jobs) {
-            Ok(runs) => Ok(runs),
-            Err(_) => Err(CrewFault::Memory),
+        let mut runs = Vec::new(alloc);
+        if run_all::<J, S, D, G>(&*self.gate, jobs, &mut runs) {
+            Ok(runs)
+        } else {
+            Err(CrewFault::Memory)
         }
     }
 
-    /// A round: the jobs are handed out, and a run of each comes back. The caller runs alone what isn't worth a message.
+    /// A round: the caller keeps some jobs, the others are handed out, and a run of each comes back. The caller runs alone what isn't worth a
+    /// message.
     fn round<H: Wait>(&mut self, rt: &H, alloc: Global, jobs: Vec<J>) -> Result<Vec<D>, CrewFault>
         requires { AreNumbered J.number_of (map J.start_of jobs.items) }
         ensures each { IfOk result (λ runs. IsEachOnce (map J.start_of jobs.items) (map J.ended_from runs.items)) }
@@ -267,84 +278,127 @@ impl<J: Work<S, D>, S: Drop, D: Drop, G: Gate> Standing<J, S, D, G> {
         if self.lost || self.round == u64::MAX {
             return Err(CrewFault::Lost);
         }
-        if self.hands < 2 || !costs_at_least::<J, S, D>(jobs.as_slice(), self.least) {
+        let whole = cost_of::<J, S, D>(jobs.as_slice());
+        if self.hands < 2 || whole < self.least {
             return self.run_alone(alloc, jobs);
         }
         self.round += 1;
-        let room = replace(&mut self.starts, Vec::new(alloc));
-        let Ok(starts) = starts_of::<J, S, D>(jobs.as_slice(), room) else {
+        let mut own = jobs;
+        let many = kept::<J, S, D>(own.as_slice(), own_of(whole, self.hands));
+        let Ok(others) = own.split_off(many) else {
             return Err(CrewFault::Memory);
         };
-        self.starts = starts;
-        let answer = match self.exchange(rt, alloc, jobs) {
-            Ok(got) => assemble::<J, S, D>(self.starts.as_slice(), got, &mut self.ticks),
-            Err(fault) => Err(fault),
-        };
-        self.starts.clear();
-        answer
+        self.run_shared(rt, alloc, own, others)
     }
 
-    /// Hands jobs out, runs the caller's share and what nobody has begun, and hears of each message that went out.
-    fn exchange<H: Wait>(&self, rt: &H, alloc: Global, jobs: Vec<J>) -> Result<Vec<D>, CrewFault> {
-        let Ok(runs) = Vec::with_capacity(alloc, jobs.len()) else {
-            return Err(CrewFault::Memory);
+    /// What a round needs before any job is handed out: what the jobs start from, and a tick for each, all off. Fails if memory was refused.
+    fn begin_round(
+        &mut self,
+        alloc: Global,
+        jobs: &[J],
+    ) -> Result<(Vec<Begun<S>>, Gathered<D>), AllocError>
+        ensures starts { IfOk result (λ r. r.0.items ≡ map J.start_of jobs.now) }
+        ensures ticked { IfOk result (λ r. IsTicked r.0.items r.1.ticks.items (map J.ended_from r.1.runs.items)) }
+        ensures same { self.new ≡ self.old }
+    {
+        let room = replace(&mut self.starts, Vec::new(alloc));
+        let starts = starts_of::<J, S, D>(jobs, room)?;
+        let mut ticks = replace(&mut self.ticks, Vec::new(alloc));
+        begin_ticks(starts.as_slice(), &mut ticks)?;
+        let gathered = Gathered {
+            runs: Vec::with_capacity(alloc, jobs.len())?,
+            ticks,
+            away: 0,
+            fault: None,
         };
-        let HandedOut {
-            own,
-            messages,
-            fault,
-        } = self.hand_out(rt, alloc, jobs);
-        let mut gathered = Gathered {
-            runs,
-            away: messages,
-            fault,
-        };
-        self.run_here(own, &mut gathered);
-        self.run_waiting(rt, &mut gathered);
-        self.hear(rt, &mut gathered);
+        Ok((starts, gathered))
+    }
+
+    /// Keeps the lists of a round for the next one, and returns its runs.
+    fn end_round(&mut self, starts: Vec<Begun<S>>, gathered: Gathered<D>) -> Vec<D>
+        ensures runs { result ≡ gathered.runs }
+        ensures same { self.new ≡ self.old }
+    {
         let Gathered {
             runs,
+            ticks,
             away: _,
-            fault,
+            fault: _,
         } = gathered;
-        match fault {
-            None => Ok(runs),
-            Some(fault) => Err(fault),
-        }
+        self.starts = starts;
+        self.starts.clear();
+        self.ticks = ticks;
+        runs
     }
 
-    /// Hands out the jobs by shares, from the last on. The first share stays with the caller.
-    fn hand_out<H: Wait>(&self, rt: &H, alloc: Global, jobs: Vec<J>) -> HandedOut<J> {
-        let share = share_of::<J, S, D>(jobs.as_slice(), self.hands);
-        let mut own = jobs;
+    /// Runs the caller's own jobs, and has others run by whoever comes to them first. What the caller keeps to itself isn't compared.
+    fn run_shared<H: Wait>(
+        &mut self,
+        rt: &H,
+        alloc: Global,
+        own: Vec<J>,
+        others: Vec<J>,
+    ) -> Result<Vec<D>, CrewFault>
+        requires { IsDistinct (map J.start_of own.items ++ map J.start_of others.items) }
+        ensures each { IfOk result (λ runs. IsEachOnce (map J.start_of own.items ++ map J.start_of others.items) (map J.ended_from runs.items)) }
+        ensures same { self.new ≡ self.old }
+    {
+        let Ok((starts, mut gathered)) = self.begin_round(alloc, others.as_slice()) else {
+            return Err(CrewFault::Memory);
+        };
+        let Ok(mut runs) = Vec::with_capacity(alloc, starts.len().saturating_add(own.len())) else {
+            return Err(CrewFault::Memory);
+        };
+        let HandedOut { messages, fault } = self.hand_out(rt, alloc, others);
+        gathered.away = messages;
+        gathered.fault = fault;
+        let whole = run_all::<J, S, D, G>(&*self.gate, own, &mut runs);
+        self.gather(rt, starts.as_slice(), &mut gathered);
+        let answer = gathered_all::<J, S, D>(starts.as_slice(), &gathered);
+        let got = self.end_round(starts, gathered);
+        answer?;
+        if !whole {
+            return Err(CrewFault::Memory);
+        }
+        joined(runs, got)
+    }
+
+    /// Hands out jobs by shares, from the last on.
+    fn hand_out<H: Wait>(&self, rt: &H, alloc: Global, jobs: Vec<J>) -> HandedOut {
+        let whole = cost_of::<J, S, D>(jobs.as_slice());
+        let share = share_of(whole, self.hands);
+        let mut left = jobs;
         let mut messages = 0u64;
-        while !own.is_empty() {
-            let at = cut::<J, S, D>(own.as_slice(), share);
-            if at == 0 {
-                break;
-            }
-            let Ok(jobs) = own.split_off(at) else {
-                return given_up(alloc, messages, CrewFault::Memory);
+        while !left.is_empty() {
+            let place = cut::<J, S, D>(left.as_slice(), share);
+            let Ok(jobs) = left.split_off(place) else {
+                return given_up(messages, CrewFault::Memory);
             };
-            if let Err(fault) = self.hand(rt, alloc, jobs) {
-                return given_up(alloc, messages, fault);
+            if let Err(fault) = self.hand(rt, alloc, place, jobs) {
+                return given_up(messages, fault);
             }
             messages = messages.saturating_add(1);
         }
         HandedOut {
-            own,
             messages,
             fault: None,
         }
     }
 
-    /// Hands out some jobs in one message.
-    fn hand<H: Wait>(&self, rt: &H, alloc: Global, jobs: Vec<J>) -> Result<(), CrewFault> {
+    /// Hands out some jobs in one message, the first from a place.
+    fn hand<H: Wait>(
+        &self,
+        rt: &H,
+        alloc: Global,
+        place: usize,
+        jobs: Vec<J>,
+    ) -> Result<(), CrewFault> {
         let Some(parcels) = &self.parcels else {
             return Err(CrewFault::Lost);
         };
         let parcel = Parcel {
             round: self.round,
+            place,
             jobs,
             alloc,
         };
@@ -355,33 +409,43 @@ impl<J: Work<S, D>, S: Drop, D: Drop, G: Gate> Standing<J, S, D, G> {
         }
     }
 
-    /// Runs jobs in the caller's thread.
-    fn run_here(&self, jobs: Vec<J>, gathered: &mut Gathered<D>) {
-        if !run_all::<J, S, D, G>(&*self.gate, jobs, &mut gathered.runs) {
-            gathered.fault = Some(CrewFault::Memory);
-        }
-    }
-
-    /// Takes back what no worker has begun, and runs it.
-    fn run_waiting<H: Wait>(&self, rt: &H, gathered: &mut Gathered<D>) {
+    /// Hears of each message of this round. While some wait, the caller takes them back in turn and runs them, and between two of them takes in
+    /// what has come: so it compares while others run.
+    fn gather<H: Wait>(&self, rt: &H, starts: &[Begun<S>], gathered: &mut Gathered<D>)
+        requires distinct { IsDistinct starts.now }
+        requires ticked { IsGathered starts.now gathered.old.fault gathered.old.ticks.items (map J.ended_from gathered.old.runs.items) }
+        ensures { IsGathered starts.now gathered.new.fault gathered.new.ticks.items (map J.ended_from gathered.new.runs.items) }
+    {
         for _ in rt.forever() {
+            self.take_answers(rt, starts, gathered);
             let Ok(parcel) = self.waiting.try_recv(rt) else {
                 break;
             };
-            let Parcel {
-                round,
-                jobs,
-                alloc: _,
-            } = parcel;
-            if round == self.round {
-                gathered.away = gathered.away.saturating_sub(1);
-                self.run_here(jobs, gathered);
-            }
+            self.run_parcel(starts, parcel, gathered);
+        }
+        self.hear(rt, starts, gathered);
+    }
+
+    /// Takes in what has come back so far.
+    fn take_answers<H: Wait>(&self, rt: &H, starts: &[Begun<S>], gathered: &mut Gathered<D>)
+        requires distinct { IsDistinct starts.now }
+        requires ticked { IsGathered starts.now gathered.old.fault gathered.old.ticks.items (map J.ended_from gathered.old.runs.items) }
+        ensures { IsGathered starts.now gathered.new.fault gathered.new.ticks.items (map J.ended_from gathered.new.runs.items) }
+    {
+        for _ in 0..gathered.away {
+            let Ok(answer) = self.answers.try_recv(rt) else {
+                break;
+            };
+            self.take_answer(starts, answer, gathered);
         }
     }
 
-    /// Hears of each message of this round that is away. What comes of another round is dropped.
-    fn hear<H: Wait>(&self, rt: &H, gathered: &mut Gathered<D>) {
+    /// Hears of each message of this round that is away.
+    fn hear<H: Wait>(&self, rt: &H, starts: &[Begun<S>], gathered: &mut Gathered<D>)
+        requires distinct { IsDistinct starts.now }
+        requires ticked { IsGathered starts.now gathered.old.fault gathered.old.ticks.items (map J.ended_from gathered.old.runs.items) }
+        ensures { IsGathered starts.now gathered.new.fault gathered.new.ticks.items (map J.ended_from gathered.new.runs.items) }
+    {
         for _ in rt.forever() {
             if gathered.away == 0 {
                 break;
@@ -390,19 +454,62 @@ impl<J: Work<S, D>, S: Drop, D: Drop, G: Gate> Standing<J, S, D, G> {
                 gathered.fault = Some(CrewFault::Lost);
                 break;
             };
-            let Answer {
-                round,
-                mut runs,
-                whole,
-            } = answer;
-            if round == self.round {
-                gathered.away = gathered.away.saturating_sub(1);
-                if gathered.runs.append(&mut runs).is_err() || !whole {
-                    gathered.fault = Some(CrewFault::Memory);
-                }
-            }
+            self.take_answer(starts, answer, gathered);
         }
     }
+
+    /// Runs the jobs of a message of this round that came back unopened. One of another round is dropped.
+    fn run_parcel(&self, starts: &[Begun<S>], parcel: Parcel<J>, gathered: &mut Gathered<D>)
+        requires distinct { IsDistinct starts.now }
+        requires ticked { IsGathered starts.now gathered.old.fault gathered.old.ticks.items (map J.ended_from gathered.old.runs.items) }
+        ensures { IsGathered starts.now gathered.new.fault gathered.new.ticks.items (map J.ended_from gathered.new.runs.items) }
+    {
+        let Parcel {
+            round,
+            place,
+            jobs,
+            alloc: _,
+        } = parcel;
+        if round == self.round {
+            gathered.away = gathered.away.saturating_sub(1);
+            run_in::<J, S, D, G>(&*self.gate, starts, jobs, place, gathered);
+        }
+    }
+
+    /// Takes in the runs of a message of this round. What comes of another round is dropped.
+    fn take_answer(&self, starts: &[Begun<S>], answer: Answer<D>, gathered: &mut Gathered<D>)
+        requires distinct { IsDistinct starts.now }
+        requires ticked { IsGathered starts.now gathered.old.fault gathered.old.ticks.items (map J.ended_from gathered.old.runs.items) }
+        ensures { IsGathered starts.now gathered.new.fault gathered.new.ticks.items (map J.ended_from gathered.new.runs.items) }
+    {
+        let Answer {
+            round,
+            place,
+            runs,
+            whole,
+        } = answer;
+        if round != self.round {
+            return;
+        }
+        gathered.away = gathered.away.saturating_sub(1);
+        if whole {
+            take_in::<J, S, D>(starts, runs, place, gathered);
+        } else {
+            gathered.fault = Some(CrewFault::Memory);
+        }
+    }
+}
+
+/// Runs, and others behind them. `Memory` where memory was refused.
+fn joined<D: Drop>(runs: Vec<D>, others: Vec<D>) -> Result<Vec<D>, CrewFault>
+    ensures { IfOk result (λ all. all.items ≡ runs.items ++ others.items) }
+{
+    let mut all = runs;
+    let mut more = others;
+    if all.append(&mut more).is_err() {
+        return Err(CrewFault::Memory);
+    }
+    Ok(all)
 }
 
 impl<J: Work<S, D>, S: Drop, D: Drop, G: Gate, H: Threads + Wait> Crew<J, S, D, H>

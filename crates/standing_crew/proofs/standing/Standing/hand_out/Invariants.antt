@@ -2,4 +2,4 @@ use Rattle.std.proofs.Common.{vec_len}
 use Rattle.standing_crew.proofs.standing.Standing.hand_out.Given as goal
 
 abbrev pub decreases-loop-alloc : goal.decreases-loop-alloc
-decreases-loop-alloc g l = vec_len l.own
+decreases-loop-alloc g l = vec_len l.left

@@ -1,8 +1,15 @@
-use Rattle.std.proofs.Common.{rules, ◌≡◌, map}
+use Rattle.std.proofs.Common.{◌≡◌, ◌++◌, IfOk, map, sym, subst}
+use Rattle.crew.specs.Runs.{IsDistinct, IsEachOnce}
 use Rattle.crew.proofs.Same.{distinct}
+use Rattle.standing_crew.proofs.Ticks.{parted}
 use Rattle.standing_crew.proofs.standing.Standing.round.Goals as goal
 
-pub assemble-answer-requires : goal.assemble-answer-requires
-assemble-answer-requires g c =
-    let is : c.as_slice-in-Ok-exchange.result.now ≡ map g.J.Work.start_of c.args.jobs.items = search rules in
-    rw is (distinct g.J.Work.number_of _ c.requires)
+pub run_shared-requires : goal.run_shared-requires
+run_shared-requires g c =
+    let all = parted g.J.Work.start_of c.args.jobs.items c.split_off.new.self.items c.in-Ok.others.items c.kept-many.result c.in-Ok.ensures.items c.in-Ok.ensures.tail in
+    subst (λ xs. IsDistinct xs) (sym all) (distinct g.J.Work.number_of (map g.J.Work.start_of c.args.jobs.items) c.requires)
+
+pub returns-clause-each : goal.returns-clause-each
+returns-clause-each g c =
+    let all = parted g.J.Work.start_of c.args.jobs.items c.split_off.new.self.items c.in-Ok.others.items c.kept-many.result c.in-Ok.ensures.items c.in-Ok.ensures.tail in
+    subst (λ xs. IfOk c.run_shared.result (λ runs. IsEachOnce xs (map g.J.Work.ended_from runs.items))) all c.run_shared.ensures.each

@@ -1,15 +1,14 @@
 use Rattle.std.proofs.Common.{map, refl, arith}
-use Rattle.standing_crew.specs.Assembled.{IsTicked}
 use Rattle.standing_crew.proofs.Ticks.{no_stranger, no_double, lacks_there}
-use Rattle.standing_crew.proofs.assembly.match_up.Goals as goal
+use Rattle.standing_crew.proofs.assembly.all_there.Goals as goal
 
 pub returns-then-not-all_ticked : goal.returns-then-not-all_ticked
 returns-then-not-all_ticked g c =
     let starts = c.args.starts.now in
     let runs = map g.J.Work.ended_from c.args.got.now in
-    let t : IsTicked starts c.tick_off.new.ticks runs = c.if-not-tick_off.ensures.ticked refl in
+    let t = c.requires in
     let off = c.if-not-all_ticked.ensures.one refl in (
       no_stranger starts runs t.known,
       no_double runs t.once,
-      lacks_there starts runs c.tick_off.new.ticks off.0 t (omega (arith, off.1, t.sized)) off.2,
+      lacks_there starts runs c.args.ticks.now off.0 t (omega (arith, off.1, t.sized)) off.2,
     )

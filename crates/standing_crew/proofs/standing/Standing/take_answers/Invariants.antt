@@ -1,0 +1,6 @@
+use Rattle.std.proofs.Common.{map}
+use Rattle.standing_crew.specs.Assembled.{IsGathered}
+use Rattle.standing_crew.proofs.standing.Standing.take_answers.Given as goal
+
+abbrev pub invariant-loop : goal.invariant-loop
+invariant-loop g l = IsGathered l.starts l.gathered.fault l.gathered.ticks.items (map g.J.Work.ended_from l.gathered.runs.items)

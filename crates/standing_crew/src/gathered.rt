@@ -1,0 +1,132 @@
+//! The runs of a round, ticked off as they come back.
+ghost use Rattle.std.specs.Prelude.{◌≡◌, ◌≤◌, length, map, take, IfOk};
+ghost use Rattle.crew.specs.Runs.{IsDistinct, IsEachOnce};
+ghost use Rattle.standing_crew.specs.Assembled.{IsTicked, IsGathered};
+
+use crate::Begun;
+use crate::assembly::{all_there, tick_off};
+use crate::message::run_all;
+use crew::{CrewFault, Gate, Work};
+
+/// The runs that came back so far, each ticked off, how many messages are away, and the first fault.
+#[derive(Drop)]
+pub(crate) struct Gathered<D> {
+    pub(crate) runs: Vec<D>,
+    pub(crate) ticks: Vec<bool>,
+    pub(crate) away: u64,
+    pub(crate) fault: Option<CrewFault>,
+}
+
+/// Ticks off the runs from a place on, where those before it are ticked off. The first is sought near the start of a place.
+#[tactic(auto, using(crate::proofs::Ticks::still_gathered))]
+fn tick_rest<J: Work<S, D>, S, D>(
+    starts: &[Begun<S>],
+    from: usize,
+    near: usize,
+    gathered: &mut Gathered<D>,
+)
+    requires before { from ≤ length gathered.old.runs.items }
+    requires ticked { IsTicked starts.now gathered.old.ticks.items (map J.ended_from (take from gathered.old.runs.items)) }
+    requires distinct { IsDistinct starts.now }
+    ensures { IsGathered starts.now gathered.new.fault gathered.new.ticks.items (map J.ended_from gathered.new.runs.items) }
+{
+    let runs = gathered.runs.as_slice();
+    let ticks = gathered.ticks.as_mut_slice();
+    if !tick_off::<J, S, D>(starts, runs, from, near, ticks) {
+        gathered.fault = Some(CrewFault::Misfit);
+    }
+}
+
+/// Ticks off runs that came back of jobs that were handed out together, the first near the start of a place.
+fn add_runs<J: Work<S, D>, S, D: Drop>(
+    starts: &[Begun<S>],
+    runs: Vec<D>,
+    near: usize,
+    gathered: &mut Gathered<D>,
+)
+    requires distinct { IsDistinct starts.now }
+    requires ticked { IsTicked starts.now gathered.old.ticks.items (map J.ended_from gathered.old.runs.items) }
+    ensures { IsGathered starts.now gathered.new.fault gathered.new.ticks.items (map J.ended_from gathered.new.runs.items) }
+{
+    let from = gathered.runs.len();
+    let mut more = runs;
+    if gathered.runs.append(&mut more).is_err() {
+        gathered.fault = Some(CrewFault::Memory);
+        return;
+    }
+    tick_rest::<J, S, D>(starts, from, near, gathered);
+}
+
+/// Runs jobs that were handed out together, the first near the start of a place, and ticks off their runs.
+fn run_more<J: Work<S, D>, S, D: Drop, G: Gate>(
+    gate: &G,
+    starts: &[Begun<S>],
+    jobs: Vec<J>,
+    near: usize,
+    gathered: &mut Gathered<D>,
+)
+    requires distinct { IsDistinct starts.now }
+    requires ticked { IsTicked starts.now gathered.old.ticks.items (map J.ended_from gathered.old.runs.items) }
+    ensures { IsGathered starts.now gathered.new.fault gathered.new.ticks.items (map J.ended_from gathered.new.runs.items) }
+{
+    let from = gathered.runs.len();
+    if !run_all::<J, S, D, G>(gate, jobs, &mut gathered.runs) {
+        gathered.fault = Some(CrewFault::Memory);
+        return;
+    }
+    tick_rest::<J, S, D>(starts, from, near, gathered);
+}
+
+/// Takes in runs that came back of jobs that were handed out together, the first near the start of a place. After a fault they are dropped.
+#[tactic(auto, using(crate::proofs::Ticks::was_ticked))]
+pub(crate) fn take_in<J: Work<S, D>, S, D: Drop>(
+    starts: &[Begun<S>],
+    runs: Vec<D>,
+    near: usize,
+    gathered: &mut Gathered<D>,
+)
+    requires distinct { IsDistinct starts.now }
+    requires ticked { IsGathered starts.now gathered.old.fault gathered.old.ticks.items (map J.ended_from gathered.old.runs.items) }
+    ensures { IsGathered starts.now gathered.new.fault gathered.new.ticks.items (map J.ended_from gathered.new.runs.items) }
+{
+    match gathered.fault {
+        None => add_runs::<J, S, D>(starts, runs, near, gathered),
+        Some(_) => {}
+    }
+}
+
+/// Runs jobs that were handed out together, the first near the start of a place, and takes in their runs. After a fault they are given up.
+#[tactic(auto, using(crate::proofs::Ticks::was_ticked))]
+pub(crate) fn run_in<J: Work<S, D>, S, D: Drop, G: Gate>(
+    gate: &G,
+    starts: &[Begun<S>],
+    jobs: Vec<J>,
+    near: usize,
+    gathered: &mut Gathered<D>,
+)
+    requires distinct { IsDistinct starts.now }
+    requires ticked { IsGathered starts.now gathered.old.fault gathered.old.ticks.items (map J.ended_from gathered.old.runs.items) }
+    ensures { IsGathered starts.now gathered.new.fault gathered.new.ticks.items (map J.ended_from gathered.new.runs.items) }
+{
+    match gathered.fault {
+        None => run_more::<J, S, D, G>(gate, starts, jobs, near, gathered),
+        Some(_) => {}
+    }
+}
+
+/// Whether there is a run of each job that was handed out; else the fault.
+#[tactic(auto, using(crate::proofs::Ticks::was_ticked))]
+pub(crate) fn gathered_all<J: Work<S, D>, S, D>(
+    starts: &[Begun<S>],
+    gathered: &Gathered<D>,
+) -> Result<(), CrewFault>
+    requires { IsGathered starts.now gathered.now.fault gathered.now.ticks.items (map J.ended_from gathered.now.runs.items) }
+    ensures { IfOk result (λ _. IsEachOnce starts.now (map J.ended_from gathered.now.runs.items)) }
+{
+    match gathered.fault {
+        None => {
+            all_there::<J, S, D>(starts, gathered.runs.as_slice(), gathered.ticks.as_slice())
+        }
+        Some(fault) => Err(fault),
+    }
+}
