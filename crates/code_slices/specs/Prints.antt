@@ -1,5 +1,7 @@
 -- Instructions as numbers in fixed places, and back.
-use Rattle.std.specs.Prelude.{ℕ, pos, nat_eq, if◌then◌else◌}
+use Rattle.std.specs.Prelude.{◌≡◌, ℕ, ℤ, pos, List, [], ◌∷◌, nat_eq, if◌then◌else◌}
+use Rattle.std.specs.List.{flat_map}
+use Rattle.plant_types.specs.declared.values.Place.{Place}
 use Rattle.st_tree.specs.declared.tree.Unary.{Unary}
 use Rattle.st_tree.specs.declared.tree.Unary.TheVariants as unary
 use Rattle.st_tree.specs.declared.tree.Binary.{Binary}
@@ -75,6 +77,26 @@ print_of (instr.LoadBinarySlotStore op one two three) = record { number = 28; op
 print_of (instr.LoadBinaryLiteralStore op one x two) = record { number = 29; op = binary_number op; other = 0; one = one; two = two; three = 0; x = x; y = pos 0 }
 print_of (instr.LoadBinarySlotJump op one two three) = record { number = 30; op = binary_number op; other = 0; one = one; two = two; three = three; x = pos 0; y = pos 0 }
 print_of (instr.LoadBinaryLiteralJump op one x two) = record { number = 31; op = binary_number op; other = 0; one = one; two = two; three = 0; x = x; y = pos 0 }
+
+-- the numbers of an instruction's print, by their sizes, and those of a place
+abbrev pub kinds_of : Instr → List ℕ
+kinds_of i = (print_of i).number ∷ (print_of i).op ∷ (print_of i).other ∷ []
+
+abbrev pub numbers_of : Instr → List ℕ
+numbers_of i = (print_of i).one ∷ (print_of i).two ∷ (print_of i).three ∷ []
+
+abbrev pub literals_of : Instr → List ℤ
+literals_of i = (print_of i).x ∷ (print_of i).y ∷ []
+
+abbrev pub numbers_of_place : Place → List ℕ
+numbers_of_place place = place.path ∷ place.statement ∷ []
+
+-- lists of numbers are those of a code's instructions, one behind another, and those of its places
+pub record ArePrintsOf (instrs : List Instr) (places : List Place) (kinds numbers : List ℕ) (literals : List ℤ) (place_numbers : List ℕ) : Type 0 where
+  pub kinds_are : kinds ≡ flat_map kinds_of instrs
+  pub numbers_are : numbers ≡ flat_map numbers_of instrs
+  pub literals_are : literals ≡ flat_map literals_of instrs
+  pub places_are : place_numbers ≡ flat_map numbers_of_place places
 
 -- the instruction of a print
 abbrev pub instr_of : Print → Instr

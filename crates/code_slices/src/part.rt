@@ -109,16 +109,19 @@ pub fn relocate(
     })
 }
 
-/// The values of slots in a row of them, in the room of other values. Fails if memory was refused.
+/// The values of slots in a row of them, written into the room of other values. Fails if memory was refused.
+#[tactic(auto, using(crate::proofs::Items::picked_more))]
 fn picked_values(slots: &[u32], values: &[i64], room: Vec<i64>) -> Result<Vec<i64>, AllocError>
     requires { (i s : ℕ) → slice_get slots.now i ≡ Some s → s < length values.now }
     ensures { IfOk result (λ v. v.items ≡ map (λ s. slice_index_or values.now s (pos 0)) slots.now) }
 {
     let mut picked = room;
-    picked.clear();
-    picked.reserve(slots.len())?;
-    for slot in slots {
-        picked.push(values[*slot as usize])?;
+    if picked.len() != slots.len() {
+        picked.clear();
+        picked.resize(slots.len(), 0)?;
+    }
+    for (i, slot) in slots.iter().enumerate() {
+        picked[i] = values[*slot as usize];
     }
     Ok(picked)
 }
@@ -132,7 +135,8 @@ fn picked_clock(clocks: &[Clock], number: u32) -> Clock
     clocks[number as usize]
 }
 
-/// The clocks of numbers in a row of them, in the room of other clocks. Fails if memory was refused.
+/// The clocks of numbers in a row of them, written into the room of other clocks. Fails if memory was refused.
+#[tactic(auto, using(crate::proofs::Items::picked_more))]
 fn picked_clocks(
     numbers: &[u32],
     clocks: &[Clock],
@@ -142,10 +146,12 @@ fn picked_clocks(
     ensures { IfOk result (λ v. v.items ≡ map (λ k. slice_index_or clocks.now k (clock_of Standard.Ton [])) numbers.now) }
 {
     let mut picked = room;
-    picked.clear();
-    picked.reserve(numbers.len())?;
-    for number in numbers {
-        picked.push(picked_clock(clocks, *number))?;
+    if picked.len() != numbers.len() {
+        picked.clear();
+        picked.resize(numbers.len(), Clock::new(Standard::Ton))?;
+    }
+    for (i, number) in numbers.iter().enumerate() {
+        picked[i] = picked_clock(clocks, *number);
     }
     Ok(picked)
 }

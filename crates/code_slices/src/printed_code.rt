@@ -2,7 +2,7 @@
 
 ghost use Rattle.std.specs.Prelude.{◌≡◌, ◌↔◌, IfOk, IsTrue};
 
-use crate::prints::{Print, counted, prints_of, same_counts, same_places, same_prints};
+use crate::prints::{Prints, counted, prints_of, same_counts, same_prints};
 use acc_vm::Code;
 use std::alloc::{AllocError, Global};
 use std::marker::Model;
@@ -11,19 +11,18 @@ use std::marker::Model;
 #[derive(Drop)]
 pub(crate) struct PrintedCode {
     code: Code,
-    prints: Vec<Print>,
+    prints: Prints,
 }
 
 impl Model for PrintedCode {
-    ghost use Rattle.std.specs.Prelude.{◌≡◌, map};
     ghost use Rattle.acc_vm.specs.Codes.{PlainCode};
-    ghost use Rattle.code_slices.specs.Prints.{print_of};
+    ghost use Rattle.code_slices.specs.Prints.{ArePrintsOf};
 
     ghost Value = { PlainCode };
 
     ghost view = { λ p. p.code };
 
-    ghost invariant = { λ p. p.prints.items ≡ map print_of p.code.instrs };
+    ghost invariant = { λ p. ArePrintsOf p.code.instrs p.code.places p.prints.kinds.items p.prints.numbers.items p.prints.literals.items p.prints.places.items };
 }
 
 impl PrintedCode {
@@ -31,7 +30,7 @@ impl PrintedCode {
     pub(crate) fn new(alloc: Global, code: Code) -> Result<PrintedCode, AllocError>
         ensures { IfOk result (λ printed. printed ≡ code) }
     {
-        let prints = prints_of(alloc, code.instrs())?;
+        let prints = prints_of(alloc, code.instrs(), code.places())?;
         Ok(PrintedCode { code, prints })
     }
 
@@ -42,18 +41,11 @@ impl PrintedCode {
         &self.code
     }
 
-    /// Whether another code has the same instructions.
-    fn has_same_instrs(&self, other: &PrintedCode) -> bool
-        ensures { IsTrue result ↔ (self.now.instrs ≡ other.now.instrs) }
-    {
-        same_prints(self.prints.as_slice(), other.prints.as_slice())
-    }
-
     /// Whether another code has the same instructions with the same places.
     fn has_same_lists(&self, other: &PrintedCode) -> bool
         ensures { IsTrue result ↔ ((self.now.places ≡ other.now.places) × (self.now.instrs ≡ other.now.instrs)) }
     {
-        same_places(self.code().places(), other.code().places()) && self.has_same_instrs(other)
+        same_prints(&self.prints, &other.prints)
     }
 
     /// Whether another code is the same.

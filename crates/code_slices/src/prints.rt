@@ -1,7 +1,8 @@
 //! Prints of instructions, by which code is compared.
 
-ghost use Rattle.std.specs.Prelude.{◌≡◌, ◌↔◌, pos, map, IfOk, IsTrue};
-ghost use Rattle.code_slices.specs.Prints.{unary_number, binary_number, print_of, counts_of};
+ghost use Rattle.std.specs.Prelude.{◌≡◌, ◌↔◌, ◌++◌, ◌∷◌, [], pos, IfOk, IsTrue};
+ghost use Rattle.std.specs.List.{flat_map};
+ghost use Rattle.code_slices.specs.Prints.{ArePrintsOf, unary_number, binary_number, print_of, numbers_of_place, counts_of};
 
 use acc_vm::{Code, Instr};
 use plant_types::Place;
@@ -9,8 +10,8 @@ use st_tree::{Binary, Unary};
 use std::alloc::{AllocError, Global};
 
 /// An instruction as numbers in fixed places: its own number, those of its operators, of slots, clocks and targets, and literals.
-#[derive(Clone, Copy, PartialEq, Eq, Drop)]
-pub(crate) struct Print {
+#[derive(Clone, Copy, Drop)]
+struct Print {
     number: u8,
     op: u8,
     other: u8,
@@ -201,59 +202,90 @@ fn printed(i: &Instr) -> Print
     }
 }
 
-/// The prints of instructions. Fails if memory was refused.
-pub(crate) fn prints_of(alloc: Global, instrs: &[Instr]) -> Result<Vec<Print>, AllocError>
-    ensures { IfOk result (λ prints. prints.items ≡ map print_of instrs.now) }
+/// The prints of a code's instructions and its places, one behind another: of each print the numbers of one size stand in one list. Lists of
+/// numbers are compared several at once.
+#[derive(Drop)]
+pub(crate) struct Prints {
+    kinds: Vec<u8>,
+    numbers: Vec<u32>,
+    literals: Vec<i64>,
+    places: Vec<u32>,
+}
+
+/// Writes a print behind others. Fails if memory was refused.
+fn add_print(prints: &mut Prints, print: Print) -> Result<(), AllocError>
+    ensures kinds { IfOk result (λ _. prints.new.kinds.items ≡ prints.old.kinds.items ++ (print.number ∷ print.op ∷ print.other ∷ [])) }
+    ensures numbers { IfOk result (λ _. prints.new.numbers.items ≡ prints.old.numbers.items ++ (print.one ∷ print.two ∷ print.three ∷ [])) }
+    ensures literals { IfOk result (λ _. prints.new.literals.items ≡ prints.old.literals.items ++ (print.x ∷ print.y ∷ [])) }
+    ensures places { prints.new.places ≡ prints.old.places }
 {
-    let mut prints = Vec::with_capacity(alloc, instrs.len())?;
+    prints.kinds.push(print.number)?;
+    prints.kinds.push(print.op)?;
+    prints.kinds.push(print.other)?;
+    prints.numbers.push(print.one)?;
+    prints.numbers.push(print.two)?;
+    prints.numbers.push(print.three)?;
+    prints.literals.push(print.x)?;
+    prints.literals.push(print.y)?;
+    Ok(())
+}
+
+/// The numbers of places, one behind another. Fails if memory was refused.
+fn place_numbers(alloc: Global, places: &[Place]) -> Result<Vec<u32>, AllocError>
+    ensures { IfOk result (λ numbers. numbers.items ≡ flat_map numbers_of_place places.now) }
+{
+    let mut numbers = Vec::new(alloc);
+    for place in places {
+        numbers.push(place.path)?;
+        numbers.push(place.statement)?;
+    }
+    Ok(numbers)
+}
+
+/// The prints of instructions, and places. Fails if memory was refused.
+pub(crate) fn prints_of(
+    alloc: Global,
+    instrs: &[Instr],
+    places: &[Place],
+) -> Result<Prints, AllocError>
+    ensures { IfOk result (λ prints. ArePrintsOf instrs.now places.now prints.kinds.items prints.numbers.items prints.literals.items prints.places.items) }
+{
+    let mut prints = Prints {
+        kinds: Vec::new(alloc),
+        numbers: Vec::new(alloc),
+        literals: Vec::new(alloc),
+        places: place_numbers(alloc, places)?,
+    };
     for instr in instrs {
-        prints.push(printed(instr))?;
+        add_print(&mut prints, printed(instr))?;
     }
     Ok(prints)
 }
 
-/// Whether two prints are the same.
-fn same_print(a: &Print, b: &Print) -> bool
+/// Whether two lists of numbers are the same. It has no early exit, so that several are compared at once.
+pub(crate) fn same_values(a: &[i64], b: &[i64]) -> bool
     ensures { IsTrue result ↔ (a.now ≡ b.now) }
 {
-    *a == *b
+    if a.len() != b.len() {
+        return false;
+    }
+    let mut same = true;
+    for (i, value) in a.iter().enumerate() {
+        if *value != b[i] {
+            same = false;
+        }
+    }
+    same
 }
 
 /// Whether two lists of prints are the same.
-pub(crate) fn same_prints(a: &[Print], b: &[Print]) -> bool
-    ensures { IsTrue result ↔ (a.now ≡ b.now) }
+pub(crate) fn same_prints(a: &Prints, b: &Prints) -> bool
+    ensures { IsTrue result ↔ ((a.now.kinds.items ≡ b.now.kinds.items) × (a.now.numbers.items ≡ b.now.numbers.items) × (a.now.literals.items ≡ b.now.literals.items) × (a.now.places.items ≡ b.now.places.items)) }
 {
-    if a.len() != b.len() {
-        return false;
-    }
-    for (i, print) in a.iter().enumerate() {
-        if !same_print(print, &b[i]) {
-            return false;
-        }
-    }
-    true
-}
-
-/// Whether two places are the same.
-fn same_place(a: &Place, b: &Place) -> bool
-    ensures { IsTrue result ↔ (a.now ≡ b.now) }
-{
-    a.path == b.path && a.statement == b.statement
-}
-
-/// Whether two lists of places are the same.
-pub(crate) fn same_places(a: &[Place], b: &[Place]) -> bool
-    ensures { IsTrue result ↔ (a.now ≡ b.now) }
-{
-    if a.len() != b.len() {
-        return false;
-    }
-    for (i, place) in a.iter().enumerate() {
-        if !same_place(place, &b[i]) {
-            return false;
-        }
-    }
-    true
+    a.kinds.as_slice() == b.kinds.as_slice()
+        && a.numbers.as_slice() == b.numbers.as_slice()
+        && same_values(a.literals.as_slice(), b.literals.as_slice())
+        && a.places.as_slice() == b.places.as_slice()
 }
 
 /// The numbers that are kept of a code.

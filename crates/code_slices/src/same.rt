@@ -2,6 +2,7 @@
 
 ghost use Rattle.std.specs.Prelude.{◌≡◌, ◌↔◌, IsTrue};
 
+use crate::prints::same_values;
 use plant_cells::{Cells, Clock, Timer};
 
 /// Whether two states of standard blocks are the same.
@@ -40,21 +41,6 @@ fn same_clocks(a: &[Clock], b: &[Clock]) -> bool
     }
     for (i, clock) in a.iter().enumerate() {
         if !same_clock(clock, &b[i]) {
-            return false;
-        }
-    }
-    true
-}
-
-/// Whether two rows of values are the same.
-fn same_values(a: &[i64], b: &[i64]) -> bool
-    ensures { IsTrue result ↔ (a.now ≡ b.now) }
-{
-    if a.len() != b.len() {
-        return false;
-    }
-    for (i, value) in a.iter().enumerate() {
-        if *value != b[i] {
             return false;
         }
     }

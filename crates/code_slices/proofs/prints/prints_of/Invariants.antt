@@ -1,6 +1,6 @@
-use Rattle.std.proofs.Common.{◌≡◌, map, take}
-use Rattle.code_slices.specs.Prints.{print_of}
+use Rattle.std.proofs.Common.{take}
+use Rattle.code_slices.specs.Prints.{ArePrintsOf}
 use Rattle.code_slices.proofs.prints.prints_of.Given as goal
 
 abbrev pub invariant-loop-instr : goal.invariant-loop-instr
-invariant-loop-instr l = l.prints.items ≡ map print_of (take l.instr-index l.instrs)
+invariant-loop-instr l = ArePrintsOf (take l.instr-index l.instrs) l.fn.places l.prints.kinds.items l.prints.numbers.items l.prints.literals.items l.prints.places.items
