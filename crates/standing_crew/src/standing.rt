@@ -1,8 +1,9 @@
 //! The workers, and the rounds in which they run jobs.
-ghost use Rattle.std.specs.Prelude.{◌≡◌, ◌++◌, ◌<◌, ◌≤◌, true, IfOk, IfErr, map};
+ghost use Rattle.std.specs.Prelude.{◌≡◌, ◌++◌, ◌<◌, ◌≤◌, true, false, IfOk, IfErr, map};
 ghost use Rattle.crew.specs.Faults.{faults_after};
 ghost use Rattle.crew.specs.Runs.{AreNumbered, IsDistinct, IsEachOnce};
 ghost use Rattle.standing_crew.specs.Assembled.{IsGathered, IsLost, IsTicked};
+ghost use Rattle.standing_crew.specs.Standings.{lost_after, IsStartFault};
 
 use crate::assembly::begin_ticks;
 use crate::gathered::{Gathered, gathered_all, run_in, take_in};
@@ -95,6 +96,8 @@ impl<
         gate: Arc<G>,
     ) -> Result<Standing<J, S, D, G>, CrewFault>
         requires { (0 < workers) × (workers ≤ 64) }
+        ensures ready { IfOk result (λ s. (s.lost ≡ false) × (s.faults ≡ 0)) }
+        ensures refused { IfErr result (λ fault. IsStartFault fault) }
     {
         Standing::with_least(rt, alloc, workers, gate, LEAST_ROUND)
     }
@@ -108,6 +111,8 @@ impl<
         least: u64,
     ) -> Result<Standing<J, S, D, G>, CrewFault>
         requires { (0 < workers) × (workers ≤ 64) }
+        ensures ready { IfOk result (λ s. (s.lost ≡ false) × (s.faults ≡ 0)) }
+        ensures refused { IfErr result (λ fault. IsStartFault fault) }
     {
         let Ok((parcels, waiting)) = crossbeam_channel::unbounded(alloc) else {
             return Err(CrewFault::Memory);
@@ -159,7 +164,9 @@ fn add_thread<
     waiting: &Receiver<Parcel<J>>,
     done: &Sender<Answer<D>>,
     gate: &Arc<G>,
-) -> Result<(), CrewFault> {
+) -> Result<(), CrewFault>
+    ensures { IfErr result (λ fault. IsStartFault fault) }
+{
     let Ok(handle) = rt.clone() else {
         return Err(CrewFault::Memory);
     };
@@ -273,7 +280,8 @@ impl<J: Work<S, D>, S: Drop, D: Drop, G: Gate> Standing<J, S, D, G> {
         requires { AreNumbered J.number_of (map J.start_of jobs.items) }
         ensures each { IfOk result (λ runs. IsEachOnce (map J.start_of jobs.items) (map J.ended_from runs.items)) }
         ensures faults { self.new.faults ≡ self.old.faults }
-        ensures lost { self.old.lost ≡ true → IsLost result × (self.new.lost ≡ true) }
+        ensures lost { self.old.lost ≡ true → IsLost result }
+        ensures stands { self.new.lost ≡ self.old.lost }
     {
         if self.lost || self.round == u64::MAX {
             return Err(CrewFault::Lost);
@@ -524,6 +532,7 @@ impl<J: Work<S, D>, S: Drop, D: Drop, G: Gate, H: Threads + Wait> Crew<J, S, D, 
         ensures each { IfOk result (λ runs. IsEachOnce (map J.start_of jobs.items) (map J.ended_from runs.items)) }
         ensures faults { self.new.faults ≡ faults_after self.old.faults result }
         ensures lost { self.old.lost ≡ true → IsLost result × (self.new.lost ≡ true) }
+        ensures gone { self.new.lost ≡ lost_after self.old.lost result }
     {
         let answer = self.round(rt, alloc, jobs);
         if let Err(fault) = &answer {
