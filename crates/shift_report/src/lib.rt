@@ -4,7 +4,9 @@
 #![tactic(auto)]
 
 mod counts;
+mod laws;
 mod notes;
 
 pub use counts::{Orders, count};
+pub use laws::tellings_tell_apart;
 pub use notes::{Note, Telling, are_told};
