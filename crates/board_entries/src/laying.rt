@@ -33,7 +33,7 @@ fn is_met(cells: &Cells, row: &AlarmRow) -> bool
 fn conditions(alloc: Global, rows: &[AlarmRow], cells: &Cells) -> Result<Vec<bool>, AllocError>
     ensures { IfOk result (λ flags. flags.items ≡ conditions (value_at cells.now) rows.now) }
 {
-    let mut flags = Vec::new(alloc);
+    let mut flags = Vec::with_capacity(alloc, rows.len())?;
     for row in rows {
         flags.push(is_met(cells, row))?;
     }
@@ -54,7 +54,7 @@ fn is_suppressed(cells: &Cells, row: &AlarmRow) -> bool
 fn suppressions(alloc: Global, rows: &[AlarmRow], cells: &Cells) -> Result<Vec<bool>, AllocError>
     ensures { IfOk result (λ flags. flags.items ≡ suppressions (value_at cells.now) rows.now) }
 {
-    let mut flags = Vec::new(alloc);
+    let mut flags = Vec::with_capacity(alloc, rows.len())?;
     for row in rows {
         flags.push(is_suppressed(cells, row))?;
     }
