@@ -12,7 +12,7 @@ const HEAD: usize = 10;
 const HINTS: &[(&str, &str)] = &[
     (
         "REFUSED L1",
-        "L1: no command; these are: scan, ack, reset, shelve, unshelve, remove, return, restart, list, journal (docs/PROTOCOL.md). Ctrl-D ends\n",
+        "L1: no command; these are: scan MOMENT NAME=VALUE ..; ack, reset, unshelve, remove or return, and CONSOLE TAG; shelve CONSOLE TAG MS; restart CONSOLE PROGRAM; list; journal. In small letters, and no blank beside = (docs/PROTOCOL.md). Ctrl-D ends\n",
     ),
     (
         "REFUSED E1",
@@ -21,11 +21,11 @@ const HINTS: &[(&str, &str)] = &[
     ("REFUSED E2", "E2: a moment is at most 4000000000000\n"),
     (
         "REFUSED E3",
-        "E3: a name is none of the plant's inputs, or is there twice\n",
+        "E3: a name is none of the plant's inputs, or is there twice; nothing of this scan was taken\n",
     ),
     (
         "REFUSED E4",
-        "E4: a value doesn't fit its input: TRUE or FALSE for a BOOL, a number for a DINT, milliseconds for a TIME\n",
+        "E4: a value doesn't fit its input: TRUE or FALSE for a BOOL, a number for a DINT, milliseconds for a TIME; nothing of this scan was taken\n",
     ),
 ];
 
