@@ -114,7 +114,7 @@ pub fn wrong_keys(alloc: Global, bytes: &[u8]) -> Result<Cause, AllocError> {
     }
     let said = String::from_str(
         alloc,
-        "a key isn't one of the plant's or of a console's, or what stands under it isn't what it has to be: a text in quotes, a list, a number",
+        "something is wrong of which no place is told: two consoles of one number, or a number in quotes or below 1; a console without 'number' or 'areas', or without [[console]] above it; one thing twice in a list; a text that is empty or too long; a blank or an accent in an area; an unknown key",
     )?;
     Ok(cause_of(said, KEYS))
 }
