@@ -140,7 +140,7 @@ fn told(tokens: &[Token], number: usize) -> &'static str {
             _,
             TokenKind::Keyword(_),
             Some(TokenKind::Symbol(Symbol::Colon | Symbol::Becomes | Symbol::Comma)),
-        ) => "' is a keyword, and can't be a name",
+        ) => "': it is a keyword, and can't be a name",
         _ => "",
     }
 }
