@@ -1,5 +1,5 @@
 -- Lists whose items are numbered one after another, and the items between two numbers.
-use Rattle.std.proofs.Common.{◌≡◌, ◌∙◌, ap, sym, refl, ℕ, zero, suc, ◌+◌, ◌-◌, ◌<◌, ◌≤◌, Bool, true, false, cond, ◌&&◌, List, [], ◌∷◌, ◌++◌, length, Option, Some, None, min, arith}
+use Rattle.std.proofs.Common.{◌≡◌, ap, refl, ℕ, zero, suc, ◌+◌, ◌-◌, ◌<◌, ◌≤◌, Bool, true, false, cond, ◌&&◌, List, [], ◌∷◌, ◌++◌, length, Some, min, arith}
 use Rattle.std.specs.Prelude.{nat_le, nat_lt, slice_get, filter}
 use Rattle.std.proofs.lemmas.Bool.Decides.{nat_tests}
 

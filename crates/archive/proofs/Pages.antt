@@ -1,9 +1,8 @@
 -- A page of a journal, row by row.
-use Rattle.std.proofs.Common.{◌≡◌, ◌∙◌, ap, sym, refl, subst, ℕ, suc, ◌+◌, ◌-◌, ◌<◌, ◌≤◌, min, Bool, true, false, ◌&&◌, List, [], ◌∷◌, ◌++◌, length, map, Some, arith}
-use Rattle.std.specs.Prelude.{nat_le, nat_lt, slice_get, filter, string_bytes}
+use Rattle.std.proofs.Common.{◌≡◌, ap, sym, refl, subst, ℕ, suc, ◌+◌, ◌-◌, ◌≤◌, min, false, ◌&&◌, List, [], ◌∷◌, ◌++◌, length, Some, arith}
+use Rattle.std.specs.Prelude.{nat_le, slice_get, filter}
 use Rattle.std.specs.List.{AllZip}
 use Rattle.std.proofs.lemmas.Bool.Decides.{nat_tests}
-use Rattle.std.proofs.lemmas.List.{map-append}
 use Rattle.plant_config.specs.Plants.{PlainPlant}
 use Rattle.event_history.specs.declared.event.Event.{Event}
 use Rattle.plant_system.specs.System.{System, opening_system, after_event}

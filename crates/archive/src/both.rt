@@ -54,7 +54,13 @@ pub fn ready_scan<L: Ledger, C: Crew<Job, Start, Done, H>, H>(
     ensures crew { C.faulted crew.new ≡ faults_by (C.faulted crew.old) result }
 {
     let own = engine.prepare(rt, alloc, crew, pairs, moment)?;
-    let kept = book.prepare(rt, alloc, pairs, moment)?;
+    let kept = match book.prepare(rt, alloc, pairs, moment) {
+        Ok(kept) => kept,
+        Err(fault) => {
+            drop(own);
+            return Err(fault);
+        }
+    };
     Ok(ReadyScan { own, kept })
 }
 

@@ -23,7 +23,10 @@ fn open_archive<L: Ledger>(
 {
     let plant = plant.copy(alloc)?;
     let (tally, share) = blank.open::<L>();
-    let book = Book::new(alloc, plant, tally)?;
+    let Ok(book) = Book::new(alloc, plant, tally) else {
+        drop(share);
+        return Err(AllocError);
+    };
     match Arc::new(alloc, Archive::new(book)) {
         Ok(archive) => Ok((archive, share)),
         Err(_) => Err(AllocError),
@@ -50,6 +53,8 @@ impl<L: Ledger> Recorder<L> {
             return Err(AllocError);
         };
         let Ok(board) = open_board(rt, alloc, &plant) else {
+            drop(archive);
+            drop(share);
             drop(plant);
             return Err(AllocError);
         };
@@ -61,6 +66,8 @@ impl<L: Ledger> Recorder<L> {
                 board,
             }),
             Err(refused) => {
+                drop(archive);
+                drop(share);
                 drop(board.end(rt));
                 Err(refused)
             }

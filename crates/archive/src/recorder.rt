@@ -67,8 +67,18 @@ impl<L: Ledger> Recorder<L> {
         } = self;
         let mut book = archive.lock(rt);
         book.audit(share);
-        let ready = ready_scan(rt, alloc, engine, crew, &mut *book, pairs, moment)?;
-        lay_scan(alloc, board, engine, &ready.own)?;
+        let ready = match ready_scan(rt, alloc, engine, crew, &mut *book, pairs, moment) {
+            Ok(ready) => ready,
+            Err(fault) => {
+                drop(book);
+                return Err(fault);
+            }
+        };
+        let Ok(()) = lay_scan(alloc, board, engine, &ready.own) else {
+            drop(ready);
+            drop(book);
+            return Err(EngineFault::Memory);
+        };
         let report = commit_scan(engine, &mut *book, share, ready);
         drop(book);
         show(rt, board);
@@ -101,8 +111,18 @@ impl<L: Ledger, H: Wait> Recording<H> for Recorder<L> {
             board,
         } = self;
         let mut book = archive.lock(rt);
-        let ready = ready_order(alloc, engine, &mut *book, console, order)?;
-        lay_order(board, engine, &ready.own)?;
+        let ready = match ready_order(alloc, engine, &mut *book, console, order) {
+            Ok(ready) => ready,
+            Err(fault) => {
+                drop(book);
+                return Err(fault);
+            }
+        };
+        let Ok(()) = lay_order(board, engine, &ready.own) else {
+            drop(ready);
+            drop(book);
+            return Err(EngineFault::Memory);
+        };
         let reply = commit_order(engine, &mut *book, share, ready);
         drop(book);
         show(rt, board);

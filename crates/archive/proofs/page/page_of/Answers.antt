@@ -1,8 +1,8 @@
-use Rattle.std.proofs.Common.{◌≡◌, ◌∙◌, ◌+◌, ◌-◌, ◌≤◌, ap, sym, subst, map, [], ◌∷◌, ◌++◌, List, ℕ, length, arith}
+use Rattle.std.proofs.Common.{◌≡◌, ◌∙◌, ◌-◌, ◌≤◌, ap, sym, map, [], ◌∷◌, length, arith}
 use Rattle.std.specs.Prelude.{string_bytes}
 use Rattle.std.proofs.lemmas.List.{map-append, length-map}
 use Rattle.engine.specs.Journal.{named_row, journal_of}
-use Rattle.archive.proofs.Pages.{AreTexts, page_none, page_more, page_whole}
+use Rattle.archive.proofs.Pages.{page_none, page_more, page_whole}
 use Rattle.archive.proofs.page.page_of.Goals as goal
 
 pub loop-before-init : goal.loop-before-init

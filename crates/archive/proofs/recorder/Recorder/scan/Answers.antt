@@ -6,6 +6,6 @@ pub invariant_of-self-2-clause-has : goal.invariant_of-self-2-clause-has
 invariant_of-self-2-clause-has g c =
     let old = c.ready_scan.new.engine in
     let new = c.commit_scan-report.new.engine in
-    let own = c.in_ok-ready.ready.own in
+    let own = c.in-Ok.ready.own in
     has_same old.plant new.plant (old.history ++ own.event ∷ []) new.history c.lay_scan.new.board c.show.new.board c.show.ensures.0 c.commit_scan-report.ensures.plants.0 c.commit_scan-report.ensures.engine
-    c.in_ok-lay_scan.ensures.laid
+    c.in-Ok-lay_scan.ensures.laid
