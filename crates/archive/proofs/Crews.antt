@@ -1,10 +1,17 @@
 -- The caller alone is no crew that fails.
-use Rattle.std.proofs.Common.{◌≡◌, ℕ, refl, arith}
-use Rattle.std.specs.Prelude.{Result, Ok, Err}
+use Rattle.std.proofs.Common.{◌≡◌, ℕ, Bool, true, false, if◌then◌else◌, nat_le, refl, arith}
+use Rattle.std.specs.Prelude.{Result, Ok, Err, IfErr}
 use Rattle.crew.specs.declared.fault.CrewFault.TheVariants as crew_fault
 use Rattle.plant_system.specs.declared.event.EngineFault.{EngineFault}
 use Rattle.plant_system.specs.declared.event.EngineFault.TheVariants as refusal
 use Rattle.plant_system.specs.Faults.{faults_by, faults_with, IsNoCrews}
+use Rattle.plant_system.specs.Image.{IsDue}
+use Rattle.plant_system.specs.System.{System, order_event}
+use Rattle.plant_system.specs.declared.event.TheConstants.{MOST_EVENTS}
+use Rattle.event_history.specs.declared.event.Event.{Event}
+use Rattle.event_history.specs.declared.event.Event.TheVariants as event
+use Rattle.event_history.specs.declared.event.Order.{Order}
+use Rattle.order_taking.specs.Turns.{IsOrderFault}
 
 -- a refusal that isn't counted from 0 is never counted
 never_counted : (e : EngineFault) → faults_with 0 e ≡ 0 → (n : ℕ) → faults_with n e ≡ n
@@ -22,3 +29,26 @@ never_counted refusal.HistoryFull h n = refl
 pub no_crews : {T : Type 0} (result : Result T EngineFault) → 0 ≡ faults_by 0 result → IsNoCrews result
 no_crews (Ok x) h = λ n. refl
 no_crews (Err e) h = never_counted e (let k : faults_with 0 e ≡ 0 = cc in k)
+
+-- of an order, which is taken or finds the history full
+order_due : (full : Bool) (ev : Event) (e : EngineFault) → IsDue e (if full then Err refusal.HistoryFull else Ok ev) → faults_with 0 e ≡ 0 → IsOrderFault e
+order_due full ev refusal.Memory due none = tt
+order_due true ev refusal.MomentBack due none = absurd (cc (due))
+order_due false ev refusal.MomentBack due none = absurd (cc (due))
+order_due true ev refusal.MomentRange due none = absurd (cc (due))
+order_due false ev refusal.MomentRange due none = absurd (cc (due))
+order_due true ev refusal.ImageName due none = absurd (cc (due))
+order_due false ev refusal.ImageName due none = absurd (cc (due))
+order_due true ev refusal.ImageKind due none = absurd (cc (due))
+order_due false ev refusal.ImageKind due none = absurd (cc (due))
+order_due full ev (refusal.Crew crew_fault.Memory) due none = due
+order_due full ev (refusal.Crew crew_fault.NoThread) due none = absurd (omega (arith, none))
+order_due full ev (refusal.Crew crew_fault.Lost) due none = absurd (omega (arith, none))
+order_due full ev (refusal.Crew crew_fault.Misfit) due none = absurd (omega (arith, none))
+order_due full ev refusal.HistoryFull due none = tt
+
+-- why an order is refused, by no crew
+pub order_fault : {T : Type 0} (sys : System) (console : ℕ) (order : Order) (result : Result T EngineFault) → IfErr result (λ e. IsDue e (order_event sys console order)) → IsNoCrews result → IfErr result (λ e. IsOrderFault e)
+unfolding order_event
+order_fault sys console order (Ok x) due none = tt
+order_fault sys console order (Err e) due none = order_due (nat_le MOST_EVENTS sys.events) (event.Order console order) e due (none 0)

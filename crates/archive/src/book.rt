@@ -7,6 +7,7 @@ ghost use Rattle.plant_system.specs.Image.{IsDue};
 ghost use Rattle.plant_system.specs.System.{scan_event, order_event};
 ghost use Rattle.engine.specs.Engines.{state_of, Fits, FitsOrder};
 ghost use Rattle.engine.specs.Lawful.{IsLawfulHistory};
+ghost use Rattle.order_taking.specs.Turns.{IsOrderFault};
 ghost use Rattle.archive.specs.Pages.{IsPage};
 
 use crate::page::page_of;
@@ -41,6 +42,21 @@ impl<L: Ledger> Model for Book<L> {
     ghost view = { λ b. b.engine };
 
     ghost invariant = { λ b. length b.engine.history ≡ b.tally.total };
+}
+
+/// Makes an order of the console of a number ready in an engine. No crew refuses one.
+pub(crate) fn order_in(
+    alloc: Global,
+    engine: &mut Engine,
+    console: u32,
+    order: Order,
+) -> Result<PreparedOrder, EngineFault>
+    ensures engine { (engine.new.plant ≡ engine.old.plant) × (engine.new.history ≡ engine.old.history) }
+    ensures ok { IfOk result (λ p. FitsOrder engine.new p × (order_event (state_of engine.old) console order ≡ Ok (event.Order p.console p.order)) × (p.console ≡ console) × (p.order ≡ order)) }
+    ensures err { IfErr result (λ e. IsDue e (order_event (state_of engine.old) console order)) }
+    ensures fault { IfErr result (λ e. IsOrderFault e) }
+{
+    engine.prepare_order(alloc, console, order)
 }
 
 impl<L: Ledger> Book<L> {
@@ -117,8 +133,9 @@ impl<L: Ledger> Book<L> {
         ensures history { self.new.history ≡ self.old.history }
         ensures ok { IfOk result (λ p. FitsOrder self.new p × (order_event (state_of self.old) console order ≡ Ok (event.Order p.console p.order)) × (p.console ≡ console) × (p.order ≡ order)) }
         ensures err { IfErr result (λ e. IsDue e (order_event (state_of self.old) console order)) }
+        ensures fault { IfErr result (λ e. IsOrderFault e) }
     {
-        self.engine.prepare_order(alloc, console, order)
+        order_in(alloc, &mut self.engine, console, order)
     }
 
     /// Adds an order that was made ready and does it, and adds one to the share. It allocates nothing and can't fail.

@@ -6,9 +6,10 @@ ghost use Rattle.plant_system.specs.Faults.{faults_by};
 ghost use Rattle.plant_system.specs.States.{IsReport};
 ghost use Rattle.plant_system.specs.System.{scan_event, order_event, reply_to};
 ghost use Rattle.engine.specs.Engines.{state_of, Fits, FitsOrder};
+ghost use Rattle.order_taking.specs.Turns.{IsOrderFault};
 ghost use Rattle.archive.specs.Refusals.{IsDueInBoth};
 
-use crate::book::Book;
+use crate::book::{Book, order_in};
 use engine::{
     Crew, Done, Engine, EngineFault, Job, Order, Pair, Prepared, PreparedOrder, Reply, Report,
     Start,
@@ -98,8 +99,9 @@ pub fn ready_order<L: Ledger>(
     ensures own { IfOk result (λ r. FitsOrder engine.new r.own × (order_event (state_of engine.old) console order ≡ Ok (event.Order console order)) × (r.own.console ≡ console) × (r.own.order ≡ order)) }
     ensures kept { IfOk result (λ r. FitsOrder book.new r.kept × (r.kept.console ≡ console) × (r.kept.order ≡ order)) }
     ensures err { IfErr result (λ e. IsDueInBoth e (order_event (state_of engine.old) console order) (order_event (state_of book.old) console order)) }
+    ensures fault { IfErr result (λ e. IsOrderFault e) }
 {
-    let own = engine.prepare_order(alloc, console, order)?;
+    let own = order_in(alloc, engine, console, order)?;
     let kept = book.prepare_order(alloc, console, order)?;
     Ok(ReadyOrder { own, kept })
 }

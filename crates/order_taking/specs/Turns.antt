@@ -6,9 +6,20 @@ use Rattle.event_history.specs.declared.event.Event.{Event}
 use Rattle.event_history.specs.declared.event.Order.{Order}
 use Rattle.plant_config.specs.Plants.{PlainPlant}
 use Rattle.plant_system.specs.declared.event.EngineFault.{EngineFault}
+use Rattle.plant_system.specs.declared.event.EngineFault.TheVariants as refusal
 use Rattle.plant_system.specs.declared.event.Reply.{Reply}
 use Rattle.plant_system.specs.System.{system}
 use Rattle.order_taking.specs.Parts.{answers_from, events_by}
+
+-- why an order is no event: memory was refused, or the history is full
+abbrev pub IsOrderFault : EngineFault → Type 0
+IsOrderFault refusal.Memory = Unit {0}
+IsOrderFault refusal.MomentBack = ⊥
+IsOrderFault refusal.MomentRange = ⊥
+IsOrderFault refusal.ImageName = ⊥
+IsOrderFault refusal.ImageKind = ⊥
+IsOrderFault (refusal.Crew fault) = ⊥
+IsOrderFault refusal.HistoryFull = Unit {0}
 
 -- no order that is known to wait can be answered: none is known, or no place for an answer is known to be free
 abbrev pub HasNoneToTake : Lane Order Reply → Type 0

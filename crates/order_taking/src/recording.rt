@@ -1,11 +1,12 @@
 //! Where orders become events.
 
-ghost use Rattle.std.specs.Prelude.{◌≡◌, ℕ, List, ◌++◌, [], ◌∷◌, IfOk, OnOk, OnErr};
+ghost use Rattle.std.specs.Prelude.{◌≡◌, ℕ, List, ◌++◌, [], ◌∷◌, IfOk, IfErr, OnOk, OnErr};
 ghost use Rattle.event_history.specs.declared.event.Event.{Event};
 ghost use Rattle.event_history.specs.declared.event.Event.TheVariants as event;
 ghost use Rattle.plant_config.specs.Plants.{PlainPlant};
 ghost use Rattle.plant_system.specs.System.{system, reply_to};
 ghost use Rattle.logbook.specs.Pages.{Book};
+ghost use Rattle.order_taking.specs.Turns.{IsOrderFault};
 
 use event_history::Order;
 use plant_system::{EngineFault, Reply};
@@ -25,7 +26,8 @@ pub trait Recording<H> {
     /// The log in which the boards are marked that show the events. No order changes which it is.
     ghost log_of: { Self → Book };
 
-    /// Makes an order of the console of a number the next event, and gives its reply. A refusal leaves the history as it was.
+    /// Makes an order of the console of a number the next event, and gives its reply. It is refused where memory is, and where the history is full; that leaves
+    /// the history as it was.
     fn order(
         &mut self,
         rt: &H,
@@ -36,6 +38,7 @@ pub trait Recording<H> {
         ensures plant { plant_of self.new ≡ plant_of self.old }
         ensures ok { OnOk result (history_of self.new ≡ history_of self.old ++ event.Order console order ∷ []) }
         ensures reply { IfOk result (λ r. r ≡ reply_to (system (plant_of self.old) (history_of self.old)) console order) }
+        ensures err { IfErr result (λ e. IsOrderFault e) }
         ensures kept { OnErr result (history_of self.new ≡ history_of self.old) }
         ensures parts { parts_of self.new ≡ parts_of self.old }
         ensures log { log_of self.new ≡ log_of self.old };
