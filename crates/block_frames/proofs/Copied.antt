@@ -124,6 +124,7 @@ frames_copied source order fs gs same h = record {
   run = h.run;
   are_used = h.are_used;
   are_run = h.are_run;
+  run_alone = h.run_alone;
   whole = same_length fs gs same ∙ h.whole;
   of_blocks = λ k n r g listed there at flag. let f = found fs gs same k g at in frame_copied source order f.0 g f.2 (framed (flagged h.run n) r) (h.of_blocks k n r f.0 listed there f.1 flag);
   of_others = λ k n g listed at flag. let f = found fs gs same k g at in blank_copied f.0 g f.2 (h.of_others k n f.0 listed f.1 flag);

@@ -21,7 +21,7 @@ use Rattle.block_walk.specs.Standards.{seats_standards, frame_standards}
 use Rattle.block_walk.proofs.Growing.{marked_more, counted_more}
 use Rattle.block_seats.specs.declared.seats.Extent.{Extent}
 use Rattle.block_seats.specs.declared.seats.Callee.{Callee}
-use Rattle.block_frames.specs.Reached.{flagged, AreReached}
+use Rattle.block_frames.specs.Reached.{Reaches, flagged, AreReached}
 use Rattle.block_frames.specs.Frames.{AreSeats, IsFrame, framed, IsBlank, IsFrames, IsStart}
 use Rattle.block_frames.specs.Numbers.{numbers}
 use Rattle.block_frames.specs.Built.{IsKnown, IsMade, AreBuilt, AreBegun}
@@ -91,13 +91,14 @@ module _ (source : Source) (order : List ℕ) (used run : List Bool) (are_used :
       } in
       subst (λ fs. AreBegun source order used run (k + 1) fs table) (sym pushed) whole
 
-pub begun_all : (source : Source) (order : List ℕ) (used run : List Bool) (frames : List Frame) (table : List Callee) → AreReached false source used → AreReached true source run → AreBegun source order used run (length source.programs) frames table
+pub begun_all : (source : Source) (order : List ℕ) (used run : List Bool) (frames : List Frame) (table : List Callee) → AreReached false source used → AreReached true source run → ((n : ℕ) → flagged run n ≡ true → Reaches true source n) → AreBegun source order used run (length source.programs) frames table
     → IsFrames source order frames
-begun_all source order used run frames table are_used are_run begun = record {
+begun_all source order used run frames table are_used are_run run_alone begun = record {
   used = used;
   run = run;
   are_used = are_used;
   are_run = are_run;
+  run_alone = run_alone;
   whole = begun.many;
   of_blocks = λ k n r f. begun.of_blocks k n r f;
   of_others = λ k n f. begun.of_others k n f;

@@ -21,7 +21,7 @@ use Rattle.block_walk.specs.Frames.{AreInTurn}
 use Rattle.block_walk.specs.Starts.{StartsAreMarked}
 use Rattle.block_walk.specs.Standards.{ClocksAreCounted}
 use Rattle.block_frames.specs.Numbers.{numbers}
-use Rattle.block_frames.specs.Reached.{flagged, AreReached}
+use Rattle.block_frames.specs.Reached.{Reaches, flagged, AreReached}
 
 -- the place of a block type in an order; the place behind all of them if it isn't listed
 abbrev pub place_in : List ℕ → ℕ → ℕ
@@ -70,12 +70,13 @@ pub record IsBlank (frame : Frame) : Type 0 where
   pub counted : frame.clocks ≡ 0
 
 -- a table has a frame for each block type in an order, and then one for each program, and the instances of each have their path numbers in turn, and each is marked with what it has;
--- the frame of a block type is of use if programs have instances of it, directly or through other block types, and has the body if they come to call it; else it has nothing
+-- the frame of a block type is of use if programs have instances of it, directly or through other block types, and has the body if they come to call it, and only then; else it has nothing
 pub record IsFrames (source : Source) (order : List ℕ) (frames : List Frame) : Type 0 where
   pub used : List Bool
   pub run : List Bool
   pub are_used : AreReached false source used
   pub are_run : AreReached true source run
+  pub run_alone : (n : ℕ) → flagged run n ≡ true → Reaches true source n
   pub whole : length frames ≡ length order + length source.programs
   pub of_blocks : (k n : ℕ) (r : PlainRoutine) (frame : Frame) → slice_get order k ≡ Some n → slice_get source.blocks n ≡ Some r → slice_get frames k ≡ Some frame → flagged used n ≡ true → IsFrame source order (framed (flagged run n) r) frame
   pub of_others : (k n : ℕ) (frame : Frame) → slice_get order k ≡ Some n → slice_get frames k ≡ Some frame → flagged used n ≡ false → IsBlank frame

@@ -6,6 +6,7 @@ use Rattle.plant_logic.specs.Blocks.{DeclaresThere}
 use Rattle.block_frames.specs.Reached.{flagged, AreReached, reached}
 use Rattle.block_frames.specs.Built.{IsSized, IsFitting, AreBegun}
 use Rattle.block_frames.proofs.Flags.{are_reached}
+use Rattle.block_frames.proofs.Least.{flagged_reached}
 use Rattle.block_frames.proofs.Sizes.{all_measured, programs_fit}
 use Rattle.block_frames.proofs.Programs.{begun_none, begun_all}
 use Rattle.block_frames.proofs.frames.frames_by.Goals as goal
@@ -53,12 +54,11 @@ returns c =
     subst (AreReached false source)
     (sym (c.deref.ensures.value ∙ c.in_ok-used.ensures ∙ (λ i. reached false (map view_routine (c.as_slice-programs.ensures.value i)) (map view_routine (c.as_slice-blocks.ensures.value i)) order)))
     (are_reached false source order c.requires.below c.requires.types) in
-    let are_run : AreReached true source run =
-    subst (AreReached true source)
-    (sym (c.deref-2.ensures.value ∙ c.in_ok-run.ensures ∙ (λ i. reached true (map view_routine (c.as_slice-programs.ensures.value i)) (map view_routine (c.as_slice-blocks.ensures.value i)) order)))
-    (are_reached true source order c.requires.below c.requires.types) in
+    let run_is : run ≡ reached true source.programs source.blocks order =
+    c.deref-2.ensures.value ∙ c.in_ok-run.ensures ∙ (λ i. reached true (map view_routine (c.as_slice-programs.ensures.value i)) (map view_routine (c.as_slice-blocks.ensures.value i)) order) in
+    let are_run : AreReached true source run = subst (AreReached true source) (sym run_is) (are_reached true source order c.requires.below c.requires.types) in
     let built = c.in_ok-frames.ensures.built source (ap (map view_routine) (sym c.as_slice-blocks.ensures.value)) of are_used in
     let begun = subst (AreBegun source order used run 0 frames) (sym c.deref-3.ensures.value) (begun_none source order used run frames c.in_ok-frames.table.items c.requires.below built) in
     let all = c.in_ok-add_programs.ensures source order used run (ap (map view_routine) (sym c.as_slice-programs.ensures.value)) of c.requires.types are_used begun in
     let many : length c.as_slice-programs.result.now ≡ length source.programs = ap length c.as_slice-programs.ensures.value ∙ sym (length-map logic.programs.items view_routine) in
-    begun_all source order used run later c.deref-3.result.now are_used are_run (subst (λ n. AreBegun source order used run n later c.deref-3.result.now) many all)
+    begun_all source order used run later c.deref-3.result.now are_used are_run (λ n on. flagged_reached true source order n (subst (λ l. flagged l n ≡ true) run_is on)) (subst (λ n. AreBegun source order used run n later c.deref-3.result.now) many all)
