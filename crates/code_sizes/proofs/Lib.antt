@@ -1,3 +1,4 @@
+pub mod Few
 mod Tables
 mod Stopping
 mod Alike

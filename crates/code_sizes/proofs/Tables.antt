@@ -10,7 +10,8 @@ use Rattle.block_walk.specs.declared.frame.Frame.{Frame}
 use Rattle.block_walk.specs.Frames.{of_frame, of_first, routine_paths, frame_paths}
 use Rattle.code_sizes.specs.declared.counts.Count.{Count}
 use Rattle.code_sizes.specs.Sizes.{routine_lines, routine_words, frame_lines, frame_words}
-use Rattle.code_sizes.specs.Counts.{capped, lines_at, words_at, paths_at, IsCountOf, AreFirst}
+use Rattle.code_sizes.specs.Counts.{capped, lines_at, words_at, paths_at, IsCountOf, AreFirst, HasFewLines}
+use Rattle.block_walk.proofs.Firsts.{first_is}
 use Rattle.code_sizes.proofs.Stopping.{Same}
 use Rattle.code_sizes.proofs.Alike.{routine_alike}
 
@@ -83,3 +84,12 @@ first_pushed frames table after frame count n there before is pushed =
 pub first_none : (frames : List Frame) (table : List Count) → table ≡ [] → AreFirst frames 0 table
 unfolding frame_lines frame_words frame_paths
 first_none frames table e = rw e (record { many = refl; lines = λ k. refl; words = λ k. refl; paths = λ k. refl })
+
+-- by the counts of the frames before it, a frame has few instructions if each has
+pub few_within : (frames : List Frame) (table : List Count) (frame : Frame) (n : ℕ) → n < length frames → slice_get frames n ≡ Some frame → AreFirst frames n table → HasFewLines frames → routine_lines (lines_at table) frame < 4294967296
+unfolding frame_lines
+few_within frames table frame n inside there before few =
+    let is : frame_lines frames (length frames) n ≡ routine_lines (frame_lines frames n) frame = first_is 0 routine_lines frames (length frames) n frame inside there in
+    let same : routine_lines (frame_lines frames n) frame ≡ routine_lines (lines_at table) frame = ap (λ f. routine_lines f frame) (λ i k. before.lines k i) in
+    let most = few n in
+    omega (arith, is, same, most)

@@ -1,5 +1,5 @@
 -- What a table of counts tells of each frame.
-use Rattle.std.specs.Prelude.{◌≡◌, ℕ, min, List, length, slice_get}
+use Rattle.std.specs.Prelude.{◌≡◌, ◌<◌, ◌^◌, ℕ, min, List, length, slice_get}
 use Rattle.std.specs.Option.{option_map_or}
 use Rattle.plant_cells.specs.Runs.{Path}
 use Rattle.block_walk.specs.declared.frame.Frame.{Frame}
@@ -36,6 +36,10 @@ pub record AreFirst (frames : List Frame) (n : ℕ) (table : List Count) : Type 
   pub lines : (k : ℕ) → frame_lines frames n k ≡ lines_at table k
   pub words : (k : ℕ) → capped (frame_words frames n k) ≡ words_at table k
   pub paths : (k : ℕ) → capped (length (frame_paths frames n k)) ≡ paths_at table k
+
+-- each frame of a table has fewer than 2^32 instructions
+abbrev pub HasFewLines : List Frame → Type 0
+HasFewLines frames = (k : ℕ) → frame_lines frames (length frames) k < 2 ^ 32
 
 -- counts are those of all frames
 abbrev pub AreCounts : List Frame → FrameCounts → Type 0

@@ -1,7 +1,8 @@
 //! Counts the frames of a table, each once.
 
-ghost use Rattle.std.specs.Prelude.{IfOk};
-ghost use Rattle.code_sizes.specs.Counts.{IsCountOf, AreCounts};
+ghost use Rattle.std.specs.Prelude.{◌<◌, ◌^◌, IfOk};
+ghost use Rattle.code_sizes.specs.Sizes.{routine_lines};
+ghost use Rattle.code_sizes.specs.Counts.{lines_at, IsCountOf, HasFewLines, AreCounts};
 
 use crate::lines::body_lines;
 use crate::paths::routine_paths;
@@ -30,26 +31,28 @@ impl Drop for FrameCounts {
 }
 
 /// The counts of the frame that comes after those of a table.
-fn count_frame(table: &[Count], frame: &Frame) -> Result<Count, AllocError>
-    ensures { IfOk result (λ count. IsCountOf table.now frame.now count) }
+fn count_frame(table: &[Count], frame: &Frame) -> Count
+    requires { routine_lines (lines_at table.now) frame.now < 2 ^ 32 }
+    ensures { IsCountOf table.now frame.now result }
 {
-    let lines = body_lines(table, &frame.seats, &frame.body)?;
+    let lines = body_lines(table, &frame.seats, &frame.body);
     let words = body_words(table, &frame.seats, &frame.body);
     let paths = routine_paths(table, &frame.seats);
-    Ok(Count {
+    Count {
         lines,
         words,
         paths,
-    })
+    }
 }
 
-/// Counts each frame of a table, once and for all that are made code. Fails if allocation fails, and if a frame has 2^32 or more instructions.
+/// Counts each frame of a table, once and for all that are made code. Fails if allocation fails.
 pub fn count_frames(alloc: Global, frames: &[Frame]) -> Result<FrameCounts, AllocError>
+    requires { HasFewLines frames.now }
     ensures { IfOk result (λ counts. AreCounts frames.now counts) }
 {
     let mut table = Vec::with_capacity(alloc, frames.len())?;
     for frame in frames {
-        let count = count_frame(&table, frame)?;
+        let count = count_frame(&table, frame);
         table.push(count)?;
     }
     Ok(FrameCounts { frames: table })

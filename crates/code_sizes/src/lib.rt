@@ -3,12 +3,11 @@
 //! A frame is laid out anew for each instance that is called, so that the counts of a frame are by those of the frames before it. The frames of
 //! a table are counted once, in their order.
 //!
-//! Instructions are counted exactly, and 2^32 or more are answered as refused memory: no machine word would name them. In a frame that a program
-//! comes to call they are at most three for each unit of the program's size. Words of stack and paths are counted up to 2^64 - 1, and never
-//! refused: of a frame that becomes code, both are below that, as codegen proves.
+//! Instructions are counted exactly: each frame has fewer than 2^32, as the caller knows, since a frame that a program comes to call has at most
+//! three for each unit of the program's size. Words of stack and paths are counted up to 2^64 - 1, and never refused: of a frame that becomes
+//! code, both are below that, as codegen proves.
 #![tactic(auto)]
 
-mod adding;
 mod capping;
 mod counts;
 mod lines;

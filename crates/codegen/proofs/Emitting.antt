@@ -71,7 +71,7 @@ module _ (frames : List Frame) (limit k : ℕ) (table : List Count) (less : k < 
   within_front : length (take k table) ≡ k
   within_front = let long = laid.long in length-take-le k table (omega arith)
 
-  front_lines : (j : ℕ) → frame_lines frames k j ≡ lines_at (take k table) j
+  pub front_lines : (j : ℕ) → frame_lines frames k j ≡ lines_at (take k table) j
   front_lines j =
       elim (cases_lt j k) [
         | inl h ↦ same_lines j h ∙ laid.lines j ∙ ap (λ (o : Option Count). option_map_or (λ (c : Count). c.lines) o 0) (sym (taken table k j h))

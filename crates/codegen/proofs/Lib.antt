@@ -12,6 +12,7 @@ pub mod Runs
 pub mod Emitting
 pub mod Steady
 pub mod Naming
+pub mod Long
 pub mod Numbered
 pub mod Ends
 pub mod Places

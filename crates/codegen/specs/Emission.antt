@@ -12,7 +12,7 @@ use Rattle.block_walk.specs.Frames.{InTurn, AreInTurn, frame_paths}
 use Rattle.block_walk.specs.Walks.{HasRoom, slot_of, paths_within}
 use Rattle.acc_vm.specs.declared.instr.Instr.TheVariants as instr
 use Rattle.code_sizes.specs.declared.counts.Count.{Count}
-use Rattle.code_sizes.specs.Sizes.{frame_lines, branches_lines, choices_lines}
+use Rattle.code_sizes.specs.Sizes.{inputs_lines, outputs_lines, entered, stmt_lines, body_lines, frame_lines, branches_lines, choices_lines}
 use Rattle.code_sizes.specs.Counts.{lines_at}
 use Rattle.codegen.specs.declared.scope.Scope.{Scope}
 use Rattle.codegen.specs.Codes as codes
@@ -79,7 +79,19 @@ branches_code s = codes.branches_code s.globals s.seats.now (lines_at s.table.no
 abbrev pub choices_code : Scope → Place → Choices ℕ → (ℕ → List Line) → ℕ → ℕ → List Line
 choices_code s = codes.choices_code s.globals s.seats.now (lines_at s.table.now) (coders s.globals s.frames.now s.limit) s.base s.path
 
--- how many lines branches and choices are, with so many behind them
+-- how many lines the parts of a routine in a scope are; branches and choices, with so many behind them
+abbrev pub enter_long : Scope → Option Seat → ℕ
+enter_long s seat = entered 2 (lines_at s.table.now) seat
+
+abbrev pub call_long : Scope → Option Seat → List (PlainArgument ℕ) → ℕ
+call_long s seat arguments = inputs_lines seat arguments + enter_long s seat + outputs_lines arguments
+
+abbrev pub stmt_long : Scope → PlainStmt ℕ → ℕ
+stmt_long s = stmt_lines s.seats.now (lines_at s.table.now)
+
+abbrev pub body_long : Scope → PlainBody ℕ → ℕ
+body_long s = body_lines s.seats.now (lines_at s.table.now)
+
 abbrev pub branches_long : Scope → Branches ℕ → ℕ → ℕ
 branches_long s = branches_lines s.seats.now (lines_at s.table.now)
 

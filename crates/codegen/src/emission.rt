@@ -4,18 +4,20 @@ ghost use Rattle.std.specs.Prelude.{◌≡◌, ◌<◌, ◌≤◌, ◌+◌, ◌^
 ghost use Rattle.std.specs.List.{list_all};
 ghost use Rattle.st_tree.specs.View.{view_argument, view_stmt, view_body, view_branch, view_branches, view_choice, view_choices};
 ghost use Rattle.st_tree.specs.Mapping.{argument_known, stmt_known, body_known, expr_known, branches_known, choices_known};
+ghost use Rattle.st_tree.specs.Controls.{control_values};
 ghost use Rattle.block_walk.specs.Frames.{AreInTurn, frame_paths};
 ghost use Rattle.block_walk.specs.Walks.{HasRoom};
 ghost use Rattle.acc_vm.specs.declared.instr.Instr.TheVariants.{Jump, JumpUnless};
+ghost use Rattle.code_sizes.specs.Sizes.{for_lines, frame_lines};
 ghost use Rattle.codegen.specs.Codes.{Line, labels_code, for_code, IsSteady, SteadyStmt, SteadyBody, SteadyBranches, SteadyChoices, AreSteady};
 ghost use Rattle.codegen.specs.Emission as code;
-ghost use Rattle.codegen.specs.Emission.{AreLines, IsLaid, named, coders, branches_long, choices_long};
+ghost use Rattle.codegen.specs.Emission.{AreLines, IsLaid, named, coders, body_long, stmt_long, call_long, enter_long, branches_long, choices_long};
 ghost use Rattle.codegen.specs.Within.{fits, frame_there};
 
 use crate::arguments::{emit_inputs, emit_outputs, emit_standard};
 use crate::expressions::emit_expr;
 use crate::lines::{emit, emit_labels};
-use crate::numbers::{add, base_of, count, left_of, slot_of};
+use crate::numbers::{base_of, left_of, slot_of};
 use crate::scope::Scope;
 use acc_vm::Instr;
 use block_walk::{Base, Frame, SeatOf};
@@ -47,6 +49,7 @@ pub(crate) fn emit_frame(
     requires in_turn { AreInTurn frames.now }
     requires steady { AreSteady frames.now }
     requires named { frame_there fits fits globals frames.now limit k base ≡ true }
+    requires long { pc + frame_lines frames.now limit k < 2 ^ 32 }
     ensures { IfOk result (λ _. out.new.items ≡ out.old.items ++ coders globals frames.now limit k base path pc) }
 {
     let frame = &frames[k];
@@ -73,12 +76,13 @@ fn emit_body(
     requires laid { IsLaid scope.now }
     requires steady { SteadyBody (view_body body.now) }
     requires named { body_known (named scope.now) (view_body body.now) ≡ true }
+    requires long { pc + body_long scope.now (view_body body.now) < 2 ^ 32 }
     ensures { IfOk result (λ _. out.new.items ≡ out.old.items ++ code.body_code scope.now (view_body body.now) pc) }
 {
     let mut at = pc;
     for stmt in body {
         emit_stmt(scope, out, stmt, at)?;
-        at = add(at, stmt_lines(scope.table, scope.seats, stmt)?)?;
+        at += stmt_lines(scope.table, scope.seats, stmt);
     }
     Ok(())
 }
@@ -94,6 +98,7 @@ fn emit_stmt(
     requires laid { IsLaid scope.now }
     requires steady { SteadyStmt (view_stmt stmt.now) }
     requires named { stmt_known (named scope.now) (view_stmt stmt.now) ≡ true }
+    requires long { pc + stmt_long scope.now (view_stmt stmt.now) < 2 ^ 32 }
     ensures { IfOk result (λ _. out.new.items ≡ out.old.items ++ code.stmt_code scope.now (view_stmt stmt.now) pc) }
 {
     match stmt {
@@ -119,9 +124,8 @@ fn emit_stmt(
                 path: scope.path,
                 statement: *statement,
             };
-            let otherwise = body_lines(scope.table, scope.seats, last)?;
-            let lines = branches_lines(scope.table, scope.seats, branches, otherwise)?;
-            let end = add(pc, lines)?;
+            let otherwise = body_lines(scope.table, scope.seats, last);
+            let end = pc + branches_lines(scope.table, scope.seats, branches, otherwise);
             let at = emit_branches(scope, out, place, branches, pc, end)?;
             emit_body(scope, out, last, at)
         }
@@ -131,10 +135,9 @@ fn emit_stmt(
                 statement: *statement,
             };
             emit_expr(scope, out, place, selector)?;
-            let first = add(pc, expr_lines(selector)?)?;
-            let otherwise = body_lines(scope.table, scope.seats, last)?;
-            let lines = choices_lines(scope.table, scope.seats, choices, otherwise)?;
-            let end = add(first, lines)?;
+            let first = pc + expr_lines(selector);
+            let otherwise = body_lines(scope.table, scope.seats, last);
+            let end = first + choices_lines(scope.table, scope.seats, choices, otherwise);
             let at = emit_choices(scope, out, place, choices, first, end)?;
             emit_body(scope, out, last, at)
         }
@@ -172,10 +175,11 @@ fn emit_call(
     requires laid { IsLaid scope.now }
     requires there { (named scope.now).has_instance instance ≡ true }
     requires named { list_all (argument_known (named scope.now) instance) (map view_argument arguments.now) ≡ true }
+    requires long { pc + call_long scope.now (slice_get scope.now.seats.now instance) (map view_argument arguments.now) < 2 ^ 32 }
     ensures { IfOk result (λ _. out.new.items ≡ out.old.items ++ code.call_code scope.now place (slice_get scope.now.seats.now instance) (map view_argument arguments.now) pc) }
 {
     emit_inputs(scope, out, place, instance, arguments)?;
-    let at = add(pc, inputs_lines(scope.seats, instance, arguments)?)?;
+    let at = pc + inputs_lines(scope.seats, instance, arguments);
     emit_enter(scope, out, place, instance, at)?;
     emit_outputs(scope, out, place, instance, arguments)
 }
@@ -191,6 +195,7 @@ fn emit_enter(
 ) -> Result<(), AllocError>
     requires laid { IsLaid scope.now }
     requires named { (named scope.now).has_instance instance ≡ true }
+    requires long { pc + enter_long scope.now (slice_get scope.now.seats.now instance) < 2 ^ 32 }
     ensures { IfOk result (λ _. out.new.items ≡ out.old.items ++ code.enter_code scope.now place (slice_get scope.now.seats.now instance) pc) }
 {
     match scope.seats.get(instance) {
@@ -230,14 +235,14 @@ fn emit_branches(
     requires laid { IsLaid scope.now }
     requires steady { SteadyBranches (view_branches branches.now) }
     requires named { branches_known (named scope.now) (view_branches branches.now) ≡ true }
+    requires long { (n : ℕ) × (pc + branches_long scope.now (view_branches branches.now) n ≡ end) }
     ensures { IfOk result (λ at. (last : ℕ → List Line) (n : ℕ) → pc + branches_long scope.now (view_branches branches.now) n ≡ end
-        → out.new.items ++ last at ≡ out.old.items ++ code.branches_code scope.now place (view_branches branches.now) last n pc) }
+        → (at + n ≡ end) × (out.new.items ++ last at ≡ out.old.items ++ code.branches_code scope.now place (view_branches branches.now) last n pc)) }
 {
     let mut at = pc;
     for branch in branches {
-        let body = add(add(at, expr_lines(&branch.test)?)?, 1)?;
-        let inside = body_lines(scope.table, scope.seats, &branch.body)?;
-        let next = add(add(body, inside)?, 1)?;
+        let body = at + expr_lines(&branch.test) + 1;
+        let next = body + body_lines(scope.table, scope.seats, &branch.body) + 1;
         emit_branch(scope, out, place, branch, body, next, end)?;
         at = next;
     }
@@ -259,6 +264,7 @@ fn emit_branch(
     requires steady { SteadyBody (view_branch branch.now).1 }
     requires test { expr_known (named scope.now) (view_branch branch.now).0 ≡ true }
     requires named { body_known (named scope.now) (view_branch branch.now).1 ≡ true }
+    requires long { body + body_long scope.now (view_branch branch.now).1 < 2 ^ 32 }
     ensures { IfOk result (λ _. out.new.items ≡ out.old.items ++ (code.expr_code scope.now place (view_branch branch.now).0 ++ ((JumpUnless next, place) ∷ (code.body_code scope.now (view_branch branch.now).1 body ++ (Jump end, place) ∷ [])))) }
 {
     emit_expr(scope, out, place, &branch.test)?;
@@ -281,16 +287,16 @@ fn emit_choices(
     requires laid { IsLaid scope.now }
     requires steady { SteadyChoices (view_choices choices.now) }
     requires named { choices_known (named scope.now) (view_choices choices.now) ≡ true }
+    requires long { (n : ℕ) × (pc + choices_long scope.now (view_choices choices.now) n ≡ end) }
     ensures { IfOk result (λ at. (last : ℕ → List Line) (n : ℕ) → pc + choices_long scope.now (view_choices choices.now) n ≡ end
-        → out.new.items ++ last at ≡ out.old.items ++ code.choices_code scope.now place (view_choices choices.now) last n pc) }
+        → (at + n ≡ end) × (out.new.items ++ last at ≡ out.old.items ++ code.choices_code scope.now place (view_choices choices.now) last n pc)) }
 {
     let mut at = pc;
     for choice in choices {
         let labels = choice.labels.len();
         if labels > 0 {
-            let body = add(add(at, count(labels)?)?, 1)?;
-            let inside = body_lines(scope.table, scope.seats, &choice.body)?;
-            let next = add(add(body, inside)?, 1)?;
+            let body = at + labels as u32 + 1;
+            let next = body + body_lines(scope.table, scope.seats, &choice.body) + 1;
             emit_choice(scope, out, place, choice, body, next, end)?;
             at = next;
         }
@@ -312,6 +318,7 @@ fn emit_choice(
     requires laid { IsLaid scope.now }
     requires steady { SteadyBody (view_choice choice.now).1 }
     requires named { body_known (named scope.now) (view_choice choice.now).1 ≡ true }
+    requires long { body + body_long scope.now (view_choice choice.now).1 < 2 ^ 32 }
     ensures { IfOk result (λ _. out.new.items ≡ out.old.items ++ (labels_code place (view_choice choice.now).0 body ++ ((Jump next, place) ∷ (code.body_code scope.now (view_choice choice.now).1 body ++ (Jump end, place) ∷ [])))) }
 {
     emit_labels(out, place, &choice.labels, body)?;
@@ -335,6 +342,7 @@ fn emit_loop(
     requires dints { IsSteady (Some span) }
     requires steady { SteadyBody (view_body body.now) }
     requires named { body_known (named scope.now) (view_body body.now) ≡ true }
+    requires long { pc + for_lines (length (control_values span)) (body_long scope.now (view_body body.now)) < 2 ^ 32 }
     ensures { IfOk result (λ _. out.new.items ≡ out.old.items ++ for_code place slot (Some span) (code.body_code scope.now (view_body body.now)) pc) }
 {
     let turns = count_turns(span);
@@ -342,7 +350,7 @@ fn emit_loop(
         return Ok(());
     }
     let left = left_of(turns - 1);
-    let first = add(pc, 1)?;
+    let first = pc + 1;
     emit(
         out,
         Instr::Begin {

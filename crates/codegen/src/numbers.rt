@@ -1,6 +1,6 @@
-//! Numbers of slots, clocks and lines, and the bases of instances. A slot and a clock are below 2^32; a line is refused from there on.
+//! Numbers of slots and clocks, and the bases of instances.
 
-ghost use Rattle.std.specs.Prelude.{◌≡◌, ◌<◌, ℕ, ◌+◌, ◌^◌, pos, true, slice_get, IfOk};
+ghost use Rattle.std.specs.Prelude.{◌≡◌, ◌<◌, ℕ, ◌+◌, ◌^◌, pos, true, slice_get};
 ghost use Rattle.block_walk.specs.Walks.{HasRoom, slot_of, member_slot, base_of};
 ghost use Rattle.codegen.specs.Codes.{output_instr, pt_instr};
 ghost use Rattle.codegen.specs.Within.{fits, has_output, has_pt};
@@ -8,28 +8,6 @@ ghost use Rattle.codegen.specs.Within.{fits, has_output, has_pt};
 use acc_vm::Instr;
 use block_walk::{Base, Seat, SeatOf};
 use plant_cells::Standard;
-use std::alloc::AllocError;
-
-/// The sum of two numbers; refused if it is 2^32 or more.
-pub(crate) fn add(a: u32, b: u32) -> Result<u32, AllocError>
-    ensures { IfOk result (λ n. n ≡ a + b) }
-{
-    match a.checked_add(b) {
-        Some(n) => Ok(n),
-        None => Err(AllocError),
-    }
-}
-
-/// The number of labels of a choice; refused if it is 2^32 or more.
-pub(crate) fn count(n: usize) -> Result<u32, AllocError>
-    ensures { IfOk result (λ m. m ≡ n) }
-{
-    if n < 4_294_967_296 {
-        Ok(n as u32)
-    } else {
-        Err(AllocError)
-    }
-}
 
 /// The turns that are left after the first one, as a word.
 pub(crate) fn left_of(turns: u128) -> i64

@@ -1,5 +1,5 @@
 -- A program's frame costs no more than the program.
-use Rattle.std.proofs.Common.{◌≡◌, ◌∙◌, ap, sym, subst, refl, ℕ, zero, suc, ◌+◌, ◌<◌, ◌≤◌, Bool, true, false, List, [], ◌∷◌, length, get_or, Option, Some, None, slice_get, inl, inr, arith}
+use Rattle.std.proofs.Common.{◌≡◌, ◌∙◌, ap, sym, subst, refl, ℕ, zero, suc, ◌+◌, ◌<◌, ◌≤◌, max, Bool, true, false, List, [], ◌∷◌, length, get_or, Option, Some, None, slice_get, inl, inr, arith}
 use Rattle.std.specs.Prelude.{nat_eq, nat_lt, is_some, unwrap_or, option_map}
 use Rattle.std.specs.List.{position, position_or_len}
 use Rattle.std.specs.Option.{option_map_or}
@@ -11,6 +11,7 @@ use Rattle.std.proofs.lemmas.Option.{slice_get_within, slice_get-get_or, slice_g
 use Rattle.st_tree.specs.Costs.{body_cost}
 use Rattle.st_tree.specs.Plain.{PlainBody, done}
 use Rattle.st_tree.specs.View.{view_body}
+use Rattle.st_typing.specs.Constants.{for_turns}
 use Rattle.block_order.specs.Chains.{Among}
 use Rattle.plant_logic.specs.declared.logic.Instance.{Instance}
 use Rattle.plant_logic.specs.declared.logic.BlockRef.{BlockRef}
@@ -32,7 +33,8 @@ use Rattle.block_frames.specs.Frames.{place_in, seated, AreSeats, IsFrame, frame
 use Rattle.code_sizes.specs.Sizes.{seat_cost, called_cost, frame_turns, routine_cost, frame_cost}
 use Rattle.codegen.proofs.Parts.{cost_is}
 use Rattle.program_codes.specs.Codes.{CostNoMore}
-use Rattle.plant_walk.proofs.Weighed.{body_less}
+use Rattle.program_codes.proofs.Costs.{greater_rises}
+use Rattle.plant_walk.proofs.Weighed.{turns_are, body_less}
 
 -- a block type costs what its routine does, by what the block types that it declares cost
 abbrev pub TypesCost : List PlainRoutine → List ℕ → Type 0
@@ -118,7 +120,7 @@ module _ (source : Source) (order : List ℕ) (frames : List Frame) (are : IsFra
   frame_less : (r : PlainRoutine) (frame : Frame) (k : ℕ) → IsFrame source order r frame → HasItsNames source r
       → ((i : Instance) (m : ℕ) → Among r.instances i → i.of ≡ Declared m → frame_cost frames k (place_in order m) ≤ type_cost source.blocks m) → routine_cost (frame_cost frames k) frame ≤ limits.routine_cost (type_cost source.blocks) r
   frame_less r frame k is known less =
-      let own = body_less source r (called_cost (frame_cost frames k) frame.seats.items) (called_weight (type_cost source.blocks) r)
+      let own = body_less source r max greater_rises frame_turns for_turns (turns_are source r) (called_cost (frame_cost frames k) frame.seats.items) (called_weight (type_cost source.blocks) r)
       (λ name there. called_less source.blocks order r (frame_cost frames k) (type_cost source.blocks) frame.seats.items name is.seats_are less there) 1 r.body known.in_body in
       subst (λ (body : PlainBody ℕ). body_cost frame_turns (called_cost (frame_cost frames k) frame.seats.items) body ≤ limits.routine_cost (type_cost source.blocks) r) (sym is.body_is) own
 

@@ -16,6 +16,7 @@ mod Walks
 mod Coded
 mod OwnCodes
 mod Weighed
+mod Sizes
 mod Costs
 mod Known
 mod Within

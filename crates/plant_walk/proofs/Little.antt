@@ -92,7 +92,7 @@ module _ (source : Source) (sound : IsSound source) (slots_are : (n : ℕ) (r : 
       let one = one_at (routine_slots (type_slots source.blocks)) source.programs k p at in
       omega (arith, limit, one)
 
-  program_size : (k : ℕ) (p : PlainRoutine) → slice_get source.programs k ≡ Some p → routine_size (type_size source.blocks) p ≤ 1000000
+  pub program_size : (k : ℕ) (p : PlainRoutine) → slice_get source.programs k ≡ Some p → routine_size (type_size source.blocks) p ≤ 1000000
   program_size k p at =
       let limit : sum_by (routine_size (type_size source.blocks)) source.programs ≤ 1000000 = sound.limits.size in
       let one = one_at (routine_size (type_size source.blocks)) source.programs k p at in
@@ -109,7 +109,7 @@ module _ (source : Source) (sound : IsSound source) (slots_are : (n : ℕ) (r : 
       let own = slots_asked (type_slots source.blocks) r m asks in
       omega (arith, most, is, own)
 
-  reached_size : (n : ℕ) → Reaches true source n → type_size source.blocks n ≤ 1000000
+  pub reached_size : (n : ℕ) → Reaches true source n → type_size source.blocks n ≤ 1000000
   reached_size n (by_program k m p at asks) =
       let most = program_size k p at in
       let own = size_asked (type_size source.blocks) p m (all_at AreNamedApart source.programs k p (sound_named source sound).in_programs at) asks in

@@ -1,5 +1,5 @@
--- A body over numbers costs no more than the body that is written, where the instances that it calls cost no more.
-use Rattle.std.proofs.Common.{◌≡◌, ◌∙◌, ap, sym, refl, ℕ, ◌+◌, ◌*◌, ◌≤◌, max, true, List, [], ◌∷◌, map, length, Option, Some, None, arith}
+-- A body over numbers weighs no more than the body that is written, where the instances that it calls weigh no more.
+use Rattle.std.proofs.Common.{◌≡◌, ◌∙◌, ap, sym, refl, ℕ, ◌+◌, ◌*◌, ◌≤◌, true, List, [], ◌∷◌, map, length, Option, Some, None, arith}
 use Rattle.std.specs.Prelude.{◌&&◌, is_some, option_map, unwrap_or, Ok, Err}
 use Rattle.std.specs.List.{list_all}
 use Rattle.std.proofs.lemmas.Bool.{and_parts}
@@ -70,7 +70,7 @@ module _ (source : Source) (r : PlainRoutine) where
   step_same (Some e) = ap number_of (constant_same e)
 
   -- a FOR has as many turns by numbers as by names
-  turns_are : (from to : PlainExpr Name) (by : Option (PlainExpr Name)) → frame_turns (plain from) (plain to) (mapped_option (numbers source r) (option_map (resolved_expr variables outputs) by)) ≡ for_turns from to by
+  pub turns_are : (from to : PlainExpr Name) (by : Option (PlainExpr Name)) → frame_turns (plain from) (plain to) (mapped_option (numbers source r) (option_map (resolved_expr variables outputs) by)) ≡ for_turns from to by
   turns_are from to by =
       (λ i. turns_of (span_from (number_of (constant_same from i)) (number_of (constant_same to i)) (step_same by i))) ∙ turns_same (meant_constant from) (meant_constant to) (constant_step by)
 
@@ -103,46 +103,51 @@ module _ (source : Source) (r : PlainRoutine) where
       let d = and_parts (expr_known k to) (option_known k by && body_known k body) b.1 in
       (and_parts (option_known k by) (body_known k body) d.1).1
 
-  module _ (inner : ℕ → ℕ) (outer : Name → ℕ) (less : (name : Name) → is_some (instance_number r name) ≡ true → inner (unwrap_or (instance_number r name) 0) ≤ outer name) where
+  -- whatever joins branches, if it gives no more for no more, and counts the turns of a FOR, if it counts as many by numbers as by names
+  module _ (join : ℕ → ℕ → ℕ) (rises : (a b c d : ℕ) → a ≤ c → b ≤ d → join a b ≤ join c d) (inside : PlainExpr ℕ → PlainExpr ℕ → Option (PlainExpr ℕ) → ℕ) (written : PlainExpr Name → PlainExpr Name → Option (PlainExpr Name) → ℕ)
+      (as_many : (from to : PlainExpr Name) (by : Option (PlainExpr Name)) → inside (plain from) (plain to) (mapped_option (numbers source r) (option_map (resolved_expr variables outputs) by)) ≡ written from to by)
+      (inner : ℕ → ℕ) (outer : Name → ℕ) (less : (name : Name) → is_some (instance_number r name) ≡ true → inner (unwrap_or (instance_number r name) 0) ≤ outer name) where
     abbrev stmt_inner : ℕ → PlainStmt Name → ℕ
-    stmt_inner n s = weight max frame_turns inner (mapped_stmt (numbers source r) (resolved_stmt variables outputs (numbered_stmt n s)))
+    stmt_inner n s = weight join inside inner (mapped_stmt (numbers source r) (resolved_stmt variables outputs (numbered_stmt n s)))
 
     abbrev body_inner : ℕ → PlainBody Name → ℕ
-    body_inner n body = weight_all max frame_turns inner (mapped_body (numbers source r) (resolved_body variables outputs (numbered n body)))
+    body_inner n body = weight_all join inside inner (mapped_body (numbers source r) (resolved_body variables outputs (numbered n body)))
 
     abbrev branches_inner : ℕ → Branches Name → ℕ
-    branches_inner n branches = branches_weight max frame_turns inner (mapped_branches (numbers source r) (resolved_branches variables outputs (numbered_branches n branches)))
+    branches_inner n branches = branches_weight join inside inner (mapped_branches (numbers source r) (resolved_branches variables outputs (numbered_branches n branches)))
 
     abbrev choices_inner : ℕ → Choices Name → ℕ
-    choices_inner n choices = choices_weight max frame_turns inner (mapped_choices (numbers source r) (resolved_choices variables outputs (numbered_choices n choices)))
+    choices_inner n choices = choices_weight join inside inner (mapped_choices (numbers source r) (resolved_choices variables outputs (numbered_choices n choices)))
 
     mutual
-      stmt_less : (n : ℕ) (s : PlainStmt Name) → stmt_known (numbered_in source r) s ≡ true → stmt_inner n s ≤ weight max for_turns outer s
+      stmt_less : (n : ℕ) (s : PlainStmt Name) → stmt_known (numbered_in source r) s ≡ true → stmt_inner n s ≤ weight join written outer s
       stmt_less n (empty number) known = omega arith
       stmt_less n (assign number v e) known = let first = expr_same e in omega (arith, first)
       stmt_less n (call number instance arguments) known =
           let p = and_parts (is_some (instance_number r instance)) (list_all (argument_known (numbered_in source r) instance) arguments) known in
-          let inside = less instance p.0 in
+          let called = less instance p.0 in
           let given = arguments_same instance arguments in
-          omega (arith, inside, given)
+          omega (arith, called, given)
       stmt_less n (if_else number branches last) known =
           let p = and_parts (branches_known (numbered_in source r) branches) (body_known (numbered_in source r) last) known in
           let tests = tests_same (n + 1) branches in
-          let inside = branches_less (n + 1) branches p.0 in
-          let otherwise = body_less (n + 1 + count_branches branches) last p.1 in
-          omega (arith, tests, inside, otherwise)
+          let joined =
+          rises (branches_inner (n + 1) branches) (body_inner (n + 1 + count_branches branches) last) (branches_weight join written outer branches) (weight_all join written outer last)
+          (branches_less (n + 1) branches p.0) (body_less (n + 1 + count_branches branches) last p.1) in
+          omega (arith, tests, joined)
       stmt_less n (case_of number e choices last) known =
           let q = and_parts (expr_known (numbered_in source r) e) (choices_known (numbered_in source r) choices && body_known (numbered_in source r) last) known in
           let p = and_parts (choices_known (numbered_in source r) choices) (body_known (numbered_in source r) last) q.1 in
           let first = expr_same e in
           let labels = labels_same (n + 1) choices in
-          let inside = choices_less (n + 1) choices p.0 in
-          let otherwise = body_less (n + 1 + count_choices choices) last p.1 in
-          omega (arith, first, labels, inside, otherwise)
+          let joined =
+          rises (choices_inner (n + 1) choices) (body_inner (n + 1 + count_choices choices) last) (choices_weight join written outer choices) (weight_all join written outer last)
+          (choices_less (n + 1) choices p.0) (body_less (n + 1 + count_choices choices) last p.1) in
+          omega (arith, first, labels, joined)
       stmt_less n (for_to number v from to by body) known =
-          turns_less _ (for_turns from to by) (body_inner (n + 1) body) (weight_all max for_turns outer body) (turns_are from to by) (body_less (n + 1) body (repeat_known v from to by body known))
+          turns_less _ (written from to by) (body_inner (n + 1) body) (weight_all join written outer body) (as_many from to by) (body_less (n + 1) body (repeat_known v from to by body known))
 
-      pub body_less : (n : ℕ) (body : PlainBody Name) → body_known (numbered_in source r) body ≡ true → body_inner n body ≤ weight_all max for_turns outer body
+      pub body_less : (n : ℕ) (body : PlainBody Name) → body_known (numbered_in source r) body ≡ true → body_inner n body ≤ weight_all join written outer body
       body_less n done known = omega arith
       body_less n (next s rest) known =
           let p = and_parts (stmt_known (numbered_in source r) s) (body_known (numbered_in source r) rest) known in
@@ -150,19 +155,15 @@ module _ (source : Source) (r : PlainRoutine) where
           let more = body_less (n + count_stmt s) rest p.1 in
           omega (arith, first, more)
 
-      branches_less : (n : ℕ) (branches : Branches Name) → branches_known (numbered_in source r) branches ≡ true → branches_inner n branches ≤ branches_weight max for_turns outer branches
+      branches_less : (n : ℕ) (branches : Branches Name) → branches_known (numbered_in source r) branches ≡ true → branches_inner n branches ≤ branches_weight join written outer branches
       branches_less n no_branch known = omega arith
       branches_less n (branch test body rest) known =
           let q = and_parts (expr_known (numbered_in source r) test) (body_known (numbered_in source r) body && branches_known (numbered_in source r) rest) known in
           let p = and_parts (body_known (numbered_in source r) body) (branches_known (numbered_in source r) rest) q.1 in
-          let first = body_less n body p.0 in
-          let more = branches_less (n + count_body body) rest p.1 in
-          omega (arith, first, more)
+          rises (body_inner n body) (branches_inner (n + count_body body) rest) (weight_all join written outer body) (branches_weight join written outer rest) (body_less n body p.0) (branches_less (n + count_body body) rest p.1)
 
-      choices_less : (n : ℕ) (choices : Choices Name) → choices_known (numbered_in source r) choices ≡ true → choices_inner n choices ≤ choices_weight max for_turns outer choices
+      choices_less : (n : ℕ) (choices : Choices Name) → choices_known (numbered_in source r) choices ≡ true → choices_inner n choices ≤ choices_weight join written outer choices
       choices_less n no_choice known = omega arith
       choices_less n (choice labels body rest) known =
           let p = and_parts (body_known (numbered_in source r) body) (choices_known (numbered_in source r) rest) known in
-          let first = body_less n body p.0 in
-          let more = choices_less (n + count_body body) rest p.1 in
-          omega (arith, first, more)
+          rises (body_inner n body) (choices_inner (n + count_body body) rest) (weight_all join written outer body) (choices_weight join written outer rest) (body_less n body p.0) (choices_less (n + count_body body) rest p.1)

@@ -2,7 +2,7 @@
 use Rattle.std.proofs.Common.{◌≡◌, ◌∙◌, ap, sym, refl, ℕ, ◌≤◌, List, [], ◌∷◌, map, arith}
 use Rattle.st_tree.specs.Plain.{PlainBody}
 use Rattle.st_tree.specs.View.{view_body}
-use Rattle.st_tree.specs.Costs.{body_cost}
+use Rattle.st_tree.specs.Costs.{body_cost, body_size}
 use Rattle.st_tree.specs.Mapping.{Known, body_known}
 use Rattle.st_tree.specs.Meaning.{Space, run_all}
 use Rattle.plant_cells.specs.Cells.{PlainCells}
@@ -29,16 +29,21 @@ DoesSame = (space : Space ℕ PlainCells) (body : PlainBody ℕ) (w : PlainCells
 abbrev pub CostsLess : Type 0
 CostsLess = (called : ℕ → ℕ) (body : PlainBody ℕ) → body_cost frame_turns called (folded_body body) ≤ body_cost frame_turns called body
 
+-- a folded body is no larger than the body
+abbrev pub IsNoLarger : Type 0
+IsNoLarger = (called : ℕ → ℕ) (body : PlainBody ℕ) → body_size called (folded_body body) ≤ body_size called body
+
 -- a folded body has the names of the body
 abbrev pub KeepsNames : Type 0
 KeepsNames = (known : Known ℕ) (body : PlainBody ℕ) → body_known known (folded_body body) ≡ body_known known body
 
-pub folding_keeps : DoesSame → KeepsConstants → CostsLess → KeepsNames → IsKept folded_view
-folding_keeps same constants less names = record {
+pub folding_keeps : DoesSame → KeepsConstants → CostsLess → IsNoLarger → KeepsNames → IsKept folded_view
+folding_keeps same constants less smaller names = record {
   seats = λ f. refl;
   runs = λ space f w. same space (view_body f.body.items) w;
   steady = λ f h. body_steady constants (view_body f.body.items) h;
   costs = λ called f. less called (view_body f.body.items);
+  sizes = λ called f. smaller called (view_body f.body.items);
   names = λ known f. names known (view_body f.body.items);
 }
 
@@ -48,6 +53,7 @@ copying_keeps = record {
   runs = λ space f w. refl;
   steady = λ f h. h;
   costs = λ called f. omega arith;
+  sizes = λ called f. omega arith;
   names = λ known f. refl;
 }
 

@@ -1,7 +1,7 @@
 -- Frames that are seen as others, whose bodies do the same, run as these do, are numbered as they are, and have their codes.
-use Rattle.std.proofs.Common.{◌≡◌, ◌∙◌, ap, sym, subst, Bool, true, ℕ, ◌≤◌, ◌++◌, List, [], length, map, arith}
+use Rattle.std.proofs.Common.{◌≡◌, ◌∙◌, ap, sym, subst, Bool, true, ℕ, ◌+◌, ◌≤◌, max, ◌++◌, List, [], length, map, arith}
 use Rattle.st_tree.specs.View.{view_body}
-use Rattle.st_tree.specs.Costs.{body_cost}
+use Rattle.st_tree.specs.Costs.{body_cost, body_size}
 use Rattle.st_tree.specs.Mapping.{Known, body_known}
 use Rattle.st_tree.specs.Meaning.{Space, Done, run_all}
 use Rattle.plant_cells.specs.Cells.{PlainCells}
@@ -12,21 +12,24 @@ use Rattle.block_walk.specs.declared.frame.Seat.{Seat}
 use Rattle.block_walk.specs.Frames.{routine_paths, frame_paths, InTurn, AreInTurn}
 use Rattle.block_walk.specs.Plain.{PlainFrame, view_frame}
 use Rattle.block_walk.specs.Walks.{frame_space, run_frame}
-use Rattle.code_sizes.specs.Sizes.{called_cost, frame_turns, routine_cost, frame_cost}
+use Rattle.code_sizes.specs.Sizes.{called_cost, frame_turns, routine_cost, frame_cost, routine_size, frame_size}
+use Rattle.code_sizes.specs.Counts.{HasFewLines}
 use Rattle.acc_vm.specs.Machine.{Over}
 use Rattle.acc_vm.specs.Codes.{PlainCode, run_of}
 use Rattle.codegen.specs.Codes.{SteadyBody, AreSteady, paths_at, RunsFrame}
 use Rattle.codegen.specs.Within.{there, routine_there, frame_there, IsThere}
-use Rattle.program_codes.specs.Codes.{IsCodeOf, IsMade, AreCodes}
+use Rattle.codegen.proofs.Sizes.{lines_few}
+use Rattle.program_codes.specs.Codes.{IsCodeOf, IsMade, AreCodes, AreSmall}
 use Rattle.program_codes.proofs.Tables.{AreSeen, first_holds, first_alike, at_place, found, same_length}
-use Rattle.program_codes.proofs.Costs.{body_less, called_less}
+use Rattle.program_codes.proofs.Costs.{body_less, greater_rises, sum_rises, called_less}
 
--- what a view keeps of each frame: its instances, what its body does, that it is steady, that it costs no more, and its names
+-- what a view keeps of each frame: its instances, what its body does, that it is steady, that it costs no more and isn't larger, and its names
 pub record IsKept (view : Frame → PlainFrame) : Type 0 where
   pub seats : (f : Frame) → (view f).seats ≡ f.seats.items
   pub runs : (space : Space ℕ PlainCells) (f : Frame) (w : PlainCells) → run_all space (view f).body w ≡ run_all space (view_body f.body.items) w
   pub steady : (f : Frame) → SteadyBody (view_body f.body.items) → SteadyBody (view f).body
   pub costs : (called : ℕ → ℕ) (f : Frame) → body_cost frame_turns called (view f).body ≤ body_cost frame_turns called (view_body f.body.items)
+  pub sizes : (called : ℕ → ℕ) (f : Frame) → body_size called (view f).body ≤ body_size called (view_body f.body.items)
   pub names : (known : Known ℕ) (f : Frame) → body_known known (view f).body ≡ body_known known (view_body f.body.items)
 
 module _ (view : Frame → PlainFrame) (kept : IsKept view) (fs gs : List Frame) (seen : AreSeen view fs gs) where
@@ -82,7 +85,7 @@ module _ (view : Frame → PlainFrame) (kept : IsKept view) (fs gs : List Frame)
       let is : routine_cost inner g ≡ body_cost frame_turns (called_cost inner f.seats.items) (view f).body = λ i. body_cost frame_turns (called_cost inner (same_seats f g e i)) (e i).body in
       let own = kept.costs (called_cost inner f.seats.items) f in
       let more : body_cost frame_turns (called_cost inner f.seats.items) (view_body f.body.items) ≤ body_cost frame_turns (called_cost outer f.seats.items) (view_body f.body.items) =
-      body_less frame_turns (called_cost inner f.seats.items) (called_cost outer f.seats.items) (called_less inner outer before f.seats.items) (view_body f.body.items)
+      body_less max greater_rises frame_turns (called_cost inner f.seats.items) (called_cost outer f.seats.items) (called_less inner outer before f.seats.items) (view_body f.body.items)
       in
       omega (arith, is, own, more)
 
@@ -92,6 +95,27 @@ module _ (view : Frame → PlainFrame) (kept : IsKept view) (fs gs : List Frame)
 
   pub all_costs : (first : ℕ) → frame_cost gs (length gs) first ≤ frame_cost fs (length fs) first
   all_costs first = subst (λ n. frame_cost gs n first ≤ frame_cost fs (length fs) first) (sym (same_length view fs gs seen)) (cost_less (length fs) first)
+
+  routine_smaller : (inner outer : ℕ → ℕ) → ((k : ℕ) → inner k ≤ outer k) → (f g : Frame) → view_frame g ≡ view f → routine_size inner g ≤ routine_size outer f
+  routine_smaller inner outer before f g e =
+      let is : routine_size inner g ≡ body_size (called_cost inner f.seats.items) (view f).body = λ i. body_size (called_cost inner (same_seats f g e i)) (e i).body in
+      let own = kept.sizes (called_cost inner f.seats.items) f in
+      let more : body_size (called_cost inner f.seats.items) (view_body f.body.items) ≤ body_size (called_cost outer f.seats.items) (view_body f.body.items) =
+      body_less (λ a b. a + b) sum_rises (λ from to by. 1) (called_cost inner f.seats.items) (called_cost outer f.seats.items) (called_less inner outer before f.seats.items) (view_body f.body.items)
+      in
+      omega (arith, is, own, more)
+
+  size_less : (limit k : ℕ) → frame_size gs limit k ≤ frame_size fs limit k
+  unfolding frame_size
+  size_less = first_holds view (λ (m n : ℕ). m ≤ n) 0 0 routine_size routine_size (omega arith) routine_smaller fs gs (at_place view fs gs seen)
+
+  -- of small frames each has few lines
+  pub few_lines : AreSmall fs → HasFewLines gs
+  few_lines small k =
+      let long = lines_few gs (length gs) k in
+      let size = subst (λ n. frame_size gs n k ≤ frame_size fs (length fs) k) (sym (same_length view fs gs seen)) (size_less (length fs) k) in
+      let most = small k in
+      omega (arith, long, size, most)
 
   -- the code of a frame that is seen as another is that of the other
   pub code_kept : (globals first : ℕ) (base : Base) (cost : ℕ) (code : PlainCode) → IsCodeOf gs globals first base cost code → IsCodeOf fs globals first base cost code

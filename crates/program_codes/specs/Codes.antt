@@ -1,9 +1,9 @@
 -- The codes of the programs of a table of frames.
-use Rattle.std.specs.Prelude.{◌≡◌, ◌<◌, ◌≤◌, ◌+◌, ℕ, List, length, get_or, Some, slice_get}
+use Rattle.std.specs.Prelude.{◌≡◌, ◌<◌, ◌≤◌, ◌+◌, ◌*◌, ◌^◌, ℕ, List, length, get_or, Some, slice_get}
 use Rattle.block_walk.specs.declared.frame.Base.{Base}
 use Rattle.block_walk.specs.declared.frame.Frame.{Frame}
 use Rattle.block_walk.specs.Frames.{frame_paths}
-use Rattle.code_sizes.specs.Sizes.{frame_cost}
+use Rattle.code_sizes.specs.Sizes.{frame_cost, frame_size}
 use Rattle.acc_vm.specs.Codes.{PlainCode}
 use Rattle.codegen.specs.Codes.{code_of, RunsFrame}
 use Rattle.codegen.specs.Within.{NamesFit, NamesAsFrame}
@@ -27,6 +27,10 @@ CostNoMore frames first costs = (n : ℕ) → n < length costs → frame_cost fr
 -- each slot and each clock that a program names is a number of 32 bits: the programs are the frames from one on, and the rows tell where each begins
 abbrev pub AllNamesFit : (frames : List Frame) → (globals first : ℕ) → (values clocks costs : List ℕ) → Type 0
 AllNamesFit frames globals first values clocks costs = (n : ℕ) → n < length costs → NamesFit globals frames (first + n) (base_in values clocks n)
+
+-- each frame of a table is so small that its lines, at most three for each unit of its size, are fewer than 2^32
+abbrev pub AreSmall : List Frame → Type 0
+AreSmall frames = (k : ℕ) → 3 * frame_size frames (length frames) k < 2 ^ 32
 
 -- each of the codes is that of its program, and tells its cost
 abbrev pub EachIsCode : (frames : List Frame) → (globals first : ℕ) → (values clocks costs : List ℕ) → List PlainCode → Type 0

@@ -3,11 +3,11 @@
 ghost use Rattle.std.specs.Prelude.{◌≡◌, ◌+◌, ◌<◌, ◌≤◌, get_or, length, IfOk};
 ghost use Rattle.block_walk.specs.Frames.{AreInTurn};
 ghost use Rattle.code_sizes.specs.Sizes.{frame_cost};
-ghost use Rattle.code_sizes.specs.Counts.{AreCounts};
+ghost use Rattle.code_sizes.specs.Counts.{HasFewLines, AreCounts};
 ghost use Rattle.codegen.specs.Codes.{code_of, AreSteady};
 ghost use Rattle.codegen.specs.Within.{NamesFit};
 ghost use Rattle.program_codes.specs.Folded.{AreFolded};
-ghost use Rattle.program_codes.specs.Codes.{IsCodeOf, AreCodes, AllNamesFit, CostNoMore};
+ghost use Rattle.program_codes.specs.Codes.{IsCodeOf, AreCodes, AllNamesFit, AreSmall, CostNoMore};
 
 use crate::folding::fold_frames;
 use acc_vm::Code;
@@ -15,8 +15,8 @@ use block_walk::Frame;
 use code_sizes::{FrameCounts, count_frames};
 use codegen::compile_counted;
 use const_fold::{
-    folded_body_costs_at_most, folded_body_does_same, folded_constants_are_literals,
-    folded_names_stay,
+    folded_body_costs_at_most, folded_body_does_same, folded_body_weighs_at_most,
+    folded_constants_are_literals, folded_names_stay,
 };
 use plant_cells::Cells;
 use std::alloc::{AllocError, Global};
@@ -37,6 +37,7 @@ fn code_of(
     requires in_turn { AreInTurn folded.now }
     requires steady { AreSteady folded.now }
     requires named { NamesFit globals folded.now first (record { values = values; clocks = clocks }) }
+    requires few { HasFewLines folded.now }
     requires cost { frame_cost folded.now (length folded.now) first ≤ cost }
     ensures runs { IfOk result (IsCodeOf folded.now globals first (record { values = values; clocks = clocks }) cost) }
     ensures is { IfOk result (λ code. code ≡ code_of globals folded.now first (record { values = values; clocks = clocks }) cost) }
@@ -47,10 +48,8 @@ fn code_of(
 
 /// The codes of the programs of a table, which are its frames from a number on, in their order. The rows have the numbers at which the values
 /// and the clocks of each program begin, and behind them where those of the last one end. The costs are told by the codes: no program costs more
-/// before its constants are folded. Each slot and each clock that a program names is to be a number of 32 bits.
-///
-/// Fails if allocation fails; and if the lines of a code can't be numbered in 32 bits, which is answered as refused memory too: no accepted source
-/// has such a program.
+/// before its constants are folded. Each slot and each clock that a program names is to be a number of 32 bits, and each frame so small that its
+/// lines are numbered so, too. Fails if allocation fails.
 pub fn codes_of(
     alloc: Global,
     frames: &[Frame],
@@ -63,6 +62,7 @@ pub fn codes_of(
     requires in_turn { AreInTurn frames.now }
     requires steady { AreSteady frames.now }
     requires named { AllNamesFit frames.now globals first values.now clocks.now costs.now }
+    requires small { AreSmall frames.now }
     requires values { length frames.now + 1 ≡ first + length values.now }
     requires clocks { length clocks.now ≡ length values.now }
     requires costs { length costs.now + 1 ≡ length values.now }
@@ -73,6 +73,7 @@ pub fn codes_of(
     folded_body_does_same::<usize, Cells>();
     folded_constants_are_literals::<usize>();
     folded_body_costs_at_most::<usize>();
+    folded_body_weighs_at_most::<usize>();
     folded_names_stay::<usize>();
     let folded = fold_frames(alloc, frames)?;
     let counts = count_frames(alloc, &folded)?;

@@ -17,34 +17,38 @@ use Rattle.block_walk.proofs.Firsts.{paths_is}
 use Rattle.block_walk.proofs.Ranks.{frame_at, frame_less}
 use Rattle.block_walk.specs.Walks.{slot_of}
 use Rattle.acc_vm.specs.declared.instr.Instr.TheVariants as instr
-use Rattle.code_sizes.specs.Sizes.{expr_lines, body_lines}
+use Rattle.code_sizes.specs.Sizes.{expr_lines, for_lines, turns_of, body_lines}
 use Rattle.code_sizes.specs.Counts.{lines_at}
 use Rattle.codegen.specs.Codes as codes
 use Rattle.codegen.specs.Codes.{Line, place_of, IsSteady, SteadyBody, SteadyBranches, SteadyChoices}
 use Rattle.codegen.specs.Emission as code
-use Rattle.codegen.specs.Emission.{coders, named, branches_long, choices_long}
+use Rattle.codegen.specs.Emission.{coders, named, body_long, branches_long, choices_long}
 use Rattle.codegen.specs.Within.{there, frame_there, fits}
 use Rattle.codegen.proofs.Within.{reached_is}
-use Rattle.codegen.proofs.Emitting.{nothing, one_after, seat_at, no_seat, laid_before, frame_coded, branches_at, choices_at, no_branches, no_choices, branch_on, choice_on, choice_passed, entered_none, entered_past, entered_frame, entered_standard, case_done, loop_done, view_assigned}
+use Rattle.codegen.proofs.Emitting.{nothing, one_after, front_lines, seat_at, no_seat, laid_before, frame_coded, branches_at, choices_at, no_branches, no_choices, branch_on, choice_on, choice_passed, entered_none, entered_past, entered_frame, entered_standard, case_done, loop_done, view_assigned}
 use Rattle.codegen.proofs.Numbered.{numbers_below}
+use Rattle.code_sizes.proofs.Few.{body_at, behind_branches, behind_choices, long_if, long_case, long_for}
+use Rattle.codegen.proofs.Long.{frame_long, entered_long, branch_fits, choice_fits}
 use Rattle.codegen.proofs.Steady.{steady_at, steady_branch, steady_choice, steady_if, steady_case, steady_for, turns_few}
 use Rattle.codegen.proofs.Naming.{known_at, known_branch, known_choice, known_if, known_case, known_for, known_frame}
 use Rattle.codegen.proofs.emission.+code.Goals as goal
-use Rattle.codegen.proofs.emission.+code.Goals.{emit_enter-then-not-seat-via-then-not-seat, emit_enter-then-not-seat-via-else-not-seat+then-k-scope, emit_choices-then-labels-gt0+in_ok-count+in_ok-add+in_ok-body+in_ok-inside+in_ok-add-2+in_ok-next+in_ok-emit_choice, emit_choices-else-labels-gt0}
+use Rattle.codegen.proofs.emission.+code.Goals.{emit_enter-then-not-seat-via-then-not-seat, emit_enter-then-not-seat-via-else-not-seat+then-k-scope, emit_choices-then-labels-gt0+in_ok-emit_choice, emit_choices-else-labels-gt0}
 
 pub emit_branches-loop-branch-preserved : goal.emit_branches-loop-branch-preserved
 emit_branches-loop-branch-preserved t c = λ last n ends.
     let s = c.args.scope.now in
     let b = c.branch-item.result in
+    let at = c.loop-branch.at in
     let within : c.loop-branch.branch-index < length c.args.branches.now = omega arith in
     let is = branches_at c.args.branches.now c.loop-branch.branch-index b within c.branch-item.is in
     let kept = c.loop-branch.invariant last n ends in
-    let tested : c.in_ok-expr_lines.field-0 ≡ expr_lines (view_branch b).0 = c.in_ok-expr_lines.ensures ∙ ap (λ p. expr_lines p.0) (sym (view_branch_is b)) in
-    let inside : c.in_ok-inside.inside ≡ body_lines s.seats.now (lines_at s.table.now) (view_branch b).1 =
-    c.in_ok-inside.ensures ∙ ap (λ x. body_lines s.seats.now (lines_at s.table.now) (view_body x)) c.deref.ensures.value ∙ ap (λ p. body_lines s.seats.now (lines_at s.table.now) p.1) (sym (view_branch_is b)) in
-    branch_on s c.args.place last n c.loop-branch.at c.in_ok-body.body c.in_ok-next.next c.args.end c.loop-branch.out.items c.emit_branch.new.out.items _ (view_branch b).0 (view_branch b).1 (view_branches (drop (c.loop-branch.branch-index + 1) c.args.branches.now))
-    (omega (arith, c.in_ok-body.ensures, c.in_ok-add.ensures)) (omega (arith, c.in_ok-next.ensures, c.in_ok-add-2.ensures))
-    (sym (ap (λ z. c.loop-branch.at + branches_long s z n) is) ∙ kept.0) (sym (ap (λ z. c.loop-branch.out.items ++ code.branches_code s c.args.place z last n c.loop-branch.at) is) ∙ kept.1)
+    let tested : c.expr_lines.result ≡ expr_lines (view_branch b).0 = c.expr_lines.ensures ∙ ap (λ p. expr_lines p.0) (sym (view_branch_is b)) in
+    let inside : c.body_lines.result ≡ body_lines s.seats.now (lines_at s.table.now) (view_branch b).1 =
+    c.body_lines.ensures ∙ ap (λ x. body_lines s.seats.now (lines_at s.table.now) (view_body x)) c.deref.ensures.value ∙ ap (λ p. body_lines s.seats.now (lines_at s.table.now) p.1) (sym (view_branch_is b)) in
+    branch_on s c.args.place last n at (at + c.expr_lines.result + 1) (at + c.expr_lines.result + 1 + c.body_lines.result + 1) c.args.end c.loop-branch.out.items c.emit_branch.new.out.items _
+    (view_branch b).0 (view_branch b).1 (view_branches (drop (c.loop-branch.branch-index + 1) c.args.branches.now))
+    (omega (arith, tested)) (omega (arith, inside))
+    (sym (ap (λ z. at + branches_long s z n) is) ∙ kept.0) (sym (ap (λ z. c.loop-branch.out.items ++ code.branches_code s c.args.place z last n at) is) ∙ kept.1)
     c.in_ok-emit_branch.ensures
 
 pub emit_branches-returns : goal.emit_branches-returns
@@ -52,7 +56,7 @@ emit_branches-returns t c = λ last n ends.
     let s = c.args.scope.now in
     let none = no_branches c.args.branches.now c.loop-branch.branch-index (omega arith) in
     let kept = c.loop-branch.invariant last n ends in
-    sym (ap (λ z. c.loop-branch.out.items ++ code.branches_code s c.args.place z last n c.loop-branch.at) none) ∙ kept.1
+    (sym (ap (λ z. c.loop-branch.at + branches_long s z n) none) ∙ kept.0, sym (ap (λ z. c.loop-branch.out.items ++ code.branches_code s c.args.place z last n c.loop-branch.at) none) ∙ kept.1)
 
 pub emit_choices-loop-choice-preserved : goal.emit_choices-loop-choice-preserved
 emit_choices-loop-choice-preserved t c =
@@ -62,17 +66,18 @@ emit_choices-loop-choice-preserved t c =
     let within : c.loop-choice.choice-index < length c.args.choices.now = omega arith in
     let is = choices_at c.args.choices.now c.loop-choice.choice-index x within c.choice-item.is in
     let kept = c.loop-choice.invariant last n ends in
+    let at = c.loop-choice.at in
     let rest = view_choices (drop (c.loop-choice.choice-index + 1) c.args.choices.now) in
     let far = sym (ap (λ z. c.loop-choice.at + choices_long s z n) is) ∙ kept.0 in
     let before = sym (ap (λ z. c.loop-choice.out.items ++ code.choices_code s c.args.place z last n c.loop-choice.at) is) ∙ kept.1 in
     let many : length (view_choice x).0 ≡ length x.labels.items = ap (λ p. length p.0) (view_choice_is x) in
     elim c.if-labels-gt0.branch [
-      | emit_choices-then-labels-gt0+in_ok-count+in_ok-add+in_ok-body+in_ok-inside+in_ok-add-2+in_ok-next+in_ok-emit_choice w ↦ (
-          let inside : w.in_ok-inside.inside ≡ body_lines s.seats.now (lines_at s.table.now) (view_choice x).1 =
-          w.in_ok-inside.ensures ∙ ap (λ b. body_lines s.seats.now (lines_at s.table.now) (view_body b)) w.deref.ensures.value ∙ ap (λ p. body_lines s.seats.now (lines_at s.table.now) p.1) (sym (view_choice_is x)) in
+      | emit_choices-then-labels-gt0+in_ok-emit_choice w ↦ (
+          let inside : w.body_lines.result ≡ body_lines s.seats.now (lines_at s.table.now) (view_choice x).1 =
+          w.body_lines.ensures ∙ ap (λ b. body_lines s.seats.now (lines_at s.table.now) (view_body b)) w.deref.ensures.value ∙ ap (λ p. body_lines s.seats.now (lines_at s.table.now) p.1) (sym (view_choice_is x)) in
           rw (w.at-is, w.out-is)
-          (choice_on s c.args.place last n c.loop-choice.at w.in_ok-body.body w.in_ok-next.next c.args.end c.loop-choice.out.items w.emit_choice.new.out.items _ (view_choice x).0 (view_choice x).1 rest
-          (omega arith) (omega (arith, w.in_ok-body.ensures, w.in_ok-add.ensures, w.in_ok-count.ensures)) (omega (arith, w.in_ok-next.ensures, w.in_ok-add-2.ensures)) far before w.in_ok-emit_choice.ensures))
+          (choice_on s c.args.place last n at (at + c.len-labels.result + 1) (at + c.len-labels.result + 1 + w.body_lines.result + 1) c.args.end c.loop-choice.out.items w.emit_choice.new.out.items _ (view_choice x).0 (view_choice x).1 rest
+          (omega arith) (omega (arith, many, c.len-labels.ensures)) (omega (arith, inside)) far before w.in_ok-emit_choice.ensures))
       | emit_choices-else-labels-gt0 w ↦ (
           rw (w.at-is, w.out-is) (choice_passed s c.args.place last n c.loop-choice.at c.args.end c.loop-choice.out.items _ (view_choice x).0 (view_choice x).1 rest (omega arith) far before))
     ]
@@ -82,7 +87,7 @@ emit_choices-returns t c = λ last n ends.
     let s = c.args.scope.now in
     let none = no_choices c.args.choices.now c.loop-choice.choice-index (omega arith) in
     let kept = c.loop-choice.invariant last n ends in
-    sym (ap (λ z. c.loop-choice.out.items ++ code.choices_code s c.args.place z last n c.loop-choice.at) none) ∙ kept.1
+    (sym (ap (λ z. c.loop-choice.at + choices_long s z n) none) ∙ kept.0, sym (ap (λ z. c.loop-choice.out.items ++ code.choices_code s c.args.place z last n c.loop-choice.at) none) ∙ kept.1)
 
 pub emit_enter-returns-then-not-seat : goal.emit_enter-returns-then-not-seat
 emit_enter-returns-then-not-seat t c =
@@ -115,8 +120,10 @@ emit_enter-emit_frame-requires t c =
     let at = seat_at s.seats.now c.args.instance seat (sym c.in-Some.ensures.lookup.0) c.in-Some.ensures.lookup.1 in
     let less : c.in-Frame.k < s.limit = omega (arith, c.if-k-scope.false) in
     let below = numbers_below s.frames.now s.limit c.in-Frame.k c.args.instance s.seats.now seat less c.requires.laid.lines.within c.requires.laid.own at c.in-Frame.is c.if-not-seat.false in
+    let entered = entered_long s c.args.instance seat at c.in-Frame.k c.in-Frame.is c.if-not-seat.false in
+    let counted = c.requires.laid.lines.lines c.in-Frame.k in
     let names = known_frame s c.args.instance seat at c.requires.named c.in-Frame.k c.base_of.result c.in-Frame.is c.if-not-seat.false c.base_of.ensures.is in
-    (omega arith, (less, (c.requires.laid.lines, (c.base_of.ensures.room s.limit c.requires.laid.bases, (omega (arith, below.1, c.requires.laid.paths), (c.requires.laid.in_turn, (c.requires.laid.steady, names)))))))
+    (omega arith, (less, (c.requires.laid.lines, (c.base_of.ensures.room s.limit c.requires.laid.bases, (omega (arith, below.1, c.requires.laid.paths), (c.requires.laid.in_turn, (c.requires.laid.steady, (names, omega (arith, entered, counted, c.requires.long)))))))))
 
 pub emit_enter-returns-else-k-scope : goal.emit_enter-returns-else-k-scope
 emit_enter-returns-else-k-scope t c =
@@ -139,6 +146,10 @@ emit_frame-emit_body-requires t c =
     let at = frame_at frames c.args.k c.index-frames-k.result inside c.index-frames-k.is in
     let all = ap (λ (l : List Path). length l) (paths_is frames c.args.limit c.args.k c.index-frames-k.result c.requires.there at) in
     let own = ap (λ seats. length (routine_paths (frame_paths frames c.args.k) seats)) c.deref.ensures.value in
+    let front = take c.args.k c.args.table.now in
+    let long =
+    (λ i. body_lines (c.deref.ensures.value i) (lines_at front) (view_body (c.deref-2.ensures.value i)))
+    ∙ frame_long frames c.args.limit c.args.k c.index-frames-k.result c.requires.there at front (front_lines frames c.args.limit c.args.k c.args.table.now c.requires.there c.requires.lines) in
     let inner = frame_there fits fits c.args.globals frames c.args.k in
     let names =
     (λ i. body_known (there fits fits c.args.globals inner (c.deref.ensures.value i) c.args.base) (view_body (c.deref-2.ensures.value i)))
@@ -153,7 +164,7 @@ emit_frame-emit_body-requires t c =
           in_turn = c.requires.in_turn;
           steady = c.requires.steady;
         },
-        (subst (λ x. SteadyBody (view_body x)) (sym c.deref-2.ensures.value) (c.requires.steady c.args.k c.index-frames-k.result at), names),
+        (subst (λ x. SteadyBody (view_body x)) (sym c.deref-2.ensures.value) (c.requires.steady c.args.k c.index-frames-k.result at), (names, omega (arith, long, c.requires.long))),
       ),
     )
 
@@ -168,48 +179,122 @@ emit_frame-returns t c =
 
 pub emit_stmt-emit_branches-requires : goal.emit_stmt-emit_branches-requires
 emit_stmt-emit_branches-requires t c =
+    let s = c.args.scope.now in
     let size = ap (size-Stmt ℕ) c.in-If.is ∙ size-If c.in-If.statement c.in-If.branches c.in-If.last in
     let same = ap (most (size-Branch ℕ)) c.deref-in-If-3.ensures.value in
     let steady = steady_if c.args.stmt.now c.in-If.statement c.in-If.branches c.in-If.last c.in-If.is c.requires.steady in
-    let known = named c.args.scope.now in
-    let names = known_if known c.args.stmt.now c.in-If.statement c.in-If.branches c.in-If.last c.in-If.is c.requires.named in
-    (omega (arith, size, same), (c.requires.laid, (subst (λ x. SteadyBranches (view_branches x)) (sym c.deref-in-If-3.ensures.value) steady.0, subst (λ x. branches_known known (view_branches x) ≡ true) (sym c.deref-in-If-3.ensures.value) names.0)))
+    let names = known_if (named s) c.args.stmt.now c.in-If.statement c.in-If.branches c.in-If.last c.in-If.is c.requires.named in
+    let told = c.branches_lines.ensures ∙ ap (λ x. branches_long s (view_branches x) c.body_lines-otherwise.result) (c.deref-in-If-2.ensures.value ∙ sym c.deref-in-If-3.ensures.value) in (
+      omega (arith, size, same),
+      (
+        c.requires.laid,
+        (
+          subst (λ x. SteadyBranches (view_branches x)) (sym c.deref-in-If-3.ensures.value) steady.0,
+          (subst (λ x. branches_known (named s) (view_branches x) ≡ true) (sym c.deref-in-If-3.ensures.value) names.0, (c.body_lines-otherwise.result, ap (λ m. c.args.pc + m) (sym told))),
+        ),
+      ),
+    )
 
 pub emit_stmt-emit_body-requires : goal.emit_stmt-emit_body-requires
 emit_stmt-emit_body-requires t c =
+    let s = c.args.scope.now in
     let size = ap (size-Stmt ℕ) c.in-If.is ∙ size-If c.in-If.statement c.in-If.branches c.in-If.last in
     let same = ap (most (size-Stmt ℕ)) c.deref-in-If-4.ensures.value in
     let steady = steady_if c.args.stmt.now c.in-If.statement c.in-If.branches c.in-If.last c.in-If.is c.requires.steady in
-    let known = named c.args.scope.now in
-    let names = known_if known c.args.stmt.now c.in-If.statement c.in-If.branches c.in-If.last c.in-If.is c.requires.named in
-    (omega (arith, size, same), (c.requires.laid, (subst (λ x. SteadyBody (view_body x)) (sym c.deref-in-If-4.ensures.value) steady.1, subst (λ x. body_known known (view_body x) ≡ true) (sym c.deref-in-If-4.ensures.value) names.1)))
+    let names = known_if (named s) c.args.stmt.now c.in-If.statement c.in-If.branches c.in-If.last c.in-If.is c.requires.named in
+    let told = c.branches_lines.ensures ∙ ap (λ x. branches_long s (view_branches x) c.body_lines-otherwise.result) (c.deref-in-If-2.ensures.value ∙ sym c.deref-in-If-3.ensures.value) in
+    let ends = (c.in_ok-at-in-If.ensures (λ p. []) c.body_lines-otherwise.result (ap (λ m. c.args.pc + m) (sym told))).0 in
+    let otherwise = c.body_lines-otherwise.ensures ∙ ap (λ x. body_long s (view_body x)) c.deref-in-If.ensures.value in
+    let last = ap (λ x. body_long s (view_body x)) c.deref-in-If-4.ensures.value in
+    let lines = c.branches_lines.ensures ∙ (λ i. branches_long s (view_branches (c.deref-in-If-2.ensures.value i)) (otherwise i)) in
+    let whole = long_if s.seats.now (lines_at s.table.now) c.args.stmt.now c.in-If.statement c.in-If.branches c.in-If.last c.in-If.is in (
+      omega (arith, size, same),
+      (
+        c.requires.laid,
+        (
+          subst (λ x. SteadyBody (view_body x)) (sym c.deref-in-If-4.ensures.value) steady.1,
+          (subst (λ x. body_known (named s) (view_body x) ≡ true) (sym c.deref-in-If-4.ensures.value) names.1, omega (arith, ends, otherwise, last, lines, whole, c.requires.long)),
+        ),
+      ),
+    )
 
 pub emit_stmt-emit_choices-requires : goal.emit_stmt-emit_choices-requires
 emit_stmt-emit_choices-requires t c =
+    let s = c.args.scope.now in
     let size = ap (size-Stmt ℕ) c.in-Case.is ∙ size-Case c.in-Case.statement c.in-Case.selector c.in-Case.choices c.in-Case.last in
     let same = ap (most (size-Choice ℕ)) c.deref-in-Case-3.ensures.value in
     let steady = steady_case c.args.stmt.now c.in-Case.statement c.in-Case.selector c.in-Case.choices c.in-Case.last c.in-Case.is c.requires.steady in
-    let known = named c.args.scope.now in
-    let names = known_case known c.args.stmt.now c.in-Case.statement c.in-Case.selector c.in-Case.choices c.in-Case.last c.in-Case.is c.requires.named in
-    (omega (arith, size, same), (c.requires.laid, (subst (λ x. SteadyChoices (view_choices x)) (sym c.deref-in-Case-3.ensures.value) steady.0, subst (λ x. choices_known known (view_choices x) ≡ true) (sym c.deref-in-Case-3.ensures.value) names.1)))
+    let names = known_case (named s) c.args.stmt.now c.in-Case.statement c.in-Case.selector c.in-Case.choices c.in-Case.last c.in-Case.is c.requires.named in
+    let told = c.choices_lines.ensures ∙ ap (λ x. choices_long s (view_choices x) c.body_lines-otherwise-in-Case.result) (c.deref-in-Case-2.ensures.value ∙ sym c.deref-in-Case-3.ensures.value) in (
+      omega (arith, size, same),
+      (
+        c.requires.laid,
+        (
+          subst (λ x. SteadyChoices (view_choices x)) (sym c.deref-in-Case-3.ensures.value) steady.0,
+          (subst (λ x. choices_known (named s) (view_choices x) ≡ true) (sym c.deref-in-Case-3.ensures.value) names.1, (c.body_lines-otherwise-in-Case.result, ap (λ m. c.args.pc + c.expr_lines.result + m) (sym told))),
+        ),
+      ),
+    )
 
 pub emit_stmt-emit_body-requires-in-Case : goal.emit_stmt-emit_body-requires-in-Case
 emit_stmt-emit_body-requires-in-Case t c =
+    let s = c.args.scope.now in
     let size = ap (size-Stmt ℕ) c.in-Case.is ∙ size-Case c.in-Case.statement c.in-Case.selector c.in-Case.choices c.in-Case.last in
     let same = ap (most (size-Stmt ℕ)) c.deref-in-Case-4.ensures.value in
     let steady = steady_case c.args.stmt.now c.in-Case.statement c.in-Case.selector c.in-Case.choices c.in-Case.last c.in-Case.is c.requires.steady in
-    let known = named c.args.scope.now in
-    let names = known_case known c.args.stmt.now c.in-Case.statement c.in-Case.selector c.in-Case.choices c.in-Case.last c.in-Case.is c.requires.named in
-    (omega (arith, size, same), (c.requires.laid, (subst (λ x. SteadyBody (view_body x)) (sym c.deref-in-Case-4.ensures.value) steady.1, subst (λ x. body_known known (view_body x) ≡ true) (sym c.deref-in-Case-4.ensures.value) names.2)))
+    let names = known_case (named s) c.args.stmt.now c.in-Case.statement c.in-Case.selector c.in-Case.choices c.in-Case.last c.in-Case.is c.requires.named in
+    let told = c.choices_lines.ensures ∙ ap (λ x. choices_long s (view_choices x) c.body_lines-otherwise-in-Case.result) (c.deref-in-Case-2.ensures.value ∙ sym c.deref-in-Case-3.ensures.value) in
+    let ends = (c.in_ok-at-in-Case.ensures (λ p. []) c.body_lines-otherwise-in-Case.result (ap (λ m. c.args.pc + c.expr_lines.result + m) (sym told))).0 in
+    let otherwise = c.body_lines-otherwise-in-Case.ensures ∙ ap (λ x. body_long s (view_body x)) c.deref-in-Case.ensures.value in
+    let last = ap (λ x. body_long s (view_body x)) c.deref-in-Case-4.ensures.value in
+    let lines = c.choices_lines.ensures ∙ (λ i. choices_long s (view_choices (c.deref-in-Case-2.ensures.value i)) (otherwise i)) in
+    let whole = long_case s.seats.now (lines_at s.table.now) c.args.stmt.now c.in-Case.statement c.in-Case.selector c.in-Case.choices c.in-Case.last c.in-Case.is in (
+      omega (arith, size, same),
+      (
+        c.requires.laid,
+        (
+          subst (λ x. SteadyBody (view_body x)) (sym c.deref-in-Case-4.ensures.value) steady.1,
+          (subst (λ x. body_known (named s) (view_body x) ≡ true) (sym c.deref-in-Case-4.ensures.value) names.2, omega (arith, ends, otherwise, last, lines, whole, c.expr_lines.ensures, c.requires.long)),
+        ),
+      ),
+    )
+
+pub emit_stmt-body_lines-otherwise-requires : goal.emit_stmt-body_lines-otherwise-requires
+emit_stmt-body_lines-otherwise-requires t c =
+    let s = c.args.scope.now in
+    let last = ap (λ x. body_long s (view_body x)) c.deref-in-If.ensures.value in
+    let few = behind_branches s.seats.now (lines_at s.table.now) (view_branches c.in-If.branches.items) (body_long s (view_body c.in-If.last.items)) in
+    let whole = long_if s.seats.now (lines_at s.table.now) c.args.stmt.now c.in-If.statement c.in-If.branches c.in-If.last c.in-If.is in
+    omega (arith, last, few, whole, c.requires.long)
+
+pub emit_stmt-body_lines-otherwise-requires-in-Case : goal.emit_stmt-body_lines-otherwise-requires-in-Case
+emit_stmt-body_lines-otherwise-requires-in-Case t c =
+    let s = c.args.scope.now in
+    let last = ap (λ x. body_long s (view_body x)) c.deref-in-Case.ensures.value in
+    let few = behind_choices s.seats.now (lines_at s.table.now) (view_choices c.in-Case.choices.items) (body_long s (view_body c.in-Case.last.items)) in
+    let whole = long_case s.seats.now (lines_at s.table.now) c.args.stmt.now c.in-Case.statement c.in-Case.selector c.in-Case.choices c.in-Case.last c.in-Case.is in
+    omega (arith, last, few, whole, c.requires.long)
 
 pub emit_stmt-emit_loop-requires : goal.emit_stmt-emit_loop-requires
 emit_stmt-emit_loop-requires t c =
+    let s = c.args.scope.now in
     let size = ap (size-Stmt ℕ) c.in-For.is ∙ size-For c.in-For.number c.in-For.variable c.in-For.from c.in-For.to c.in-For.by c.in-For.body in
     let same = ap (most (size-Stmt ℕ)) c.deref-in-Some.ensures.value in
     let steady = steady_for c.args.stmt.now c.in-For.number c.in-For.variable c.in-For.from c.in-For.to c.in-For.by c.in-For.body c.in-For.is c.requires.steady in
-    let known = named c.args.scope.now in
-    let names = known_for known c.args.stmt.now c.in-For.number c.in-For.variable c.in-For.from c.in-For.to c.in-For.by c.in-For.body c.in-For.is c.requires.named in
-    (omega (arith, size, same), (c.requires.laid, (subst IsSteady (sym c.constant_span.ensures ∙ c.in-Some.is) steady.0, (subst (λ x. SteadyBody (view_body x)) (sym c.deref-in-Some.ensures.value) steady.1, subst (λ x. body_known known (view_body x) ≡ true) (sym c.deref-in-Some.ensures.value) names.1))))
+    let names = known_for (named s) c.args.stmt.now c.in-For.number c.in-For.variable c.in-For.from c.in-For.to c.in-For.by c.in-For.body c.in-For.is c.requires.named in
+    let span = sym c.constant_span.ensures ∙ c.in-Some.is in
+    let inside = sym c.deref-in-Some.ensures.value in
+    let whole = long_for s.seats.now (lines_at s.table.now) c.args.stmt.now c.in-For.number c.in-For.variable c.in-For.from c.in-For.to c.in-For.by c.in-For.body c.in-For.is
+    ∙ (λ i. for_lines (turns_of (span i)) (body_long s (view_body (inside i)))) in (
+      omega (arith, size, same),
+      (
+        c.requires.laid,
+        (
+          subst IsSteady span steady.0,
+          (subst (λ x. SteadyBody (view_body x)) inside steady.1, (subst (λ x. body_known (named s) (view_body x) ≡ true) inside names.1, omega (arith, whole, c.requires.long))),
+        ),
+      ),
+    )
 
 pub emit_body-emit_stmt-requires : goal.emit_body-emit_stmt-requires
 emit_body-emit_stmt-requires t c =
@@ -217,15 +302,62 @@ emit_body-emit_stmt-requires t c =
     let same = ap (size-Stmt ℕ) c.stmt-item.is in
     let steady = steady_at c.args.body.now c.loop-stmt.stmt-index c.stmt-item.result c.loop-stmt-test.true c.stmt-item.is c.requires.steady in
     let names = known_at (named c.args.scope.now) c.args.body.now c.loop-stmt.stmt-index c.stmt-item.result c.loop-stmt-test.true c.stmt-item.is c.requires.named in
-    (omega arith, (c.requires.laid, (steady, names)))
+    let s = c.args.scope.now in
+    let rest = body_at s.seats.now (lines_at s.table.now) c.args.body.now c.loop-stmt.stmt-index c.stmt-item.result c.loop-stmt-test.true c.stmt-item.is in
+    let kept = c.loop-stmt.invariant.1 in
+    (omega arith, (c.requires.laid, (steady, (names, omega (arith, rest, kept, c.requires.long)))))
 
 pub emit_branches-emit_branch-requires : goal.emit_branches-emit_branch-requires
 emit_branches-emit_branch-requires t c =
-    let deep = at_most (size-Branch ℕ) c.args.branches.now c.loop-branch.branch-index c.branch-item.result c.loop-branch-test.true in
+    let s = c.args.scope.now in
+    let b = c.branch-item.result in
+    let deep = at_most (size-Branch ℕ) c.args.branches.now c.loop-branch.branch-index b c.loop-branch-test.true in
     let same = ap (size-Branch ℕ) c.branch-item.is in
-    let steady = steady_branch c.args.branches.now c.loop-branch.branch-index c.branch-item.result c.loop-branch-test.true c.branch-item.is c.requires.steady in
-    let names = known_branch (named c.args.scope.now) c.args.branches.now c.loop-branch.branch-index c.branch-item.result c.loop-branch-test.true c.branch-item.is c.requires.named in
-    (omega arith, (c.requires.laid, (steady, names)))
+    let steady = steady_branch c.args.branches.now c.loop-branch.branch-index b c.loop-branch-test.true c.branch-item.is c.requires.steady in
+    let names = known_branch (named s) c.args.branches.now c.loop-branch.branch-index b c.loop-branch-test.true c.branch-item.is c.requires.named in
+    let kept = c.loop-branch.invariant (λ p. []) c.requires.long.0 c.requires.long.1 in
+    let fits = branch_fits s c.args.branches.now c.loop-branch.branch-index c.loop-branch.at c.args.end c.requires.long.0 b c.loop-branch-test.true c.branch-item.is kept.0 c.ranges.end.fits in
+    let inside = ap (λ p. body_long s p.1) (view_branch_is b) in
+    (omega arith, (c.requires.laid, (steady, (names.0, (names.1, omega (arith, fits, inside, c.expr_lines.ensures))))))
+
+pub emit_branches-expr_lines-requires : goal.emit_branches-expr_lines-requires
+emit_branches-expr_lines-requires t c =
+    let kept = c.loop-branch.invariant (λ p. []) c.requires.long.0 c.requires.long.1 in
+    let fits = branch_fits c.args.scope.now c.args.branches.now c.loop-branch.branch-index c.loop-branch.at c.args.end c.requires.long.0 c.branch-item.result c.loop-branch-test.true c.branch-item.is kept.0 c.ranges.end.fits in
+    omega (arith, fits)
+
+pub emit_branches-overflow_add-body : goal.emit_branches-overflow_add-body
+emit_branches-overflow_add-body t c =
+    let kept = c.loop-branch.invariant (λ p. []) c.requires.long.0 c.requires.long.1 in
+    let fits = branch_fits c.args.scope.now c.args.branches.now c.loop-branch.branch-index c.loop-branch.at c.args.end c.requires.long.0 c.branch-item.result c.loop-branch-test.true c.branch-item.is kept.0 c.ranges.end.fits in
+    omega (arith, fits, c.expr_lines.ensures)
+
+pub emit_branches-overflow_add-body-in-loop-branch : goal.emit_branches-overflow_add-body-in-loop-branch
+emit_branches-overflow_add-body-in-loop-branch t c =
+    let kept = c.loop-branch.invariant (λ p. []) c.requires.long.0 c.requires.long.1 in
+    let fits = branch_fits c.args.scope.now c.args.branches.now c.loop-branch.branch-index c.loop-branch.at c.args.end c.requires.long.0 c.branch-item.result c.loop-branch-test.true c.branch-item.is kept.0 c.ranges.end.fits in
+    omega (arith, fits, c.expr_lines.ensures)
+
+pub emit_branches-body_lines-requires : goal.emit_branches-body_lines-requires
+emit_branches-body_lines-requires t c =
+    let kept = c.loop-branch.invariant (λ p. []) c.requires.long.0 c.requires.long.1 in
+    let fits = branch_fits c.args.scope.now c.args.branches.now c.loop-branch.branch-index c.loop-branch.at c.args.end c.requires.long.0 c.branch-item.result c.loop-branch-test.true c.branch-item.is kept.0 c.ranges.end.fits in
+    let same = ap (λ x. body_long c.args.scope.now (view_body x)) c.deref.ensures.value in
+    omega (arith, fits, same)
+
+pub emit_branches-overflow_add-next : goal.emit_branches-overflow_add-next
+emit_branches-overflow_add-next t c =
+    let kept = c.loop-branch.invariant (λ p. []) c.requires.long.0 c.requires.long.1 in
+    let fits = branch_fits c.args.scope.now c.args.branches.now c.loop-branch.branch-index c.loop-branch.at c.args.end c.requires.long.0 c.branch-item.result c.loop-branch-test.true c.branch-item.is kept.0 c.ranges.end.fits in
+    let same = ap (λ x. body_long c.args.scope.now (view_body x)) c.deref.ensures.value in
+    omega (arith, fits, same, c.expr_lines.ensures, c.body_lines.ensures)
+
+pub emit_branches-overflow_add-next-in-loop-branch : goal.emit_branches-overflow_add-next-in-loop-branch
+emit_branches-overflow_add-next-in-loop-branch t c =
+    let kept = c.loop-branch.invariant (λ p. []) c.requires.long.0 c.requires.long.1 in
+    let fits = branch_fits c.args.scope.now c.args.branches.now c.loop-branch.branch-index c.loop-branch.at c.args.end c.requires.long.0 c.branch-item.result c.loop-branch-test.true c.branch-item.is kept.0 c.ranges.end.fits in
+    let same = ap (λ x. body_long c.args.scope.now (view_body x)) c.deref.ensures.value in
+    omega (arith, fits, same, c.expr_lines.ensures, c.body_lines.ensures)
 
 pub emit_branch-emit_body-requires : goal.emit_branch-emit_body-requires
 emit_branch-emit_body-requires t c =
@@ -234,15 +366,67 @@ emit_branch-emit_body-requires t c =
     let steady = subst (λ (p : PlainExpr ℕ × PlainBody ℕ). SteadyBody p.1) (view_branch_is c.args.branch.now) c.requires.steady in
     let known = named c.args.scope.now in
     let names = subst (λ (p : PlainExpr ℕ × PlainBody ℕ). body_known known p.1 ≡ true) (view_branch_is c.args.branch.now) c.requires.named in
-    (omega arith, (c.requires.laid, (subst (λ x. SteadyBody (view_body x)) (sym c.deref.ensures.value) steady, subst (λ x. body_known known (view_body x) ≡ true) (sym c.deref.ensures.value) names)))
+    let own = ap (λ p. body_long c.args.scope.now p.1) (view_branch_is c.args.branch.now) in
+    let same = ap (λ x. body_long c.args.scope.now (view_body x)) c.deref.ensures.value in
+    (omega arith, (c.requires.laid, (subst (λ x. SteadyBody (view_body x)) (sym c.deref.ensures.value) steady, (subst (λ x. body_known known (view_body x) ≡ true) (sym c.deref.ensures.value) names, omega (arith, own, same, c.requires.long)))))
 
 pub emit_choices-emit_choice-requires : goal.emit_choices-emit_choice-requires
 emit_choices-emit_choice-requires t c =
+    let s = c.args.scope.now in
     let deep = at_most (size-Choice ℕ) c.args.choices.now c.loop-choice.choice-index c.choice-item.result c.loop-choice-test.true in
-    let same = ap (size-Choice ℕ) c.choice-item.is in
+    let size = ap (size-Choice ℕ) c.choice-item.is in
     let steady = steady_choice c.args.choices.now c.loop-choice.choice-index c.choice-item.result c.loop-choice-test.true c.choice-item.is c.requires.steady in
-    let names = known_choice (named c.args.scope.now) c.args.choices.now c.loop-choice.choice-index c.choice-item.result c.loop-choice-test.true c.choice-item.is c.requires.named in
-    (omega arith, (c.requires.laid, (steady, names)))
+    let names = known_choice (named s) c.args.choices.now c.loop-choice.choice-index c.choice-item.result c.loop-choice-test.true c.choice-item.is c.requires.named in
+    let kept = c.loop-choice.invariant (λ p. []) c.requires.long.0 c.requires.long.1 in
+    let some : 0 < length c.choice-item.result.labels.items = omega (arith, c.len-labels.ensures, c.if-labels-gt0.true) in
+    let fits = choice_fits c.args.scope.now c.args.choices.now c.loop-choice.choice-index c.loop-choice.at c.args.end c.requires.long.0 c.choice-item.result c.loop-choice-test.true c.choice-item.is some kept.0 c.ranges.end.fits in
+    let inside = ap (λ p. body_long s p.1) (view_choice_is c.choice-item.result) in
+    (omega arith, (c.requires.laid, (steady, (names, omega (arith, fits, inside, c.len-labels.ensures)))))
+
+pub emit_choices-overflow_cast-body : goal.emit_choices-overflow_cast-body
+emit_choices-overflow_cast-body t c =
+    let kept = c.loop-choice.invariant (λ p. []) c.requires.long.0 c.requires.long.1 in
+    let some : 0 < length c.choice-item.result.labels.items = omega (arith, c.len-labels.ensures, c.if-labels-gt0.true) in
+    let fits = choice_fits c.args.scope.now c.args.choices.now c.loop-choice.choice-index c.loop-choice.at c.args.end c.requires.long.0 c.choice-item.result c.loop-choice-test.true c.choice-item.is some kept.0 c.ranges.end.fits in
+    omega (arith, fits, c.len-labels.ensures)
+
+pub emit_choices-overflow_add-body : goal.emit_choices-overflow_add-body
+emit_choices-overflow_add-body t c =
+    let kept = c.loop-choice.invariant (λ p. []) c.requires.long.0 c.requires.long.1 in
+    let some : 0 < length c.choice-item.result.labels.items = omega (arith, c.len-labels.ensures, c.if-labels-gt0.true) in
+    let fits = choice_fits c.args.scope.now c.args.choices.now c.loop-choice.choice-index c.loop-choice.at c.args.end c.requires.long.0 c.choice-item.result c.loop-choice-test.true c.choice-item.is some kept.0 c.ranges.end.fits in
+    omega (arith, fits, c.len-labels.ensures)
+
+pub emit_choices-overflow_add-body-then-labels-gt0 : goal.emit_choices-overflow_add-body-then-labels-gt0
+emit_choices-overflow_add-body-then-labels-gt0 t c =
+    let kept = c.loop-choice.invariant (λ p. []) c.requires.long.0 c.requires.long.1 in
+    let some : 0 < length c.choice-item.result.labels.items = omega (arith, c.len-labels.ensures, c.if-labels-gt0.true) in
+    let fits = choice_fits c.args.scope.now c.args.choices.now c.loop-choice.choice-index c.loop-choice.at c.args.end c.requires.long.0 c.choice-item.result c.loop-choice-test.true c.choice-item.is some kept.0 c.ranges.end.fits in
+    omega (arith, fits, c.len-labels.ensures)
+
+pub emit_choices-body_lines-requires : goal.emit_choices-body_lines-requires
+emit_choices-body_lines-requires t c =
+    let kept = c.loop-choice.invariant (λ p. []) c.requires.long.0 c.requires.long.1 in
+    let some : 0 < length c.choice-item.result.labels.items = omega (arith, c.len-labels.ensures, c.if-labels-gt0.true) in
+    let fits = choice_fits c.args.scope.now c.args.choices.now c.loop-choice.choice-index c.loop-choice.at c.args.end c.requires.long.0 c.choice-item.result c.loop-choice-test.true c.choice-item.is some kept.0 c.ranges.end.fits in
+    let same = ap (λ x. body_long c.args.scope.now (view_body x)) c.deref.ensures.value in
+    omega (arith, fits, same)
+
+pub emit_choices-overflow_add-next : goal.emit_choices-overflow_add-next
+emit_choices-overflow_add-next t c =
+    let kept = c.loop-choice.invariant (λ p. []) c.requires.long.0 c.requires.long.1 in
+    let some : 0 < length c.choice-item.result.labels.items = omega (arith, c.len-labels.ensures, c.if-labels-gt0.true) in
+    let fits = choice_fits c.args.scope.now c.args.choices.now c.loop-choice.choice-index c.loop-choice.at c.args.end c.requires.long.0 c.choice-item.result c.loop-choice-test.true c.choice-item.is some kept.0 c.ranges.end.fits in
+    let same = ap (λ x. body_long c.args.scope.now (view_body x)) c.deref.ensures.value in
+    omega (arith, fits, same, c.len-labels.ensures, c.body_lines.ensures)
+
+pub emit_choices-overflow_add-next-then-labels-gt0 : goal.emit_choices-overflow_add-next-then-labels-gt0
+emit_choices-overflow_add-next-then-labels-gt0 t c =
+    let kept = c.loop-choice.invariant (λ p. []) c.requires.long.0 c.requires.long.1 in
+    let some : 0 < length c.choice-item.result.labels.items = omega (arith, c.len-labels.ensures, c.if-labels-gt0.true) in
+    let fits = choice_fits c.args.scope.now c.args.choices.now c.loop-choice.choice-index c.loop-choice.at c.args.end c.requires.long.0 c.choice-item.result c.loop-choice-test.true c.choice-item.is some kept.0 c.ranges.end.fits in
+    let same = ap (λ x. body_long c.args.scope.now (view_body x)) c.deref.ensures.value in
+    omega (arith, fits, same, c.len-labels.ensures, c.body_lines.ensures)
 
 pub emit_choice-emit_body-requires : goal.emit_choice-emit_body-requires
 emit_choice-emit_body-requires t c =
@@ -251,7 +435,9 @@ emit_choice-emit_body-requires t c =
     let steady = subst (λ (p : List Label × PlainBody ℕ). SteadyBody p.1) (view_choice_is c.args.choice.now) c.requires.steady in
     let known = named c.args.scope.now in
     let names = subst (λ (p : List Label × PlainBody ℕ). body_known known p.1 ≡ true) (view_choice_is c.args.choice.now) c.requires.named in
-    (omega arith, (c.requires.laid, (subst (λ x. SteadyBody (view_body x)) (sym c.deref-2.ensures.value) steady, subst (λ x. body_known known (view_body x) ≡ true) (sym c.deref-2.ensures.value) names)))
+    let own = ap (λ p. body_long c.args.scope.now p.1) (view_choice_is c.args.choice.now) in
+    let same = ap (λ x. body_long c.args.scope.now (view_body x)) c.deref-2.ensures.value in
+    (omega arith, (c.requires.laid, (subst (λ x. SteadyBody (view_body x)) (sym c.deref-2.ensures.value) steady, (subst (λ x. body_known known (view_body x) ≡ true) (sym c.deref-2.ensures.value) names, omega (arith, own, same, c.requires.long)))))
 
 pub emit_loop-left_of-left-requires : goal.emit_loop-left_of-left-requires
 emit_loop-left_of-left-requires t c = let few = turns_few c.args.span c.requires.dints in omega (arith, few, c.count_turns-turns.ensures)
@@ -264,9 +450,9 @@ emit_loop-returns t c =
     let step : to_z w64 (of_z w64 c.args.span.step) ≡ c.args.span.step = search rules in
     let begun = c.in_ok-emit.ensures ∙ (λ i. c.args.out.now.items ++ (instr.Begin c.args.slot (from i) (left i), c.args.place) ∷ []) in
     let is =
-    loop_done c.args.place c.args.slot c.args.span c.count_turns-turns.result c.in_ok-first.first c.left_of-left.result inside c.args.pc c.args.out.now.items c.emit.new.out.items c.emit_body.new.out.items
-    c.count_turns-turns.ensures c.if-turns-eq0.false c.left_of-left.ensures c.in_ok-first.ensures begun c.in_ok-emit_body.ensures in
-    subst (λ z. IfOk c.emit-2.result (λ x. c.emit-2.new.out.items ≡ z)) (ap (λ n. c.emit_body.new.out.items ++ (instr.Turn c.args.slot n c.in_ok-first.first, c.args.place) ∷ []) step ∙ is) c.emit-2.ensures
+    loop_done c.args.place c.args.slot c.args.span c.count_turns-turns.result (c.args.pc + 1) c.left_of-left.result inside c.args.pc c.args.out.now.items c.emit.new.out.items c.emit_body.new.out.items
+    c.count_turns-turns.ensures c.if-turns-eq0.false c.left_of-left.ensures refl begun c.in_ok-emit_body.ensures in
+    subst (λ z. IfOk c.emit-2.result (λ x. c.emit-2.new.out.items ≡ z)) (ap (λ n. c.emit_body.new.out.items ++ (instr.Turn c.args.slot n (c.args.pc + 1), c.args.place) ∷ []) step ∙ is) c.emit-2.ensures
 
 pub emit_stmt-returns-in_ok-emit_expr-in-Assign : goal.emit_stmt-returns-in_ok-emit_expr-in-Assign
 emit_stmt-returns-in_ok-emit_expr-in-Assign t c =
@@ -286,14 +472,16 @@ emit_stmt-returns-in_ok-at-in-Case t c =
     let e = view_expr c.in-Case.selector in
     let choices = view_choices c.in-Case.choices.items in
     let last = view_body c.in-Case.last.items in
-    let first : c.in_ok-first-in-Case.first ≡ c.args.pc + expr_lines e = omega (arith, c.in_ok-first-in-Case.ensures, c.in_ok-expr_lines-in-Case.ensures) in
-    let otherwise = c.in_ok-otherwise-in-Case.ensures ∙ ap (λ b. body_lines s.seats.now (lines_at s.table.now) (view_body b)) c.deref-in-Case.ensures.value in
-    let lines = c.in_ok-lines-in-Case.ensures ∙ (λ i. choices_long s (view_choices (c.deref-in-Case-2.ensures.value i)) (otherwise i)) in
-    let emitted = subst (λ xs. (l : ℕ → List Line) (n : ℕ) → c.in_ok-first-in-Case.first + choices_long s (view_choices xs) n ≡ c.in_ok-end-in-Case.end
-    → c.emit_choices.new.out.items ++ l c.in_ok-at-in-Case.at ≡ c.emit_expr-in-Case.new.out.items ++ code.choices_code s place (view_choices xs) l n c.in_ok-first-in-Case.first) c.deref-in-Case-3.ensures.value c.in_ok-at-in-Case.ensures in
+    let from = c.args.pc + c.expr_lines.result in
+    let end = from + c.choices_lines.result in
+    let first : from ≡ c.args.pc + expr_lines e = ap (λ m. c.args.pc + m) c.expr_lines.ensures in
+    let otherwise = c.body_lines-otherwise-in-Case.ensures ∙ ap (λ b. body_lines s.seats.now (lines_at s.table.now) (view_body b)) c.deref-in-Case.ensures.value in
+    let lines = c.choices_lines.ensures ∙ (λ i. choices_long s (view_choices (c.deref-in-Case-2.ensures.value i)) (otherwise i)) in
+    let emitted = subst (λ xs. (l : ℕ → List Line) (n : ℕ) → from + choices_long s (view_choices xs) n ≡ end
+    → c.emit_choices.new.out.items ++ l c.in_ok-at-in-Case.at ≡ c.emit_expr-in-Case.new.out.items ++ code.choices_code s place (view_choices xs) l n from) c.deref-in-Case-3.ensures.value (λ l n h. (c.in_ok-at-in-Case.ensures l n h).1) in
     let is =
     ap (λ b. c.emit_choices.new.out.items ++ code.body_code s (view_body b) c.in_ok-at-in-Case.at) c.deref-in-Case-4.ensures.value
-    ∙ case_done s place e choices last c.args.pc c.in_ok-first-in-Case.first c.in_ok-at-in-Case.at c.in_ok-end-in-Case.end c.args.out.now.items c.emit_expr-in-Case.new.out.items c.emit_choices.new.out.items
-    c.in_ok-emit_expr-in-Case.ensures first (omega (arith, c.in_ok-end-in-Case.ensures, lines)) emitted
+    ∙ case_done s place e choices last c.args.pc from c.in_ok-at-in-Case.at end c.args.out.now.items c.emit_expr-in-Case.new.out.items c.emit_choices.new.out.items
+    c.in_ok-emit_expr-in-Case.ensures first (ap (λ m. from + m) (sym lines)) emitted
     ∙ ap (λ p. c.args.out.now.items ++ code.stmt_code s p c.args.pc) (sym viewed) in
     subst (λ z. IfOk c.emit_body-in-Case.result (λ x. c.emit_body-in-Case.new.out.items ≡ z)) is c.emit_body-in-Case.ensures

@@ -2,12 +2,14 @@ use Rattle.std.proofs.Common.{◌≡◌, ◌+◌, ◌*◌, ◌++◌, ℕ, List, 
 use Rattle.st_tree.specs.View.{view_body, view_branches, view_choices}
 use Rattle.block_walk.proofs.Ranks.{total}
 use Rattle.codegen.specs.Codes.{Line}
-use Rattle.codegen.specs.Emission.{body_code, branches_code, choices_code, branches_long, choices_long}
+use Rattle.codegen.specs.Emission.{body_code, body_long, branches_code, choices_code, branches_long, choices_long}
 use Rattle.codegen.proofs.emission.+code.Given as goal
 
--- what is emitted, and what is left to emit, is all
+-- what is emitted, and what is left to emit, is all, and so are the lines
 abbrev pub invariant-emit_body-loop-stmt : goal.invariant-emit_body-loop-stmt
-invariant-emit_body-loop-stmt l = l.out.items ++ body_code l.scope (view_body (drop l.stmt-index l.body)) l.at ≡ l.initial.out.items ++ body_code l.scope (view_body l.body) l.pc
+invariant-emit_body-loop-stmt l =
+    (l.out.items ++ body_code l.scope (view_body (drop l.stmt-index l.body)) l.at ≡ l.initial.out.items ++ body_code l.scope (view_body l.body) l.pc)
+    × (l.at + body_long l.scope (view_body (drop l.stmt-index l.body)) ≡ l.pc + body_long l.scope (view_body l.body))
 
 abbrev pub invariant-emit_branches-loop-branch : goal.invariant-emit_branches-loop-branch
 invariant-emit_branches-loop-branch l =

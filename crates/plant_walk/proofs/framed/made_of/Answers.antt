@@ -6,12 +6,13 @@ use Rattle.plant_logic.specs.Names.{global_words}
 use Rattle.plant_limits.specs.Counts.{routine_cost, type_cost, program_costs}
 use Rattle.block_frames.specs.Numbers.{HasAllNames}
 use Rattle.codegen.specs.Codes.{AreSteady}
-use Rattle.program_codes.specs.Codes.{AllNamesFit, CostNoMore}
+use Rattle.program_codes.specs.Codes.{AllNamesFit, AreSmall, CostNoMore}
 use Rattle.plant_walk.specs.Framed.{global_names}
 use Rattle.plant_walk.proofs.Coded.{sound_steady, names_same, codes_same}
 use Rattle.plant_walk.proofs.Small.{sound_named, sound_types}
 use Rattle.plant_walk.proofs.Little.{sound_small}
 use Rattle.plant_walk.proofs.Costs.{costs_listed}
+use Rattle.plant_walk.proofs.Sizes.{frames_small}
 use Rattle.plant_walk.proofs.OwnCells.{all_names_fit}
 use Rattle.plant_walk.proofs.framed.made_of.Goals as goal
 
@@ -55,6 +56,15 @@ codes_of-requires-clause-named c =
     let globals_are : c.len.result ≡ length source.globals = omega (arith, globals_ok.0, globals_len) in
     names_same frames c.deref-3.result.now (length source.globals) c.len.result (length order) values c.deref-4.result.now clocks c.deref-5.result.now (program_costs source) c.deref-6.result.now
     (sym c.deref-3.ensures.value) (sym globals_are) (sym c.deref-4.ensures.value) (sym c.deref-5.ensures.value) (sym (c.deref-6.ensures.value ∙ c.in_ok-costs.ensures.kept sound.limits.cost)) fit
+
+pub codes_of-requires-clause-small : goal.codes_of-requires-clause-small
+codes_of-requires-clause-small c =
+    let source = source_of c.args.logic.now in
+    let sound = c.requires.sound in
+    let order = c.args.order.now in
+    let names : HasAllNames source = subst HasAllNames (sym sound.are_theirs) (c.typed_names_are_known.ensures sound.units sound.typed) in
+    subst AreSmall (sym c.deref-3.ensures.value)
+    (frames_small source order c.in_ok-frames.frames.items c.in_ok-frames.ensures.frames c.requires.below (sound_types source sound) names (c.block_type_counts.ensures.size source.blocks order) sound (c.block_type_counts.ensures.slots source.blocks order c.requires.below))
 
 pub codes_of-requires-clause-costs : goal.codes_of-requires-clause-costs
 codes_of-requires-clause-costs c =
