@@ -19,7 +19,7 @@ use plant_cells::{Cells, Clock, Stop};
 use std::marker::Model;
 use std::sync::Arc;
 
-/// A job, which contracts see as its start. It owns its cells, of which its start keeps a copy, and the stack of its run.
+/// A job, which contracts see as its start. It owns the stack of its run, and room for cells: who runs it copies those of its start into that.
 pub struct Job {
     start: Arc<Start>,
     cells: Cells,
@@ -121,9 +121,9 @@ fn put_part(part: &Part, left: &Cells, values: &mut [i64], clocks: &mut [Clock])
 }
 
 impl Job {
-    /// A job that starts there, with cells as they are there and words for the stack of its run.
+    /// A job that starts there, with as many cells as there and words for the stack of its run.
     pub(crate) fn new(start: Arc<Start>, cells: Cells, stack: Vec<i64>) -> Job
-        requires cells { cells ≡ (arc_value start).cells }
+        requires cells { SameShape cells (arc_value start).cells }
         requires room { (arc_value start).part.code.stack ≤ length stack.items }
         ensures { result ≡ arc_value start }
     {
@@ -162,6 +162,7 @@ impl Work<Start, Done> for Job {
             mut cells,
             mut stack,
         } = self;
+        cells.copy_from(start.cells());
         let result = run_from(&start, stack.as_mut_slice(), &mut cells);
         Done {
             start,

@@ -1,6 +1,7 @@
 //! Memory that jobs leave behind for later ones.
 
 ghost use Rattle.std.specs.Prelude.{◌≡◌, ◌≤◌, [], length, IfOk};
+ghost use Rattle.acc_vm.specs.Codes.{SameShape};
 
 use crate::done::Done;
 use crate::matching::Out;
@@ -48,16 +49,14 @@ fn empty_spare(alloc: Global) -> Spare {
     }
 }
 
-/// A copy of cells, in the room of other cells if these have as many values and clocks. Fails if memory was refused.
-pub(crate) fn copied(alloc: Global, cells: &Cells, room: Cells) -> Result<Cells, AllocError>
-    ensures { IfOk result (λ copy. copy ≡ cells.now) }
+/// Cells with as many values and clocks as others: the room of earlier cells if these have so many, else a copy. Fails if memory was refused.
+pub(crate) fn as_many(alloc: Global, cells: &Cells, room: Cells) -> Result<Cells, AllocError>
+    ensures { IfOk result (λ many. SameShape many cells.now) }
 {
     if room.len() != cells.len() || room.clock_count() != cells.clock_count() {
         return cells.copy(alloc);
     }
-    let mut copy = room;
-    copy.copy_from(cells);
-    Ok(copy)
+    Ok(room)
 }
 
 /// A stack of so many words or more, in the room of another. Fails if memory was refused.
@@ -96,7 +95,10 @@ impl Reserve {
             Some(place) => place.take(),
             None => None,
         };
-        Ok(left.unwrap_or(empty_spare(alloc)))
+        match left {
+            Some(spare) => Ok(spare),
+            None => Ok(empty_spare(alloc)),
+        }
     }
 
     /// Takes the memory of a list of what is out.

@@ -11,7 +11,7 @@ ghost use Rattle.slice_store.specs.Fits.{IsMisfit};
 use crate::done::{Done, Job};
 use crate::matching::{Out, match_up};
 use crate::misfit::Misfit;
-use crate::reserve::{Reserve, Spare, copied, widened};
+use crate::reserve::{Reserve, Spare, as_many, widened};
 use crate::start::Start;
 use code_slices::Part;
 use crew::Work;
@@ -128,7 +128,7 @@ fn begin(
 {
     let stack = widened(stack, start.part().code().stack())?;
     let (start, room) = shared_start(alloc, start, place)?;
-    let own = copied(alloc, start.cells(), room)?;
+    let own = as_many(alloc, start.cells(), room)?;
     Ok(Job::new(start, own, stack))
 }
 
