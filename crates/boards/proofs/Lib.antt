@@ -1,4 +1,6 @@
+pub mod Counting
 pub mod Laying
 pub mod Prefixes
+pub mod Replying
 pub mod Sights
 pub mod Takes

@@ -13,6 +13,7 @@
 
 mod board;
 mod entry;
+mod laws;
 mod reader;
 mod replies;
 mod rule;
@@ -22,6 +23,7 @@ mod writer;
 
 pub use board::Board;
 pub use entry::{Answer, Entry, Operation, Reply};
+pub use laws::{orders_are_counted, replies_are_of_the_table};
 pub use reader::{BoardReader, BoardReading};
 pub use rule::Grows;
 pub use tally::Tally;

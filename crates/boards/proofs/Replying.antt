@@ -1,0 +1,91 @@
+-- A reply that a board allows is the one of the table.
+use Rattle.std.proofs.Common.{◌≡◌, ℕ, ◌==◌, Bool, true, false, ◌||◌, if◌then◌else◌, Option, Some, None, refl, sym, ◌∙◌, ap, eqb-true}
+use Rattle.std.proofs.lemmas.Bool.{and_parts}
+use Rattle.std.specs.Prelude.{Result, Ok, Err}
+use Rattle.alarm_machine.specs.declared.states.Code.{Code}
+use Rattle.alarm_machine.specs.declared.states.Code.TheVariants as code
+use Rattle.alarm_machine.specs.declared.states.OrderFault.{OrderFault}
+use Rattle.alarm_machine.specs.declared.states.OrderFault.TheVariants as fault
+use Rattle.alarm_machine.specs.Codes.{PlainChange, rank, same_code}
+use Rattle.alarm_bank.specs.Banks.{PlainBank, reply_of}
+use Rattle.boards.specs.declared.entry.Answer.{Answer}
+use Rattle.boards.specs.declared.entry.Entry.TheVariants as entry
+use Rattle.boards.specs.Replies.{fault_number, same_change, same_reply, is_restart, is_outside, allows}
+
+-- the code of a place in the list of codes
+abbrev code_by : ℕ → Code
+code_by n =
+    if n == 0 then code.Norm
+    else if n == 1 then code.Unack
+    else if n == 2 then code.Acked
+    else if n == 3 then code.Rtnun
+    else if n == 4 then code.Latun
+    else if n == 5 then code.Latak
+    else if n == 6 then code.Shelved
+    else if n == 7 then code.Suppr
+    else code.Oos
+
+code_is : (c : Code) → code_by (rank c) ≡ c
+code_is code.Norm = refl
+code_is code.Unack = refl
+code_is code.Acked = refl
+code_is code.Rtnun = refl
+code_is code.Latun = refl
+code_is code.Latak = refl
+code_is code.Shelved = refl
+code_is code.Suppr = refl
+code_is code.Oos = refl
+
+codes_same : (a b : Code) → same_code a b ≡ true → a ≡ b
+codes_same a b h = sym (code_is a) ∙ (ap code_by (eqb-true (rank a) (rank b) h) ∙ code_is b)
+
+-- the refusal of a number
+abbrev fault_by : ℕ → OrderFault
+fault_by n =
+    if n == 1 then fault.UnknownTarget
+    else if n == 2 then fault.NotYourArea
+    else if n == 3 then fault.WrongState
+    else if n == 4 then fault.ShelveTime
+    else fault.NotFaulted
+
+fault_is : (e : OrderFault) → fault_by (fault_number e) ≡ e
+fault_is fault.UnknownTarget = refl
+fault_is fault.NotYourArea = refl
+fault_is fault.WrongState = refl
+fault_is fault.ShelveTime = refl
+fault_is fault.NotFaulted = refl
+
+faults_same : (e f : OrderFault) → (fault_number e == fault_number f) ≡ true → e ≡ f
+faults_same e f h = sym (fault_is e) ∙ (ap fault_by (eqb-true (fault_number e) (fault_number f) h) ∙ fault_is f)
+
+changes_same : (c d : Option PlainChange) → same_change c d ≡ true → c ≡ d
+changes_same None None h = refl
+changes_same None (Some d) h = absurd (cc (h))
+changes_same (Some c) None h = absurd (cc (h))
+changes_same (Some c) (Some d) h =
+    let both = and_parts (same_code c.from d.from) (same_code c.to d.to) h in
+    λ i. Some (record { from = codes_same c.from d.from both.0 i; to = codes_same c.to d.to both.1 i })
+
+replies_same : (x y : Result (Option PlainChange) OrderFault) → same_reply x y ≡ true → x ≡ y
+replies_same (Ok c) (Ok d) h = ap (λ (x : Option PlainChange). Ok x) (changes_same c d h)
+replies_same (Ok c) (Err f) h = absurd (cc (h))
+replies_same (Err e) (Ok d) h = absurd (cc (h))
+replies_same (Err e) (Err f) h = ap (λ (x : OrderFault). Err x) (faults_same e f h)
+
+third : (a b c : Bool) → a ≡ false → b ≡ false → (a || (b || c)) ≡ true → c ≡ true
+third true b c x y h = absurd (cc (x))
+third false true c x y h = absurd (cc (y))
+third false false c x y h = h
+
+-- whether the reply is the table's for the order's alarm
+abbrev fits : PlainBank → Answer → Option ℕ → Bool
+fits b a target = elim target [ None ↦ false | Some n ↦ same_reply a.reply (reply_of n a.order.verb b) ]
+
+pub reply_is : (b : PlainBank) (console alarm : ℕ) (a : Answer) → allows b (entry.Order console a) ≡ true → is_restart a.order.verb ≡ false → is_outside a.reply ≡ false → a.order.target ≡ Some alarm → a.reply ≡ reply_of alarm a.order.verb b
+reply_is b console alarm a may verb inside target =
+    replies_same a.reply (reply_of alarm a.order.verb b) (sym (ap (fits b a) target) ∙ third (is_restart a.order.verb) (is_outside a.reply) (fits b a a.order.target) verb inside may)
+
+pub has_target : (b : PlainBank) (console : ℕ) (a : Answer) → allows b (entry.Order console a) ≡ true → is_restart a.order.verb ≡ false → is_outside a.reply ≡ false → a.order.target ≡ None → ⊥
+has_target b console a may verb inside none =
+    let no : false ≡ true = sym (ap (fits b a) none) ∙ third (is_restart a.order.verb) (is_outside a.reply) (fits b a a.order.target) verb inside may in
+    absurd (cc (no))
