@@ -33,7 +33,7 @@ pub struct Finished<O, R> {
 }
 
 impl<O: Drop, R: Drop> Console<O, R> {
-    ghost use Rattle.std.specs.Prelude.{◌≡◌, ◌<◌, ◌≤◌, [], ◌∷◌, ◌++◌, length, OnOk, IfErr, IfSome, IsOk, IfNone};
+    ghost use Rattle.std.specs.Prelude.{◌≡◌, ◌<◌, ◌≤◌, ◌+◌, [], ◌∷◌, ◌++◌, length, OnOk, IfErr, IfSome, IsOk, IfNone};
     ghost use Rattle.console_link.specs.Seats.{submitted, taken, known_room, SameConsole, all_submitted, all_taken, Ends};
 
     /// Its number.
@@ -64,6 +64,7 @@ impl<O: Drop, R: Drop> Console<O, R> {
         ensures seat { SameConsole self.old self.new }
         ensures ok { OnOk result (submitted self.new ≡ submitted self.old ++ order ∷ []) }
         ensures full { IfErr result (λ e. (e ≡ order) × (submitted self.new ≡ submitted self.old) × (known_room self.new ≡ 0)) }
+        ensures room { OnOk result (known_room self.old ≤ known_room self.new + 1) }
         ensures taken { taken self.new ≡ taken self.old }
         ensures succeeds { 0 < known_room self.old → IsOk result }
     {
@@ -78,7 +79,7 @@ impl<O: Drop, R: Drop> Console<O, R> {
         ensures seat { SameConsole self.old self.new }
         ensures some { IfSome result (λ a. taken self.new ≡ taken self.old ++ a ∷ []) }
         ensures none { IfNone result (taken self.new ≡ taken self.old) }
-        ensures submitted { submitted self.new ≡ submitted self.old }
+        ensures submitted { (submitted self.new ≡ submitted self.old) × (known_room self.new ≡ known_room self.old) }
     {
         if self.answered == u64::MAX {
             return None;

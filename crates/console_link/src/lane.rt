@@ -1,6 +1,6 @@
 //! The owner's ends of a console's rings.
 ghost use Rattle.std.specs.Prelude.{◌≡◌, [], IfOk};
-ghost use Rattle.console_link.specs.Seats.{submitted, taken, known_room, orders_taken, answers_given, IsConsoleOf, IsOpen};
+ghost use Rattle.console_link.specs.Seats.{submitted, taken, known_room, orders_taken, answers_given, answer_room, IsConsoleOf, IsOpen};
 
 use crate::answer::Answer;
 use crate::console::{Console, Finished};
@@ -31,7 +31,7 @@ pub fn open<O: Drop, R: Drop, E>(
 ) -> Result<(Console<O, R>, Lane<O, R>), AllocError>
     ensures pair { IfOk result (λ r. IsConsoleOf r.0 r.1) }
     ensures console { IfOk result (λ r. (r.0.number ≡ number) × (submitted r.0 ≡ []) × (taken r.0 ≡ []) × (known_room r.0 ≡ 64) × (r.0.log ≡ mark.now.log)) }
-    ensures lane { IfOk result (λ r. (r.1.number ≡ number) × (orders_taken r.1 ≡ []) × (answers_given r.1 ≡ []) × IsOpen r.1 × (r.1.log ≡ mark.now.log)) }
+    ensures lane { IfOk result (λ r. (r.1.number ≡ number) × (orders_taken r.1 ≡ []) × (answers_given r.1 ≡ []) × (answer_room r.1 ≡ 64) × IsOpen r.1 × (r.1.log ≡ mark.now.log)) }
 {
     let (submits, orders) = RingBuffer::new(alloc, 64)?;
     let (answers, takes) = RingBuffer::new(alloc, 64)?;
@@ -70,6 +70,7 @@ impl<O: Copy + Drop, R: Copy + Drop> Lane<O, R> {
     pub fn waiting(&mut self) -> Option<O>
         ensures looked { LaneLooked self.old self.new }
         ensures ended { self.new.ended ≡ self.old.ended }
+        ensures seen { seen_by self.new ≡ seen_by self.old }
         ensures some { IfSome result (λ o. IsPrefix (o ∷ []) (orders_known self.new) × (0 < answer_room self.new)) }
         ensures none { IfNone result ((orders_known self.new ≡ []) ⊎ (answer_room self.new ≡ 0)) }
     {
@@ -85,6 +86,7 @@ impl<O: Copy + Drop, R: Copy + Drop> Lane<O, R> {
         requires place { 0 < answer_room self.old }
         ensures lane { SameLane self.old self.new }
         ensures ended { self.new.ended ≡ self.old.ended }
+        ensures seen { seen_by self.new ≡ seen_by self.old }
         ensures order { (orders_taken self.new ≡ orders_taken self.old ++ result.order ∷ []) × (orders_known self.old ≡ result.order ∷ orders_known self.new) }
         ensures answer { (answers_given self.new ≡ answers_given self.old ++ result ∷ []) × (result.reply ≡ reply) }
     {
