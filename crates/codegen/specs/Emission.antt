@@ -26,7 +26,7 @@ pub record AreLines (frames : List Frame) (limit : ℕ) (table : List Count) : T
   pub lines : (k : ℕ) → frame_lines frames limit k ≡ lines_at table k
 
 -- a scope's table has the lines of the frames before its own; each base below it stays below 2 ^ 128, and each path number at it and below it is below 2 ^ 32;
--- and each FOR of a frame has constant bounds
+-- and the bounds of each FOR of a frame are constant DINTs
 pub record IsLaid (s : Scope) : Type 0 where
   pub lines : AreLines s.frames.now s.limit s.table.now
   pub bases : HasRoom s.base (s.limit + 1)
