@@ -1,12 +1,18 @@
 //! The token with which no source can go on (C5).
 
 use crate::cause::{Cause, cause_at};
+use crate::foreign::{foreign, foreign_word, may_be_first};
+use crate::lacking::lacking;
 use crate::roles::{kind_at, kind_before, span_of, word_at};
+use plant_types::same_word;
 use st_lexer::{Keyword, LexFault, Symbol, Token, TokenKind, lex, place_of};
 use std::alloc::{AllocError, Global};
 
 /// Where the grammar stands.
 const GRAMMAR: &str = "docs/LANGUAGE.md, \"Grammar\"";
+
+/// Where it stands what of the standard isn't there.
+const STANDARD: &str = "docs/LANGUAGE.md, \"What of IEC 61131-3 is here\"";
 
 /// The tokens of a text; none where it has a fault. Fails if allocation fails.
 pub fn tokens_of(alloc: Global, text: &[u8]) -> Result<Vec<Token>, AllocError> {
@@ -70,6 +76,29 @@ fn last_open(tokens: &[Token], number: usize) -> Option<usize> {
     None
 }
 
+/// Whether what is open should be closed before a token: it is none of its own, and closes something else, goes on with an IF or a CASE around it, or begins
+/// a unit or globals.
+fn is_left_open(opened: TokenKind, kind: TokenKind, word: &str) -> bool {
+    let is_own = match (opened, kind) {
+        (TokenKind::Keyword(Keyword::If), TokenKind::Keyword(Keyword::Else | Keyword::Elsif)) =>
+            true,
+        (TokenKind::Keyword(Keyword::Case), TokenKind::Keyword(Keyword::Else)) => true,
+        _ => same_word(closing_word(opened).as_bytes(), word.as_bytes()),
+    };
+    let ends = is_closing(kind)
+        || matches!(
+            kind,
+            TokenKind::Keyword(
+                Keyword::Else
+                    | Keyword::Elsif
+                    | Keyword::Program
+                    | Keyword::FunctionBlock
+                    | Keyword::VarGlobal
+            )
+        );
+    ends && !is_own
+}
+
 /// What is said where something is open that should be closed before a token. Fails if allocation fails.
 fn unclosed(
     alloc: Global,
@@ -94,13 +123,20 @@ fn unclosed(
     Ok(cause_at(mark, said, GRAMMAR))
 }
 
-/// Whether a statement may end with a token.
+/// Whether a statement or a declaration may end with a token.
 fn may_end(kind: TokenKind) -> bool {
     match kind {
         TokenKind::Symbol(symbol) => symbol == Symbol::Close,
         TokenKind::Keyword(keyword) => matches!(
             keyword,
-            Keyword::True | Keyword::False | Keyword::EndIf | Keyword::EndCase | Keyword::EndFor
+            Keyword::True
+                | Keyword::False
+                | Keyword::EndIf
+                | Keyword::EndCase
+                | Keyword::EndFor
+                | Keyword::Bool
+                | Keyword::Dint
+                | Keyword::Time
         ),
         _ => true,
     }
@@ -141,7 +177,15 @@ fn told(tokens: &[Token], number: usize) -> &'static str {
             TokenKind::Keyword(_),
             Some(TokenKind::Symbol(Symbol::Colon | Symbol::Becomes | Symbol::Comma)),
         ) => "': it is a keyword, and can't be a name",
-        _ => "",
+        (TokenKind::Symbol(Symbol::Colon), TokenKind::Word, _) => {
+            "': what has an address is a BOOL, a DINT or a TIME"
+        }
+        (
+            TokenKind::Keyword(Keyword::EndProgram | Keyword::EndFunctionBlock),
+            TokenKind::Keyword(Keyword::VarGlobal),
+            _,
+        ) => "': globals stand above all blocks and programs of their source",
+        _ => foreign(before, kind, after),
     }
 }
 
@@ -153,30 +197,80 @@ fn lacks_semicolon(tokens: &[Token], number: usize) -> bool {
     }
 }
 
-/// The cause at the token of a number. Fails if allocation fails.
+/// Whether a statement begins with the token of a number, or with the word before it.
+fn begins_body(tokens: &[Token], number: usize) -> bool {
+    match (kind_before(tokens, number, 1), kind_at(tokens, number)) {
+        (_, Some(TokenKind::Keyword(Keyword::If | Keyword::Case | Keyword::For))) => true,
+        (Some(TokenKind::Word), Some(TokenKind::Symbol(Symbol::Open))) => {
+            may_be_first(tokens, number.saturating_sub(1))
+        }
+        _ => false,
+    }
+}
+
+/// What opens the declarations in which a statement begins with the token of a number; `None` where none does.
+fn open_section(tokens: &[Token], number: usize) -> Option<usize> {
+    let opened = last_open(tokens, number)?;
+    if closing_word(kind_at(tokens, opened)?) == "END_VAR" && begins_body(tokens, number) {
+        Some(opened)
+    } else {
+        None
+    }
+}
+
+/// What opens something that should be closed before the token of a number; `None` where nothing is left open.
+fn left_open(text: &[u8], tokens: &[Token], number: usize) -> Option<usize> {
+    let opened = last_open(tokens, number)?;
+    let (opening, kind) = (kind_at(tokens, opened)?, kind_at(tokens, number)?);
+    if is_left_open(opening, kind, word_at(text, tokens, number)) {
+        Some(opened)
+    } else {
+        None
+    }
+}
+
+/// The cause at the token of a number, where no word of another dialect tells it. Fails if allocation fails.
 fn cause_of_token(
     alloc: Global,
     text: &[u8],
     tokens: &[Token],
     number: usize,
 ) -> Result<Cause, AllocError> {
+    if let Some(opened) = open_section(tokens, number) {
+        return unclosed(alloc, text, tokens, opened, number);
+    }
     let word = word_at(text, tokens, number);
     let told = told(tokens, number);
     let said = if !told.is_empty() {
         format!(in alloc; "found '{word}{told}")?
     } else if lacks_semicolon(tokens, number) {
         let line = place_of(text, tokens, number.saturating_sub(1)).0;
-        format!(in alloc; "found '{word}': a ';' seems to be missing before it, in line {line}")?
+        let lacks = lacking(tokens, number);
+        format!(in alloc; "found '{word}': {lacks} seems to be missing before it, in line {line}")?
     } else {
-        match (kind_at(tokens, number), last_open(tokens, number)) {
-            (Some(kind), Some(opened)) if is_closing(kind) => {
-                return unclosed(alloc, text, tokens, opened, number);
-            }
-            _ => format!(in alloc; "no source can go on with '{word}' here")?,
+        if let Some(opened) = left_open(text, tokens, number) {
+            return unclosed(alloc, text, tokens, opened, number);
         }
+        format!(in alloc; "no source can go on with '{word}' here")?
     };
     let mark = span_of(text, tokens, number, number.saturating_add(1));
     Ok(cause_at(mark, said, GRAMMAR))
+}
+
+/// The cause at the token of a number: a word of another dialect there or before it, or what it is itself. Fails if allocation fails.
+fn cause_at_token(
+    alloc: Global,
+    text: &[u8],
+    tokens: &[Token],
+    number: usize,
+) -> Result<Cause, AllocError> {
+    let Some((at, told)) = foreign_word(text, tokens, number) else {
+        return cause_of_token(alloc, text, tokens, number);
+    };
+    let word = word_at(text, tokens, at);
+    let said = format!(in alloc; "'{word}{told}")?;
+    let mark = span_of(text, tokens, at, at.saturating_add(1));
+    Ok(cause_at(mark, said, STANDARD))
 }
 
 /// The cause of a fault of grammar at a byte of a source: the token there, or the text's end. Fails if allocation fails.
@@ -184,7 +278,7 @@ pub fn ungrammatical(alloc: Global, text: &[u8], at: usize) -> Result<Cause, All
     let tokens = tokens_of(alloc, text)?;
     let tokens = tokens.as_slice();
     if let Some(number) = tokens.iter().position(|token| token.from >= at) {
-        return cause_of_token(alloc, text, tokens, number);
+        return cause_at_token(alloc, text, tokens, number);
     }
     if let Some(opened) = last_open(tokens, tokens.len()) {
         return unclosed(alloc, text, tokens, opened, tokens.len());

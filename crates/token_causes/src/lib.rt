@@ -4,7 +4,9 @@
 #![tactic(auto)]
 
 mod cause;
+mod foreign;
 mod grammar;
+mod lacking;
 mod roles;
 mod spelling;
 

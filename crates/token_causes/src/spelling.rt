@@ -59,7 +59,9 @@ fn is_unit(letters: &[u8]) -> bool {
 /// Why a literal that begins with a digit isn't allowed.
 fn number_fault(word: &[u8]) -> &'static str {
     let behind = part(word, digits_len(word), word.len());
-    if behind.is_empty() {
+    if matches!(word, [b'0', b'x' | b'X', ..]) {
+        "' is no number: one to the base 16 is written 16#FF"
+    } else if behind.is_empty() {
         "' is too large: an integer is at most 2147483648"
     } else if is_unit(behind) {
         "' is no number; a duration has T# before it, as in T#5s"
@@ -76,6 +78,11 @@ fn mark_fault(bytes: &[u8]) -> &'static str {
         [b'"' | b'\'', ..] => "texts in quotes aren't part of the language",
         [b'%', ..] => "this is no address: one is written as %IX0.0, %QD4 or %M*",
         [b'[' | b']', ..] => "arrays aren't part of the language",
+        [b'!', b'=', ..] => "unequal is written <>",
+        [b'#', ..] => "a remark is written // .. or (* .. *)",
+        [0xC2, 0xA0, ..] => {
+            "this is a no-break space, which only looks like a blank: put a blank in its place"
+        }
         [0xFF, 0xFE, ..] | [0xFE, 0xFF, ..] | [_, 0, ..] | [0, ..] => {
             "this file is no UTF-8, but looks like UTF-16: save it as UTF-8"
         }
