@@ -6,8 +6,10 @@
 #![tactic(auto)]
 
 mod blank;
+mod lists;
 mod parts;
 mod statements;
 
 pub use blank::blanked;
+pub use lists::{compound_statements, simple_statements};
 pub use parts::part_at;

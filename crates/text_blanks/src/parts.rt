@@ -5,14 +5,14 @@ use st_lexer::{Keyword, Token, TokenKind};
 
 /// A block or a program, by the numbers of its tokens.
 #[derive(Clone, Copy, Drop)]
-struct Unit {
+pub struct Unit {
     is_program: bool,
     /// Behind its name.
     inside: usize,
     /// Behind its declarations.
-    body: usize,
+    pub body: usize,
     /// Of the keyword that ends it.
-    end: usize,
+    pub end: usize,
 }
 
 /// The unit whose first token has a number.
@@ -41,7 +41,7 @@ fn ended(unit: Option<Unit>, number: usize) -> Option<Unit> {
 }
 
 /// The block or program that has a byte; `None` where that stands among globals, or behind the last unit.
-fn unit_at(tokens: &[Token], at: usize) -> Option<Unit> {
+pub fn unit_at(tokens: &[Token], at: usize) -> Option<Unit> {
     let mut unit = None;
     for (number, token) in tokens.iter().enumerate() {
         if token.from > at && unit.is_none() {
@@ -64,7 +64,7 @@ fn unit_at(tokens: &[Token], at: usize) -> Option<Unit> {
 }
 
 /// The bytes of tokens, from the one of a number to before another; `None` where there are none.
-fn bytes_of(tokens: &[Token], first: usize, last: usize) -> Option<(usize, usize)> {
+pub fn bytes_of(tokens: &[Token], first: usize, last: usize) -> Option<(usize, usize)> {
     if first >= last {
         return None;
     }

@@ -4,7 +4,7 @@ use st_lexer::{Keyword, Symbol, Token, TokenKind};
 use token_causes::kind_at;
 
 /// Whether a statement, or a label of a CASE, may stand behind a token.
-fn parts_statements(kind: TokenKind) -> bool {
+pub fn parts_statements(kind: TokenKind) -> bool {
     matches!(
         kind,
         TokenKind::Symbol(Symbol::Semicolon | Symbol::Colon)
@@ -13,7 +13,7 @@ fn parts_statements(kind: TokenKind) -> bool {
 }
 
 /// Whether a token opens a statement in which others stand.
-fn opens(kind: TokenKind) -> bool {
+pub fn opens(kind: TokenKind) -> bool {
     matches!(
         kind,
         TokenKind::Keyword(Keyword::If | Keyword::Case | Keyword::For)
@@ -58,7 +58,7 @@ fn opener_of(tokens: &[Token], body: (usize, usize), number: usize) -> Option<us
 }
 
 /// The number of the token that closes the statement which the token of a number opens; `None` where none does.
-fn closer_of(tokens: &[Token], body: (usize, usize), opener: usize) -> Option<usize> {
+pub fn closer_of(tokens: &[Token], body: (usize, usize), opener: usize) -> Option<usize> {
     let mut open = 0usize;
     for i in opener..body.1 {
         let kind = kind_at(tokens, i)?;
@@ -75,7 +75,7 @@ fn closer_of(tokens: &[Token], body: (usize, usize), opener: usize) -> Option<us
 }
 
 /// The number of the first semicolon from a number of a body on.
-fn semicolon_after(tokens: &[Token], body: (usize, usize), number: usize) -> Option<usize> {
+pub fn semicolon_after(tokens: &[Token], body: (usize, usize), number: usize) -> Option<usize> {
     for i in number..body.1 {
         if kind_at(tokens, i)? == TokenKind::Symbol(Symbol::Semicolon) {
             return Some(i);
