@@ -1,6 +1,8 @@
 //! What isn't of the kind that it has to be (C7).
 
-use crate::operands::{is_bit, kind_alone, kind_beginning, kind_ending, variable_kind};
+use crate::operands::{
+    is_bit, kind_alone, kind_beginning, kind_ending, loose_left, loose_right, variable_kind,
+};
 use plant_types::Kind;
 use st_lexer::{Keyword, Symbol, TokenKind};
 use std::alloc::{AllocError, Global};
@@ -99,6 +101,56 @@ fn unequal(
     Ok(unit.cause(number, said, KINDS))
 }
 
+/// Whether an operator compares two of one kind.
+fn is_equality(kind: TokenKind) -> bool {
+    matches!(kind, TokenKind::Symbol(Symbol::Equal | Symbol::Unequal))
+}
+
+/// Whether an operator takes two BOOL.
+fn is_logical(kind: TokenKind) -> bool {
+    matches!(
+        kind,
+        TokenKind::Keyword(Keyword::And | Keyword::Or | Keyword::Xor)
+            | TokenKind::Symbol(Symbol::Ampersand)
+    )
+}
+
+/// Two single operands of `=` or `<>` that are of two kinds, at the number of their operator. Fails if allocation fails.
+fn uncompared(
+    alloc: Global,
+    unit: &Unit<'_, '_>,
+    number: usize,
+) -> Result<Option<Cause>, AllocError> {
+    let (Some(left), Some(right)) = (loose_left(unit, number), loose_right(unit, number)) else {
+        return Ok(None);
+    };
+    if left == right {
+        return Ok(None);
+    }
+    let (operator, one, other) = (unit.word(number), kind_text(left), kind_text(right));
+    let said = format!(in alloc;
+        "'{operator}' compares two of one kind, and here are a {one} and a {other}"
+    )?;
+    Ok(unit.cause(number, said, KINDS))
+}
+
+/// A single operand of AND, OR or XOR that is no BOOL, by the number of the operator. Fails if allocation fails.
+fn illogical(
+    alloc: Global,
+    unit: &Unit<'_, '_>,
+    number: usize,
+) -> Result<Option<Cause>, AllocError> {
+    match (loose_left(unit, number), loose_right(unit, number)) {
+        (Some(found), _) if found != Kind::Bool => {
+            wrong_kind(alloc, unit, number.saturating_sub(1), Kind::Bool, found)
+        }
+        (_, Some(found)) if found != Kind::Bool => {
+            wrong_kind(alloc, unit, number.saturating_add(1), Kind::Bool, found)
+        }
+        _ => Ok(None),
+    }
+}
+
 /// What is certainly wrong with the operands of an operator. Fails if allocation fails.
 fn misfit_at(
     alloc: Global,
@@ -108,6 +160,12 @@ fn misfit_at(
     let Some(kind) = unit.kind(number) else {
         return Ok(None);
     };
+    if is_equality(kind) {
+        return uncompared(alloc, unit, number);
+    }
+    if is_logical(kind) {
+        return illogical(alloc, unit, number);
+    }
     let after = number.saturating_add(1);
     let left = match number.checked_sub(1) {
         Some(before) => kind_ending(unit, before),
@@ -128,7 +186,7 @@ fn misfit_at(
     }
 }
 
-/// What is certainly wrong behind a keyword: NOT, IF and ELSIF want a BOOL, CASE a DINT. Fails if allocation fails.
+/// What is certainly wrong behind a keyword: NOT, IF and ELSIF want a BOOL, CASE and the bounds and the step of a FOR a DINT. Fails if allocation fails.
 fn misfit_behind(
     alloc: Global,
     unit: &Unit<'_, '_>,
@@ -140,7 +198,9 @@ fn misfit_behind(
         Some(TokenKind::Keyword(Keyword::If | Keyword::Elsif)) => {
             (Kind::Bool, kind_alone(unit, after))
         }
-        Some(TokenKind::Keyword(Keyword::Case)) => (Kind::Dint, kind_alone(unit, after)),
+        Some(TokenKind::Keyword(Keyword::Case | Keyword::To | Keyword::By)) => {
+            (Kind::Dint, kind_alone(unit, after))
+        }
         _ => return misfit_at(alloc, unit, number),
     };
     match found {

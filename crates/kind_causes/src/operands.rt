@@ -81,8 +81,65 @@ pub fn kind_alone(unit: &Unit<'_, '_>, number: usize) -> Option<Kind> {
         TokenKind::Symbol(Symbol::Semicolon | Symbol::Comma | Symbol::Close) => {
             kind_beginning(unit, number)
         }
-        TokenKind::Keyword(Keyword::Then | Keyword::Of) => kind_beginning(unit, number),
+        TokenKind::Keyword(Keyword::Then | Keyword::Of | Keyword::To | Keyword::By | Keyword::Do) =>
+            kind_beginning(unit, number),
         _ => None,
+    }
+}
+
+/// Whether an operand of a comparison by `=` or of AND, OR and XOR may begin behind a token: no operator that binds tighter stands there.
+fn is_loose_before(kind: TokenKind) -> bool {
+    match kind {
+        TokenKind::Symbol(symbol) => matches!(
+            symbol,
+            Symbol::Becomes | Symbol::Open | Symbol::Comma | Symbol::Ampersand
+        ),
+        TokenKind::Keyword(keyword) => matches!(
+            keyword,
+            Keyword::If | Keyword::Elsif | Keyword::And | Keyword::Or | Keyword::Xor
+        ),
+        _ => false,
+    }
+}
+
+/// Whether such an operand may end before a token.
+fn is_loose_after(kind: TokenKind) -> bool {
+    match kind {
+        TokenKind::Symbol(symbol) => matches!(
+            symbol,
+            Symbol::Semicolon | Symbol::Comma | Symbol::Close | Symbol::Ampersand
+        ),
+        TokenKind::Keyword(keyword) => matches!(
+            keyword,
+            Keyword::Then | Keyword::And | Keyword::Or | Keyword::Xor
+        ),
+        _ => false,
+    }
+}
+
+/// The kind of the operand before the operator of a number, where it is a single one by itself.
+pub fn loose_left(unit: &Unit<'_, '_>, operator: usize) -> Option<Kind> {
+    let last = operator.checked_sub(1)?;
+    let first = if is_point(unit.kind_before(operator, 2)) {
+        operator.checked_sub(3)?
+    } else {
+        last
+    };
+    if is_loose_before(unit.kind_before(first, 1)?) {
+        kind_ending(unit, last)
+    } else {
+        None
+    }
+}
+
+/// The kind of the operand behind the operator of a number, where it is a single one by itself.
+pub fn loose_right(unit: &Unit<'_, '_>, operator: usize) -> Option<Kind> {
+    let first = operator.saturating_add(1);
+    let behind = first.saturating_add(operand_len(unit, first));
+    if is_loose_after(unit.kind(behind)?) {
+        kind_beginning(unit, first)
+    } else {
+        None
     }
 }
 
