@@ -23,10 +23,23 @@ fn tail(word: &[u8]) -> &[u8] {
     }
 }
 
-/// Whether a letter put in, left out or changed makes one word of another, or none.
+/// Whether two words begin with the same two letters, changed about, and are one word behind these.
+fn is_swapped(a: &[u8], b: &[u8]) -> bool {
+    match (a, b) {
+        ([p, q, a @ ..], [r, s, b @ ..]) => {
+            p.eq_ignore_ascii_case(s) && q.eq_ignore_ascii_case(r) && same_word(a, b)
+        }
+        _ => false,
+    }
+}
+
+/// Whether a letter put in, left out or changed, or two changed about, makes one word of another, or none.
 fn within_one(a: &[u8], b: &[u8]) -> bool {
     let (a, b) = rests(a, b);
-    same_word(tail(a), tail(b)) || same_word(tail(a), b) || same_word(a, tail(b))
+    same_word(tail(a), tail(b))
+        || same_word(tail(a), b)
+        || same_word(a, tail(b))
+        || is_swapped(a, b)
 }
 
 /// The same of two letters.
