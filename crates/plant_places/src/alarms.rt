@@ -38,8 +38,27 @@ fn shown(text: &[u8], field: Field) -> &str {
     }
 }
 
+/// What parts the names of a header in the place of commas; empty where nothing is seen.
+fn other_parts(header: &[u8]) -> &'static str {
+    if header.contains(&b';') {
+        "semicolons"
+    } else if header.contains(&b'\t') {
+        "tabs"
+    } else {
+        ""
+    }
+}
+
 /// What is wrong with the header. Fails if allocation fails.
 fn misheaded(alloc: Global, text: &[u8]) -> Result<Cause, AllocError> {
+    let first = first_field(text);
+    let parts = other_parts(part(text, first.from, first.until));
+    if !parts.is_empty() {
+        let said = format!(in alloc;
+            "the header has {parts} between its names, and commas are wanted: a spreadsheet may write either"
+        )?;
+        return Ok(cause_at(mark_of(first), said, ALARMS));
+    }
     for column in Column::all() {
         let Some(field) = field_at(text, 0, number_of(column)) else {
             break;
@@ -59,14 +78,38 @@ fn misheaded(alloc: Global, text: &[u8]) -> Result<Cause, AllocError> {
     Ok(cause_of(said, ALARMS))
 }
 
+/// Whether a text looks like UTF-16: it begins with a mark of that, or has a byte 0 among its first two.
+fn is_wide(text: &[u8]) -> bool {
+    matches!(
+        text,
+        [0xFF, 0xFE, ..] | [0xFE, 0xFF, ..] | [_, 0, ..] | [0, ..]
+    )
+}
+
+/// What is said of a row of another number of fields than eight. Fails if allocation fails.
+fn uneven_row(alloc: Global, count: usize) -> Result<String, AllocError> {
+    if count > 8 {
+        return format!(in alloc;
+            "this row has {count} fields, and 8 are wanted (a text with a comma stands in double quotes)"
+        );
+    }
+    format!(in alloc;
+        "fields of this row: {count}, and 8 are wanted (a comma left out, or a tab or a ';' in its place?)"
+    )
+}
+
 /// The cause of a header that isn't right, or of a row that hasn't eight fields. Fails if allocation fails.
 pub fn uneven(alloc: Global, text: &[u8]) -> Result<Cause, AllocError> {
+    if is_wide(text) {
+        let said = String::from_str(
+            alloc,
+            "this file is no UTF-8, but looks like UTF-16: save it as UTF-8",
+        )?;
+        return Ok(cause_of(said, ALARMS));
+    }
     match first_uneven(text, 8) {
         Some(field) if field.record > 0 => {
-            let count = field.number.saturating_add(1);
-            let said = format!(in alloc;
-                "this row has {count} fields, and 8 are wanted (a text with a comma stands in double quotes)"
-            )?;
+            let said = uneven_row(alloc, field.number.saturating_add(1))?;
             Ok(cause_at(mark_of(field), said, ALARMS))
         }
         _ => misheaded(alloc, text),

@@ -1,5 +1,6 @@
 //! What is wrong in the plant file (C1 to C3).
 
+use crate::consoles::strange_part;
 use crate::keys::{key_mark, value_start};
 use crate::lists::{is_involved, strange_area, strange_key};
 use crate::place::mark_len;
@@ -109,12 +110,15 @@ pub fn wrong_keys(alloc: Global, bytes: &[u8]) -> Result<Cause, AllocError> {
     if let Some(cause) = strange_key(alloc, bytes)? {
         return Ok(cause);
     }
+    if let Some(cause) = strange_part(alloc, bytes)? {
+        return Ok(cause);
+    }
     if let Some(cause) = strange_area(alloc, bytes)? {
         return Ok(cause);
     }
     let said = String::from_str(
         alloc,
-        "something is wrong of which no place is told: two consoles of one number, or a number in quotes or below 1; a console without 'number' or 'areas', or without [[console]] above it; one thing twice in a list; a text that is empty or too long; a blank or an accent in an area; an unknown key",
+        "something is wrong of which no place is told: a console without 'number' or 'areas'; a text that is empty or too long; a number that is none; one thing twice in a list; an unknown key",
     )?;
     Ok(cause_of(said, KEYS))
 }

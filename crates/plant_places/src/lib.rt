@@ -6,6 +6,7 @@
 #![tactic(auto)]
 
 mod alarms;
+mod consoles;
 mod document;
 mod fields;
 mod keys;

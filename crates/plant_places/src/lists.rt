@@ -90,7 +90,7 @@ fn is_plain(bytes: &[u8], list: (usize, usize)) -> bool {
     !list.contains(&b'#') && !list.contains(&b'\'')
 }
 
-/// Whether the plant's list of areas has a text in double quotes.
+/// Whether a list has a text in double quotes among its first 64, or more than these.
 fn has_area(bytes: &[u8], list: (usize, usize), area: &[u8]) -> bool {
     let mut at = list.0;
     for _ in 0..64 {
@@ -103,6 +103,54 @@ fn has_area(bytes: &[u8], list: (usize, usize), area: &[u8]) -> bool {
         at = found.1.saturating_add(1);
     }
     true
+}
+
+/// The bytes of the list under a key of the plant's, or of a console's, where it is plain.
+fn list_of(bytes: &[u8], console: usize, key: &str) -> Option<(usize, usize)> {
+    let mark = key_mark(bytes, console, key)?;
+    let list = (mark.0, list_end(bytes, mark.0));
+    if is_plain(bytes, list) {
+        Some(list)
+    } else {
+        None
+    }
+}
+
+/// The first text of a list that stands in it a second time.
+pub fn first_doubled(bytes: &[u8], console: usize, key: &str) -> Option<(usize, usize)> {
+    let list = list_of(bytes, console, key)?;
+    let mut at = list.0;
+    for _ in 0..64 {
+        let found = next_quoted(bytes, at, list.1)?;
+        let earlier = (list.0, found.0.saturating_sub(1));
+        if has_area(bytes, earlier, part(bytes, found.0, found.1)) {
+            return Some(found);
+        }
+        at = found.1.saturating_add(1);
+    }
+    None
+}
+
+/// Whether a text has the form of an area.
+fn is_area(text: &[u8]) -> bool {
+    !text.is_empty()
+        && text.len() <= 32
+        && text.iter().all(|byte| byte.is_ascii_alphanumeric()
+            || matches!(*byte, b'_' | b'-' | b'.'))
+}
+
+/// The first area of the plant that hasn't the form of one.
+pub fn first_misnamed(bytes: &[u8]) -> Option<(usize, usize)> {
+    let list = list_of(bytes, 0, "areas")?;
+    let mut at = list.0;
+    for _ in 0..64 {
+        let found = next_quoted(bytes, at, list.1)?;
+        if !is_area(part(bytes, found.0, found.1)) {
+            return Some(found);
+        }
+        at = found.1.saturating_add(1);
+    }
+    None
 }
 
 /// The first area of a list that the plant's list hasn't.

@@ -1,0 +1,150 @@
+//! Headers, numbers and lists of a plant file that aren't right.
+
+use crate::document::KEYS;
+use crate::keys::{key_mark, unblanked};
+use crate::lists::{first_doubled, first_misnamed, is_involved};
+use crate::place::mark_len;
+use std::alloc::{AllocError, Global};
+use std::str;
+use token_causes::{Cause, cause_at, part};
+
+/// The most consoles that a plant may have.
+const MOST_CONSOLES: usize = 32;
+
+/// Whether a line that begins with a bracket begins a console.
+fn begins_console(line: &[u8]) -> bool {
+    let Some(inner) = line.strip_prefix(b"[[") else {
+        return false;
+    };
+    let Ok(inner) = str::from_utf8(inner) else {
+        return false;
+    };
+    match inner.split_once("]]") {
+        Some((name, _)) => {
+            let name = name.trim_ascii();
+            name == "console" || name == "\"console\"" || name == "'console'"
+        }
+        None => false,
+    }
+}
+
+/// The cause of a header that isn't a console's. Fails if allocation fails.
+fn strange_header(alloc: Global, bytes: &[u8]) -> Result<Option<Cause>, AllocError> {
+    let mut at = mark_len(bytes);
+    for line in part(bytes, at, bytes.len()).split(|byte| *byte == b'\n') {
+        let shown = unblanked(line);
+        let end = at.saturating_add(line.len());
+        if shown.starts_with(b"[") && !begins_console(shown) {
+            let said = String::from_str(
+                alloc,
+                "each console stands below [[console]], and nothing else has a header",
+            )?;
+            let mark = (end.saturating_sub(shown.len()), end);
+            return Ok(Some(cause_at(mark, said, KEYS)));
+        }
+        at = end.saturating_add(1);
+    }
+    Ok(None)
+}
+
+/// What stands under the key `number` of a console, without a remark, and its line.
+fn number_of(bytes: &[u8], console: usize) -> Option<((usize, usize), &str)> {
+    let mark = key_mark(bytes, console, "number")?;
+    let (_, value) = str::from_utf8(part(bytes, mark.0, mark.1))
+        .ok()?
+        .split_once("=")?;
+    match value.split_once("#") {
+        Some((value, _)) => Some((mark, value.trim_ascii())),
+        None => Some((mark, value.trim_ascii())),
+    }
+}
+
+/// Whether an earlier console has a number.
+fn is_earlier(bytes: &[u8], console: usize, number: &str) -> bool {
+    for other in 1..console {
+        if let Some((_, earlier)) = number_of(bytes, other) {
+            if earlier == number {
+                return true;
+            }
+        }
+    }
+    false
+}
+
+/// What is wrong with the number of a console; empty where nothing is.
+fn number_fault(bytes: &[u8], console: usize, number: &str) -> &'static str {
+    match number.as_bytes() {
+        [b'"' | b'\'', ..] => "the number of a console stands without quotes",
+        [b'0'] | [b'-', ..] => "the number of a console is 1 to 999999999",
+        _ => {
+            if is_earlier(bytes, console, number) {
+                "an earlier console has this number"
+            } else {
+                ""
+            }
+        }
+    }
+}
+
+/// The cause of a number of a console that isn't right. Fails if allocation fails.
+fn strange_number(alloc: Global, bytes: &[u8]) -> Result<Option<Cause>, AllocError> {
+    for console in 1..MOST_CONSOLES.saturating_add(1) {
+        if let Some((mark, number)) = number_of(bytes, console) {
+            let fault = number_fault(bytes, console, number);
+            if !fault.is_empty() {
+                return Ok(Some(cause_at(mark, String::from_str(alloc, fault)?, KEYS)));
+            }
+        }
+    }
+    Ok(None)
+}
+
+/// The first text that stands twice in a list of the plant's, for which `console` is 0, or of a console's.
+fn doubled_in(bytes: &[u8], console: usize) -> Option<(usize, usize)> {
+    match first_doubled(bytes, console, "areas") {
+        Some(mark) => Some(mark),
+        None => first_doubled(bytes, console, "sources"),
+    }
+}
+
+/// The cause of a text that stands twice in a list of the plant's or of a console's. Fails if allocation fails.
+fn doubled(alloc: Global, bytes: &[u8]) -> Result<Option<Cause>, AllocError> {
+    for console in 0..MOST_CONSOLES.saturating_add(1) {
+        if let Some(mark) = doubled_in(bytes, console) {
+            let said = String::from_str(alloc, "this stands in the list already")?;
+            return Ok(Some(cause_at(mark, said, KEYS)));
+        }
+    }
+    Ok(None)
+}
+
+/// The cause of an area of the plant that hasn't the form of one. Fails if allocation fails.
+fn misnamed(alloc: Global, bytes: &[u8]) -> Result<Option<Cause>, AllocError> {
+    match first_misnamed(bytes) {
+        Some(mark) => {
+            let said = String::from_str(
+                alloc,
+                "an area has 1 to 32 letters of ASCII, digits, '_', '-' and '.', and no blanks",
+            )?;
+            Ok(Some(cause_at(mark, said, KEYS)))
+        }
+        None => Ok(None),
+    }
+}
+
+/// The cause of a header, an area, a list or a number of a plant file that isn't right. Fails if allocation fails.
+pub fn strange_part(alloc: Global, bytes: &[u8]) -> Result<Option<Cause>, AllocError> {
+    if is_involved(bytes) {
+        return Ok(None);
+    }
+    if let Some(cause) = strange_header(alloc, bytes)? {
+        return Ok(Some(cause));
+    }
+    if let Some(cause) = misnamed(alloc, bytes)? {
+        return Ok(Some(cause));
+    }
+    if let Some(cause) = doubled(alloc, bytes)? {
+        return Ok(Some(cause));
+    }
+    strange_number(alloc, bytes)
+}
