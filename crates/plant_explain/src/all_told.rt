@@ -46,8 +46,7 @@ fn all_shown(alloc: Global, texts: &PlantTexts<'_>, spots: &[Spot]) -> Result<St
 }
 
 /// What a person is told when a plant is refused: first the line of the refusal, then its explanation, then those of further faults of the same stage that
-/// are certain, 20 in all at most, each in the plant's own texts, and how many are told. Where there is one, the text is that of `explain`. Fails if
-/// allocation fails.
+/// are certain, 20 in all at most, each in the plant's own texts, and how many are told. Fails if allocation fails.
 pub fn explain_all<H: Threads + Sync>(
     rt: &H,
     alloc: Global,

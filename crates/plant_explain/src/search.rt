@@ -1,8 +1,10 @@
 //! Further faults are looked for.
 
-ghost use Rattle.std.specs.Prelude.{◌≤◌, length, IfOk};
+ghost use Rattle.std.specs.Prelude.{◌≢◌, ◌≤◌, length, IfOk};
+ghost use Rattle.plant_config.specs.declared.fault.ConfigFault.TheVariants as config_fault;
 
 use crate::finding::find;
+use crate::narrow::narrowed;
 use crate::refusal::refusal;
 use crate::rest::Rest;
 use crate::stage::{Stage, stage_of};
@@ -22,7 +24,7 @@ const MOST_READINGS: usize = 40;
 const MOST_BYTES: usize = 1_048_576;
 
 /// How many bytes the texts of a plant have together.
-fn size_of(texts: &PlantTexts<'_>) -> usize {
+pub fn size_of(texts: &PlantTexts<'_>) -> usize {
     let mut size = texts.plant.len().saturating_add(texts.alarms.len());
     for source in texts.sources {
         size = size.saturating_add(source.1.len());
@@ -51,7 +53,10 @@ fn next_fault<H: Threads + Sync>(
         alarms: rest.alarms.as_slice(),
     };
     match refusal(rt, alloc, &left)? {
-        Some(fault) if stage_of(&fault) == Some(stage) => Ok(Some(find(alloc, &left, &fault)?)),
+        Some(fault) if stage_of(&fault) == Some(stage) => {
+            let spot = find(alloc, &left, &fault)?;
+            Ok(Some(narrowed(rt, alloc, &left, &fault, spot)?))
+        }
         _ => Ok(None),
     }
 }
@@ -98,10 +103,12 @@ pub fn find_all<H: Threads + Sync>(
     texts: &PlantTexts<'_>,
     fault: &ConfigFault,
 ) -> Result<Vec<Spot>, AllocError>
+    requires { fault.now ≢ config_fault.Memory }
     ensures { IfOk result (λ found. length found.items ≤ 20) }
 {
     let mut found = Vec::new(alloc);
-    found.push(find(alloc, texts, fault)?)?;
+    let spot = find(alloc, texts, fault)?;
+    found.push(narrowed(rt, alloc, texts, fault, spot)?)?;
     let Some(stage) = stage_of(fault) else {
         return Ok(found);
     };
