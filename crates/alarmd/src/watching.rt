@@ -27,6 +27,27 @@ const HINTS: &[(&str, &str)] = &[
         "REFUSED E4",
         "E4: a value doesn't fit its input: TRUE or FALSE for a BOOL, a number for a DINT, milliseconds for a TIME; nothing of this scan was taken\n",
     ),
+    (
+        "REFUSED E6",
+        "E6: the history is full: end this run, and begin another (docs/OPERATION.md, \"A million events, then a new record\")\n",
+    ),
+    (
+        "REPLY O1",
+        "O1: the plant has no alarm of this tag, in which letter case counts, or no program of this name\n",
+    ),
+    (
+        "REPLY O2",
+        "O2: the plant has no console of this number, or the alarm isn't in one of its areas\n",
+    ),
+    (
+        "REPLY O3",
+        "O3: the alarm's state doesn't take this order (docs/PROTOCOL.md, \"The states of an alarm\")\n",
+    ),
+    (
+        "REPLY O4",
+        "O4: this alarm may be shelved for 1 millisecond up to its max_shelve_ms, and never where that is 0\n",
+    ),
+    ("REPLY O5", "O5: the program hasn't stopped\n"),
 ];
 
 /// What is said of a line to whoever looks on; empty where nothing is.
@@ -61,16 +82,14 @@ fn tells_of_event(answer: &[u8]) -> bool {
     }
 }
 
-/// Whether a line tells of an event, by its beginning: each answer of an event has one line DONE or REPLY. And what is said of another line to whoever looks
-/// on; empty where nobody does.
+/// Whether a line tells of an event, by its beginning: each answer of an event has one line DONE or REPLY. And what is said of a line to whoever looks on;
+/// empty where nobody does.
 fn judged(head: &[u8], is_watched: bool) -> (bool, &'static str) {
-    if head.starts_with(b"DONE ") || head.starts_with(b"REPLY ") {
-        return (true, "");
-    }
+    let is_event = head.starts_with(b"DONE ") || head.starts_with(b"REPLY ");
     if is_watched {
-        (false, hint(head.get(..HEAD).unwrap_or(head)))
+        (is_event, hint(head.get(..HEAD).unwrap_or(head)))
     } else {
-        (false, "")
+        (is_event, "")
     }
 }
 
@@ -98,11 +117,14 @@ impl Answers {
         }
     }
 
-    /// Counts a line that tells of an event, and returns what is said of a line.
+    /// Counts a line that tells of an event, and returns what is said of a line: a warning before all else.
     fn counted(&mut self, is_event: bool, said: &'static str) -> &'static str {
         if is_event {
             self.events = self.events.saturating_add(1);
-            return warning(self.events);
+            let warned = warning(self.events);
+            if !warned.is_empty() {
+                return warned;
+            }
         }
         said
     }
