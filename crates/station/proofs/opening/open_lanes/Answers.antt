@@ -18,12 +18,12 @@ loop-row-preserved c =
     map_more (λ (x : Listed). x.number) c.args.listed.now c.loop-row.row-index row c.loop-row-test.true
     ∙ ap (λ (x : Listed). numbers_of (take c.loop-row.row-index c.args.listed.now) ++ x.number ∷ []) (sym c.row-item.is) in
     let fresh : IsFresh c.in_ok-link.link = record { none_submitted = made.console.1; none_taken = made.console.2; room = made.console.3 } in
-    let unused : IsUnused c.in_ok-link.lane = record { taken = made.lane.1; given = made.lane.2; is_open = made.lane.3 } in
+    let unused : IsUnused c.in_ok-link.lane = record { taken = made.lane.1; given = made.lane.2; is_open = made.lane.4 } in
     let looks : HasNotLooked (published c.args.board.now) c.new.result = record {
       none_seen = c.new.ensures.seen.0 ∙ given.reader.0;
       told_is = c.new.ensures.seen.1 ∙ (given.reader.1 ∙ ap (λ (s : BoardStory). Some s) h.3);
     } in
-    let marked : IsOfLog (log_kept c.args.board.now) c.in_ok-link.lane = made.lane.4 ∙ c.mark-start.ensures.0 in (
+    let marked : IsOfLog (log_kept c.args.board.now) c.in_ok-link.lane = made.lane.5 ∙ c.mark-start.ensures.0 in (
       rw (more, c.in_ok-push.ensures.items, c.in_ok-push-2.ensures.items)
           (operators_more (numbers_of (take c.loop-row.row-index c.args.listed.now)) c.loop-row.consoles.items c.loop-row.lanes.items row.number c.new.result c.in_ok-link.link c.in_ok-link.lane
           h.0 c.new.ensures.rings made.pair made.console.0 made.lane.0 fresh unused),
