@@ -1,4 +1,3 @@
 pub mod Machine
 pub mod Codes
 pub mod Steps
-pub mod Flats

@@ -5,7 +5,6 @@
 #![tactic(auto)]
 
 mod code;
-mod flat;
 mod instr;
 mod own;
 mod run;
