@@ -47,9 +47,6 @@ fn put_alarms(
     requires { All (λ c. c.0 < length plant.now.alarms) changes.now }
     ensures { OnOk result (text.new.items ≡ text.old.items ++ alarm_lines plant.now moment changes.now) }
 {
-    if changes.is_empty() {
-        return Ok(());
-    }
     let front = AlarmFront::new(moment);
     let mut end = text.len();
     for (alarm, change) in changes {
@@ -57,6 +54,27 @@ fn put_alarms(
     }
     text.truncate(end);
     Ok(())
+}
+
+/// Appends an ALARM line for each change. The moment is given with its digits, in which a line stands that is alone.
+fn push_alarms(
+    text: &mut Vec<u8>,
+    plant: &Plant,
+    moment: u64,
+    digits: &str,
+    changes: &[(u32, Change)],
+) -> Result<(), AllocError>
+    requires digits { digits.now ≡ decimal moment }
+    requires alarms { All (λ c. c.0 < length plant.now.alarms) changes.now }
+    ensures { OnOk result (text.new.items ≡ text.old.items ++ alarm_lines plant.now moment changes.now) }
+{
+    let Some(((alarm, change), others)) = changes.split_first() else {
+        return Ok(());
+    };
+    if others.is_empty() {
+        return push_alarm(text, digits, plant.tag(*alarm), *change);
+    }
+    put_alarms(text, plant, moment, changes)
 }
 
 /// The path of a place: the names that lead to it, with points between them. Fails if allocation fails.
@@ -102,7 +120,8 @@ fn push_outs(
     Ok(())
 }
 
-/// Appends the answer to a scan that was taken: its faults, its alarms, its outputs, and how many lines these are.
+/// Appends the answer to a scan that was taken: its faults, its alarms, its outputs, and how many lines these are. The moment's digits are made once
+/// for all of them.
 #[tactic(auto, using(crate::proofs::AnswerLaws::spots_length), unfolding(crate::specs::Answers::report_text))]
 fn push_report(
     alloc: Global,
@@ -121,10 +140,10 @@ fn push_report(
     let mut digits = Buffer::new();
     let digits = digits.format(report.moment);
     push_faults(alloc, text, plant, digits, faults)?;
-    put_alarms(text, plant, report.moment, changes)?;
+    push_alarms(text, plant, report.moment, digits, changes)?;
     push_outs(text, plant, digits, outs)?;
     let lines = faults.len() as u64 + changes.len() as u64 + outs.len() as u64;
-    push_done(text, report.moment, lines)
+    push_done(text, digits, lines)
 }
 
 /// Does a scan, its programs run by the crew, and appends its answer. It fails where the crew failed, before the scan took effect, and where an
@@ -192,7 +211,8 @@ fn push_order(text: &mut Vec<u8>, moment: u64, tag: &str, reply: Reply) -> Resul
         Reply::Done(None) => push_reply(text, None),
         Reply::Done(Some(change)) => {
             push_reply(text, None)?;
-            push_alarm(text, moment, tag, change)
+            let mut digits = Buffer::new();
+            push_alarm(text, digits.format(moment), tag, change)
         }
         Reply::Refused(fault) => push_reply(text, Some(fault)),
     }

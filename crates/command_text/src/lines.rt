@@ -1,7 +1,7 @@
 ghost use Rattle.std.specs.Prelude.{◌≡◌, ◌++◌, ℕ, OnOk, OnErr, length, map, take, ◌∷◌, [], codes, decimal};
+ghost use Rattle.alarm_machine.specs.Codes.{code_text};
 ghost use Rattle.command_text.specs.Lines.{line_of, fault_line, alarm_line, out_line, done_line, reply_line, refused_line, state_line, count_line, row_line, end_line};
 
-use crate::placing::{AlarmFront, place_done, put_alarm};
 use alarm_machine::{Change, Code, OrderFault};
 use itoa::Buffer;
 use plant_types::{Trap, Value};
@@ -94,23 +94,79 @@ pub fn push_fault(
     push_four(out, "FAULT", moment, path, statement, trap.text())
 }
 
-/// Appends `ALARM MOMENT TAG FROM TO`: this alarm's code changed. Where memory is refused the text is unchanged.
+/// Appends a code's text between two spaces.
+// By a call for each code, so that each is a copy of as many bytes as the compiler knows.
+fn push_from(out: &mut Vec<u8>, code: Code) -> Result<(), AllocError>
+    ensures ok { OnOk result (out.new.items ≡ out.old.items ++ 32 ∷ code_text code ++ 32 ∷ []) }
+    ensures err { OnErr result (out.new.items ≡ out.old.items) }
+{
+    match code {
+        Code::Norm => out.extend_from_slice(b" NORM "),
+        Code::Unack => out.extend_from_slice(b" UNACK "),
+        Code::Acked => out.extend_from_slice(b" ACKED "),
+        Code::Rtnun => out.extend_from_slice(b" RTNUN "),
+        Code::Latun => out.extend_from_slice(b" LATUN "),
+        Code::Latak => out.extend_from_slice(b" LATAK "),
+        Code::Shelved => out.extend_from_slice(b" SHELVED "),
+        Code::Suppr => out.extend_from_slice(b" SUPPR "),
+        Code::Oos => out.extend_from_slice(b" OOS "),
+    }
+}
+
+/// Appends a code's text and LF.
+fn push_to(out: &mut Vec<u8>, code: Code) -> Result<(), AllocError>
+    ensures ok { OnOk result (out.new.items ≡ out.old.items ++ code_text code ++ 10 ∷ []) }
+    ensures err { OnErr result (out.new.items ≡ out.old.items) }
+{
+    match code {
+        Code::Norm => out.extend_from_slice(b"NORM\n"),
+        Code::Unack => out.extend_from_slice(b"UNACK\n"),
+        Code::Acked => out.extend_from_slice(b"ACKED\n"),
+        Code::Rtnun => out.extend_from_slice(b"RTNUN\n"),
+        Code::Latun => out.extend_from_slice(b"LATUN\n"),
+        Code::Latak => out.extend_from_slice(b"LATAK\n"),
+        Code::Shelved => out.extend_from_slice(b"SHELVED\n"),
+        Code::Suppr => out.extend_from_slice(b"SUPPR\n"),
+        Code::Oos => out.extend_from_slice(b"OOS\n"),
+    }
+}
+
+/// Appends the parts of an ALARM line. Where memory is refused a part of them may be appended.
+#[inline(always)]
+fn add_alarm(
+    out: &mut Vec<u8>,
+    moment: &str,
+    tag: &str,
+    from: Code,
+    to: Code,
+) -> Result<(), AllocError>
+    ensures ok { OnOk result (out.new.items ≡ out.old.items ++ codes "ALARM " ++ moment.now ++ 32 ∷ tag.now ++ 32 ∷ code_text from ++ 32 ∷ code_text to ++ 10 ∷ []) }
+    ensures err { OnErr result (take (length out.old.items) out.new.items ≡ out.old.items) }
+{
+    out.extend_from_slice(b"ALARM ")?;
+    out.extend_from_slice(moment.as_bytes())?;
+    out.extend_from_slice(b" ")?;
+    out.extend_from_slice(tag.as_bytes())?;
+    push_from(out, from)?;
+    push_to(out, to)?;
+    Ok(())
+}
+
+/// Appends `ALARM MOMENT TAG FROM TO`: this alarm's code changed. The moment is given by its digits. Where memory is refused the text is
+/// unchanged.
+#[tactic(auto, unfolding(crate::specs::Lines::alarm_line))]
 pub fn push_alarm(
     out: &mut Vec<u8>,
-    moment: u64,
+    moment: &str,
     tag: &str,
     change: Change,
 ) -> Result<(), AllocError>
-    ensures ok { OnOk result (out.new.items ≡ out.old.items ++ alarm_line moment tag.now change) }
+    ensures ok { (t : ℕ) → moment.now ≡ decimal t → OnOk result (out.new.items ≡ out.old.items ++ alarm_line t tag.now change) }
     ensures err { OnErr result (out.new.items ≡ out.old.items) }
 {
     let start = out.len();
-    let front = AlarmFront::new(moment);
-    match put_alarm(out, start, &front, tag, change) {
-        Ok(end) => {
-            out.truncate(end);
-            Ok(())
-        }
+    match add_alarm(out, moment, tag, change.from(), change.to()) {
+        Ok(()) => Ok(()),
         Err(error) => {
             out.truncate(start);
             Err(error)
@@ -134,19 +190,36 @@ pub fn push_out(out: &mut Vec<u8>, moment: &str, name: &str, value: Value) -> Re
     }
 }
 
-/// Appends `DONE MOMENT LINES`: the end of a scan's answer, with the number of lines before it. Where memory is refused the text is unchanged.
+/// Appends the parts of a DONE line. Where memory is refused a part of them may be appended.
+#[inline(always)]
+fn add_done(out: &mut Vec<u8>, moment: &str, lines: &str) -> Result<(), AllocError>
+    ensures ok { OnOk result (out.new.items ≡ out.old.items ++ codes "DONE " ++ moment.now ++ 32 ∷ lines.now ++ 10 ∷ []) }
+    ensures err { OnErr result (take (length out.old.items) out.new.items ≡ out.old.items) }
+{
+    out.extend_from_slice(b"DONE ")?;
+    out.extend_from_slice(moment.as_bytes())?;
+    out.extend_from_slice(b" ")?;
+    out.extend_from_slice(lines.as_bytes())?;
+    out.extend_from_slice(b"\n")?;
+    Ok(())
+}
+
+/// Appends `DONE MOMENT LINES`: the end of a scan's answer, with the number of lines before it. The moment is given by its digits. Where memory
+/// is refused the text is unchanged.
 #[tactic(auto, unfolding(crate::specs::Lines::done_line))]
-pub fn push_done(out: &mut Vec<u8>, moment: u64, lines: u64) -> Result<(), AllocError>
-    ensures ok { OnOk result (out.new.items ≡ out.old.items ++ done_line moment lines) }
+pub fn push_done(out: &mut Vec<u8>, moment: &str, lines: u64) -> Result<(), AllocError>
+    ensures ok { (t : ℕ) → moment.now ≡ decimal t → OnOk result (out.new.items ≡ out.old.items ++ done_line t lines) }
     ensures err { OnErr result (out.new.items ≡ out.old.items) }
 {
-    let mut time = Buffer::new();
-    let time = time.format(moment).as_bytes();
     let mut count = Buffer::new();
-    let count = count.format(lines).as_bytes();
-    let mut line = [b' '; 64];
-    let end = place_done(&mut line, time, count);
-    out.extend_from_slice(&line[..end])
+    let start = out.len();
+    match add_done(out, moment, count.format(lines)) {
+        Ok(()) => Ok(()),
+        Err(error) => {
+            out.truncate(start);
+            Err(error)
+        }
+    }
 }
 
 /// The line with the reply to an order, as `REPLY OK`.

@@ -1,6 +1,6 @@
 //! ALARM lines, written into the room of a text by copies of a fixed size: no copy asks for memory, and the compiler knows how long each is.
 
-ghost use Rattle.std.specs.Prelude.{◌≡◌, ◌+◌, ◌≤◌, ◌++◌, [], ◌∷◌, length, take, codes, OnOk, OnErr, IfOk};
+ghost use Rattle.std.specs.Prelude.{◌≡◌, ◌+◌, ◌≤◌, ◌++◌, [], ◌∷◌, length, take, codes, OnOk, IfOk};
 ghost use Rattle.alarm_machine.specs.Codes.{code_text};
 ghost use Rattle.command_text.specs.Lines.{alarm_front, alarm_line};
 ghost use Rattle.command_text.specs.Placing.{IsPlaced, IsPut};
@@ -11,7 +11,7 @@ use std::alloc::AllocError;
 use std::marker::Model;
 use std::simd::Simd;
 
-/// How many bytes of room are made at a time, beside those for a tag that is nearly as long.
+/// How many bytes of room are made at a time, beside those for the tag of the line that has none.
 const ROOM: usize = 1_024;
 
 /// Puts the first N bytes of a text at a place, by one load and one store, and returns the place after them.
@@ -133,19 +133,6 @@ impl AlarmFront {
     }
 }
 
-/// Puts `DONE`, the digits of a moment and of a count, each after a space, and LF at the start of a text that has room, and returns the place
-/// after them.
-pub(crate) fn place_done(row: &mut [u8], moment: &[u8], lines: &[u8]) -> usize
-    requires { length moment.now + length lines.now + 7 ≤ length row.old }
-    ensures { IsPlaced row.old row.new 0 (codes "DONE " ++ (moment.now ++ (32 ∷ (lines.now ++ 10 ∷ [])))) result }
-{
-    let named = place_slice(row, 0, b"DONE ");
-    let timed = place_slice(row, named, moment);
-    let apart = place_slice(row, timed, b" ");
-    let counted = place_slice(row, apart, lines);
-    place_slice(row, counted, b"\n")
-}
-
 /// A code's text between two spaces, at the start of sixteen bytes, and how long it is.
 #[inline(always)]
 fn from_text(code: Code) -> (&'static [u8], usize)
@@ -232,14 +219,12 @@ fn make_room(text: &mut Vec<u8>, at: usize, tag: &[u8]) -> Result<(), AllocError
     if 64 <= room && tag.len() <= room - 64 {
         return Ok(());
     }
-    if tag.len() > ROOM - 64 {
-        text.extend_from_slice(tag)?;
-    }
+    text.extend_from_slice(tag)?;
     text.resize(text.len() + ROOM, 0)
 }
 
 /// Puts `ALARM MOMENT TAG FROM TO` after the first `at` bytes of a text, and returns the place after it; what is beyond that is room for
-/// more. So the lines of many changes are written one after another, and the text is cut after the last. Where memory is refused the first bytes stay.
+/// more. So the lines of many changes are written one after another, and the text is cut after the last. Fails if allocation fails.
 pub fn put_alarm(
     text: &mut Vec<u8>,
     at: usize,
@@ -248,8 +233,7 @@ pub fn put_alarm(
     change: Change,
 ) -> Result<usize, AllocError>
     requires { at ≤ length text.old.items }
-    ensures ok { IfOk result (λ end. IsPut text.old.items text.new.items at (alarm_line front.now tag.now change) end) }
-    ensures err { OnErr result (take at text.new.items ≡ take at text.old.items) }
+    ensures { IfOk result (λ end. IsPut text.old.items text.new.items at (alarm_line front.now tag.now change) end) }
 {
     let tag = tag.as_bytes();
     make_room(text, at, tag)?;

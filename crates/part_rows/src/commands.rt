@@ -59,10 +59,10 @@ pub fn push_command(alloc: Global, text: &mut String, words: &str) -> Result<(),
 fn push_each(bytes: &mut Vec<u8>) -> Result<(), AllocError> {
     push_fault(bytes, "0", "p.f", 4_294_967_295, Trap::Overflow)?;
     if let Some(change) = Change::between(Code::Norm, Code::Unack) {
-        push_alarm(bytes, 4_000_000_000_000, "T1", change)?;
+        push_alarm(bytes, "4000000000000", "T1", change)?;
     }
     push_out(bytes, "1", "e", Value::Time(-9223372036854775808))?;
-    push_done(bytes, 10, 3)?;
+    push_done(bytes, "10", 3)?;
     push_reply(bytes, Some(OrderFault::NotYourArea))?;
     push_refused(bytes, "L1")
 }

@@ -31,14 +31,19 @@ struct Taken {
 }
 
 /// Adds the changes of alarms of a report.
-fn push_changes(text: &mut Vec<u8>, plant: &Plant, report: &Report) -> Result<(), AllocError> {
+fn push_changes(
+    text: &mut Vec<u8>,
+    plant: &Plant,
+    moment: &str,
+    report: &Report,
+) -> Result<(), AllocError> {
     for (alarm, change) in &report.changes {
         let tag = if *alarm < plant.alarms() {
             plant.tag(*alarm)
         } else {
             "?"
         };
-        push_alarm(text, report.moment, tag, *change)?;
+        push_alarm(text, moment, tag, *change)?;
     }
     Ok(())
 }
@@ -69,7 +74,7 @@ fn push_turn(
 ) -> Result<(), AllocError> {
     let moment = turn.report.moment;
     let moment = format!(in alloc; "{moment}")?;
-    push_changes(text, plant, &turn.report)?;
+    push_changes(text, plant, moment.as_str(), &turn.report)?;
     push_outs(text, plant, moment.as_str(), &turn.report)?;
     let taken = turn.taken;
     let stopped = if turn.stopped { "TRUE" } else { "FALSE" };
