@@ -1,8 +1,8 @@
 mod AllRecords
 mod DigitLaws
 mod Gathered
-mod Places
 mod RowLaws
+mod TagTables
 mod Taken
 mod TextLaws
 mod TwiceLaws

@@ -3,3 +3,4 @@ pub mod Databases
 pub mod Forms
 pub mod Gathering
 pub mod Rows
+pub mod Tags

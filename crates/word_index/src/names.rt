@@ -1,40 +1,62 @@
 ghost use Rattle.std.specs.Prelude.{◌≡◌, ◌++◌, ◌∷◌, [], ◌<◌, ◌^◌, length, not, IfSome, IfOk, OnErr, IsTrue, ◌↔◌, if◌then◌else◌, option_copied, slice_get};
+ghost use Rattle.std.specs.HashMap.{get};
+ghost use Rattle.plant_types.specs.Words.{same_word};
 ghost use Rattle.word_index.specs.Names.{find_name, is_among};
 
 use crate::word::Word;
-use indexmap::IndexSet;
 use std::alloc::{AllocError, Global};
 use std::borrow::CowStr;
+use std::collections::HashMap;
 use std::marker::Model;
 
 /// Names in the order in which they were added, numbered from 0, in which letter case has no meaning (IEC 61131-3).
+// By std's map beside a list, and not by a set of the crate indexmap: each crate with a public type that holds one of these carries all that is
+// known of that crate.
 pub struct Names {
-    words: IndexSet<Word<'static>>,
+    names: Vec<String>,
+    /// The number of each name.
+    numbers: HashMap<Word<'static>, usize>,
 }
 
 impl Drop for Names {
     fn drop(self) {
-        let Names { words: _ } = self;
+        let Names {
+            names: _,
+            numbers: _,
+        } = self;
     }
 }
 
 impl Model for Names {
-    ghost use Rattle.std.specs.Prelude.{List, ℕ};
+    ghost use Rattle.std.specs.Prelude.{◌≡◌, List, ℕ, map, string_bytes, vec_len};
+    ghost use Rattle.std.specs.HashMap.{get, hash_map_len};
+    ghost use Rattle.plant_types.specs.Words.{same_word};
+    ghost use Rattle.word_index.specs.Names.{AreNumbered};
 
     ghost Value = { List (List ℕ) };
 
-    ghost view = { λ names. names.words.keys };
+    ghost view = { λ n. map string_bytes n.names.items };
+
+    ghost invariant = { λ n. AreNumbered (map string_bytes n.names.items) (get same_word n.numbers) × (hash_map_len n.numbers ≡ vec_len n.names) };
 }
 
 /// The number of a name among words that live as long as it.
-fn number_in<'a>(words: &'a IndexSet<Word<'a>>, name: &'a str) -> Option<usize>
-    ensures number { result ≡ find_name words.now.keys name.now }
-    ensures within { IfSome result (λ number. number < length words.now.keys) }
+fn number_in<'a>(numbers: &'a HashMap<Word<'a>, usize>, name: &'a str) -> Option<usize>
+    ensures { result ≡ get same_word numbers.now name.now }
 {
     let word = Word {
         text: CowStr::Borrowed(name),
     };
-    words.get_index_of(&word)
+    numbers.get(&word).copied()
+}
+
+/// A word of a name's own.
+fn word_of(alloc: Global, name: &str) -> Result<Word<'static>, AllocError>
+    ensures { IfOk result (λ word. word ≡ name.now) }
+{
+    Ok(Word {
+        text: CowStr::Owned(String::from_str(alloc, name)?),
+    })
 }
 
 impl Names {
@@ -43,7 +65,8 @@ impl Names {
         ensures { result ≡ [] }
     {
         Names {
-            words: IndexSet::new(alloc),
+            names: Vec::new(alloc),
+            numbers: HashMap::new(alloc),
         }
     }
 
@@ -52,15 +75,15 @@ impl Names {
         ensures number { result ≡ find_name self.now name.now }
         ensures within { IfSome result (λ number. number < length self.now) }
     {
-        number_in(&self.words, name)
+        number_in(&self.numbers, name)
     }
 
     /// The name of a number, as it was added; `None` if there is none.
     pub fn get(&self, number: usize) -> Option<&str>
         ensures { option_copied result ≡ slice_get self.now number }
     {
-        let word = self.words.get_index(number)?;
-        Some(word.text.as_str())
+        let name = self.names.get(number)?;
+        Some(name.as_str())
     }
 
     /// The number of names.
@@ -68,14 +91,14 @@ impl Names {
         ensures count { result ≡ length self.now }
         ensures small { result < 2 ^ 63 }
     {
-        self.words.len()
+        self.numbers.len()
     }
 
     /// Whether there are no names.
     pub fn is_empty(&self) -> bool
         ensures { IsTrue result ↔ (self.now ≡ []) }
     {
-        self.words.is_empty()
+        self.names.is_empty()
     }
 
     /// Adds a name, and returns true; false if it is there already, in any letter case, and then nothing changes. Fails if allocation fails.
@@ -84,11 +107,15 @@ impl Names {
         ensures names { IfOk result (λ added. self.new ≡ (if added then self.old ++ name.now ∷ [] else self.old)) }
         ensures err { OnErr result (self.new ≡ self.old) }
     {
-        let word = Word {
-            text: CowStr::Owned(String::from_str(alloc, name)?),
-        };
-        let (_, added) = self.words.insert_full(word)?;
-        Ok(added)
+        if number_in(&self.numbers, name).is_some() {
+            return Ok(false);
+        }
+        self.names.reserve(1)?;
+        let own = String::from_str(alloc, name)?;
+        let word = word_of(alloc, name)?;
+        self.numbers.insert(word, self.names.len())?;
+        self.names.push_reserved(own);
+        Ok(true)
     }
 
     /// The same names, each with its number. Fails if allocation fails.
@@ -96,7 +123,8 @@ impl Names {
         ensures { IfOk result (λ copy. copy ≡ self.now) }
     {
         Ok(Names {
-            words: self.words.clone()?,
+            names: self.names.clone()?,
+            numbers: self.numbers.clone()?,
         })
     }
 }
