@@ -103,7 +103,12 @@ pub fn lay_scan(
 {
     engine.leaves_a_state(prepared);
     let rows = engine.plant().alarm_rows();
-    let given = given(alloc, rows, &prepared.effect.cells, prepared.report.moment)?;
+    let given = given(
+        alloc,
+        rows,
+        &prepared.scan.effect.cells,
+        prepared.scan.report.moment,
+    )?;
     board.lay(Entry::Scan(given))
 }
 

@@ -21,13 +21,14 @@ use journal_core::Log;
 use plant_config::Plant;
 use plant_system::{
     Before, EngineFault, MOST_EVENTS, Prepared, PreparedOrder, Reply, Report, Room, RunRoom, State,
-    alarm_state, apply, apply_scan, opening_state, prepared_order, prepared_scan,
+    alarm_state, apply, apply_scan, empty_report, opening_state, prepared_order, prepared_scan,
 };
 use plant_types::{Items, Pair, Value};
 use scan_logic::{Levelled, Workspace, plan_levels};
 use slice_store::{Done, Job, Start};
 use std::alloc::{AllocError, Global};
 use std::marker::Model;
+use std::mem::replace;
 
 /// A plant, and what the events so far made of it.
 pub struct Engine {
@@ -72,14 +73,14 @@ fn opening(alloc: Global, plant: &Plant) -> Result<(State, Room), AllocError>
 {
     let state = opening_state(alloc, plant)?;
     let run = RunRoom {
-        spare: None,
-        report: None,
         space: Workspace::new(alloc),
         marks: Vec::new(alloc),
     };
     let room = Room {
+        alloc,
         inputs: Vec::new(alloc),
         image: Vec::new(alloc),
+        spare: None,
         run,
     };
     Ok((state, room))
@@ -228,7 +229,7 @@ impl Engine {
         };
         let room = &mut self.room;
         let prepared = prepared_scan(rt, alloc, crew, &before, room, pairs, moment)?;
-        let Ok(()) = self.log.reserve(row_count(&prepared.report)) else {
+        let Ok(()) = self.log.reserve(row_count(&prepared.scan.report)) else {
             drop(prepared);
             return Err(EngineFault::Memory);
         };
@@ -243,15 +244,14 @@ impl Engine {
         ensures row_room { self.new.row_room + (length result.faults + length result.changes) ≡ self.old.row_room }
         ensures report { IsReport (state_of self.old) prepared.event result }
     {
-        let Prepared {
-            image,
-            moment,
-            effect,
-            report,
-        } = prepared;
-        push_scan(&mut self.log, &report);
-        self.room.image = push_taken(&mut self.history, image, moment);
-        self.room.run.spare = Some(apply_scan(effect, &mut self.state));
+        let Prepared { mut scan } = prepared;
+        let ready = &mut *scan;
+        push_scan(&mut self.log, &ready.report);
+        let image = replace(&mut ready.image, Vec::new(self.room.alloc));
+        ready.image = push_taken(&mut self.history, image, ready.moment);
+        apply_scan(&mut ready.effect, &mut self.state);
+        let report = replace(&mut ready.report, empty_report(self.room.alloc));
+        self.room.spare = Some(scan);
         report
     }
 
@@ -267,7 +267,9 @@ impl Engine {
     pub fn reuse(&mut self, report: Report)
         ensures { self.new ≡ self.old }
     {
-        self.room.run.report = Some(report);
+        if let Some(scan) = &mut self.room.spare {
+            scan.report = report;
+        }
     }
 
     /// Makes an order of the console of a number ready. It changes neither plant nor history.

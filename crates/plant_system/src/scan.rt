@@ -1,6 +1,6 @@
 //! How a scan is made ready.
 
-ghost use Rattle.std.specs.Prelude.{◌≡◌, ◌≤◌, All, Ok, IfOk, IfErr, IfSome};
+ghost use Rattle.std.specs.Prelude.{◌≡◌, ◌≤◌, All, Ok, IfOk, OnOk, IfErr, IfSome};
 ghost use Rattle.alarm_machine.specs.declared.limits.TheConstants.{LAST_MOMENT};
 ghost use Rattle.plant_config.specs.Names.{globals_of};
 ghost use Rattle.event_history.specs.declared.event.Event.TheVariants.{Scan};
@@ -13,8 +13,8 @@ ghost use Rattle.plant_system.specs.Steps.{ScanRan, IsPreparedScan, IsReady};
 
 use crate::event::{EngineFault, Report};
 use crate::image::{Input, taken_image};
-use crate::state::{ScanEffect, State, copied_cells, copied_flags, empty_effect};
-use crate::steps::{changed, renewed, set_inputs, step_alarms};
+use crate::state::{ScanEffect, State, copy_cells, copy_flags, empty_effect};
+use crate::steps::{list_changed, renew, set_inputs, step_alarms};
 use crew::Crew;
 use plant_config::Plant;
 use plant_types::{Pair, Value};
@@ -22,11 +22,11 @@ use scan_logic::{Levelled, Workspace, run_programs};
 use slice_store::{Done, Job, Start};
 use std::alloc::{AllocError, Global};
 use std::marker::Model;
-use std::mem::replace;
+use std::mem::{replace, swap};
 
-/// A scan that was made ready to be committed.
+/// What a scan is made ready in.
 #[derive(Drop)]
-pub struct Prepared {
+pub struct ReadyScan {
     /// Its image: inputs by number, with their values.
     pub image: Vec<(u32, Value)>,
     /// Its moment in milliseconds.
@@ -37,33 +37,40 @@ pub struct Prepared {
     pub report: Report,
 }
 
+/// A scan that was made ready to be committed. It lies in a place of its own, so it isn't copied where it is handed on.
+#[derive(Drop)]
+pub struct Prepared {
+    /// The scan.
+    pub scan: Box<ReadyScan>,
+}
+
 impl Model for Prepared {
     ghost use Rattle.event_history.specs.declared.event.Event.TheVariants.{Scan};
     ghost use Rattle.plant_system.specs.States.{PlainPrepared};
 
     ghost Value = { PlainPrepared };
 
-    ghost view = { λ p. record { event = Scan p.image.items p.moment; effect = p.effect; report = p.report } };
+    ghost view = { λ p. record { event = Scan p.scan.value.image.items p.scan.value.moment; effect = p.scan.value.effect; report = p.scan.value.report } };
 }
 
 /// Memory that one scan after another uses. What it holds doesn't matter.
 #[derive(Drop)]
 pub struct Room {
+    /// The memory that lists are made of.
+    pub alloc: Global,
     /// For the inputs of an image.
     pub inputs: Vec<Input>,
     /// For an image.
     pub image: Vec<(u32, Value)>,
-    /// For all that comes of an image.
+    /// For a scan: what an earlier one was made ready in, with what that replaced.
+    pub spare: Option<Box<ReadyScan>>,
+    /// For the run of the programs and the look at the alarms.
     pub run: RunRoom,
 }
 
-/// Memory for what comes of the image of a scan. What it holds doesn't matter.
+/// Memory for the run of the programs of a scan, and for what comes of it. What it holds doesn't matter.
 #[derive(Drop)]
 pub struct RunRoom {
-    /// What an earlier scan replaced.
-    pub spare: Option<ScanEffect>,
-    /// What an earlier scan reported.
-    pub report: Option<Report>,
     /// For the programs' runs.
     pub space: Workspace,
     /// For the marks of the alarms that may move.
@@ -84,7 +91,7 @@ pub struct Before<'a> {
 }
 
 /// A report of nothing, to be written over.
-fn empty_report(alloc: Global) -> Report {
+pub fn empty_report(alloc: Global) -> Report {
     Report {
         moment: 0,
         faults: Vec::new(alloc),
@@ -93,7 +100,24 @@ fn empty_report(alloc: Global) -> Report {
     }
 }
 
-/// Runs a scan on copies of what a state has, and returns what it does to the state and what it reports, in the room of another's. Fails if
+/// What an earlier scan was made ready in, or a new place. Fails if allocation fails.
+fn spare_scan(
+    alloc: Global,
+    spare: &mut Option<Box<ReadyScan>>,
+) -> Result<Box<ReadyScan>, AllocError> {
+    if let Some(scan) = spare.take() {
+        return Ok(scan);
+    }
+    let empty = ReadyScan {
+        image: Vec::new(alloc),
+        moment: 0,
+        effect: empty_effect(alloc),
+        report: empty_report(alloc),
+    };
+    Ok(Box::new(alloc, empty)?)
+}
+
+/// Runs a scan on copies of what a state has, and puts what it does to the state and what it reports in the place of another's. Fails if
 /// allocation fails, or the crew.
 fn run_scan<C: Crew<Job, Start, Done, H>, H>(
     rt: &H,
@@ -103,13 +127,14 @@ fn run_scan<C: Crew<Job, Start, Done, H>, H>(
     room: &mut RunRoom,
     image: &[(u32, Value)],
     moment: u64,
-) -> Result<(ScanEffect, Report), EngineFault>
+    scan: &mut ReadyScan,
+) -> Result<(), EngineFault>
     requires asked { C.asks }
     requires ready { IsReady before.now.plant.now before.now.state.now }
     requires levels { IfSome before.now.levels.now (AreLevelsOf before.now.plant.now.source) }
     requires range { moment ≤ LAST_MOMENT }
     requires image { All (FitsGlobal (globals_of before.now.plant.now)) image.now }
-    ensures ok { IfOk result (λ r. ScanRan before.now.plant.now before.now.state.now image.now moment (after_effect r.0 before.now.state.now) r.1) }
+    ensures ok { OnOk result (ScanRan before.now.plant.now before.now.state.now image.now moment (after_effect scan.new.effect before.now.state.now) scan.new.report) }
     ensures err { IfErr result (λ e. IsDue e (Ok (Scan image.now moment))) }
     ensures crew { C.faulted crew.new ≡ faults_by (C.faulted crew.old) result }
 {
@@ -119,28 +144,21 @@ fn run_scan<C: Crew<Job, Start, Done, H>, H>(
         events: _,
         levels,
     } = *before;
-    let spare = room.spare.take().unwrap_or(empty_effect(alloc));
-    let report = room.report.take().unwrap_or(empty_report(alloc));
-    let ScanEffect {
-        cells: room_of_cells,
-        faulted: room_of_flags,
-        outputs: room_of_outputs,
-        moved: room_of_moved,
+    let ReadyScan {
+        image: _,
         moment: _,
-    } = spare;
-    let Report {
-        moment: _,
-        faults: room_of_faults,
-        changes: room_of_changes,
-        outs: room_of_outs,
-    } = report;
-    let mut cells = copied_cells(alloc, &old.cells, room_of_cells)?;
-    set_inputs(image, &mut cells);
-    let mut faulted = copied_flags(old.faulted.as_slice(), room_of_flags)?;
+        effect,
+        report,
+    } = scan;
+    let cells = &mut effect.cells;
+    let flags = &mut effect.faulted;
+    copy_cells(alloc, &old.cells, cells)?;
+    set_inputs(image, cells);
+    copy_flags(old.faulted.as_slice(), flags)?;
     let framed = plant.logic();
     let space = &mut room.space;
-    let flags = &mut faulted;
-    let faults = run_programs(
+    let room_of_faults = replace(&mut report.faults, Vec::new(alloc));
+    report.faults = run_programs(
         rt,
         alloc,
         crew,
@@ -148,28 +166,19 @@ fn run_scan<C: Crew<Job, Start, Done, H>, H>(
         levels,
         moment,
         space,
-        &mut cells,
+        cells,
         flags,
         room_of_faults,
     )?;
-    let lists = (room_of_moved, room_of_changes);
-    let (moved, changes) = step_alarms(alloc, old, &cells, moment, &mut room.marks, lists)?;
-    let outputs = renewed(old.outputs.as_slice(), &cells, room_of_outputs)?;
-    let outs = changed(outputs.as_slice(), &old.cells, &cells, room_of_outs)?;
-    let effect = ScanEffect {
-        cells,
-        faulted,
-        outputs,
-        moved,
-        moment,
-    };
-    let report = Report {
-        moment,
-        faults,
-        changes,
-        outs,
-    };
-    Ok((effect, report))
+    let marks = &mut room.marks;
+    let moved = &mut effect.moved;
+    step_alarms(alloc, old, cells, moment, marks, moved, &mut report.changes)?;
+    renew(old.outputs.as_slice(), cells, &mut effect.outputs)?;
+    let outputs = effect.outputs.as_slice();
+    list_changed(outputs, &old.cells, cells, &mut report.outs)?;
+    effect.moment = moment;
+    report.moment = moment;
+    Ok(())
 }
 
 /// Makes a scan ready, in the room that there is, or returns why it is refused.
@@ -200,13 +209,26 @@ pub fn prepared_scan<C: Crew<Job, Start, Done, H>, H>(
         pairs,
         moment,
     )?;
+    let mut scan = spare_scan(alloc, &mut room.spare)?;
     let image = room.image.as_slice();
-    let (effect, report) = run_scan(rt, alloc, crew, before, &mut room.run, image, moment)?;
-    let image = replace(&mut room.image, Vec::new(alloc));
-    Ok(Prepared {
+    match run_scan(
+        rt,
+        alloc,
+        crew,
+        before,
+        &mut room.run,
         image,
         moment,
-        effect,
-        report,
-    })
+        &mut scan,
+    ) {
+        Ok(()) => {
+            scan.moment = moment;
+            swap(&mut room.image, &mut scan.image);
+            Ok(Prepared { scan })
+        }
+        Err(fault) => {
+            room.spare = Some(scan);
+            Err(fault)
+        }
+    }
 }

@@ -18,7 +18,7 @@ use plant_config::Plant;
 use plant_types::Value;
 use std::alloc::{AllocError, Global};
 use std::marker::Model;
-use std::mem::replace;
+use std::mem::swap;
 
 /// What is kept of a system beside its plant.
 #[derive(Drop)]
@@ -128,26 +128,24 @@ pub fn empty_effect(alloc: Global) -> ScanEffect {
     }
 }
 
-/// A copy of cells, in the room of other cells if these have as many values and clocks. Fails if allocation fails.
-pub fn copied_cells(alloc: Global, cells: &Cells, room: Cells) -> Result<Cells, AllocError>
-    ensures { IfOk result (λ copy. copy ≡ cells.now) }
+/// Makes cells a copy of others, in their own memory if they have as many values and clocks. Fails if allocation fails.
+pub fn copy_cells(alloc: Global, cells: &Cells, copy: &mut Cells) -> Result<(), AllocError>
+    ensures { OnOk result (copy.new ≡ cells.now) }
 {
-    if room.len() != cells.len() || room.clock_count() != cells.clock_count() {
-        return cells.copy(alloc);
+    if copy.len() != cells.len() || copy.clock_count() != cells.clock_count() {
+        *copy = cells.copy(alloc)?;
+        return Ok(());
     }
-    let mut copy = room;
     copy.copy_from(cells);
-    Ok(copy)
+    Ok(())
 }
 
-/// A copy of flags, in the room of other flags. Fails if allocation fails.
-pub fn copied_flags(flags: &[bool], room: Vec<bool>) -> Result<Vec<bool>, AllocError>
-    ensures { IfOk result (λ copy. copy.items ≡ flags.now) }
+/// Makes flags a copy of others, in their own memory. Fails if allocation fails.
+pub fn copy_flags(flags: &[bool], copy: &mut Vec<bool>) -> Result<(), AllocError>
+    ensures { OnOk result (copy.new.items ≡ flags.now) }
 {
-    let mut copy = room;
     copy.clear();
-    copy.extend_from_slice(flags)?;
-    Ok(copy)
+    copy.extend_from_slice(flags)
 }
 
 /// The state of the alarm of a number.
@@ -158,27 +156,16 @@ pub fn alarm_state(state: &State, alarm: u32) -> AlarmState
     state.bank.state(alarm)
 }
 
-/// Does what a scan does, and returns what the state had in its place, for its room. It takes no memory.
-pub fn apply_scan(effect: ScanEffect, state: &mut State) -> ScanEffect
-    requires { effect.moment ≤ LAST_MOMENT }
-    ensures { state.new ≡ after_effect effect state.old }
+/// Does what a scan does, and leaves in its place what the state had, for its memory. It takes none.
+pub fn apply_scan(effect: &mut ScanEffect, state: &mut State)
+    requires { effect.old.moment ≤ LAST_MOMENT }
+    ensures { state.new ≡ after_effect effect.old state.old }
 {
-    let ScanEffect {
-        cells,
-        faulted,
-        outputs,
-        moved,
-        moment,
-    } = effect;
-    state.bank.apply(moved.as_slice(), moment);
+    state.bank.apply(effect.moved.as_slice(), effect.moment);
     state.follows = true;
-    ScanEffect {
-        cells: replace(&mut state.cells, cells),
-        faulted: replace(&mut state.faulted, faulted),
-        outputs: replace(&mut state.outputs, outputs),
-        moved,
-        moment,
-    }
+    swap(&mut state.cells, &mut effect.cells);
+    swap(&mut state.faulted, &mut effect.faulted);
+    swap(&mut state.outputs, &mut effect.outputs);
 }
 
 /// Does what an order does: nothing, if it is refused.

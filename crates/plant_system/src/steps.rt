@@ -1,6 +1,6 @@
 //! The parts of a scan: inputs, alarms and outputs.
 
-ghost use Rattle.std.specs.Prelude.{◌≡◌, ◌<◌, ◌^◌, true, length, fold, map, IfOk, All, ◌≤◌};
+ghost use Rattle.std.specs.Prelude.{◌≡◌, ◌<◌, ◌^◌, true, length, fold, map, IfOk, OnOk, All, ◌≤◌};
 ghost use Rattle.std.specs.List.{filter};
 ghost use Rattle.alarm_machine.specs.declared.limits.TheConstants.{LONGEST_SHELVE_MS};
 ghost use Rattle.plant_cells.specs.Cells.{value_at};
@@ -19,6 +19,7 @@ use plant_config::AlarmRow;
 use plant_logic::Variable;
 use plant_types::{Region, Value};
 use std::alloc::{AllocError, Global};
+use std::mem::replace;
 
 /// Gives the inputs of an image their values.
 pub fn set_inputs(image: &[(u32, Value)], cells: &mut Cells)
@@ -72,36 +73,37 @@ pub fn watches_of(alloc: Global, rows: &[AlarmRow]) -> Result<Vec<Watch>, AllocE
     Ok(watches)
 }
 
-/// The alarms of a state that a scan moves which leaves these cells, each as it leaves it, and the changes of their codes in the order of the
-/// database, both in the room of other lists. The state stays. Fails if allocation fails.
+/// Lists the alarms of a state that a scan moves which leaves these cells, each as it leaves it, and the changes of their codes in the order of the
+/// database, both in place of what was listed before. The state stays. Fails if allocation fails.
 pub fn step_alarms(
     alloc: Global,
     old: &State,
     cells: &Cells,
     moment: u64,
     marks: &mut Vec<bool>,
-    room: (Vec<(u32, Alarm)>, Vec<(u32, Change)>),
-) -> Result<(Vec<(u32, Alarm)>, Vec<(u32, Change)>), AllocError>
+    moved: &mut Vec<(u32, Alarm)>,
+    changes: &mut Vec<(u32, Change)>,
+) -> Result<(), AllocError>
     requires each { length old.now.alarms ≡ length old.now.watches }
     requires follow { old.now.follows ≡ true → Follow (value_at old.now.cells) old.now.watches old.now.alarms }
-    ensures alarms { IfOk result (λ r. put_all old.now.alarms r.0.items ≡ alarms_watched (value_at cells.now) moment old.now.watches old.now.alarms) }
-    ensures changes { IfOk result (λ r. r.1.items ≡ changes_from 0 old.now.alarms (alarms_watched (value_at cells.now) moment old.now.watches old.now.alarms)) }
+    ensures alarms { OnOk result (put_all old.now.alarms moved.new.items ≡ alarms_watched (value_at cells.now) moment old.now.watches old.now.alarms) }
+    ensures changes { OnOk result (changes.new.items ≡ changes_from 0 old.now.alarms (alarms_watched (value_at cells.now) moment old.now.watches old.now.alarms)) }
 {
     let bank = &old.bank;
-    let before = &old.cells;
-    let (alarms, changes) = room;
-    let moved = old.watches.moved(
+    let room = replace(moved, Vec::new(alloc));
+    *moved = old.watches.moved(
         alloc,
         bank,
         old.follows,
-        before,
+        &old.cells,
         cells,
         moment,
         marks,
-        alarms,
+        room,
     )?;
-    let changes = bank.changes(changes, moved.as_slice())?;
-    Ok((moved, changes))
+    let room = replace(changes, Vec::new(alloc));
+    *changes = bank.changes(room, moved.as_slice())?;
+    Ok(())
 }
 
 /// Whether a region is that of outputs.
@@ -132,39 +134,38 @@ pub fn outputs(
     Ok(outputs)
 }
 
-/// The outputs with the values that they have in cells, in the room of other outputs; each is in the range of its kind. Fails if allocation fails.
-pub fn renewed(
+/// Lists the outputs with the values that they have in cells, in place of what was listed before; each is in the range of its kind. Fails if
+/// allocation fails.
+pub fn renew(
     outputs: &[(u32, Value)],
     cells: &Cells,
-    room: Vec<(u32, Value)>,
-) -> Result<Vec<(u32, Value)>, AllocError>
+    renewed: &mut Vec<(u32, Value)>,
+) -> Result<(), AllocError>
     requires { All (IsShowable (value_at cells.now)) outputs.now }
-    ensures { IfOk result (λ renewed. renewed.items ≡ map (output_in (value_at cells.now)) outputs.now) }
+    ensures { OnOk result (renewed.new.items ≡ map (output_in (value_at cells.now)) outputs.now) }
 {
-    let mut renewed = room;
     renewed.clear();
     for (global, value) in outputs {
         let value = Value::of_kind(value.kind(), value_at(cells, *global));
         renewed.push((*global, value))?;
     }
-    Ok(renewed)
+    Ok(())
 }
 
-/// The outputs whose number isn't what it was before, in order, in the room of other outputs. Fails if allocation fails.
-pub fn changed(
+/// Lists the outputs whose number isn't what it was before, in order, in place of what was listed before. Fails if allocation fails.
+pub fn list_changed(
     outputs: &[(u32, Value)],
     before: &Cells,
     now: &Cells,
-    room: Vec<(u32, Value)>,
-) -> Result<Vec<(u32, Value)>, AllocError>
-    ensures { IfOk result (λ changed. changed.items ≡ filter (differs (value_at before.now) (value_at now.now)) outputs.now) }
+    changed: &mut Vec<(u32, Value)>,
+) -> Result<(), AllocError>
+    ensures { OnOk result (changed.new.items ≡ filter (differs (value_at before.now) (value_at now.now)) outputs.now) }
 {
-    let mut changed = room;
     changed.clear();
     for (global, value) in outputs {
         if value_at(before, *global) != value_at(now, *global) {
             changed.push((*global, *value))?;
         }
     }
-    Ok(changed)
+    Ok(())
 }

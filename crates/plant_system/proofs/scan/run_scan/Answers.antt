@@ -17,17 +17,17 @@ returns-clause-ok g c =
     let old = c.args.before.now.state.now in
     let before = value_at old.cells in
     let now = value_at c.run_programs.new.cells in
-    let made = c.in_ok-outputs.ensures ∙ ap (map (output_in now)) (c.as_slice-2.ensures.value ∙ ap (λ (k : PlainState). k.outputs) c.old.view_is) in
+    let made = c.in_ok-renew.ensures ∙ ap (map (output_in now)) (c.as_slice-2.ensures.value ∙ ap (λ (k : PlainState). k.outputs) c.old.view_is) in
     let stepped = step_watched now c.args.moment plant.alarms old.watches old.alarms c.requires.ready.watches in
     let each = each_watched plant.alarms old.watches old.alarms c.requires.ready.watches c.requires.ready.alarms in
-    let outputs : c.in_ok-outputs.outputs.items ≡ outputs_from 0 plant.source.globals now = outputs_renewed plant.source.globals before now old.outputs c.in_ok-outputs.outputs.items c.requires.ready.outputs made in
-    let outs : c.in_ok-outs.outs.items ≡ outs_from 0 plant.source.globals before now = outs_differ plant.source.globals before now c.in_ok-outputs.outputs.items c.in_ok-outs.outs.items outputs (search rules) in
+    let outputs : c.renew.new.renewed.items ≡ outputs_from 0 plant.source.globals now = outputs_renewed plant.source.globals before now old.outputs c.renew.new.renewed.items c.requires.ready.outputs made in
+    let outs : c.list_changed.new.changed.items ≡ outs_from 0 plant.source.globals before now = outs_differ plant.source.globals before now c.renew.new.renewed.items c.list_changed.new.changed.items outputs (search rules) in
     record {
       programs = search rules;
       faults_within = search rules;
       sites_are = search rules;
       watches_are = search rules;
-      follow = rw (c.in_ok-moved.ensures.alarms) (follow_after now c.args.moment old.watches old.alarms each);
+      follow = rw (c.in_ok-step_alarms.ensures.alarms) (follow_after now c.args.moment old.watches old.alarms each);
       alarms_are = search rules ∙ stepped;
       changes_are = search rules;
       outputs_are = outputs;
@@ -37,12 +37,12 @@ returns-clause-ok g c =
       in_range = search rules;
     }
 
-pub renewed-requires : goal.renewed-requires
-renewed-requires g c =
+pub renew-requires : goal.renew-requires
+renew-requires g c =
     let plant = c.args.before.now.plant.now in
     let old = c.args.before.now.state.now in
     let now = value_at c.run_programs.new.cells in
-    let held = scan_stands plant.source old.cells c.run_programs.new.cells c.args.image.now c.args.moment old.faulted c.run_programs.new.faulted.items c.in_ok-faults.faults.items c.requires.ready.sound c.requires.image c.requires.ready.values (search rules) in
+    let held = scan_stands plant.source old.cells c.run_programs.new.cells c.args.image.now c.args.moment old.faulted c.run_programs.new.faulted.items c.in_ok-report-inside.field-0.items c.requires.ready.sound c.requires.image c.requires.ready.values (search rules) in
     let showable = outputs_showable plant.source.globals (value_at old.cells) now old.outputs (cells_showable plant.source c.run_programs.new.cells held) c.requires.ready.outputs in
     rw c.as_slice-2.ensures.value (rw (← c.old.view_is) at showable)
 
@@ -52,9 +52,3 @@ run_programs-requires-clause-cells g c =
     let old = c.args.before.now.state.now in
     let set : c.set_inputs.new.cells ≡ fold with_cell old.cells c.args.image.now = search rules in
     rw c.logic-framed.ensures.source (subst (HasCells plant.source) (sym set) (inputs_have_cells plant.source old.cells c.args.image.now c.requires.ready.sound c.requires.image c.requires.ready.values))
-
-pub step_alarms-requires-clause-each : goal.step_alarms-requires-clause-each
-step_alarms-requires-clause-each g c =
-    let plant = c.args.before.now.plant.now in
-    let old = c.args.before.now.state.now in
-    each_watched plant.alarms old.watches old.alarms c.requires.ready.watches c.requires.ready.alarms

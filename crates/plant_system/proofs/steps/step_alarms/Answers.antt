@@ -3,6 +3,3 @@ use Rattle.plant_system.proofs.steps.step_alarms.Goals as goal
 
 pub returns-clause-alarms : goal.returns-clause-alarms
 returns-clause-alarms c = rw (← c.old.view_is) (put_moved _ _ _ c.in_ok-moved.ensures)
-
-pub returns-clause-changes : goal.returns-clause-changes
-returns-clause-changes c = rw (← c.old.view_is) (c.in_ok-changes.ensures _ (rw c.as_slice.ensures.value c.in_ok-moved.ensures))
