@@ -1,17 +1,14 @@
 -- A board goes on with a history: the next entry may come, and after it the board's alarms are the system's.
-use Rattle.std.proofs.Common.{◌≡◌, ℕ, suc, ◌<◌, nat_le, Bool, true, false, if◌then◌else◌, List, [], ◌∷◌, ◌++◌, length, fold, Ok, Err, IfOk, refl, ap, sym, ◌∙◌, arith}
+use Rattle.std.proofs.Common.{◌≡◌, suc, true, List, [], ◌∷◌, ◌++◌, length, fold, Ok, Err, IfOk, refl, ap, sym, ◌∙◌}
 use Rattle.std.specs.declared.result.Result.{Result}
-use Rattle.std.proofs.lemmas.Bool.Decides.{nat_tests}
 use Rattle.alarm_bank.specs.Banks.{PlainBank}
 use Rattle.event_history.specs.declared.event.Event.{Event}
 use Rattle.event_history.specs.declared.event.Event.TheVariants as event
 use Rattle.plant_config.specs.Plants.{PlainPlant}
 use Rattle.plant_config.specs.Names.{globals_of}
-use Rattle.plant_system.specs.declared.event.TheConstants.{MOST_EVENTS}
-use Rattle.plant_system.specs.declared.event.EngineFault.TheVariants as refusal
-use Rattle.plant_system.specs.System.{System, system, opening_system, after_event, order_event}
+use Rattle.plant_system.specs.System.{System, system, opening_system, after_event}
 use Rattle.plant_system.proofs.Images.{taken_when}
-use Rattle.plant_system.proofs.Systems.{system_alarms, system_events, system_next, system_none}
+use Rattle.plant_system.proofs.Systems.{system_alarms, system_next, system_none}
 use Rattle.engine.specs.Lawful.{IsTaken}
 use Rattle.boards.specs.declared.entry.Entry.{Entry}
 use Rattle.boards.specs.declared.writer.BoardWriter.{BoardWriter}
@@ -20,7 +17,7 @@ use Rattle.boards.specs.Replies.{after, allows}
 use Rattle.boards.specs.declared.board.Board.{Board}
 use Rattle.boards.specs.Readers.{published, laid, story_of}
 use Rattle.boards.proofs.Takes.{shown_more}
-use Rattle.board_entries.specs.Entries.{entry_of, entries_from, entries_of, bank_of, history_story}
+use Rattle.board_entries.specs.Entries.{entry_of, entries_from, entries_of, bank_of}
 use Rattle.board_entries.specs.Showing.{HasAlarmsOf, HasHistory}
 use Rattle.board_entries.proofs.Orders.{order_takes}
 use Rattle.board_entries.proofs.Scans.{scan_after}

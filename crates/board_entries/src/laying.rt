@@ -103,12 +103,8 @@ pub fn lay_scan(
 {
     engine.leaves_a_state(prepared);
     let rows = engine.plant().alarm_rows();
-    let given = given(
-        alloc,
-        rows,
-        &prepared.scan.effect.cells,
-        prepared.scan.report.moment,
-    )?;
+    let scan = &*prepared.scan;
+    let given = given(alloc, rows, &scan.effect.cells, scan.report.moment)?;
     board.lay(Entry::Scan(given))
 }
 

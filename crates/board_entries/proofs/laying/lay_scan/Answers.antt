@@ -21,7 +21,7 @@ returns-clause-laid c =
     let same : rows ≡ (state_of e).plant.alarms = c.alarm_rows-rows.ensures.rows ∙ ap (λ (x : PlainPlant). x.alarms) c.plant.ensures in
     let made : entry.Scan c.in_ok-given.given ≡ entry_of (state_of e) p.event =
     ap (λ (x : BankEvent). entry.Scan x) c.in_ok-given.ensures
-    ∙ (ap (λ q. entry.Scan (bank_event.Scan q.report.moment (conditions (value_at q.effect.cells) rows) (suppressions (value_at q.effect.cells) rows))) c.prepared-inside.view_is
+    ∙ (ap (λ s. entry.Scan (bank_event.Scan s.report.moment (conditions (value_at s.effect.cells) rows) (suppressions (value_at s.effect.cells) rows))) (c.scan.view_is ∙ c.deref-scan.ensures)
     ∙ (ap (λ (q : PlainPrepared). entry.Scan (bank_event.Scan q.report.moment (conditions (value_at q.effect.cells) rows) (suppressions (value_at q.effect.cells) rows))) c.prepared.view_is
     ∙ scan_entry e p rows c.requires.fits c.leaves_a_state.ensures is same)) in
     laid_or_not c.lay.result e.plant e.history p.event c.args.board.now c.lay.new.self (entry.Scan c.in_ok-given.given) c.requires.has c.requires.fits.taken made c.lay.ensures.laid
