@@ -19,14 +19,15 @@ pub(crate) fn cost_of<J: Work<S, D>, S, D>(jobs: &[J]) -> u64 {
     whole
 }
 
-/// The cost that a message is to carry, where jobs of a cost are shared out among so many hands: a fraction of the whole, so that nobody waits
-/// long for the last one, but no less than a message costs, and never so much that two jobs would go to one of two hands.
-pub(crate) fn share_of(whole: u64, hands: u32) -> u64 {
+/// The cost that the next message is to carry, where jobs of a cost are left to share out among so many hands: a part of what is left, so that
+/// the first messages are few and the last ones small, and nobody waits long for the last; but no less than a message costs, and never so much
+/// that two jobs would go to one of two hands.
+pub(crate) fn share_of(left: u64, hands: u32) -> u64 {
     if hands < 2 {
         return u64::MAX;
     }
-    let fraction = whole / (4 * u64::from(hands)) + 1;
-    fraction.max(LEAST_SHARE).min(whole / 2)
+    let part = left / (2 * u64::from(hands)) + 1;
+    part.max(LEAST_SHARE).min(left / 2)
 }
 
 /// What of a cost the caller keeps to itself, where jobs are shared out among so many hands: half of what it will run, since it also hands out,
@@ -49,19 +50,20 @@ pub(crate) fn kept<J: Work<S, D>, S, D>(jobs: &[J], share: u64) -> usize
     jobs.len()
 }
 
-/// The place from which the last jobs cost no more than a share, but for the last one.
-pub(crate) fn cut<J: Work<S, D>, S, D>(jobs: &[J], share: u64) -> usize
+/// The place from which the last jobs cost no more than a share, but for the last one; and what they cost.
+pub(crate) fn cut<J: Work<S, D>, S, D>(jobs: &[J], share: u64) -> (usize, u64)
     requires { 0 < length jobs.now }
-    ensures { result < length jobs.now }
+    ensures { result.0 < length jobs.now }
 {
     let mut at = jobs.len() - 1;
     let mut cost = jobs[at].cost().max(1);
     while at > 0 {
-        cost = cost.saturating_add(jobs[at - 1].cost().max(1));
-        if cost > share {
+        let more = cost.saturating_add(jobs[at - 1].cost().max(1));
+        if more > share {
             break;
         }
+        cost = more;
         at -= 1;
     }
-    at
+    (at, cost)
 }

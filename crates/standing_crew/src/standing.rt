@@ -371,14 +371,15 @@ impl<J: Work<S, D>, S: Drop, D: Drop, G: Gate> Standing<J, S, D, G> {
         joined(runs, got)
     }
 
-    /// Hands out jobs by shares, from the last on.
+    /// Hands out jobs by shares of what is left, from the last on.
     fn hand_out<H: Wait>(&self, rt: &H, alloc: Global, jobs: Vec<J>) -> HandedOut {
-        let whole = cost_of::<J, S, D>(jobs.as_slice());
-        let share = share_of(whole, self.hands);
+        let mut cost = cost_of::<J, S, D>(jobs.as_slice());
         let mut left = jobs;
         let mut messages = 0u64;
         while !left.is_empty() {
-            let place = cut::<J, S, D>(left.as_slice(), share);
+            let share = share_of(cost, self.hands);
+            let (place, carried) = cut::<J, S, D>(left.as_slice(), share);
+            cost = cost.saturating_sub(carried);
             let Ok(jobs) = left.split_off(place) else {
                 return given_up(messages, CrewFault::Memory);
             };
