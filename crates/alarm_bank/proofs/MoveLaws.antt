@@ -13,7 +13,7 @@ use Rattle.alarm_machine.specs.Transitions.{on_scan}
 use Rattle.alarm_machine.specs.Alarms.{PlainAlarm, new_alarm, after_scan, end_of, is_settled}
 use Rattle.alarm_bank.specs.declared.rows.Site.{Site}
 use Rattle.alarm_bank.specs.Banks.{PlainBank, scan_each, IsSettled}
-use Rattle.alarm_bank.specs.Moves.{AreMoved, IsMove, IsMoveAt, UnmarkedStay, NoShelfEnds, put_all, changes_from, change_from, changes_by}
+use Rattle.alarm_bank.specs.Moves.{AreMoved, IsMove, IsMoveAt, UnmarkedStay, NoShelfEnds, put_all, changes_from, change_from, changes_by, listed, AddsMove, AreMovesOf}
 
 no_alarm : PlainAlarm
 no_alarm = new_alarm false 0
@@ -68,11 +68,6 @@ pub moves_all : (i : ℕ) (cs ss : List Bool) (t : ℕ) (xs : List PlainAlarm) (
 moves_all i cs ss t xs moved le so_far =
     let none : drop i xs ≡ [] = drop_all i xs le in
     rw (append-nil moved) at (so_far [] (rw (none, scan_none (drop i cs) (drop i ss) t) refl))
-
--- what is listed of an alarm: nothing if it rests
-abbrev pub listed : ℕ → Option PlainAlarm → List (ℕ × PlainAlarm)
-listed i None = []
-listed i (Some b) = (i, b) ∷ []
 
 -- the list after one alarm more, by what a scan makes of it
 pub one_next : (i : ℕ) (cs ss : List Bool) (t : ℕ) (xs : List PlainAlarm) (moved : List (ℕ × PlainAlarm)) (r : Option PlainAlarm)
@@ -182,7 +177,7 @@ no_change : (a : PlainAlarm) → change_between (code_of a.state) (code_of a.sta
 no_change a = rw (same_code_self (code_of a.state), change_between) refl
 
 -- a change, if there is one, is put before others
-abbrev first_change : ℕ → List (ℕ × PlainChange) → Option PlainChange → List (ℕ × PlainChange)
+abbrev pub first_change : ℕ → List (ℕ × PlainChange) → Option PlainChange → List (ℕ × PlainChange)
 first_change n others None = others
 first_change n others (Some change) = (n, change) ∷ others
 
@@ -208,6 +203,58 @@ changes_after n before (a ∷ old) (b ∷ new) moved e h =
 -- the changes that moved alarms make are those from the old alarms to the new ones
 pub changes_moved : (old new : List PlainAlarm) (moved : List (ℕ × PlainAlarm)) → AreMoved 0 old new moved → changes_by old moved ≡ changes_from 0 old new
 changes_moved old new moved h = changes_after 0 [] old new moved refl h
+
+-- the changes of alarms and of others behind them
+pub changes_append : (alarms : List PlainAlarm) (moved more : List (ℕ × PlainAlarm)) → changes_by alarms (moved ++ more) ≡ changes_by alarms moved ++ changes_by alarms more
+changes_append alarms [] more = refl
+changes_append alarms (one ∷ moved) more = change_first one.0 (change_from (slice_get alarms one.0) one.1) _ _ _ (changes_append alarms moved more)
+  where
+    change_first : (n : ℕ) (o : Option PlainChange) (all some more : List (ℕ × PlainChange)) → all ≡ some ++ more → first_change n all o ≡ first_change n some o ++ more
+    change_first n None all some more e = e
+    change_first n (Some change) all some more e = ap (λ l. (n, change) ∷ l) e
+
+-- the alarm at a place of a bank
+pub found_at : (sites : List Site) (alarms : List PlainAlarm) (moment : ℕ) {bank : PlainBank} (n : ℕ) (a : PlainAlarm)
+    → ◌≡◌ {A = PlainBank} (record { sites = sites; alarms = alarms; moment = moment }) bank → a ≡ slice_index_or alarms n a → n < length bank.alarms → slice_get bank.alarms n ≡ Some a
+found_at sites alarms moment {bank} n a bank_is a_is within =
+    let same : alarms ≡ bank.alarms = ap (λ (b : PlainBank). b.alarms) bank_is in
+    rw (← same) (slice_get-get_or alarms n a (rw same within) ∙ ap (λ x. Some x) (sym a_is))
+
+-- an alarm that rests adds nothing
+pub adds_nothing : (n : ℕ) (cs ss : List Bool) (t : ℕ) (xs : List PlainAlarm) (moved : List (ℕ × PlainAlarm)) (changes : List (ℕ × PlainChange)) (c s : Bool) (a : PlainAlarm)
+    → slice_get cs n ≡ Some c → slice_get ss n ≡ Some s → slice_get xs n ≡ Some a → after_scan c s t a ≡ a → AddsMove n cs ss t xs moved moved changes changes
+adds_nothing n cs ss t xs moved changes c s a c_is s_is a_is rests = (None, (λ c' s' a' c'_is s'_is a'_is. cc), sym (append-nil moved), sym (append-nil changes))
+
+-- one that moves adds itself, and the change of its code
+pub adds_one : (n : ℕ) (cs ss : List Bool) (t : ℕ) (xs : List PlainAlarm) (moved moved' : List (ℕ × PlainAlarm)) (changes changes' : List (ℕ × PlainChange)) (c s : Bool) (a new : PlainAlarm)
+    → slice_get cs n ≡ Some c → slice_get ss n ≡ Some s → slice_get xs n ≡ Some a → new ≡ after_scan c s t a → after_scan c s t a ≢ a
+    → moved' ≡ moved ++ (n, new) ∷ [] → changes' ≡ changes ++ first_change n [] (change_between (code_of a.state) (code_of new.state)) → AddsMove n cs ss t xs moved moved' changes changes'
+adds_one n cs ss t xs moved moved' changes changes' c s a new c_is s_is a_is new_is moves moved_is changes_are =
+    (Some new, (λ c' s' a' c'_is s'_is a'_is. (cc, λ same. moves cc)), moved_is, rw (changes_by, a_is) changes_are)
+
+-- after one alarm more, both lists are those of the alarms so far
+abbrev pub Listed : ℕ → List Bool → List Bool → ℕ → List PlainAlarm → List (ℕ × PlainAlarm) → List (ℕ × PlainChange) → Type 0
+Listed i cs ss t xs moved changes = record {
+  moves : MovesOn i cs ss t xs moved;
+  changes : changes ≡ changes_by xs moved;
+}
+
+pub move_more : (i : ℕ) (cs ss : List Bool) (t : ℕ) (xs : List PlainAlarm) (moved moved' : List (ℕ × PlainAlarm)) (changes changes' : List (ℕ × PlainChange))
+    → i < length xs → length cs ≡ length xs → length ss ≡ length xs → AddsMove i cs ss t xs moved moved' changes changes' → MovesOn i cs ss t xs moved → changes ≡ changes_by xs moved
+    → Listed (i + 1) cs ss t xs moved' changes'
+move_more i cs ss t xs moved moved' changes changes' h ce se adds so_far changes_are =
+    let move = adds.0 in
+    record {
+      moves = rw (adds.2) (one_next i cs ss t xs moved move h ce se adds.1 so_far);
+      changes = adds.3 ∙ ap (λ l. l ++ changes_by xs (listed i move)) changes_are ∙ sym (changes_append xs moved (listed i move)) ∙ ap (changes_by xs) (sym adds.2);
+    }
+
+-- once all are looked at, the lists are whole
+pub moves_listed : (i : ℕ) (cs ss : List Bool) (t : ℕ) (xs : List PlainAlarm) (moved : List (ℕ × PlainAlarm)) (changes : List (ℕ × PlainChange))
+    → length xs ≤ i → MovesOn i cs ss t xs moved → changes ≡ changes_by xs moved → AreMovesOf xs (scan_each cs ss t xs) moved changes
+moves_listed i cs ss t xs moved changes le so_far changes_are =
+    let all = moves_all i cs ss t xs moved le so_far in
+    record { moved = all; changes = changes_are ∙ changes_moved xs (scan_each cs ss t xs) moved all }
 
 -- banks with the same sites, alarms and moment are the same
 pub same_bank : (sites sites' : List Site) (alarms alarms' : List PlainAlarm) (moment : ℕ) → sites ≡ sites' → alarms ≡ alarms'

@@ -1,5 +1,5 @@
 -- What a scan moves: the alarms that it leaves otherwise than they were, and the changes of their codes.
-use Rattle.std.specs.Prelude.{◌≡◌, ◌≢◌, ℕ, ◌+◌, ◌<◌, ◌⊎◌, Bool, false, Option, Some, None, List, [], ◌∷◌, fold, slice_get, slice_set}
+use Rattle.std.specs.Prelude.{◌≡◌, ◌≢◌, ℕ, ◌+◌, ◌<◌, ◌⊎◌, Bool, false, Option, Some, None, List, [], ◌∷◌, ◌++◌, fold, slice_get, slice_set}
 use Rattle.alarm_machine.specs.Codes.{PlainChange, code_of, change_between}
 use Rattle.alarm_machine.specs.Alarms.{PlainAlarm, after_scan, end_of}
 
@@ -58,3 +58,20 @@ changes_by alarms (one ∷ moved) = elim (change_from (slice_get alarms one.0) o
   | None ↦ changes_by alarms moved
   | Some change ↦ (one.0, change) ∷ changes_by alarms moved
 ]
+
+-- what is listed of the alarm of a number: nothing if it rests
+abbrev pub listed : ℕ → Option PlainAlarm → List (ℕ × PlainAlarm)
+listed n None = []
+listed n (Some alarm) = (n, alarm) ∷ []
+
+-- what a scan makes of the alarm of a number is added to lists: the alarm unless it rests, and the change of its code, if there is one
+abbrev pub AddsMove : ℕ → List Bool → List Bool → ℕ → List PlainAlarm → List (ℕ × PlainAlarm) → List (ℕ × PlainAlarm) → List (ℕ × PlainChange) → List (ℕ × PlainChange) → Type 0
+AddsMove n cs ss t alarms moved moved' changes changes' =
+    (move : Option PlainAlarm) × IsMoveAt n cs ss t alarms move × (moved' ≡ moved ++ listed n move) × (changes' ≡ changes ++ changes_by alarms (listed n move))
+
+-- the alarms that a scan moves which makes new alarms of old ones, and the changes of their codes
+abbrev pub AreMovesOf : List PlainAlarm → List PlainAlarm → List (ℕ × PlainAlarm) → List (ℕ × PlainChange) → Type 0
+AreMovesOf old new moved changes = record {
+  moved : AreMoved 0 old new moved;
+  changes : changes ≡ changes_from 0 old new;
+}

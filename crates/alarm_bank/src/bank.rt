@@ -4,7 +4,7 @@ ghost use Rattle.std.specs.Prelude.{◌≡◌, ◌≤◌, ◌<◌, ◌^◌, List
 ghost use Rattle.alarm_machine.specs.declared.limits.TheConstants.{LAST_MOMENT};
 ghost use Rattle.alarm_machine.specs.Alarms.{PlainAlarm, end_of, EndsInRange};
 ghost use Rattle.alarm_bank.specs.Banks.{IsSite, scan_each, after_event, reply_of, counted, end_or_never, IsNextEnd, NoneShelved, IsSettled};
-ghost use Rattle.alarm_bank.specs.Moves.{AreMoved, IsMoveAt, UnmarkedStay, NoShelfEnds, put_all, changes_from, change_from};
+ghost use Rattle.alarm_bank.specs.Moves.{AreMoved, AddsMove, AreMovesOf, UnmarkedStay, NoShelfEnds, put_all};
 
 use crate::event::BankEvent;
 use crate::marks::next_mark;
@@ -262,109 +262,89 @@ impl Bank {
         }
     }
 
-    /// The alarm of a number as a scan leaves it, unless it rests.
-    fn moved_one<S: Signals>(&self, number: u32, signals: &S, moment: u64) -> Option<Alarm>
+    /// Adds the alarm of a number to a list as a scan leaves it, unless it rests, and the change of its code to another list, if there is one. Fails
+    /// if allocation fails.
+    fn list_move<S: Signals>(
+        &self,
+        number: u32,
+        signals: &S,
+        moment: u64,
+        moved: &mut Vec<(u32, Alarm)>,
+        changes: &mut Vec<(u32, Change)>,
+    ) -> Result<(), AllocError>
         requires there { number < length self.now.alarms }
         requires conditions { length (S.conditions signals.now) ≡ length self.now.alarms }
         requires suppressions { length (S.suppressions signals.now) ≡ length self.now.alarms }
-        ensures { IsMoveAt number (S.conditions signals.now) (S.suppressions signals.now) moment self.now.alarms result }
+        ensures { OnOk result (AddsMove number (S.conditions signals.now) (S.suppressions signals.now) moment self.now.alarms moved.old.items moved.new.items changes.old.items changes.new.items) }
     {
         let condition = signals.condition(number);
         let suppression = signals.suppression(number);
         let mut alarm = self.alarms[number as usize];
         if alarm.rests(condition, suppression, moment) {
-            return None;
+            return Ok(());
         }
-        let _ = alarm.scan(condition, suppression, moment);
-        Some(alarm)
+        let change = alarm.scan(condition, suppression, moment);
+        moved.push((number, alarm))?;
+        if let Some(change) = change {
+            changes.push((number, change))?;
+        }
+        Ok(())
     }
 
-    /// Lists the alarms that a scan moves, in order, each by its number and as the scan leaves it; those that rest are passed over. The
-    /// bank stays as it is. The list is made in the room of another one, and takes memory only where it grows beyond that. Fails if
-    /// allocation fails.
-    pub fn moved<S: Signals>(
+    /// Lists the alarms that a scan moves, in order, each by its number and as the scan leaves it, and the changes of their codes, both in place of
+    /// what was listed before; alarms that rest are passed over. The bank stays as it is. The lists take memory only where they grow beyond their
+    /// room. Fails if allocation fails.
+    pub fn list_moved<S: Signals>(
         &self,
-        room: Vec<(u32, Alarm)>,
         signals: &S,
         moment: u64,
-    ) -> Result<Vec<(u32, Alarm)>, AllocError>
+        moved: &mut Vec<(u32, Alarm)>,
+        changes: &mut Vec<(u32, Change)>,
+    ) -> Result<(), AllocError>
         requires conditions { length (S.conditions signals.now) ≡ length self.now.alarms }
         requires suppressions { length (S.suppressions signals.now) ≡ length self.now.alarms }
-        ensures { IfOk result (λ moved. AreMoved 0 self.now.alarms (scan_each (S.conditions signals.now) (S.suppressions signals.now) moment self.now.alarms) moved.items) }
+        ensures { OnOk result (AreMovesOf self.now.alarms (scan_each (S.conditions signals.now) (S.suppressions signals.now) moment self.now.alarms) moved.new.items changes.new.items) }
     {
-        let mut moved = room;
         moved.clear();
+        changes.clear();
         for at in 0..self.alarms.len() {
-            let number = at as u32;
-            if let Some(alarm) = self.moved_one(number, signals, moment) {
-                moved.push((number, alarm))?;
-            }
+            self.list_move(at as u32, signals, moment, moved, changes)?;
         }
-        Ok(moved)
+        Ok(())
     }
 
-    /// Lists the alarms that a scan moves as `moved` does. It looks at the marked alarms alone, unless a shelf ends by the scan's moment:
-    /// each of the others has the condition and the suppression that it had in the last scan. Fails if allocation fails.
-    pub fn moved_among<S: Signals>(
+    /// Lists the alarms that a scan moves, and the changes of their codes, as `list_moved` does. It looks at the marked alarms alone, unless a shelf
+    /// ends by the scan's moment: each of the others has the condition and the suppression that it had in the last scan. Fails if allocation
+    /// fails.
+    pub fn list_moved_among<S: Signals>(
         &self,
-        room: Vec<(u32, Alarm)>,
         marks: &[bool],
         signals: &S,
         moment: u64,
-    ) -> Result<Vec<(u32, Alarm)>, AllocError>
+        moved: &mut Vec<(u32, Alarm)>,
+        changes: &mut Vec<(u32, Change)>,
+    ) -> Result<(), AllocError>
         requires marks { length marks.now ≡ length self.now.alarms }
         requires unmarked { UnmarkedStay marks.now (S.conditions signals.now) (S.suppressions signals.now) self.now.alarms }
         requires conditions { length (S.conditions signals.now) ≡ length self.now.alarms }
         requires suppressions { length (S.suppressions signals.now) ≡ length self.now.alarms }
-        ensures { IfOk result (λ moved. AreMoved 0 self.now.alarms (scan_each (S.conditions signals.now) (S.suppressions signals.now) moment self.now.alarms) moved.items) }
+        ensures { OnOk result (AreMovesOf self.now.alarms (scan_each (S.conditions signals.now) (S.suppressions signals.now) moment self.now.alarms) moved.new.items changes.new.items) }
     {
         if self.shelf_ends(moment) {
-            return self.moved(room, signals, moment);
+            return self.list_moved(signals, moment, moved, changes);
         }
-        let mut moved = room;
         moved.clear();
+        changes.clear();
         let mut at = 0;
         while at < self.alarms.len() {
             if marks[at] {
-                let number = at as u32;
-                if let Some(alarm) = self.moved_one(number, signals, moment) {
-                    moved.push((number, alarm))?;
-                }
+                self.list_move(at as u32, signals, moment, moved, changes)?;
                 at += 1;
             } else {
                 at = next_mark(marks, at + 1);
             }
         }
-        Ok(moved)
-    }
-
-    /// The change of the code from the alarm of a number, if it is there, to another alarm.
-    fn change_to(&self, number: u32, new: &Alarm) -> Option<Change>
-        ensures { result ≡ change_from (slice_get self.now.alarms number) new.now }
-    {
-        match self.alarms.get(number as usize) {
-            Some(old) => Change::between(old.state().code(), new.state().code()),
-            None => None,
-        }
-    }
-
-    /// The changes of codes that a scan makes which moves these alarms of the bank, in the order of the database. The list is made in the room
-    /// of another one, and takes memory only where it grows beyond that. Fails if allocation fails.
-    pub fn changes(
-        &self,
-        room: Vec<(u32, Change)>,
-        moved: &[(u32, Alarm)],
-    ) -> Result<Vec<(u32, Change)>, AllocError>
-        ensures { IfOk result (λ changes. (new : List PlainAlarm) → AreMoved 0 self.now.alarms new moved.now → changes.items ≡ changes_from 0 self.now.alarms new) }
-    {
-        let mut changes = room;
-        changes.clear();
-        for (number, alarm) in moved {
-            if let Some(change) = self.change_to(*number, alarm) {
-                changes.push((*number, change))?;
-            }
-        }
-        Ok(changes)
+        Ok(())
     }
 
     /// Puts an alarm in the place of the one of a number, as an order has made it; it takes no memory. A number that isn't there changes
@@ -378,7 +358,7 @@ impl Bank {
         }
     }
 
-    /// Takes a scan by the alarms that it moves; it takes no memory and looks at no other alarm. After what `moved` lists of this bank,
+    /// Takes a scan by the alarms that it moves; it takes no memory and looks at no other alarm. After what `list_moved` lists of this bank,
     /// each alarm is what the scan makes of it.
     pub fn apply(&mut self, moved: &[(u32, Alarm)], moment: u64)
         requires { moment ≤ LAST_MOMENT }

@@ -1,7 +1,7 @@
 //! What all alarms watch, and the alarms that a scan moves.
 
-ghost use Rattle.std.specs.Prelude.{◌≡◌, ◌<◌, ◌^◌, ℕ, true, false, Some, length, map, slice_get, IfOk};
-ghost use Rattle.alarm_bank.specs.Moves.{AreMoved, UnmarkedStay};
+ghost use Rattle.std.specs.Prelude.{◌≡◌, ◌<◌, ◌^◌, ℕ, true, false, Some, length, map, slice_get, IfOk, OnOk};
+ghost use Rattle.alarm_bank.specs.Moves.{AreMovesOf, UnmarkedStay};
 ghost use Rattle.plant_cells.specs.Cells.{value_at};
 ghost use Rattle.alarm_watch.specs.Chains.{condition_keys, suppress_keys, ChangesAreMarked};
 ghost use Rattle.alarm_watch.specs.Watched.{alarms_watched, Follow};
@@ -9,7 +9,7 @@ ghost use Rattle.alarm_watch.specs.Watched.{alarms_watched, Follow};
 use crate::chains::{Chains, chains_of, mark_changed};
 use crate::watched::{Watch, Watched};
 use alarm_bank::Bank;
-use alarm_machine::Alarm;
+use alarm_machine::{Alarm, Change};
 use plant_cells::Cells;
 use std::alloc::{AllocError, Global};
 use std::marker::Model;
@@ -105,10 +105,10 @@ impl Watches {
         mark_changed(&self.conditions, &self.suppressions, before, now, marks);
     }
 
-    /// Lists the alarms of a bank that a scan moves, in order, as `Bank::moved` does; `now` is what the scan's programs leave. Where the
-    /// alarms follow the cells `before`, it looks only at the alarms one of whose globals changed, or at all if a shelf ends. The marks
-    /// are for their room. Fails if allocation fails.
-    pub fn moved(
+    /// Lists the alarms of a bank that a scan moves, and the changes of their codes, as `Bank::list_moved` does; `now` is what the scan's programs
+    /// leave. Where the alarms follow the cells `before`, it looks only at the alarms one of whose globals changed, or at all if a shelf ends. The
+    /// marks are for their room. Fails if allocation fails.
+    pub fn list_moved(
         &self,
         alloc: Global,
         bank: &Bank,
@@ -117,11 +117,12 @@ impl Watches {
         now: &Cells,
         moment: u64,
         marks: &mut Vec<bool>,
-        room: Vec<(u32, Alarm)>,
-    ) -> Result<Vec<(u32, Alarm)>, AllocError>
+        moved: &mut Vec<(u32, Alarm)>,
+        changes: &mut Vec<(u32, Change)>,
+    ) -> Result<(), AllocError>
         requires each { length bank.now.alarms ≡ length self.now }
         requires follow { follows ≡ true → Follow (value_at before.now) self.now bank.now.alarms }
-        ensures { IfOk result (λ moved. AreMoved 0 bank.now.alarms (alarms_watched (value_at now.now) moment self.now bank.now.alarms) moved.items) }
+        ensures { OnOk result (AreMovesOf bank.now.alarms (alarms_watched (value_at now.now) moment self.now bank.now.alarms) moved.new.items changes.new.items) }
     {
         let watches = self.watches.as_slice();
         let signals = Watched {
@@ -129,11 +130,11 @@ impl Watches {
             cells: now,
         };
         if !follows {
-            return bank.moved(room, &signals, moment);
+            return bank.list_moved(&signals, moment, moved, changes);
         }
         clear_marks(alloc, marks, watches.len())?;
         let marks = marks.as_mut_slice();
         self.mark(before, now, marks);
-        bank.moved_among(room, marks, &signals, moment)
+        bank.list_moved_among(marks, &signals, moment, moved, changes)
     }
 }

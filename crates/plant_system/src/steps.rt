@@ -19,7 +19,6 @@ use plant_config::AlarmRow;
 use plant_logic::Variable;
 use plant_types::{Region, Value};
 use std::alloc::{AllocError, Global};
-use std::mem::replace;
 
 /// Gives the inputs of an image their values.
 pub fn set_inputs(image: &[(u32, Value)], cells: &mut Cells)
@@ -89,20 +88,17 @@ pub fn step_alarms(
     ensures alarms { OnOk result (put_all old.now.alarms moved.new.items ≡ alarms_watched (value_at cells.now) moment old.now.watches old.now.alarms) }
     ensures changes { OnOk result (changes.new.items ≡ changes_from 0 old.now.alarms (alarms_watched (value_at cells.now) moment old.now.watches old.now.alarms)) }
 {
-    let bank = &old.bank;
-    let room = replace(moved, Vec::new(alloc));
-    *moved = old.watches.moved(
+    old.watches.list_moved(
         alloc,
-        bank,
+        &old.bank,
         old.follows,
         &old.cells,
         cells,
         moment,
         marks,
-        room,
+        moved,
+        changes,
     )?;
-    let room = replace(changes, Vec::new(alloc));
-    *changes = bank.changes(room, moved.as_slice())?;
     Ok(())
 }
 

@@ -1,21 +1,14 @@
-use Rattle.std.proofs.Common.{◌≡◌, ◌∙◌, ◌+◌, ◌<◌, ◌≤◌, false, length, slice_get, All, Some, None, arith, ap, refl}
-use Rattle.std.proofs.lemmas.List.{append-nil}
+use Rattle.std.proofs.Common.{◌≡◌, ◌∙◌, ◌+◌, ◌<◌, ◌≤◌, false, length, slice_get, All, Some, arith, ap, refl}
 use Rattle.std.proofs.lemmas.Option.{slice_get-get_or}
 use Rattle.alarm_bank.specs.Banks.{PlainBank, IsSettled}
-use Rattle.alarm_bank.proofs.MoveLaws.{one_next, unmarked_next, unmarked_to, moves_all}
-use Rattle.alarm_bank.proofs.bank.Bank.moved_among.Goals as goal
-use Rattle.alarm_bank.proofs.bank.Bank.moved_among.Goals.{in-Some+in_ok-push, in_default}
+use Rattle.alarm_bank.proofs.MoveLaws.{move_more, unmarked_next, unmarked_to, moves_listed}
+use Rattle.alarm_bank.proofs.bank.Bank.list_moved_among.Goals as goal
 
 pub loop-at-preserved-then-marks-at : goal.loop-at-preserved-then-marks-at
 loop-at-preserved-then-marks-at g c =
     let within : c.loop-at.at < length c.args.self.now.alarms = omega (arith, ap (λ (b : PlainBank). length b.alarms) c.self.view_is) in
-    record {
-      within = omega (arith, within);
-      moves = elim c.match-moved_one.branch [
-        | in-Some+in_ok-push w ↦ rw (w.moved-is, w.in_ok-push.ensures.items) (one_next _ _ _ _ _ _ (Some w.in-Some.alarm) within c.requires.conditions c.requires.suppressions w.in-Some.ensures c.loop-at.invariant.moves)
-        | in_default w ↦ rw w.moved-is (rw (append-nil c.loop-at.moved.items) at (one_next _ _ _ _ _ c.loop-at.moved.items None within c.requires.conditions c.requires.suppressions w.in_default.ensures c.loop-at.invariant.moves))
-      ];
-    }
+    let more = move_more c.loop-at.at _ _ _ _ _ _ _ _ within c.requires.conditions c.requires.suppressions c.in_ok-list_move.ensures c.loop-at.invariant.moves c.loop-at.invariant.changes in
+    record { within = omega (arith, within); moves = more.moves; changes = more.changes }
 
 pub loop-at-preserved : goal.loop-at-preserved
 loop-at-preserved g c =
@@ -28,9 +21,10 @@ loop-at-preserved g c =
       within = reached;
       moves = unmarked_to c.args.marks.now (c.loop-at.at + 1) c.next_mark-at.result _ _ _ _ _ c.next_mark-at.ensures.within.0 reached c.requires.conditions c.requires.suppressions c.next_mark-at.ensures.clear c.requires.unmarked settled later
           (unmarked_next c.args.marks.now _ _ _ _ _ _ within c.requires.conditions c.requires.suppressions unmarked c.requires.unmarked settled later c.loop-at.invariant.moves);
+      changes = c.loop-at.invariant.changes;
     }
 
 pub returns : goal.returns
 returns g c =
     let end : length c.args.self.now.alarms ≤ c.loop-at.at = omega (arith, ap (λ (b : PlainBank). length b.alarms) c.self.view_is) in
-    moves_all c.loop-at.at _ _ _ _ _ end c.loop-at.invariant.moves
+    moves_listed c.loop-at.at _ _ _ _ _ _ end c.loop-at.invariant.moves c.loop-at.invariant.changes

@@ -1,5 +1,0 @@
-use Rattle.alarm_bank.proofs.MoveLaws.{MovesOn}
-use Rattle.alarm_bank.proofs.bank.Bank.moved.Given as goal
-
-abbrev pub invariant-loop-at : goal.invariant-loop-at
-invariant-loop-at g l = MovesOn l.at (g.S.Signals.conditions l.signals) (g.S.Signals.suppressions l.signals) l.moment l.self.alarms l.moved.items
