@@ -22,7 +22,7 @@ use scan_logic::{Levelled, Workspace, run_programs};
 use slice_store::{Done, Job, Start};
 use std::alloc::{AllocError, Global};
 use std::marker::Model;
-use std::mem::{replace, swap};
+use std::mem::swap;
 
 /// What a scan is made ready in.
 #[derive(Drop)]
@@ -157,8 +157,7 @@ fn run_scan<C: Crew<Job, Start, Done, H>, H>(
     copy_flags(old.faulted.as_slice(), flags)?;
     let framed = plant.logic();
     let space = &mut room.space;
-    let room_of_faults = replace(&mut report.faults, Vec::new(alloc));
-    report.faults = run_programs(
+    run_programs(
         rt,
         alloc,
         crew,
@@ -168,7 +167,7 @@ fn run_scan<C: Crew<Job, Start, Done, H>, H>(
         space,
         cells,
         flags,
-        room_of_faults,
+        &mut report.faults,
     )?;
     let marks = &mut room.marks;
     let moved = &mut effect.moved;

@@ -1,6 +1,6 @@
 //! The programs of a scan, one after another on the caller's thread.
 
-ghost use Rattle.std.specs.Prelude.{◌≡◌, ◌<◌, length, IfOk, IfSome, All};
+ghost use Rattle.std.specs.Prelude.{◌≡◌, ◌<◌, length, IfOk, OnOk, IfSome, All};
 ghost use Rattle.plant_logic.specs.Worlds.{World};
 ghost use Rattle.plant_logic.specs.Paths.{paths_of};
 ghost use Rattle.block_frames.specs.Stands.{StandFor};
@@ -38,7 +38,7 @@ fn run_program(
     }
 }
 
-/// Runs the programs in order, but for those that are faulted, and returns the faults in the room of other faults. A program that traps is
+/// Runs the programs in order, but for those that are faulted, and lists the faults in place of those listed before. A program that traps is
 /// faulted from then on. The moment is that of the scan, in milliseconds.
 ///
 /// Fails if allocation fails.
@@ -48,15 +48,14 @@ pub fn run_in_order(
     stack: &mut Stack,
     cells: &mut Cells,
     faulted: &mut Vec<bool>,
-    room: Vec<(Place, Trap)>,
-) -> Result<Vec<(Place, Trap)>, AllocError>
+    faults: &mut Vec<(Place, Trap)>,
+) -> Result<(), AllocError>
     requires flags { length faulted.old.items ≡ length framed.now.programs }
     requires cells { HasCells framed.now cells.old }
-    ensures ran { IfOk result (λ faults. (w : World) → StandFor framed.now cells.old w → ProgramsRan framed.now (programs_from framed.now moment 0 faulted.old.items w) cells.new faulted.new.items faults.items) }
-    ensures within { IfOk result (λ faults. All (λ f. f.0.path < length (paths_of framed.now)) faults.items) }
+    ensures ran { OnOk result ((w : World) → StandFor framed.now cells.old w → ProgramsRan framed.now (programs_from framed.now moment 0 faulted.old.items w) cells.new faulted.new.items faults.new.items) }
+    ensures within { OnOk result (All (λ f. f.0.path < length (paths_of framed.now)) faults.new.items) }
 {
     sound_source_is_small();
-    let mut faults = room;
     faults.clear();
     for at in 0..framed.programs().len() {
         let fault = run_program(framed, at as u32, moment, stack, cells, faulted[at])?;
@@ -65,5 +64,5 @@ pub fn run_in_order(
             faults.push(fault)?;
         }
     }
-    Ok(faults)
+    Ok(())
 }

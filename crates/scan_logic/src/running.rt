@@ -1,6 +1,6 @@
 //! The programs of a scan, by whatever crew there is.
 
-ghost use Rattle.std.specs.Prelude.{◌≡◌, ◌<◌, length, All, IfOk, IfSome};
+ghost use Rattle.std.specs.Prelude.{◌≡◌, ◌<◌, length, All, OnOk, IfSome};
 ghost use Rattle.crew.specs.Faults.{faults_after};
 ghost use Rattle.plant_logic.specs.Worlds.{World};
 ghost use Rattle.plant_logic.specs.Paths.{paths_of};
@@ -38,11 +38,12 @@ pub fn plan_levels(
     Ok(())
 }
 
-/// Runs the programs and returns the faults: level by level by the crew, or where this is alone or there are no levels, one after another on
-/// the caller's thread. Both leave the same. A program that traps is faulted from then on. The moment is that of the scan, in milliseconds.
+/// Runs the programs and lists the faults in place of those listed before: level by level by the crew, or where this is alone or there are no levels,
+/// one after another on the caller's thread. Both leave the same. A program that traps is faulted from then on. The moment is that of the scan, in
+/// milliseconds.
 ///
-/// Fails as the crew does, with `Memory` where memory was refused; then neither the cells nor the flags are of use. The faults take the room of
-/// others where they can, and runs take their memory from a workspace.
+/// Fails as the crew does, with `Memory` where memory was refused; then neither the cells nor the flags are of use. Runs take their memory from a
+/// workspace.
 pub fn run_programs<C: Crew<Job, Start, Done, H>, H>(
     rt: &H,
     alloc: Global,
@@ -53,25 +54,26 @@ pub fn run_programs<C: Crew<Job, Start, Done, H>, H>(
     space: &mut Workspace,
     cells: &mut Cells,
     faulted: &mut Vec<bool>,
-    room: Vec<(Place, Trap)>,
-) -> Result<Vec<(Place, Trap)>, CrewFault>
+    faults: &mut Vec<(Place, Trap)>,
+) -> Result<(), CrewFault>
     requires asked { C.asks }
     requires levels { IfSome levels.now (AreLevelsOf framed.now) }
     requires flags { length faulted.old.items ≡ length framed.now.programs }
     requires cells { HasCells framed.now cells.old }
-    ensures ran { IfOk result (λ faults. (w : World) → StandFor framed.now cells.old w → ProgramsRan framed.now (programs_from framed.now moment 0 faulted.old.items w) cells.new faulted.new.items faults.items) }
-    ensures within { IfOk result (λ faults. All (λ f. f.0.path < length (paths_of framed.now)) faults.items) }
+    ensures ran { OnOk result ((w : World) → StandFor framed.now cells.old w → ProgramsRan framed.now (programs_from framed.now moment 0 faulted.old.items w) cells.new faulted.new.items faults.new.items) }
+    ensures within { OnOk result (All (λ f. f.0.path < length (paths_of framed.now)) faults.new.items) }
     ensures faults { C.faulted crew.new ≡ faults_after (C.faulted crew.old) result }
 {
     match levels {
         Some(levels) if !crew.is_alone() => {
             let jobs = &mut space.jobs;
-            run_by_crew(
+            *faults = run_by_crew(
                 rt, alloc, crew, framed, levels, moment, jobs, cells, faulted,
-            )
+            )?;
+            Ok(())
         }
-        _ => match run_in_order(framed, moment, &mut space.stack, cells, faulted, room) {
-            Ok(faults) => Ok(faults),
+        _ => match run_in_order(framed, moment, &mut space.stack, cells, faulted, faults) {
+            Ok(()) => Ok(()),
             Err(_) => Err(CrewFault::Memory),
         },
     }

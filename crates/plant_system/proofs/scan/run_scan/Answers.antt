@@ -42,7 +42,7 @@ renew-requires g c =
     let plant = c.args.before.now.plant.now in
     let old = c.args.before.now.state.now in
     let now = value_at c.run_programs.new.cells in
-    let held = scan_stands plant.source old.cells c.run_programs.new.cells c.args.image.now c.args.moment old.faulted c.run_programs.new.faulted.items c.in_ok-report-inside.field-0.items c.requires.ready.sound c.requires.image c.requires.ready.values (search rules) in
+    let held = scan_stands plant.source old.cells c.run_programs.new.cells c.args.image.now c.args.moment old.faulted c.run_programs.new.faulted.items c.run_programs.new.faults.items c.requires.ready.sound c.requires.image c.requires.ready.values (search rules) in
     let showable = outputs_showable plant.source.globals (value_at old.cells) now old.outputs (cells_showable plant.source c.run_programs.new.cells held) c.requires.ready.outputs in
     rw c.as_slice-2.ensures.value (rw (← c.old.view_is) at showable)
 
