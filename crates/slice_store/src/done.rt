@@ -5,12 +5,12 @@ ghost use Rattle.std.specs.Arc.{arc_value};
 ghost use Rattle.plant_cells.specs.Runs.{Path, ended};
 ghost use Rattle.acc_vm.specs.Machine.{Over};
 ghost use Rattle.acc_vm.specs.Codes.{SameShape, run_of};
+ghost use Rattle.slice_store.specs.Ready.{IsReadyJob};
 ghost use Rattle.plant_cells.specs.Cells.{PlainCells};
 ghost use Rattle.code_slices.specs.Parts.{IsPart, HasPart};
 ghost use Rattle.slice_store.specs.Starts.{Gives};
 ghost use Rattle.slice_store.specs.Level.{PutsPart, Takes};
 
-use crate::reserve::Spare;
 use crate::start::Start;
 use acc_vm::{Code, Own, Shared};
 use code_slices::{Part, put_clocks, put_values};
@@ -19,53 +19,48 @@ use plant_cells::{Cells, Clock, Stop};
 use std::marker::Model;
 use std::sync::Arc;
 
+/// What a job has: where it starts, room for cells and a stack of its own, and room for how its run ends. It lies in a place of its own, so that
+/// it isn't copied where the job, its run or their memory is handed on.
+#[derive(Drop)]
+pub(crate) struct Run {
+    pub(crate) start: Arc<Start>,
+    pub(crate) cells: Cells,
+    pub(crate) stack: Vec<i64>,
+    pub(crate) result: Result<(), Stop>,
+}
+
 /// A job, which contracts see as its start. It owns the stack of its run, and room for cells: who runs it copies those of its start into that.
 pub struct Job {
-    start: Arc<Start>,
-    cells: Cells,
-    stack: Vec<i64>,
+    run: Box<Run>,
 }
 
 impl Drop for Job {
     fn drop(self) {
-        let Job {
-            start: _,
-            cells: _,
-            stack: _,
-        } = self;
+        let Job { run: _ } = self;
     }
 }
 
 impl Model for Job {
-    ghost use Rattle.std.specs.Prelude.{◌≡◌, ◌≤◌, length};
     ghost use Rattle.std.specs.Arc.{arc_value};
     ghost use Rattle.slice_store.specs.Starts.{Begun};
     ghost use Rattle.slice_store.specs.Ready.{IsReadyJob};
 
     ghost Value = { Begun };
 
-    ghost view = { λ j. arc_value j.start };
+    ghost view = { λ j. arc_value j.run.value.start };
 
-    ghost invariant = { λ j. IsReadyJob (arc_value j.start) j.cells j.stack.items };
+    ghost invariant = { λ j. IsReadyJob (arc_value j.run.value.start) j.run.value.cells j.run.value.stack.items };
 }
 
 /// A job's run that ended, which contracts see as its start: the code gives the result from it. It has the job's stack still, whose memory
 /// serves a later job.
 pub struct Done {
-    start: Arc<Start>,
-    cells: Cells,
-    result: Result<(), Stop>,
-    stack: Vec<i64>,
+    run: Box<Run>,
 }
 
 impl Drop for Done {
     fn drop(self) {
-        let Done {
-            start: _,
-            cells: _,
-            result: _,
-            stack: _,
-        } = self;
+        let Done { run: _ } = self;
     }
 }
 
@@ -75,9 +70,9 @@ impl Model for Done {
 
     ghost Value = { Begun };
 
-    ghost view = { λ d. arc_value d.start };
+    ghost view = { λ d. arc_value d.run.value.start };
 
-    ghost invariant = { λ d. Gives (arc_value d.start) d.result d.cells };
+    ghost invariant = { λ d. Gives (arc_value d.run.value.start) d.run.value.result d.run.value.cells };
 }
 
 /// Runs code over cells at a moment, with memory for its stack, and tells how many instructions it did.
@@ -121,17 +116,12 @@ fn put_part(part: &Part, left: &Cells, values: &mut [i64], clocks: &mut [Clock])
 }
 
 impl Job {
-    /// A job that starts there, with as many cells as there and words for the stack of its run.
-    pub(crate) fn new(start: Arc<Start>, cells: Cells, stack: Vec<i64>) -> Job
-        requires cells { SameShape cells (arc_value start).cells }
-        requires room { (arc_value start).part.code.stack ≤ length stack.items }
-        ensures { result ≡ arc_value start }
+    /// The job that starts where a run says, and has as many cells as there and words for the stack of its run.
+    pub(crate) fn new(run: Box<Run>) -> Job
+        requires { IsReadyJob (arc_value run.value.start) run.value.cells run.value.stack.items }
+        ensures { result ≡ arc_value run.value.start }
     {
-        Job {
-            start,
-            cells,
-            stack,
-        }
+        Job { run }
     }
 }
 
@@ -144,36 +134,33 @@ impl Work<Start, Done> for Job {
     ghost number_of = { λ start. start.number };
 
     fn number(&self) -> u32 {
-        self.start.number()
+        self.run.start.number()
     }
 
     fn cost(&self) -> u64 {
-        self.start.part().code().cost()
+        self.run.start.part().code().cost()
     }
 
     fn start(&self) -> &Arc<Start> {
-        &self.start
+        &self.run.start
     }
 
     /// Runs the job. It allocates nothing.
     fn run(self) -> Done {
-        let Job {
-            start,
-            mut cells,
-            mut stack,
-        } = self;
-        cells.copy_from(start.cells());
-        let result = run_from(&start, stack.as_mut_slice(), &mut cells);
-        Done {
+        let Job { mut run } = self;
+        let Run {
             start,
             cells,
-            result,
             stack,
-        }
+            result,
+        } = &mut *run;
+        cells.copy_from(start.cells());
+        *result = run_from(start, stack.as_mut_slice(), cells);
+        Done { run }
     }
 
     fn is_run_of(ended: &Done, start: &Start) -> bool {
-        ended.start.same(start)
+        ended.run.start.same(start)
     }
 }
 
@@ -182,21 +169,21 @@ impl Done {
     pub fn start(&self) -> &Arc<Start>
         ensures { arc_value result.now ≡ self.now }
     {
-        &self.start
+        &self.run.start
     }
 
     /// The job's number: 1 more than its program's.
     pub fn number(&self) -> u32
         ensures { result ≡ self.now.number }
     {
-        self.start.number()
+        self.run.start.number()
     }
 
     /// How the run ended: a trap has the number of its path and of the statement there.
     pub fn ran(&self) -> Result<(), Stop>
         ensures { (after : PlainCells) × Gives self.now result after }
     {
-        self.result
+        self.run.result
     }
 
     /// Puts into all values and clocks what the run's program wrote, and its clocks, and flags the program where the run trapped.
@@ -205,23 +192,20 @@ impl Done {
         requires numbered { (0 < self.now.number) × (self.now.number ≤ length faulted.old) }
         ensures { Takes self.now (record { values = values.old; clocks = clocks.old }) faulted.old (record { values = values.new; clocks = clocks.new }) faulted.new }
     {
-        put_part(self.start.part(), &self.cells, values, clocks);
-        let program = self.start.number() as usize - 1;
-        faulted[program] = self.result.is_err();
+        let Run {
+            start,
+            cells,
+            stack: _,
+            result,
+        } = &*self.run;
+        put_part(start.part(), cells, values, clocks);
+        let program = start.number() as usize - 1;
+        faulted[program] = result.is_err();
     }
 
     /// The memory of the run, for a later job.
-    pub(crate) fn into_spare(self) -> Spare {
-        let Done {
-            start,
-            cells,
-            result: _,
-            stack,
-        } = self;
-        Spare {
-            start: Some(start),
-            cells,
-            stack,
-        }
+    pub(crate) fn into_run(self) -> Box<Run> {
+        let Done { run } = self;
+        run
     }
 }

@@ -7,6 +7,7 @@ ghost use Rattle.slice_store.specs.Starts.{Begun, CanRun};
 use code_slices::{Part, same_cells};
 use plant_cells::Cells;
 use std::marker::Model;
+use std::mem::swap;
 use std::sync::Arc;
 
 /// Where a job starts: its number, which is 1 more than its program's, the part of the program, the moment in milliseconds, and the part's
@@ -83,18 +84,15 @@ impl Start {
         &self.cells
     }
 
-    /// The part's cells as they were. It copies nothing.
-    pub(crate) fn into_cells(self) -> Cells
-        ensures { result ≡ self.cells }
+    /// Becomes another start, and leaves its earlier cells in the place of those that it takes. It copies none of them.
+    pub(crate) fn renew(&mut self, number: u32, part: Arc<Part>, moment: u64, cells: &mut Cells)
+        requires { CanRun (record { number = number; part = arc_value part; moment = moment; cells = cells.old }) }
+        ensures { self.new ≡ record { number = number; part = arc_value part; moment = moment; cells = cells.old } }
     {
-        let Start {
-            number: _,
-            part,
-            moment: _,
-            cells,
-        } = self;
-        drop(part);
-        cells
+        self.number = number;
+        self.part = part;
+        self.moment = moment;
+        swap(&mut self.cells, cells);
     }
 
     /// Whether another start is the same.

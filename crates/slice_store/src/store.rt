@@ -7,11 +7,12 @@ ghost use Rattle.crew.specs.Runs.{AreNumbered, IsEachOnce};
 ghost use Rattle.code_slices.specs.Parts.{HasPart};
 ghost use Rattle.slice_store.specs.Splits.{CanSplit, AreJobsBefore, SameStore, begun};
 ghost use Rattle.slice_store.specs.Fits.{IsMisfit};
+ghost use Rattle.slice_store.specs.Ready.{IsReadyJob};
 
-use crate::done::{Done, Job};
+use crate::done::{Done, Job, Run};
 use crate::matching::{Out, match_up};
 use crate::misfit::Misfit;
-use crate::reserve::{Reserve, Spare, as_many, widened};
+use crate::reserve::Reserve;
 use crate::start::Start;
 use code_slices::Part;
 use crew::Work;
@@ -79,57 +80,90 @@ fn start_of(number: u32, part: &Arc<Part>, moment: u64, cells: Cells) -> Result<
     Ok(Start::new(number, part, moment, cells))
 }
 
-/// Puts a start in the place of an earlier one, whose cells it returns; if somebody else holds that too, the start comes back.
-fn put_in_place(place: &mut Arc<Start>, start: Start) -> Result<Cells, Start>
-    ensures put { OnOk result (arc_value place.new ≡ start) }
-    ensures back { IfErr result (λ same. same ≡ start) }
+/// Starts in the place of an earlier start, whose cells it leaves in the place of those that it takes, and tells whether it could: not where somebody
+/// else holds that start too; then nothing changes. Fails if memory was refused.
+fn renewed(
+    place: &mut Arc<Start>,
+    number: u32,
+    part: &Arc<Part>,
+    moment: u64,
+    cells: &mut Cells,
+) -> Result<bool, AllocError>
+    requires values { length cells.old.values ≡ length (arc_value part.now).slots }
+    requires clocks { length cells.old.clocks ≡ length (arc_value part.now).clocks }
+    ensures put { IfOk result (λ could. IsTrue could → arc_value place.new ≡ record { number = number; part = arc_value part.now; moment = moment; cells = cells.old }) }
+    ensures kept { IfOk result (λ could. could ≡ false → cells.new ≡ cells.old) }
 {
+    let _code = part.code();
+    let part = Arc::try_clone(part)?;
     match Arc::get_mut(place) {
-        Some(there) => Ok(replace(there, start).into_cells()),
-        None => Err(start),
+        Some(there) => {
+            there.renew(number, part, moment, cells);
+            Ok(true)
+        }
+        None => Ok(false),
     }
 }
 
-/// A start that threads may share, and room for cells, none yet. Fails if memory was refused.
-fn shared_anew(alloc: Global, start: Start) -> Result<(Arc<Start>, Cells), AllocError>
-    ensures { IfOk result (λ r. arc_value r.0 ≡ start) }
+/// A start that threads may share. Fails if memory was refused.
+fn shared_start(alloc: Global, start: Start) -> Result<Arc<Start>, AllocError>
+    ensures { IfOk result (λ shared. arc_value shared ≡ start) }
 {
     let Ok(start) = Arc::new(alloc, start) else {
         return Err(AllocError);
     };
-    Ok((start, Cells::new(Vec::new(alloc), Vec::new(alloc))))
+    Ok(start)
 }
 
-/// A start that threads may share, in the place of an earlier one that nobody else holds, and room for cells. Fails if memory was refused.
-fn shared_start(
+/// No cells yet.
+fn no_cells(alloc: Global) -> Cells {
+    Cells::new(Vec::new(alloc), Vec::new(alloc))
+}
+
+/// Starts in the place of an earlier start where nobody else holds that, and else in a new one. It takes the cells, and leaves some for their memory. Fails
+/// if memory was refused.
+fn put_start(
     alloc: Global,
-    start: Start,
-    place: Option<Arc<Start>>,
-) -> Result<(Arc<Start>, Cells), AllocError>
-    ensures { IfOk result (λ r. arc_value r.0 ≡ start) }
+    place: &mut Arc<Start>,
+    number: u32,
+    part: &Arc<Part>,
+    moment: u64,
+    cells: &mut Cells,
+) -> Result<(), AllocError>
+    requires values { length cells.old.values ≡ length (arc_value part.now).slots }
+    requires clocks { length cells.old.clocks ≡ length (arc_value part.now).clocks }
+    ensures { OnOk result (arc_value place.new ≡ record { number = number; part = arc_value part.now; moment = moment; cells = cells.old }) }
 {
-    let Some(mut place) = place else {
-        return shared_anew(alloc, start);
-    };
-    match put_in_place(&mut place, start) {
-        Ok(room) => Ok((place, room)),
-        Err(start) => shared_anew(alloc, start),
+    if renewed(place, number, part, moment, cells)? {
+        return Ok(());
     }
+    let taken = replace(cells, no_cells(alloc));
+    let start = start_of(number, part, moment, taken)?;
+    *place = shared_start(alloc, start)?;
+    Ok(())
 }
 
-/// The job that starts there, in the place of an earlier start and with the stack of an earlier run. Fails if memory was refused.
-fn begin(
-    alloc: Global,
-    start: Start,
-    place: Option<Arc<Start>>,
-    stack: Vec<i64>,
-) -> Result<Job, AllocError>
-    ensures { IfOk result (λ job. job ≡ start) }
+/// Gives a run as many cells as its start has, and the words of stack that its code needs, in its own room where that serves. Fails if memory was
+/// refused.
+fn make_ready(alloc: Global, run: &mut Run) -> Result<(), AllocError>
+    ensures ready { OnOk result (IsReadyJob (arc_value run.new.start) run.new.cells run.new.stack.items) }
+    ensures start { arc_value run.new.start ≡ arc_value run.old.start }
 {
-    let stack = widened(stack, start.part().code().stack())?;
-    let (start, room) = shared_start(alloc, start, place)?;
-    let own = as_many(alloc, start.cells(), room)?;
-    Ok(Job::new(start, own, stack))
+    let Run {
+        start,
+        cells,
+        stack,
+        result: _,
+    } = run;
+    let begun = start.cells();
+    if cells.len() != begun.len() || cells.clock_count() != begun.clock_count() {
+        *cells = begun.copy(alloc)?;
+    }
+    let words = start.part().code().stack();
+    if stack.len() < words {
+        stack.resize(words, 0)?;
+    }
+    Ok(())
 }
 
 /// The starts of jobs, in the room of others. Fails if memory was refused.
@@ -262,7 +296,52 @@ impl Store {
         levels.of(program as u32) == level && !self.is_faulted(program)
     }
 
-    /// The job of a program, from the cells and at the moment of the store, in the memory of an earlier one. Fails if memory was refused.
+    /// The job of a number, from the cells and at the moment of the store, in memory of its own. Fails if memory was refused.
+    fn begin_anew(&self, alloc: Global, number: u32, part: &Arc<Part>) -> Result<Job, AllocError>
+        requires there { HasPart (arc_value part.now) self.now.cells }
+        ensures { IfOk result (λ job. job ≡ begun number (arc_value part.now) self.now.moment self.now.cells) }
+    {
+        let cells = part.load(self.values(), self.clocks(), no_cells(alloc))?;
+        let start = start_of(number, part, self.moment(), cells)?;
+        let start = shared_start(alloc, start)?;
+        let run = Run {
+            start,
+            cells: no_cells(alloc),
+            stack: Vec::new(alloc),
+            result: Ok(()),
+        };
+        let mut run = Box::new(alloc, run)?;
+        make_ready(alloc, &mut run)?;
+        Ok(Job::new(run))
+    }
+
+    /// The job of a number, from the cells and at the moment of the store, in the memory of an earlier one. Fails if memory was refused.
+    fn begin_again(
+        &self,
+        alloc: Global,
+        earlier: Box<Run>,
+        number: u32,
+        part: &Arc<Part>,
+    ) -> Result<Job, AllocError>
+        requires there { HasPart (arc_value part.now) self.now.cells }
+        ensures { IfOk result (λ job. job ≡ begun number (arc_value part.now) self.now.moment self.now.cells) }
+    {
+        let mut run = earlier;
+        let Run {
+            start,
+            cells,
+            stack: _,
+            result: _,
+        } = &mut *run;
+        let room = replace(cells, no_cells(alloc));
+        *cells = part.load(self.values(), self.clocks(), room)?;
+        put_start(alloc, start, number, part, self.moment(), cells)?;
+        make_ready(alloc, &mut run)?;
+        Ok(Job::new(run))
+    }
+
+    /// The job of a program, from the cells and at the moment of the store, in the memory of an earlier one if there is one. Fails if memory was
+    /// refused.
     fn begin_program(
         &self,
         alloc: Global,
@@ -275,15 +354,10 @@ impl Store {
         ensures { IfOk result (λ job. job ≡ begun (program + 1) (arc_value part.now) self.now.moment self.now.cells) }
     {
         let number = program as u32 + 1;
-        let Spare {
-            start: place,
-            cells: room,
-            stack,
-        } = reserve.take(alloc, number)?;
-        let cells = part.load(self.values(), self.clocks(), room)?;
-        let start = start_of(number, part, self.moment(), cells)?;
-        let job = begin(alloc, start, place, stack)?;
-        Ok(job)
+        match reserve.take(number)? {
+            Some(run) => self.begin_again(alloc, run, number, part),
+            None => self.begin_anew(alloc, number, part),
+        }
     }
 
     /// The jobs of a level's programs that aren't faulted, in program order, in the memory of earlier ones. Fails if memory was refused.
