@@ -146,7 +146,7 @@ fn push_report(
     push_done(text, digits, lines)
 }
 
-/// Does a scan, its programs run by the crew, and appends its answer. It fails where the crew failed, before the scan took effect, and where an
+/// Does a scan, its programs run by the crew, and appends its answer, which is made once the scan is made ready. It fails where the crew failed, before the scan took effect, and where an
 /// allocation failed, before that or after it.
 fn answer_scan<H, C: Crew<Job, Start, Done, H>>(
     rt: &H,
@@ -167,10 +167,10 @@ fn answer_scan<H, C: Crew<Job, Start, Done, H>>(
     ensures crew { C.faulted crew.new ≡ crew_faults (C.faulted crew.old) result }
 {
     system_keeps_its_plant();
-    match engine.scan(rt, alloc, crew, pairs, moment) {
-        Ok(report) => {
-            let told = push_report(alloc, text, engine.plant(), &report);
-            engine.reuse(report);
+    match engine.prepare(rt, alloc, crew, pairs, moment) {
+        Ok(prepared) => {
+            let told = push_report(alloc, text, engine.plant(), &prepared.scan.report);
+            engine.commit_told(prepared);
             Ok(told?)
         }
         Err(EngineFault::Memory) => Err(ServeFault::Memory),

@@ -20,8 +20,9 @@ use event_history::{Event, History, Order};
 use journal_core::Log;
 use plant_config::Plant;
 use plant_system::{
-    Before, EngineFault, MOST_EVENTS, Prepared, PreparedOrder, Reply, Report, Room, RunRoom, State,
-    alarm_state, apply, apply_scan, empty_report, opening_state, prepared_order, prepared_scan,
+    Before, EngineFault, MOST_EVENTS, Prepared, PreparedOrder, ReadyScan, Reply, Report, Room,
+    RunRoom, State, alarm_state, apply, apply_scan, empty_report, opening_state, prepared_order,
+    prepared_scan,
 };
 use plant_types::{Items, Pair, Value};
 use scan_logic::{Levelled, Workspace, plan_levels};
@@ -236,6 +237,21 @@ impl Engine {
         Ok(prepared)
     }
 
+    /// Adds a scan that was made ready to the history and its rows to the journal. What it reports stays, and what it replaces takes the place of what
+    /// it leaves, for its memory.
+    fn put_scan(&mut self, ready: &mut ReadyScan)
+        requires { Fits self.old (record { event = Event.Scan ready.old.image.items ready.old.moment; effect = ready.old.effect; report = ready.old.report }) }
+        ensures plant { self.new.plant ≡ self.old.plant }
+        ensures history { self.new.history ≡ self.old.history ++ Event.Scan ready.old.image.items ready.old.moment ∷ [] }
+        ensures row_room { self.new.row_room + (length ready.old.report.faults + length ready.old.report.changes) ≡ self.old.row_room }
+        ensures report { ready.new.report ≡ ready.old.report }
+    {
+        push_scan(&mut self.log, &ready.report);
+        let image = replace(&mut ready.image, Vec::new(self.room.alloc));
+        ready.image = push_taken(&mut self.history, image, ready.moment);
+        apply_scan(&mut ready.effect, &mut self.state);
+    }
+
     /// Adds a scan that was made ready to the history and its rows to the journal, and returns what it did. It allocates nothing and can't fail.
     pub fn commit(&mut self, prepared: Prepared) -> Report
         requires { Fits self.old prepared }
@@ -245,14 +261,23 @@ impl Engine {
         ensures report { IsReport (state_of self.old) prepared.event result }
     {
         let Prepared { mut scan } = prepared;
-        let ready = &mut *scan;
-        push_scan(&mut self.log, &ready.report);
-        let image = replace(&mut ready.image, Vec::new(self.room.alloc));
-        ready.image = push_taken(&mut self.history, image, ready.moment);
-        apply_scan(&mut ready.effect, &mut self.state);
-        let report = replace(&mut ready.report, empty_report(self.room.alloc));
+        self.put_scan(&mut scan);
+        let report = replace(&mut scan.report, empty_report(self.room.alloc));
         self.room.spare = Some(scan);
         report
+    }
+
+    /// Does as `commit` does for a caller who has told what the scan that was made ready reports. The report isn't copied, and the next scan's lists
+    /// take its memory.
+    pub fn commit_told(&mut self, prepared: Prepared)
+        requires { Fits self.old prepared }
+        ensures plant { self.new.plant ≡ self.old.plant }
+        ensures history { self.new.history ≡ self.old.history ++ prepared.event ∷ [] }
+        ensures row_room { self.new.row_room + (length prepared.report.faults + length prepared.report.changes) ≡ self.old.row_room }
+    {
+        let Prepared { mut scan } = prepared;
+        self.put_scan(&mut scan);
+        self.room.spare = Some(scan);
     }
 
     /// A law, which does nothing: what a scan that was made ready leaves of the variables is what the system has after it.

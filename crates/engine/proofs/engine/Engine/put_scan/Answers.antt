@@ -1,11 +1,11 @@
 use Rattle.std.proofs.Common.{arith}
 use Rattle.engine.proofs.Commits.{scan_state, scan_committed, scan_until, scan_in_order, scan_room}
 use Rattle.engine.proofs.Lawful.{lawful_next, lawful_short}
-use Rattle.engine.proofs.engine.Engine.commit.Goals as goal
+use Rattle.engine.proofs.engine.Engine.put_scan.Goals as goal
 
 pub invariant_of-self : goal.invariant_of-self
 invariant_of-self c =
-    let fits = rw (← c.self.view_is, ← c.prepared.view_is, ← c.deref_mut-ready.ensures.value) at c.requires in
+    let fits = rw (← c.self.view_is) at c.requires in
     let k = c.self.inside.state in
     rw (c.push_taken.ensures, c.replace-image.ensures.value, c.apply_scan.ensures, c.push_scan.ensures) ((
       record {
@@ -20,12 +20,12 @@ invariant_of-self c =
 
 pub push_scan-requires-clause-in_order : goal.push_scan-requires-clause-in_order
 push_scan-requires-clause-in_order c =
-    let fits = rw (← c.self.view_is, ← c.prepared.view_is, ← c.deref_mut-ready.ensures.value) at c.requires in
+    let fits = rw (← c.self.view_is) at c.requires in
     scan_in_order _ _ c.self.inside.state c.self.inside.log.rows fits c.self.invariant.0.state_is c.self.invariant.0.until
 
 pub push_scan-requires-clause-room : goal.push_scan-requires-clause-room
 push_scan-requires-clause-room c =
-    let fits = rw (← c.self.view_is, ← c.prepared.view_is, ← c.deref_mut-ready.ensures.value) at c.requires in
+    let fits = rw (← c.self.view_is) at c.requires in
     fits.row_room
 
 pub push_taken-requires : goal.push_taken-requires
@@ -33,6 +33,6 @@ push_taken-requires c = omega (arith, (lawful_short c.self.inside.plant c.self.i
 
 pub returns-clause-row_room : goal.returns-clause-row_room
 returns-clause-row_room c =
-    let fits = rw (← c.self.view_is, ← c.prepared.view_is, ← c.deref_mut-ready.ensures.value) at c.requires in
-    let report = c.deref_mut-ready.result.now.report in
-    rw (← c.self.view_is, c.push_scan.ensures, c.replace-report.ensures.value) (scan_room report.moment c.self.inside.log report fits.row_room)
+    let fits = rw (← c.self.view_is) at c.requires in
+    let report = c.args.ready.now.report in
+    rw (← c.self.view_is, c.push_scan.ensures) (scan_room report.moment c.self.inside.log report fits.row_room)
