@@ -146,7 +146,7 @@ fn push_report(
     push_done(text, digits, lines)
 }
 
-/// Does a scan, its programs run by the crew, and appends its answer, which is made once the scan is made ready. It fails where the crew failed, before the scan took effect, and where an
+/// Does a scan, its programs run by the crew, and appends its answer. It fails where the crew failed, before the scan took effect, and where an
 /// allocation failed, before that or after it.
 fn answer_scan<H, C: Crew<Job, Start, Done, H>>(
     rt: &H,

@@ -19,9 +19,9 @@ pub(crate) fn cost_of<J: Work<S, D>, S, D>(jobs: &[J]) -> u64 {
     whole
 }
 
-/// The cost that the next message is to carry, where jobs of a cost are left to share out among so many hands: a part of what is left, so that
-/// the first messages are few and the last ones small, and nobody waits long for the last; but no less than a message costs, and never so much
-/// that two jobs would go to one of two hands.
+/// The cost that the next message is to carry, where jobs of a cost are left to share out among so many hands: a part of what is left. So the
+/// first messages carry much, which takes few of them, and the last ones little, so that nobody waits long; but none carries less than it costs
+/// to send, and never so much that two jobs would go to one of two hands.
 pub(crate) fn share_of(left: u64, hands: u32) -> u64 {
     if hands < 2 {
         return u64::MAX;
