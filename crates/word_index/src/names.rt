@@ -40,7 +40,7 @@ impl Model for Names {
     ghost invariant = { λ n. AreNumbered (map string_bytes n.names.items) (get same_word n.numbers) × (hash_map_len n.numbers ≡ vec_len n.names) };
 }
 
-/// The number of a name among words that live as long as it.
+/// The number that a table has for a name. The table's words live as long as the name.
 fn number_in<'a>(numbers: &'a HashMap<Word<'a>, usize>, name: &'a str) -> Option<usize>
     ensures { result ≡ get same_word numbers.now name.now }
 {
@@ -50,7 +50,7 @@ fn number_in<'a>(numbers: &'a HashMap<Word<'a>, usize>, name: &'a str) -> Option
     numbers.get(&word).copied()
 }
 
-/// A word of a name's own.
+/// A word that owns a copy of a name. Fails if allocation fails.
 fn word_of(alloc: Global, name: &str) -> Result<Word<'static>, AllocError>
     ensures { IfOk result (λ word. word ≡ name.now) }
 {
