@@ -13,10 +13,10 @@ use Rattle.st_tree.specs.declared.tree.Label.{Label}
 use Rattle.st_tree.specs.declared.tree.Branch.{Branch}
 use Rattle.st_tree.specs.declared.tree.Choice.{Choice}
 use Rattle.st_tree.specs.declared.tree.Expr.{Expr}
-use Rattle.st_tree.specs.declared.tree.Stmt.{Assign, fold-roll-Stmt}
+use Rattle.st_tree.specs.declared.tree.Stmt.{Stmt, Assign, fold-roll-Stmt}
 use Rattle.st_tree.specs.declared.tree.Stmt.TheOpen.{Stmt-F}
 use Rattle.st_tree.specs.declared.tree.Stmt.TheVariants.{rolls-Assign}
-use Rattle.st_tree.specs.Plain.{PlainExpr, PlainStmt, assign, PlainBody, Branches, no_branch, branch, Choices, no_choice, choice}
+use Rattle.st_tree.specs.Plain.{PlainExpr, PlainStmt, assign, PlainBody, done, next, Branches, no_branch, branch, Choices, no_choice, choice}
 use Rattle.st_tree.specs.Controls.{control_values}
 use Rattle.st_tree.specs.View.{view_step, view_branch_step, view_choice_step, view_expr, view_stmt, view_body, view_branch, view_branches, view_choice, view_choices}
 use Rattle.plant_cells.specs.declared.clock.Standard.{Standard}
@@ -43,6 +43,10 @@ nothing xs ys none = sym (ap (λ z. xs ++ z) none ∙ append-nil xs)
 -- two stretches, one after the other
 pub one_after : {A : Type 0} (old mid first second : List A) → mid ≡ old ++ first → mid ++ second ≡ old ++ (first ++ second)
 one_after old mid first second is = ap (λ z. z ++ second) is ∙ append_assoc old first second
+
+pub four_after : (old one two three test body : List Line) (j k : Line) → one ≡ old ++ test → two ≡ one ++ j ∷ [] → three ≡ two ++ body → three ++ k ∷ [] ≡ old ++ (test ++ (j ∷ (body ++ k ∷ [])))
+four_after old one two three test body j k first second third =
+    one_after two three body (k ∷ []) third ∙ one_after one two (j ∷ []) (body ++ k ∷ []) second ∙ one_after old one test (j ∷ (body ++ k ∷ [])) first
 
 pub seat_at : (seats : List Seat) (instance : ℕ) (seat : Seat) → nat_lt instance (length seats) ≡ true → seat ≡ get_or seats instance seat → slice_get seats instance ≡ Some seat
 seat_at seats instance seat within is = slice_get_read seats (length seats) instance seat refl (ltb-true instance (length seats) within) is
@@ -97,7 +101,16 @@ frame_uncoded frames limit k globals base path pc past = ap (λ (p : Part). p.co
 regroup : (mid test body rest : List Line) (j k : Line) → (mid ++ (test ++ (j ∷ (body ++ k ∷ [])))) ++ rest ≡ mid ++ (test ++ (j ∷ (body ++ (k ∷ rest))))
 regroup mid test body rest j k = simp append_assoc
 
--- the rest of branches, and of choices
+-- the rest of a body, of branches, and of choices
+pub stmts_at : (body : List (Stmt ℕ)) (i : ℕ) (x : Stmt ℕ) → i < length body → x ≡ get_or body i x → view_body (drop i body) ≡ next (view_stmt x) (view_body (drop (i + 1) body))
+stmts_at body i x within is =
+    ap view_body (drop-cons body i x within)
+    ∙ ap (λ y. next (view_stmt y) (view_body (drop (suc i) body))) (sym is)
+    ∙ ap (λ n. next (view_stmt x) (view_body (drop n body))) (let e : suc i ≡ i + 1 = omega arith in e)
+
+pub no_stmts : (body : List (Stmt ℕ)) (i : ℕ) → length body ≤ i → view_body (drop i body) ≡ done
+no_stmts body i past = ap view_body (drop_of_length-le body past)
+
 pub branches_at : (branches : List (Branch ℕ)) (i : ℕ) (b : Branch ℕ) → i < length branches → b ≡ get_or branches i b
     → view_branches (drop i branches) ≡ branch (view_branch b).0 (view_branch b).1 (view_branches (drop (i + 1) branches))
 branches_at branches i b within is =

@@ -1,15 +1,16 @@
 use Rattle.std.proofs.Common.{◌≡◌, ◌∙◌, ap, sym, refl, subst, arith, ℕ, ◌+◌, ◌<◌, ◌++◌, ◌∷◌, List, [], length, take, drop, Bool, true, rules, to_z, of_z, w64}
-use Rattle.std.specs.Prelude.{IfOk}
+use Rattle.std.specs.Prelude.{slice_get, map, IfOk}
+use Rattle.std.specs.List.{list_all}
 use denote.Param.Weighed.{most, at_most}
 use Rattle.st_tree.specs.declared.tree.Stmt.{size-Stmt}
 use Rattle.st_tree.specs.declared.tree.Branch.{size-Branch, size_is-Branch}
 use Rattle.st_tree.specs.declared.tree.Choice.{size-Choice, size_is-Choice}
 use Rattle.st_tree.specs.declared.tree.Label.{Label}
 use Rattle.st_tree.specs.Plain.{PlainExpr, PlainBody}
-use Rattle.st_tree.specs.Mapping.{body_known, branches_known, choices_known}
-use Rattle.st_tree.specs.View.{view_expr, view_stmt, view_body, view_branch, view_branches, view_choice, view_choices}
+use Rattle.st_tree.specs.Mapping.{expr_known, argument_known, body_known, branches_known, choices_known}
+use Rattle.st_tree.specs.View.{view_expr, view_argument, view_stmt, view_body, view_branch, view_branches, view_choice, view_choices}
 use Rattle.st_tree.proofs.Depth.{size-If, size-Case, size-For}
-use Rattle.st_tree.proofs.Views.{view_stmt-Case, view_branch_is, view_choice_is}
+use Rattle.st_tree.proofs.Views.{view_stmt-Call, view_stmt-If, view_stmt-Case, view_stmt-For, view_branch_is, view_choice_is}
 use Rattle.plant_cells.specs.Runs.{Path}
 use Rattle.block_walk.specs.declared.frame.Base.{Base}
 use Rattle.block_walk.specs.Frames.{InTurn, frame_paths, routine_paths}
@@ -22,15 +23,15 @@ use Rattle.code_sizes.specs.Counts.{lines_at}
 use Rattle.codegen.specs.Codes as codes
 use Rattle.codegen.specs.Codes.{Line, place_of, IsSteady, SteadyBody, SteadyBranches, SteadyChoices}
 use Rattle.codegen.specs.Emission as code
-use Rattle.codegen.specs.Emission.{coders, named, body_long, branches_long, choices_long}
+use Rattle.codegen.specs.Emission.{coders, named, call_long, stmt_long, body_long, branches_long, choices_long}
 use Rattle.codegen.specs.Within.{there, frame_there, fits}
 use Rattle.codegen.proofs.Within.{reached_is}
-use Rattle.codegen.proofs.Emitting.{nothing, one_after, front_lines, seat_at, no_seat, laid_before, frame_coded, branches_at, choices_at, no_branches, no_choices, branch_on, choice_on, choice_passed, entered_none, entered_past, entered_frame, entered_standard, case_done, loop_done, view_assigned}
+use Rattle.codegen.proofs.Emitting.{nothing, one_after, four_after, stmts_at, no_stmts, front_lines, seat_at, no_seat, laid_before, frame_coded, branches_at, choices_at, no_branches, no_choices, branch_on, choice_on, choice_passed, entered_none, entered_past, entered_frame, entered_standard, case_done, loop_done, view_assigned}
 use Rattle.codegen.proofs.Numbered.{numbers_below}
-use Rattle.code_sizes.proofs.Few.{body_at, behind_branches, behind_choices, long_if, long_case, long_for}
+use Rattle.code_sizes.proofs.Few.{body_at, behind_branches, behind_choices, long_call, long_if, long_case, long_for}
 use Rattle.codegen.proofs.Long.{frame_long, entered_long, branch_fits, choice_fits}
 use Rattle.codegen.proofs.Steady.{steady_at, steady_branch, steady_choice, steady_if, steady_case, steady_for, turns_few}
-use Rattle.codegen.proofs.Naming.{known_at, known_branch, known_choice, known_if, known_case, known_for, known_frame}
+use Rattle.codegen.proofs.Naming.{known_at, known_branch, known_choice, known_assign, known_call, known_if, known_case, known_for, known_standard, known_frame}
 use Rattle.codegen.proofs.emission.+code.Goals as goal
 use Rattle.codegen.proofs.emission.+code.Goals.{emit_enter-then-not-seat-via-then-not-seat, emit_enter-then-not-seat-via-else-not-seat+then-k-scope, emit_choices-then-labels-gt0+in_ok-emit_choice, emit_choices-else-labels-gt0}
 
@@ -485,3 +486,191 @@ emit_stmt-returns-in_ok-at-in-Case t c =
     c.in_ok-emit_expr-in-Case.ensures first (ap (λ m. from + m) (sym lines)) emitted
     ∙ ap (λ p. c.args.out.now.items ++ code.stmt_code s p c.args.pc) (sym viewed) in
     subst (λ z. IfOk c.emit_body-in-Case.result (λ x. c.emit_body-in-Case.new.out.items ≡ z)) is c.emit_body-in-Case.ensures
+
+pub emit_stmt-slot_of-slot-requires : goal.emit_stmt-slot_of-slot-requires
+emit_stmt-slot_of-slot-requires t c = (known_assign (named c.args.scope.now) c.args.stmt.now c.in-Assign.statement c.in-Assign.variable c.in-Assign.expr c.in-Assign.is c.requires.named).0
+
+pub emit_stmt-emit_expr-requires : goal.emit_stmt-emit_expr-requires
+emit_stmt-emit_expr-requires t c = (known_assign (named c.args.scope.now) c.args.stmt.now c.in-Assign.statement c.in-Assign.variable c.in-Assign.expr c.in-Assign.is c.requires.named).1
+
+pub emit_stmt-emit_call-requires : goal.emit_stmt-emit_call-requires
+emit_stmt-emit_call-requires t c =
+    let s = c.args.scope.now in
+    let seat = slice_get s.seats.now c.in-Call.instance in
+    let names = known_call (named s) c.args.stmt.now c.in-Call.statement c.in-Call.instance c.in-Call.arguments c.in-Call.is c.requires.named in
+    let same = ap (λ x. call_long s seat (map view_argument x)) c.deref.ensures.value in
+    let whole = long_call s.seats.now (lines_at s.table.now) c.args.stmt.now c.in-Call.statement c.in-Call.instance c.in-Call.arguments c.in-Call.is in (
+      omega arith,
+      (
+        c.requires.laid,
+        (names.0, (subst (λ x. list_all (argument_known (named s) c.in-Call.instance) (map view_argument x) ≡ true) (sym c.deref.ensures.value) names.1, omega (arith, same, whole, c.requires.long))),
+      ),
+    )
+
+pub emit_stmt-returns-in-Call : goal.emit_stmt-returns-in-Call
+emit_stmt-returns-in-Call t c =
+    let s = c.args.scope.now in
+    let place = place_of s.path c.in-Call.statement in
+    let seat = slice_get s.seats.now c.in-Call.instance in
+    let viewed = ap view_stmt c.in-Call.is ∙ view_stmt-Call c.in-Call.statement c.in-Call.instance c.in-Call.arguments in
+    let is = ap (λ x. code.call_code s place seat (map view_argument x) c.args.pc) c.deref.ensures.value ∙ ap (λ p. code.stmt_code s p c.args.pc) (sym viewed) in
+    subst (λ z. IfOk c.emit_call.result (λ x. c.emit_call.new.out.items ≡ c.args.out.now.items ++ z)) is c.emit_call.ensures
+
+pub emit_stmt-branches_lines-requires : goal.emit_stmt-branches_lines-requires
+emit_stmt-branches_lines-requires t c =
+    let s = c.args.scope.now in
+    let otherwise = c.body_lines-otherwise.ensures ∙ ap (λ x. body_long s (view_body x)) c.deref-in-If.ensures.value in
+    let same : branches_long s (view_branches c.deref-in-If-2.result.now) c.body_lines-otherwise.result ≡ branches_long s (view_branches c.in-If.branches.items) (body_long s (view_body c.in-If.last.items)) =
+    λ i. branches_long s (view_branches (c.deref-in-If-2.ensures.value i)) (otherwise i) in
+    let whole = long_if s.seats.now (lines_at s.table.now) c.args.stmt.now c.in-If.statement c.in-If.branches c.in-If.last c.in-If.is in
+    omega (arith, same, whole, c.requires.long)
+
+pub emit_stmt-overflow_add-end : goal.emit_stmt-overflow_add-end
+emit_stmt-overflow_add-end t c =
+    let s = c.args.scope.now in
+    let otherwise = c.body_lines-otherwise.ensures ∙ ap (λ x. body_long s (view_body x)) c.deref-in-If.ensures.value in
+    let lines = c.branches_lines.ensures ∙ (λ i. branches_long s (view_branches (c.deref-in-If-2.ensures.value i)) (otherwise i)) in
+    let whole = long_if s.seats.now (lines_at s.table.now) c.args.stmt.now c.in-If.statement c.in-If.branches c.in-If.last c.in-If.is in
+    omega (arith, lines, whole, c.requires.long)
+
+pub emit_stmt-returns-in_ok-at-in-If : goal.emit_stmt-returns-in_ok-at-in-If
+emit_stmt-returns-in_ok-at-in-If t c =
+    let s = c.args.scope.now in
+    let place = place_of s.path c.in-If.statement in
+    let viewed = ap view_stmt c.in-If.is ∙ view_stmt-If c.in-If.statement c.in-If.branches c.in-If.last in
+    let last = view_body c.in-If.last.items in
+    let n = body_long s last in
+    let otherwise = c.body_lines-otherwise.ensures ∙ ap (λ x. body_long s (view_body x)) c.deref-in-If.ensures.value in
+    let lines = c.branches_lines.ensures ∙ (λ i. branches_long s (view_branches (c.deref-in-If-2.ensures.value i)) (otherwise i)) in
+    let ends = ap (λ m. c.args.pc + m) (ap (λ x. branches_long s (view_branches x) n) c.deref-in-If-3.ensures.value ∙ sym lines) in
+    let is =
+    ap (λ b. c.emit_branches.new.out.items ++ code.body_code s (view_body b) c.in_ok-at-in-If.at) c.deref-in-If-4.ensures.value
+    ∙ (c.in_ok-at-in-If.ensures (code.body_code s last) n ends).1
+    ∙ ap (λ x. c.args.out.now.items ++ code.branches_code s place (view_branches x) (code.body_code s last) n c.args.pc) c.deref-in-If-3.ensures.value
+    ∙ ap (λ p. c.args.out.now.items ++ code.stmt_code s p c.args.pc) (sym viewed) in
+    subst (λ z. IfOk c.emit_body.result (λ x. c.emit_body.new.out.items ≡ z)) is c.emit_body.ensures
+
+pub emit_stmt-emit_expr-requires-in-Case : goal.emit_stmt-emit_expr-requires-in-Case
+emit_stmt-emit_expr-requires-in-Case t c = (known_case (named c.args.scope.now) c.args.stmt.now c.in-Case.statement c.in-Case.selector c.in-Case.choices c.in-Case.last c.in-Case.is c.requires.named).0
+
+pub emit_stmt-expr_lines-requires : goal.emit_stmt-expr_lines-requires
+emit_stmt-expr_lines-requires t c =
+    let whole = long_case c.args.scope.now.seats.now (lines_at c.args.scope.now.table.now) c.args.stmt.now c.in-Case.statement c.in-Case.selector c.in-Case.choices c.in-Case.last c.in-Case.is in
+    omega (arith, whole, c.requires.long)
+
+pub emit_stmt-overflow_add-first : goal.emit_stmt-overflow_add-first
+emit_stmt-overflow_add-first t c =
+    let whole = long_case c.args.scope.now.seats.now (lines_at c.args.scope.now.table.now) c.args.stmt.now c.in-Case.statement c.in-Case.selector c.in-Case.choices c.in-Case.last c.in-Case.is in
+    omega (arith, whole, c.expr_lines.ensures, c.requires.long)
+
+pub emit_stmt-choices_lines-requires : goal.emit_stmt-choices_lines-requires
+emit_stmt-choices_lines-requires t c =
+    let s = c.args.scope.now in
+    let otherwise = c.body_lines-otherwise-in-Case.ensures ∙ ap (λ x. body_long s (view_body x)) c.deref-in-Case.ensures.value in
+    let same : choices_long s (view_choices c.deref-in-Case-2.result.now) c.body_lines-otherwise-in-Case.result ≡ choices_long s (view_choices c.in-Case.choices.items) (body_long s (view_body c.in-Case.last.items)) =
+    λ i. choices_long s (view_choices (c.deref-in-Case-2.ensures.value i)) (otherwise i) in
+    let whole = long_case s.seats.now (lines_at s.table.now) c.args.stmt.now c.in-Case.statement c.in-Case.selector c.in-Case.choices c.in-Case.last c.in-Case.is in
+    omega (arith, same, whole, c.requires.long)
+
+pub emit_stmt-overflow_add-end-in-Case : goal.emit_stmt-overflow_add-end-in-Case
+emit_stmt-overflow_add-end-in-Case t c =
+    let s = c.args.scope.now in
+    let otherwise = c.body_lines-otherwise-in-Case.ensures ∙ ap (λ x. body_long s (view_body x)) c.deref-in-Case.ensures.value in
+    let lines = c.choices_lines.ensures ∙ (λ i. choices_long s (view_choices (c.deref-in-Case-2.ensures.value i)) (otherwise i)) in
+    let whole = long_case s.seats.now (lines_at s.table.now) c.args.stmt.now c.in-Case.statement c.in-Case.selector c.in-Case.choices c.in-Case.last c.in-Case.is in
+    omega (arith, lines, whole, c.expr_lines.ensures, c.requires.long)
+
+pub emit_stmt-slot_of-slot-requires-in-For : goal.emit_stmt-slot_of-slot-requires-in-For
+emit_stmt-slot_of-slot-requires-in-For t c =
+    (known_for (named c.args.scope.now) c.args.stmt.now c.in-For.number c.in-For.variable c.in-For.from c.in-For.to c.in-For.by c.in-For.body c.in-For.is c.requires.named).0
+
+pub emit_stmt-returns-in-Some : goal.emit_stmt-returns-in-Some
+emit_stmt-returns-in-Some t c =
+    let s = c.args.scope.now in
+    let place = place_of s.path c.in-For.number in
+    let viewed = ap view_stmt c.in-For.is ∙ view_stmt-For c.in-For.number c.in-For.variable c.in-For.from c.in-For.to c.in-For.by c.in-For.body in
+    let slot : c.slot_of-slot-in-For.result ≡ slot_of s.globals s.base c.in-For.variable = c.slot_of-slot-in-For.ensures in
+    let span = sym c.in-Some.is ∙ c.constant_span.ensures in
+    let is = (λ i. codes.for_code place (slot i) (span i) (code.body_code s (view_body (c.deref-in-Some.ensures.value i))) c.args.pc) ∙ ap (λ p. code.stmt_code s p c.args.pc) (sym viewed) in
+    subst (λ z. IfOk c.emit_loop.result (λ x. c.emit_loop.new.out.items ≡ c.args.out.now.items ++ z)) is c.emit_loop.ensures
+
+pub emit_body-stmt_lines-at-requires : goal.emit_body-stmt_lines-at-requires
+emit_body-stmt_lines-at-requires t c =
+    let s = c.args.scope.now in
+    let rest = body_at s.seats.now (lines_at s.table.now) c.args.body.now c.loop-stmt.stmt-index c.stmt-item.result c.loop-stmt-test.true c.stmt-item.is in
+    omega (arith, rest, c.loop-stmt.invariant.1, c.requires.long)
+
+pub emit_body-overflow_add-at : goal.emit_body-overflow_add-at
+emit_body-overflow_add-at t c =
+    let s = c.args.scope.now in
+    let rest = body_at s.seats.now (lines_at s.table.now) c.args.body.now c.loop-stmt.stmt-index c.stmt-item.result c.loop-stmt-test.true c.stmt-item.is in
+    omega (arith, rest, c.loop-stmt.invariant.1, c.stmt_lines-at.ensures, c.requires.long)
+
+pub emit_body-loop-stmt-preserved : goal.emit_body-loop-stmt-preserved
+emit_body-loop-stmt-preserved t c =
+    let s = c.args.scope.now in
+    let x = view_stmt c.stmt-item.result in
+    let left = view_body (drop (c.loop-stmt.stmt-index + 1) c.args.body.now) in
+    let at = c.loop-stmt.at in
+    let is = stmts_at c.args.body.now c.loop-stmt.stmt-index c.stmt-item.result c.loop-stmt-test.true c.stmt-item.is in
+    let rest = body_at s.seats.now (lines_at s.table.now) c.args.body.now c.loop-stmt.stmt-index c.stmt-item.result c.loop-stmt-test.true c.stmt-item.is in
+    let kept = c.loop-stmt.invariant in (
+      ap (λ n. c.emit_stmt.new.out.items ++ code.body_code s left (at + n)) c.stmt_lines-at.ensures
+          ∙ one_after c.loop-stmt.out.items c.emit_stmt.new.out.items (code.stmt_code s x at) (code.body_code s left (at + stmt_long s x)) c.in_ok-emit_stmt.ensures
+          ∙ ap (λ z. c.loop-stmt.out.items ++ code.body_code s z at) (sym is)
+          ∙ kept.0,
+      omega (arith, rest, kept.1, c.stmt_lines-at.ensures),
+    )
+
+pub emit_body-returns : goal.emit_body-returns
+emit_body-returns t c =
+    let s = c.args.scope.now in
+    let none = no_stmts c.args.body.now c.loop-stmt.stmt-index (omega arith) in
+    nothing c.loop-stmt.out.items (code.body_code s (view_body (drop c.loop-stmt.stmt-index c.args.body.now)) c.loop-stmt.at) (ap (λ z. code.body_code s z c.loop-stmt.at) none) ∙ c.loop-stmt.invariant.0
+
+pub emit_branch-emit_expr-requires : goal.emit_branch-emit_expr-requires
+emit_branch-emit_expr-requires t c = subst (λ (p : PlainExpr ℕ × PlainBody ℕ). expr_known (named c.args.scope.now) p.0 ≡ true) (view_branch_is c.args.branch.now) c.requires.test
+
+pub emit_branch-returns : goal.emit_branch-returns
+emit_branch-returns t c =
+    let s = c.args.scope.now in
+    let old = c.args.out.now.items in
+    let test = code.expr_code s c.args.place (view_expr c.args.branch.now.test) in
+    let j : Line = (instr.JumpUnless c.args.next, c.args.place) in
+    let k : Line = (instr.Jump c.args.end, c.args.place) in
+    let is =
+    four_after old c.emit_expr.new.out.items c.emit.new.out.items c.emit_body.new.out.items test (code.body_code s (view_body c.deref.result.now) c.args.body) j k c.in_ok-emit_expr.ensures c.in_ok-emit.ensures c.in_ok-emit_body.ensures
+    ∙ ap (λ x. old ++ (test ++ (j ∷ (code.body_code s (view_body x) c.args.body ++ k ∷ [])))) c.deref.ensures.value
+    ∙ ap (λ (p : PlainExpr ℕ × PlainBody ℕ). old ++ (code.expr_code s c.args.place p.0 ++ (j ∷ (code.body_code s p.1 c.args.body ++ k ∷ [])))) (sym (view_branch_is c.args.branch.now)) in
+    subst (λ z. IfOk c.emit-2.result (λ x. c.emit-2.new.out.items ≡ z)) is c.emit-2.ensures
+
+pub emit_choice-returns : goal.emit_choice-returns
+emit_choice-returns t c =
+    let s = c.args.scope.now in
+    let old = c.args.out.now.items in
+    let j : Line = (instr.Jump c.args.next, c.args.place) in
+    let k : Line = (instr.Jump c.args.end, c.args.place) in
+    let is =
+    four_after old c.emit_labels.new.out.items c.emit.new.out.items c.emit_body.new.out.items (codes.labels_code c.args.place c.deref.result.now c.args.body) (code.body_code s (view_body c.deref-2.result.now) c.args.body) j k c.in_ok-emit_labels.ensures c.in_ok-emit.ensures c.in_ok-emit_body.ensures
+    ∙ (λ i. old ++ (codes.labels_code c.args.place (c.deref.ensures.value i) c.args.body ++ (j ∷ (code.body_code s (view_body (c.deref-2.ensures.value i)) c.args.body ++ k ∷ []))))
+    ∙ ap (λ (p : List Label × PlainBody ℕ). old ++ (codes.labels_code c.args.place p.0 c.args.body ++ (j ∷ (code.body_code s p.1 c.args.body ++ k ∷ [])))) (sym (view_choice_is c.args.choice.now)) in
+    subst (λ z. IfOk c.emit-2.result (λ x. c.emit-2.new.out.items ≡ z)) is c.emit-2.ensures
+
+pub emit_call-returns : goal.emit_call-returns
+emit_call-returns t c =
+    let s = c.args.scope.now in
+    let old = c.args.out.now.items in
+    let seat = slice_get s.seats.now c.args.instance in
+    let arguments = map view_argument c.args.arguments.now in
+    let inputs = code.inputs_code s c.args.place seat arguments in
+    let outputs = code.outputs_code s c.args.place seat arguments in
+    let entered = code.enter_code s c.args.place seat (c.args.pc + c.inputs_lines.result) in
+    let is =
+    one_after c.emit_inputs.new.out.items c.emit_enter.new.out.items entered outputs c.in_ok-emit_enter.ensures ∙ one_after old c.emit_inputs.new.out.items inputs (entered ++ outputs) c.in_ok-emit_inputs.ensures
+    ∙ ap (λ n. old ++ (inputs ++ (code.enter_code s c.args.place seat (c.args.pc + n) ++ outputs))) c.inputs_lines.ensures in
+    subst (λ z. IfOk c.emit_outputs.result (λ x. c.emit_outputs.new.out.items ≡ z)) is c.emit_outputs.ensures
+
+pub emit_enter-emit_standard-requires-clause-pt : goal.emit_enter-emit_standard-requires-clause-pt
+emit_enter-emit_standard-requires-clause-pt t c =
+    let at = seat_at c.args.scope.now.seats.now c.args.instance c.in-Some.seat.now (sym c.in-Some.ensures.lookup.0) c.in-Some.ensures.lookup.1 in
+    (known_standard c.args.scope.now c.args.instance c.in-Some.seat.now at c.requires.named c.in-Standard.of c.in-Standard.is).2
