@@ -8,6 +8,7 @@ use Rattle.st_tree.specs.declared.tree.Choice.{size-Choice, size_is-Choice}
 use Rattle.st_tree.specs.declared.tree.Label.{Label}
 use Rattle.st_tree.specs.Plain.{PlainExpr, PlainBody}
 use Rattle.st_tree.specs.Mapping.{expr_known, argument_known, body_known, branches_known, choices_known}
+use Rattle.st_tree.specs.Controls.{control_values}
 use Rattle.st_tree.specs.View.{view_expr, view_argument, view_stmt, view_body, view_branch, view_branches, view_choice, view_choices}
 use Rattle.st_tree.proofs.Depth.{size-If, size-Case, size-For}
 use Rattle.st_tree.proofs.Views.{view_stmt-Call, view_stmt-If, view_stmt-Case, view_stmt-For, view_branch_is, view_choice_is}
@@ -28,7 +29,7 @@ use Rattle.codegen.specs.Within.{there, frame_there, fits}
 use Rattle.codegen.proofs.Within.{reached_is}
 use Rattle.codegen.proofs.Emitting.{nothing, one_after, four_after, stmts_at, no_stmts, front_lines, seat_at, no_seat, laid_before, frame_coded, branches_at, choices_at, no_branches, no_choices, branch_on, choice_on, choice_passed, entered_none, entered_past, entered_frame, entered_standard, case_done, loop_done, view_assigned}
 use Rattle.codegen.proofs.Numbered.{numbers_below}
-use Rattle.code_sizes.proofs.Few.{body_at, behind_branches, behind_choices, long_call, long_if, long_case, long_for}
+use Rattle.code_sizes.proofs.Few.{body_at, turning, behind_branches, behind_choices, long_call, long_if, long_case, long_for}
 use Rattle.codegen.proofs.Long.{frame_long, entered_long, branch_fits, choice_fits}
 use Rattle.codegen.proofs.Steady.{steady_at, steady_branch, steady_choice, steady_if, steady_case, steady_for, turns_few}
 use Rattle.codegen.proofs.Naming.{known_at, known_branch, known_choice, known_assign, known_call, known_if, known_case, known_for, known_standard, known_frame}
@@ -674,3 +675,19 @@ pub emit_enter-emit_standard-requires-clause-pt : goal.emit_enter-emit_standard-
 emit_enter-emit_standard-requires-clause-pt t c =
     let at = seat_at c.args.scope.now.seats.now c.args.instance c.in-Some.seat.now (sym c.in-Some.ensures.lookup.0) c.in-Some.ensures.lookup.1 in
     (known_standard c.args.scope.now c.args.instance c.in-Some.seat.now at c.requires.named c.in-Standard.of c.in-Standard.is).2
+
+pub emit_enter-emit_standard-requires-clause-clock : goal.emit_enter-emit_standard-requires-clause-clock
+emit_enter-emit_standard-requires-clause-clock t c =
+    let at = seat_at c.args.scope.now.seats.now c.args.instance c.in-Some.seat.now (sym c.in-Some.ensures.lookup.0) c.in-Some.ensures.lookup.1 in
+    (known_standard c.args.scope.now c.args.instance c.in-Some.seat.now at c.requires.named c.in-Standard.of c.in-Standard.is).0
+
+pub emit_enter-emit_standard-requires-clause-input : goal.emit_enter-emit_standard-requires-clause-input
+emit_enter-emit_standard-requires-clause-input t c =
+    let at = seat_at c.args.scope.now.seats.now c.args.instance c.in-Some.seat.now (sym c.in-Some.ensures.lookup.0) c.in-Some.ensures.lookup.1 in
+    (known_standard c.args.scope.now c.args.instance c.in-Some.seat.now at c.requires.named c.in-Standard.of c.in-Standard.is).1
+
+pub emit_loop-emit_body-requires : goal.emit_loop-emit_body-requires
+emit_loop-emit_body-requires t c =
+    let some : 0 < length (control_values c.args.span) = omega (arith, c.count_turns-turns.ensures, c.if-turns-eq0.false) in
+    let whole = turning (length (control_values c.args.span)) (body_long c.args.scope.now (view_body c.args.body.now)) some in
+    (omega arith, (c.requires.laid, (c.requires.steady, (c.requires.named, omega (arith, whole, c.requires.long)))))
