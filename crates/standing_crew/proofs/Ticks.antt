@@ -192,12 +192,6 @@ pub parted : {J S : Type 0} (f : J → S) (jobs own others : List J) (n : ℕ) �
 parted {J} {S} f jobs own others n a b =
     ap (λ (xs : List J). map f xs ++ map f others) a ∙ ap (λ (xs : List J). map f (take n jobs) ++ map f xs) b ∙ sym (map-append f (take n jobs) (drop n jobs)) ∙ ap (λ (xs : List J). map f xs) (take-append-drop n jobs)
 
--- the runs that were there before others came
-pub first_runs : {S D : Type 0} (f : D → S) (old new : List D) (more : List S) (n : ℕ) → map f new ≡ map f old ++ more → n ≡ length old → map f (take n new) ≡ map f old
-first_runs {S} {D} f old new more n e is =
-    let many : n ≡ length (map f old) = omega (arith, is, length-map old f) in
-    sym (take-map f n new) ∙ ap (λ (xs : List S). take n xs) e ∙ ap (λ (k : ℕ). take k (map f old ++ more)) many ∙ take-append_seam (map f old) more
-
 -- what is ticked off is gathered, whatever the fault; and where there is no fault the other way round
 pub still_gathered : {S : Type 0} (starts : List S) (fault : Option CrewFault) (ticks : List Bool) (runs : List S) → IsTicked starts ticks runs → IsGathered starts fault ticks runs
 still_gathered starts None ticks runs h = h

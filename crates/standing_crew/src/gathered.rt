@@ -5,16 +5,17 @@ ghost use Rattle.standing_crew.specs.Assembled.{IsTicked, IsGathered};
 
 use crate::Begun;
 use crate::assembly::{all_there, tick_off};
-use crate::message::run_all;
+use crate::message::{Lists, keep_lists, run_back};
 use crew::{CrewFault, Gate, Work};
 
-/// The runs that came back so far, each ticked off, how many messages are away, and the first fault.
+/// The runs that came back so far, each ticked off, how many messages are away, the first fault, and lists that serve a later message.
 #[derive(Drop)]
-pub(crate) struct Gathered<D> {
+pub(crate) struct Gathered<J, D> {
     pub(crate) runs: Vec<D>,
     pub(crate) ticks: Vec<bool>,
     pub(crate) away: u64,
     pub(crate) fault: Option<CrewFault>,
+    pub(crate) spare: Vec<Lists<J, D>>,
 }
 
 /// Ticks off the runs from a place on, where those before it are ticked off. The first is sought near the start of a place.
@@ -23,7 +24,7 @@ fn tick_rest<J: Work<S, D>, S, D>(
     starts: &[Begun<S>],
     from: usize,
     near: usize,
-    gathered: &mut Gathered<D>,
+    gathered: &mut Gathered<J, D>,
 )
     requires before { from ≤ length gathered.old.runs.items }
     requires ticked { IsTicked starts.now gathered.old.ticks.items (map J.ended_from (take from gathered.old.runs.items)) }
@@ -40,20 +41,21 @@ fn tick_rest<J: Work<S, D>, S, D>(
 /// Ticks off runs that came back of jobs that were handed out together, the first near the start of a place.
 fn add_runs<J: Work<S, D>, S, D: Drop>(
     starts: &[Begun<S>],
-    runs: Vec<D>,
+    lists: Lists<J, D>,
     near: usize,
-    gathered: &mut Gathered<D>,
+    gathered: &mut Gathered<J, D>,
 )
     requires distinct { IsDistinct starts.now }
     requires ticked { IsTicked starts.now gathered.old.ticks.items (map J.ended_from gathered.old.runs.items) }
     ensures { IsGathered starts.now gathered.new.fault gathered.new.ticks.items (map J.ended_from gathered.new.runs.items) }
 {
     let from = gathered.runs.len();
-    let mut more = runs;
-    if gathered.runs.append(&mut more).is_err() {
+    let mut more = lists;
+    if gathered.runs.append(&mut more.runs).is_err() {
         gathered.fault = Some(CrewFault::Memory);
         return;
     }
+    keep_lists(&mut gathered.spare, more);
     tick_rest::<J, S, D>(starts, from, near, gathered);
 }
 
@@ -61,19 +63,21 @@ fn add_runs<J: Work<S, D>, S, D: Drop>(
 fn run_more<J: Work<S, D>, S, D: Drop, G: Gate>(
     gate: &G,
     starts: &[Begun<S>],
-    jobs: Vec<J>,
+    lists: Lists<J, D>,
     near: usize,
-    gathered: &mut Gathered<D>,
+    gathered: &mut Gathered<J, D>,
 )
     requires distinct { IsDistinct starts.now }
     requires ticked { IsTicked starts.now gathered.old.ticks.items (map J.ended_from gathered.old.runs.items) }
     ensures { IsGathered starts.now gathered.new.fault gathered.new.ticks.items (map J.ended_from gathered.new.runs.items) }
 {
     let from = gathered.runs.len();
-    if !run_all::<J, S, D, G>(gate, jobs, &mut gathered.runs) {
+    let mut more = lists;
+    if !run_back::<J, S, D, G>(gate, &mut more.jobs, &mut gathered.runs) {
         gathered.fault = Some(CrewFault::Memory);
         return;
     }
+    keep_lists(&mut gathered.spare, more);
     tick_rest::<J, S, D>(starts, from, near, gathered);
 }
 
@@ -81,16 +85,16 @@ fn run_more<J: Work<S, D>, S, D: Drop, G: Gate>(
 #[tactic(auto, using(crate::proofs::Ticks::was_ticked))]
 pub(crate) fn take_in<J: Work<S, D>, S, D: Drop>(
     starts: &[Begun<S>],
-    runs: Vec<D>,
+    lists: Lists<J, D>,
     near: usize,
-    gathered: &mut Gathered<D>,
+    gathered: &mut Gathered<J, D>,
 )
     requires distinct { IsDistinct starts.now }
     requires ticked { IsGathered starts.now gathered.old.fault gathered.old.ticks.items (map J.ended_from gathered.old.runs.items) }
     ensures { IsGathered starts.now gathered.new.fault gathered.new.ticks.items (map J.ended_from gathered.new.runs.items) }
 {
     match gathered.fault {
-        None => add_runs::<J, S, D>(starts, runs, near, gathered),
+        None => add_runs::<J, S, D>(starts, lists, near, gathered),
         Some(_) => {}
     }
 }
@@ -100,16 +104,16 @@ pub(crate) fn take_in<J: Work<S, D>, S, D: Drop>(
 pub(crate) fn run_in<J: Work<S, D>, S, D: Drop, G: Gate>(
     gate: &G,
     starts: &[Begun<S>],
-    jobs: Vec<J>,
+    lists: Lists<J, D>,
     near: usize,
-    gathered: &mut Gathered<D>,
+    gathered: &mut Gathered<J, D>,
 )
     requires distinct { IsDistinct starts.now }
     requires ticked { IsGathered starts.now gathered.old.fault gathered.old.ticks.items (map J.ended_from gathered.old.runs.items) }
     ensures { IsGathered starts.now gathered.new.fault gathered.new.ticks.items (map J.ended_from gathered.new.runs.items) }
 {
     match gathered.fault {
-        None => run_more::<J, S, D, G>(gate, starts, jobs, near, gathered),
+        None => run_more::<J, S, D, G>(gate, starts, lists, near, gathered),
         Some(_) => {}
     }
 }
@@ -118,7 +122,7 @@ pub(crate) fn run_in<J: Work<S, D>, S, D: Drop, G: Gate>(
 #[tactic(auto, using(crate::proofs::Ticks::was_ticked))]
 pub(crate) fn gathered_all<J: Work<S, D>, S, D>(
     starts: &[Begun<S>],
-    gathered: &Gathered<D>,
+    gathered: &Gathered<J, D>,
 ) -> Result<(), CrewFault>
     requires { IsGathered starts.now gathered.now.fault gathered.now.ticks.items (map J.ended_from gathered.now.runs.items) }
     ensures { IfOk result (λ _. IsEachOnce starts.now (map J.ended_from gathered.now.runs.items)) }

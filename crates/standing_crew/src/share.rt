@@ -3,8 +3,9 @@ ghost use Rattle.std.specs.Prelude.{◌<◌, ◌≤◌, length};
 
 use crew::Work;
 
-/// What a message is to carry at least, in steps of some nanoseconds: about what it takes to send one and to hear of it.
-const LEAST_SHARE: u64 = 2_000;
+/// What a message is to carry at least, in steps of some nanoseconds: several times what it takes to send one and to hear of it, and little
+/// enough that nobody waits long for the last one.
+const LEAST_SHARE: u64 = 9_000;
 
 /// What jobs cost together at least that are shared out, in the same steps: below, to hand them out and to hear of them takes about as long as
 /// to run them.
@@ -20,13 +21,13 @@ pub(crate) fn cost_of<J: Work<S, D>, S, D>(jobs: &[J]) -> u64 {
 }
 
 /// The cost that the next message is to carry, where jobs of a cost are left to share out among so many hands: a part of what is left. So the
-/// first messages carry much, which takes few of them, and the last ones little, so that nobody waits long; but none carries less than it costs
-/// to send, and never so much that two jobs would go to one of two hands.
+/// first messages carry much, which takes few of them, and the last ones little, so that nobody waits long. None carries less than `LEAST_SHARE`,
+/// but never so much that two jobs would go to one of two hands.
 pub(crate) fn share_of(left: u64, hands: u32) -> u64 {
     if hands < 2 {
         return u64::MAX;
     }
-    let part = left / (2 * u64::from(hands)) + 1;
+    let part = left / (u64::from(hands) + 1) + 1;
     part.max(LEAST_SHARE).min(left / 2)
 }
 

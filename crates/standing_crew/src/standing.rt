@@ -7,7 +7,7 @@ ghost use Rattle.standing_crew.specs.Standings.{lost_after, IsStartFault};
 
 use crate::assembly::begin_ticks;
 use crate::gathered::{Gathered, gathered_all, run_in, take_in};
-use crate::message::{Answer, Parcel, run_all};
+use crate::message::{Answer, Lists, Parcel, lists_of, move_last, run_all, run_back};
 use crate::share::{LEAST_ROUND, cost_of, cut, kept, own_of, share_of};
 use crate::starts::{Begun, starts_of};
 use crate::waiting::next_of;
@@ -26,15 +26,16 @@ use std::thread::{JoinHandle, Threads};
 /// Each call of `run` is a round with a number of its own, which jobs and runs carry; what comes of another round is dropped. After a fault
 /// other than `Memory` each further run answers `Lost`.
 pub struct Standing<J, S, D, G> {
-    parcels: Option<Sender<Parcel<J>>>,
-    waiting: Receiver<Parcel<J>>,
-    answers: Receiver<Answer<D>>,
+    parcels: Option<Sender<Parcel<J, D>>>,
+    waiting: Receiver<Parcel<J, D>>,
+    answers: Receiver<Answer<J, D>>,
     threads: Vec<JoinHandle<()>>,
     hands: u32,
     gate: Arc<G>,
     least: u64,
     starts: Vec<Begun<S>>,
     ticks: Vec<bool>,
+    spare: Vec<Lists<J, D>>,
     round: u64,
     lost: bool,
     faults: u64,
@@ -52,6 +53,7 @@ impl<J: Drop, S: Drop, D: Drop, G: Drop> Drop for Standing<J, S, D, G> {
             least: _,
             starts: _,
             ticks: _,
+            spare: _,
             round: _,
             lost: _,
             faults: _,
@@ -130,6 +132,7 @@ impl<
             least,
             starts: Vec::new(alloc),
             ticks: Vec::new(alloc),
+            spare: Vec::new(alloc),
             round: 0,
             lost: false,
             faults: 0,
@@ -161,8 +164,8 @@ fn add_thread<
 >(
     rt: &H,
     threads: &mut Vec<JoinHandle<()>>,
-    waiting: &Receiver<Parcel<J>>,
-    done: &Sender<Answer<D>>,
+    waiting: &Receiver<Parcel<J, D>>,
+    done: &Sender<Answer<J, D>>,
     gate: &Arc<G>,
 ) -> Result<(), CrewFault>
     ensures { IfErr result (λ fault. IsStartFault fault) }
@@ -198,8 +201,8 @@ fn add_thread<
 fn stand<J: Work<S, D>, S, D: Drop, G: Gate, H: Wait>(
     rt: &H,
     gate: &Arc<G>,
-    waiting: &Receiver<Parcel<J>>,
-    done: &Sender<Answer<D>>,
+    waiting: &Receiver<Parcel<J, D>>,
+    done: &Sender<Answer<J, D>>,
 ) {
     for _ in rt.forever() {
         let Some(parcel) = next_of(rt, waiting) else {
@@ -215,19 +218,17 @@ fn stand<J: Work<S, D>, S, D: Drop, G: Gate, H: Wait>(
 }
 
 /// Runs the jobs of a message.
-fn answer_of<J: Work<S, D>, S, D: Drop, G: Gate>(gate: &G, parcel: Parcel<J>) -> Answer<D> {
+fn answer_of<J: Work<S, D>, S, D: Drop, G: Gate>(gate: &G, parcel: Parcel<J, D>) -> Answer<J, D> {
     let Parcel {
         round,
         place,
-        jobs,
-        alloc,
+        mut lists,
     } = parcel;
-    let mut runs = Vec::new(alloc);
-    let whole = run_all::<J, S, D, G>(gate, jobs, &mut runs);
+    let whole = run_back::<J, S, D, G>(gate, &mut lists.jobs, &mut lists.runs);
     Answer {
         round,
         place,
-        runs,
+        lists,
         whole,
     }
 }
@@ -304,7 +305,7 @@ impl<J: Work<S, D>, S: Drop, D: Drop, G: Gate> Standing<J, S, D, G> {
         &mut self,
         alloc: Global,
         jobs: &[J],
-    ) -> Result<(Vec<Begun<S>>, Gathered<D>), AllocError>
+    ) -> Result<(Vec<Begun<S>>, Gathered<J, D>), AllocError>
         ensures starts { IfOk result (λ r. r.0.items ≡ map J.start_of jobs.now) }
         ensures ticked { IfOk result (λ r. IsTicked r.0.items r.1.ticks.items (map J.ended_from r.1.runs.items)) }
         ensures same { self.new ≡ self.old }
@@ -318,12 +319,13 @@ impl<J: Work<S, D>, S: Drop, D: Drop, G: Gate> Standing<J, S, D, G> {
             ticks,
             away: 0,
             fault: None,
+            spare: replace(&mut self.spare, Vec::new(alloc)),
         };
         Ok((starts, gathered))
     }
 
     /// Keeps the lists of a round for the next one, and returns its runs.
-    fn end_round(&mut self, starts: Vec<Begun<S>>, gathered: Gathered<D>) -> Vec<D>
+    fn end_round(&mut self, starts: Vec<Begun<S>>, gathered: Gathered<J, D>) -> Vec<D>
         ensures runs { result ≡ gathered.runs }
         ensures same { self.new ≡ self.old }
     {
@@ -332,7 +334,9 @@ impl<J: Work<S, D>, S: Drop, D: Drop, G: Gate> Standing<J, S, D, G> {
             ticks,
             away: _,
             fault: _,
+            spare,
         } = gathered;
+        self.spare = spare;
         self.starts = starts;
         self.starts.clear();
         self.ticks = ticks;
@@ -357,7 +361,7 @@ impl<J: Work<S, D>, S: Drop, D: Drop, G: Gate> Standing<J, S, D, G> {
         let Ok(mut runs) = Vec::with_capacity(alloc, starts.len().saturating_add(own.len())) else {
             return Err(CrewFault::Memory);
         };
-        let HandedOut { messages, fault } = self.hand_out(rt, alloc, others);
+        let HandedOut { messages, fault } = self.hand_out(rt, alloc, others, &mut gathered.spare);
         gathered.away = messages;
         gathered.fault = fault;
         let whole = run_all::<J, S, D, G>(&*self.gate, own, &mut runs);
@@ -372,7 +376,13 @@ impl<J: Work<S, D>, S: Drop, D: Drop, G: Gate> Standing<J, S, D, G> {
     }
 
     /// Hands out jobs by shares of what is left, from the last on.
-    fn hand_out<H: Wait>(&self, rt: &H, alloc: Global, jobs: Vec<J>) -> HandedOut {
+    fn hand_out<H: Wait>(
+        &self,
+        rt: &H,
+        alloc: Global,
+        jobs: Vec<J>,
+        spare: &mut Vec<Lists<J, D>>,
+    ) -> HandedOut {
         let mut cost = cost_of::<J, S, D>(jobs.as_slice());
         let mut left = jobs;
         let mut messages = 0u64;
@@ -380,10 +390,11 @@ impl<J: Work<S, D>, S: Drop, D: Drop, G: Gate> Standing<J, S, D, G> {
             let share = share_of(cost, self.hands);
             let (place, carried) = cut::<J, S, D>(left.as_slice(), share);
             cost = cost.saturating_sub(carried);
-            let Ok(jobs) = left.split_off(place) else {
+            let mut lists = lists_of(alloc, spare);
+            let Ok(()) = move_last(&mut left, place, &mut lists.jobs) else {
                 return given_up(messages, CrewFault::Memory);
             };
-            if let Err(fault) = self.hand(rt, alloc, place, jobs) {
+            if let Err(fault) = self.hand(rt, place, lists) {
                 return given_up(messages, fault);
             }
             messages = messages.saturating_add(1);
@@ -395,21 +406,14 @@ impl<J: Work<S, D>, S: Drop, D: Drop, G: Gate> Standing<J, S, D, G> {
     }
 
     /// Hands out some jobs in one message, the first from a place.
-    fn hand<H: Wait>(
-        &self,
-        rt: &H,
-        alloc: Global,
-        place: usize,
-        jobs: Vec<J>,
-    ) -> Result<(), CrewFault> {
+    fn hand<H: Wait>(&self, rt: &H, place: usize, lists: Lists<J, D>) -> Result<(), CrewFault> {
         let Some(parcels) = &self.parcels else {
             return Err(CrewFault::Lost);
         };
         let parcel = Parcel {
             round: self.round,
             place,
-            jobs,
-            alloc,
+            lists,
         };
         match parcels.send(rt, parcel) {
             Ok(()) => Ok(()),
@@ -420,7 +424,7 @@ impl<J: Work<S, D>, S: Drop, D: Drop, G: Gate> Standing<J, S, D, G> {
 
     /// Hears of each message of this round. While some wait, the caller takes them back in turn and runs them, and between two of them takes in
     /// what has come: so it compares while others run.
-    fn gather<H: Wait>(&self, rt: &H, starts: &[Begun<S>], gathered: &mut Gathered<D>)
+    fn gather<H: Wait>(&self, rt: &H, starts: &[Begun<S>], gathered: &mut Gathered<J, D>)
         requires distinct { IsDistinct starts.now }
         requires ticked { IsGathered starts.now gathered.old.fault gathered.old.ticks.items (map J.ended_from gathered.old.runs.items) }
         ensures { IsGathered starts.now gathered.new.fault gathered.new.ticks.items (map J.ended_from gathered.new.runs.items) }
@@ -436,7 +440,7 @@ impl<J: Work<S, D>, S: Drop, D: Drop, G: Gate> Standing<J, S, D, G> {
     }
 
     /// Takes in what has come back so far.
-    fn take_answers<H: Wait>(&self, rt: &H, starts: &[Begun<S>], gathered: &mut Gathered<D>)
+    fn take_answers<H: Wait>(&self, rt: &H, starts: &[Begun<S>], gathered: &mut Gathered<J, D>)
         requires distinct { IsDistinct starts.now }
         requires ticked { IsGathered starts.now gathered.old.fault gathered.old.ticks.items (map J.ended_from gathered.old.runs.items) }
         ensures { IsGathered starts.now gathered.new.fault gathered.new.ticks.items (map J.ended_from gathered.new.runs.items) }
@@ -450,7 +454,7 @@ impl<J: Work<S, D>, S: Drop, D: Drop, G: Gate> Standing<J, S, D, G> {
     }
 
     /// Hears of each message of this round that is away.
-    fn hear<H: Wait>(&self, rt: &H, starts: &[Begun<S>], gathered: &mut Gathered<D>)
+    fn hear<H: Wait>(&self, rt: &H, starts: &[Begun<S>], gathered: &mut Gathered<J, D>)
         requires distinct { IsDistinct starts.now }
         requires ticked { IsGathered starts.now gathered.old.fault gathered.old.ticks.items (map J.ended_from gathered.old.runs.items) }
         ensures { IsGathered starts.now gathered.new.fault gathered.new.ticks.items (map J.ended_from gathered.new.runs.items) }
@@ -468,7 +472,7 @@ impl<J: Work<S, D>, S: Drop, D: Drop, G: Gate> Standing<J, S, D, G> {
     }
 
     /// Runs the jobs of a message of this round that came back unopened. One of another round is dropped.
-    fn run_parcel(&self, starts: &[Begun<S>], parcel: Parcel<J>, gathered: &mut Gathered<D>)
+    fn run_parcel(&self, starts: &[Begun<S>], parcel: Parcel<J, D>, gathered: &mut Gathered<J, D>)
         requires distinct { IsDistinct starts.now }
         requires ticked { IsGathered starts.now gathered.old.fault gathered.old.ticks.items (map J.ended_from gathered.old.runs.items) }
         ensures { IsGathered starts.now gathered.new.fault gathered.new.ticks.items (map J.ended_from gathered.new.runs.items) }
@@ -476,17 +480,16 @@ impl<J: Work<S, D>, S: Drop, D: Drop, G: Gate> Standing<J, S, D, G> {
         let Parcel {
             round,
             place,
-            jobs,
-            alloc: _,
+            lists,
         } = parcel;
         if round == self.round {
             gathered.away = gathered.away.saturating_sub(1);
-            run_in::<J, S, D, G>(&*self.gate, starts, jobs, place, gathered);
+            run_in::<J, S, D, G>(&*self.gate, starts, lists, place, gathered);
         }
     }
 
     /// Takes in the runs of a message of this round. What comes of another round is dropped.
-    fn take_answer(&self, starts: &[Begun<S>], answer: Answer<D>, gathered: &mut Gathered<D>)
+    fn take_answer(&self, starts: &[Begun<S>], answer: Answer<J, D>, gathered: &mut Gathered<J, D>)
         requires distinct { IsDistinct starts.now }
         requires ticked { IsGathered starts.now gathered.old.fault gathered.old.ticks.items (map J.ended_from gathered.old.runs.items) }
         ensures { IsGathered starts.now gathered.new.fault gathered.new.ticks.items (map J.ended_from gathered.new.runs.items) }
@@ -494,7 +497,7 @@ impl<J: Work<S, D>, S: Drop, D: Drop, G: Gate> Standing<J, S, D, G> {
         let Answer {
             round,
             place,
-            runs,
+            lists,
             whole,
         } = answer;
         if round != self.round {
@@ -502,7 +505,7 @@ impl<J: Work<S, D>, S: Drop, D: Drop, G: Gate> Standing<J, S, D, G> {
         }
         gathered.away = gathered.away.saturating_sub(1);
         if whole {
-            take_in::<J, S, D>(starts, runs, place, gathered);
+            take_in::<J, S, D>(starts, lists, place, gathered);
         } else {
             gathered.fault = Some(CrewFault::Memory);
         }
