@@ -13,6 +13,16 @@ pub record IsPut (old new : List ℕ) (at : ℕ) (xs : List ℕ) (end : ℕ) : T
   pub bytes : take end new ≡ take at old ++ xs
   pub within : end ≤ length new
 
+-- a moment and a name that leave a line short: of at most 20 and 36 bytes
+pub record IsShort (moment name : List ℕ) : Type 0 where
+  pub digits : length moment ≤ 20
+  pub letters : length name ≤ 36
+
+-- new is old, and after it room for a short line
+pub record IsOpened (old new : List ℕ) : Type 0 where
+  pub first : take (length old) new ≡ old
+  pub room : length old + 96 ≤ length new
+
 -- of 32 bytes the first are what the ALARM lines of a moment begin with
 pub record IsFront (moment : ℕ) (bytes : List ℕ) (size : ℕ) : Type 0 where
   pub few : size ≤ 32

@@ -1,7 +1,7 @@
-ghost use Rattle.std.specs.Prelude.{◌≡◌, ◌++◌, ℕ, OnOk, OnErr, length, map, take, ◌∷◌, [], codes, decimal};
-ghost use Rattle.alarm_machine.specs.Codes.{code_text};
+ghost use Rattle.std.specs.Prelude.{◌≡◌, ◌≤◌, ◌++◌, ℕ, OnOk, OnErr, length, map, take, ◌∷◌, [], codes, decimal};
 ghost use Rattle.command_text.specs.Lines.{line_of, fault_line, alarm_line, out_line, done_line, reply_line, refused_line, state_line, count_line, row_line, end_line};
 
+use crate::placing::{is_short, open_line, place_change, place_done, place_out};
 use alarm_machine::{Change, Code, OrderFault};
 use itoa::Buffer;
 use plant_types::{Trap, Value};
@@ -94,64 +94,6 @@ pub fn push_fault(
     push_four(out, "FAULT", moment, path, statement, trap.text())
 }
 
-/// Appends a code's text between two spaces.
-// By a call for each code, so that each is a copy of as many bytes as the compiler knows.
-fn push_from(out: &mut Vec<u8>, code: Code) -> Result<(), AllocError>
-    ensures ok { OnOk result (out.new.items ≡ out.old.items ++ 32 ∷ code_text code ++ 32 ∷ []) }
-    ensures err { OnErr result (out.new.items ≡ out.old.items) }
-{
-    match code {
-        Code::Norm => out.extend_from_slice(b" NORM "),
-        Code::Unack => out.extend_from_slice(b" UNACK "),
-        Code::Acked => out.extend_from_slice(b" ACKED "),
-        Code::Rtnun => out.extend_from_slice(b" RTNUN "),
-        Code::Latun => out.extend_from_slice(b" LATUN "),
-        Code::Latak => out.extend_from_slice(b" LATAK "),
-        Code::Shelved => out.extend_from_slice(b" SHELVED "),
-        Code::Suppr => out.extend_from_slice(b" SUPPR "),
-        Code::Oos => out.extend_from_slice(b" OOS "),
-    }
-}
-
-/// Appends a code's text and LF.
-fn push_to(out: &mut Vec<u8>, code: Code) -> Result<(), AllocError>
-    ensures ok { OnOk result (out.new.items ≡ out.old.items ++ code_text code ++ 10 ∷ []) }
-    ensures err { OnErr result (out.new.items ≡ out.old.items) }
-{
-    match code {
-        Code::Norm => out.extend_from_slice(b"NORM\n"),
-        Code::Unack => out.extend_from_slice(b"UNACK\n"),
-        Code::Acked => out.extend_from_slice(b"ACKED\n"),
-        Code::Rtnun => out.extend_from_slice(b"RTNUN\n"),
-        Code::Latun => out.extend_from_slice(b"LATUN\n"),
-        Code::Latak => out.extend_from_slice(b"LATAK\n"),
-        Code::Shelved => out.extend_from_slice(b"SHELVED\n"),
-        Code::Suppr => out.extend_from_slice(b"SUPPR\n"),
-        Code::Oos => out.extend_from_slice(b"OOS\n"),
-    }
-}
-
-/// Appends the parts of an ALARM line. Where memory is refused a part of them may be appended.
-#[inline(always)]
-fn add_alarm(
-    out: &mut Vec<u8>,
-    moment: &str,
-    tag: &str,
-    from: Code,
-    to: Code,
-) -> Result<(), AllocError>
-    ensures ok { OnOk result (out.new.items ≡ out.old.items ++ codes "ALARM " ++ moment.now ++ 32 ∷ tag.now ++ 32 ∷ code_text from ++ 32 ∷ code_text to ++ 10 ∷ []) }
-    ensures err { OnErr result (take (length out.old.items) out.new.items ≡ out.old.items) }
-{
-    out.extend_from_slice(b"ALARM ")?;
-    out.extend_from_slice(moment.as_bytes())?;
-    out.extend_from_slice(b" ")?;
-    out.extend_from_slice(tag.as_bytes())?;
-    push_from(out, from)?;
-    push_to(out, to)?;
-    Ok(())
-}
-
 /// Appends `ALARM MOMENT TAG FROM TO`: this alarm's code changed. The moment is given by its digits. Where memory is refused the text is
 /// unchanged.
 #[tactic(auto, unfolding(crate::specs::Lines::alarm_line))]
@@ -164,14 +106,33 @@ pub fn push_alarm(
     ensures ok { (t : ℕ) → moment.now ≡ decimal t → OnOk result (out.new.items ≡ out.old.items ++ alarm_line t tag.now change) }
     ensures err { OnErr result (out.new.items ≡ out.old.items) }
 {
-    let start = out.len();
-    match add_alarm(out, moment, tag, change.from(), change.to()) {
-        Ok(()) => Ok(()),
-        Err(error) => {
-            out.truncate(start);
-            Err(error)
-        }
+    let (from, to) = (change.from(), change.to());
+    let (digits, letters) = (moment.as_bytes(), tag.as_bytes());
+    if !is_short(digits, letters) {
+        return push_four(out, "ALARM", moment, tag, from.text(), to.text());
     }
+    let start = out.len();
+    open_line(out)?;
+    let end = place_change(out.as_mut_slice(), start, digits, letters, from, to);
+    out.truncate(end);
+    Ok(())
+}
+
+/// Appends an OUT line, of whose value this is the text. Where memory is refused the text is unchanged.
+fn push_valued(out: &mut Vec<u8>, moment: &str, name: &str, value: &str) -> Result<(), AllocError>
+    requires { length value.now ≤ 20 }
+    ensures ok { OnOk result (out.new.items ≡ out.old.items ++ line_of (codes "OUT") (moment.now ∷ name.now ∷ value.now ∷ [])) }
+    ensures err { OnErr result (out.new.items ≡ out.old.items) }
+{
+    let (digits, letters) = (moment.as_bytes(), name.as_bytes());
+    if !is_short(digits, letters) {
+        return push_three(out, "OUT", moment, name, value);
+    }
+    let start = out.len();
+    open_line(out)?;
+    let end = place_out(out.as_mut_slice(), start, digits, letters, value.as_bytes());
+    out.truncate(end);
+    Ok(())
 }
 
 /// Appends `OUT MOMENT NAME VALUE`: this output's value changed. The moment is given by its digits. Where memory is refused the text is
@@ -183,25 +144,11 @@ pub fn push_out(out: &mut Vec<u8>, moment: &str, name: &str, value: Value) -> Re
 {
     let mut shown = Buffer::new();
     match value {
-        Value::Bool(true) => push_three(out, "OUT", moment, name, "TRUE"),
-        Value::Bool(false) => push_three(out, "OUT", moment, name, "FALSE"),
-        Value::Dint(number) => push_three(out, "OUT", moment, name, shown.format(number)),
-        Value::Time(number) => push_three(out, "OUT", moment, name, shown.format(number)),
+        Value::Bool(true) => push_valued(out, moment, name, "TRUE"),
+        Value::Bool(false) => push_valued(out, moment, name, "FALSE"),
+        Value::Dint(number) => push_valued(out, moment, name, shown.format(number)),
+        Value::Time(number) => push_valued(out, moment, name, shown.format(number)),
     }
-}
-
-/// Appends the parts of a DONE line. Where memory is refused a part of them may be appended.
-#[inline(always)]
-fn add_done(out: &mut Vec<u8>, moment: &str, lines: &str) -> Result<(), AllocError>
-    ensures ok { OnOk result (out.new.items ≡ out.old.items ++ codes "DONE " ++ moment.now ++ 32 ∷ lines.now ++ 10 ∷ []) }
-    ensures err { OnErr result (take (length out.old.items) out.new.items ≡ out.old.items) }
-{
-    out.extend_from_slice(b"DONE ")?;
-    out.extend_from_slice(moment.as_bytes())?;
-    out.extend_from_slice(b" ")?;
-    out.extend_from_slice(lines.as_bytes())?;
-    out.extend_from_slice(b"\n")?;
-    Ok(())
 }
 
 /// Appends `DONE MOMENT LINES`: the end of a scan's answer, with the number of lines before it. The moment is given by its digits. Where memory
@@ -212,14 +159,16 @@ pub fn push_done(out: &mut Vec<u8>, moment: &str, lines: u64) -> Result<(), Allo
     ensures err { OnErr result (out.new.items ≡ out.old.items) }
 {
     let mut count = Buffer::new();
-    let start = out.len();
-    match add_done(out, moment, count.format(lines)) {
-        Ok(()) => Ok(()),
-        Err(error) => {
-            out.truncate(start);
-            Err(error)
-        }
+    let lines = count.format(lines);
+    let (digits, counted) = (moment.as_bytes(), lines.as_bytes());
+    if !is_short(digits, counted) {
+        return push_line(out, "DONE", &[moment, lines]);
     }
+    let start = out.len();
+    open_line(out)?;
+    let end = place_done(out.as_mut_slice(), start, digits, counted);
+    out.truncate(end);
+    Ok(())
 }
 
 /// The line with the reply to an order, as `REPLY OK`.

@@ -1,9 +1,9 @@
-//! ALARM lines, written into the room of a text by copies of a fixed size: no copy asks for memory, and the compiler knows how long each is.
+//! Lines, written into the room of a text by copies of a fixed size: no copy asks for memory, and the compiler knows how long each is.
 
-ghost use Rattle.std.specs.Prelude.{◌≡◌, ◌+◌, ◌≤◌, ◌++◌, [], ◌∷◌, length, take, codes, OnOk, IfOk};
+ghost use Rattle.std.specs.Prelude.{◌≡◌, ◌+◌, ◌≤◌, ◌++◌, ◌<◌, [], ◌∷◌, length, take, codes, true, OnOk, OnErr, IfOk};
 ghost use Rattle.alarm_machine.specs.Codes.{code_text};
 ghost use Rattle.command_text.specs.Lines.{alarm_front, alarm_line};
-ghost use Rattle.command_text.specs.Placing.{IsPlaced, IsPut};
+ghost use Rattle.command_text.specs.Placing.{IsPlaced, IsPut, IsShort, IsOpened};
 
 use alarm_machine::{Change, Code};
 use itoa::Buffer;
@@ -13,6 +13,15 @@ use std::simd::Simd;
 
 /// How many bytes of room are made at a time, beside those for the tag of the line that has none.
 const ROOM: usize = 1_024;
+
+/// How many bytes of room a short line has that is alone.
+const LINE: usize = 96;
+
+/// How many bytes the moment of a short line has at most.
+const MOMENT: usize = 20;
+
+/// How many bytes the tag or the name of a short line has at most.
+const NAME: usize = 36;
 
 /// Puts the first N bytes of a text at a place, by one load and one store, and returns the place after them.
 #[inline(always)]
@@ -61,15 +70,34 @@ fn place_slice(row: &mut [u8], at: usize, bytes: &[u8]) -> usize
     end
 }
 
-/// Puts a text at a place, one of 8 to 32 bytes without a call, and returns the place after it.
+/// Puts a text of 1 to 7 bytes at a place, and returns the place after it.
+#[inline(always)]
+fn place_few(row: &mut [u8], at: usize, bytes: &[u8]) -> usize
+    requires room { at + length bytes.now ≤ length row.old }
+    requires size { (1 ≤ length bytes.now) × (length bytes.now < 8) }
+    ensures { IsPlaced row.old row.new at bytes.now result }
+{
+    let size = bytes.len();
+    if size < 2 {
+        place_ends::<1>(row, at, bytes)
+    } else if size < 4 {
+        place_ends::<2>(row, at, bytes)
+    } else {
+        place_ends::<4>(row, at, bytes)
+    }
+}
+
+/// Puts a text at a place, one of 1 to 32 bytes without a call, and returns the place after it.
 #[inline(always)]
 fn place_text(row: &mut [u8], at: usize, bytes: &[u8]) -> usize
     requires { at + length bytes.now ≤ length row.old }
     ensures { IsPlaced row.old row.new at bytes.now result }
 {
     let size = bytes.len();
-    if size < 8 || 32 < size {
+    if size == 0 || 32 < size {
         place_slice(row, at, bytes)
+    } else if size < 8 {
+        place_few(row, at, bytes)
     } else if size < 16 {
         place_ends::<8>(row, at, bytes)
     } else {
@@ -238,4 +266,79 @@ pub fn put_alarm(
     let tag = tag.as_bytes();
     make_room(text, at, tag)?;
     Ok(place_alarm(text.as_mut_slice(), at, front, tag, change))
+}
+
+/// Whether a line with this moment and this name is short: then 96 bytes hold it, and each copy of its parts.
+#[inline(always)]
+pub(crate) fn is_short(moment: &[u8], name: &[u8]) -> bool
+    ensures { result ≡ true → IsShort moment.now name.now }
+{
+    moment.len() <= MOMENT && name.len() <= NAME
+}
+
+/// Makes room for a short line after a text. Where memory is refused the text is unchanged.
+#[inline(always)]
+pub(crate) fn open_line(text: &mut Vec<u8>) -> Result<(), AllocError>
+    ensures ok { OnOk result (IsOpened text.old.items text.new.items) }
+    ensures err { OnErr result (text.new.items ≡ text.old.items) }
+{
+    text.resize(text.len() + LINE, 0)
+}
+
+/// Puts an ALARM line at a place, and returns the place after it.
+#[inline(always)]
+pub(crate) fn place_change(
+    row: &mut [u8],
+    at: usize,
+    moment: &[u8],
+    tag: &[u8],
+    from: Code,
+    to: Code,
+) -> usize
+    requires room { at + 96 ≤ length row.old }
+    requires short { IsShort moment.now tag.now }
+    ensures { IsPlaced row.old row.new at (codes "ALARM " ++ (moment.now ++ (32 ∷ (tag.now ++ ((32 ∷ (code_text from ++ 32 ∷ [])) ++ (code_text to ++ 10 ∷ [])))))) result }
+{
+    let named = place_slice(row, at, b"ALARM ");
+    let timed = place_text(row, named, moment);
+    let apart = place_slice(row, timed, b" ");
+    let tagged = place_text(row, apart, tag);
+    let left = place_from(row, tagged, from);
+    place_to(row, left, to)
+}
+
+/// Puts an OUT line at a place, and returns the place after it.
+#[inline(always)]
+pub(crate) fn place_out(
+    row: &mut [u8],
+    at: usize,
+    moment: &[u8],
+    name: &[u8],
+    value: &[u8],
+) -> usize
+    requires room { at + 96 ≤ length row.old }
+    requires short { IsShort moment.now name.now × (length value.now ≤ 20) }
+    ensures { IsPlaced row.old row.new at (codes "OUT " ++ (moment.now ++ (32 ∷ (name.now ++ (32 ∷ (value.now ++ 10 ∷ [])))))) result }
+{
+    let kind = place_slice(row, at, b"OUT ");
+    let timed = place_text(row, kind, moment);
+    let apart = place_slice(row, timed, b" ");
+    let named = place_text(row, apart, name);
+    let valued = place_slice(row, named, b" ");
+    let last = place_text(row, valued, value);
+    place_slice(row, last, b"\n")
+}
+
+/// Puts a DONE line at a place, and returns the place after it.
+#[inline(always)]
+pub(crate) fn place_done(row: &mut [u8], at: usize, moment: &[u8], lines: &[u8]) -> usize
+    requires room { at + 96 ≤ length row.old }
+    requires short { IsShort moment.now lines.now }
+    ensures { IsPlaced row.old row.new at (codes "DONE " ++ (moment.now ++ (32 ∷ (lines.now ++ 10 ∷ [])))) result }
+{
+    let named = place_slice(row, at, b"DONE ");
+    let timed = place_text(row, named, moment);
+    let apart = place_slice(row, timed, b" ");
+    let counted = place_text(row, apart, lines);
+    place_slice(row, counted, b"\n")
 }
