@@ -124,6 +124,8 @@ impl Log {
     }
 
     /// Adds the row of an alarm whose code changed, as `push`.
+    // It stands in its callers' loops: a call for each row, with an entry made for it, took more than the row itself.
+    #[inline(always)]
     fn push_change(&mut self, moment: u64, alarm: u32, change: Change)
         requires room { 0 < self.old.room }
         requires in_order { last_moment self.old.rows ≤ moment }
@@ -183,7 +185,7 @@ impl Log {
     {
         for change in changes {
             let (alarm, codes) = *change;
-            self.push(moment, Entry::Alarm(alarm, codes));
+            self.push_change(moment, alarm, codes);
         }
     }
 }
