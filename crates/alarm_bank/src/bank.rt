@@ -175,13 +175,14 @@ impl Bank {
     }
 
     /// Puts an alarm in the place of another one.
-    fn put(&mut self, at: usize, alarm: Alarm)
+    // The alarm is lent, so that it is copied as it lies there; by value its parts would be copied one by one.
+    fn put(&mut self, at: usize, alarm: &Alarm)
         requires { at < length self.old.alarms }
-        ensures { self.new ≡ record self.old { alarms = slice_set self.old.alarms at alarm } }
+        ensures { self.new ≡ record self.old { alarms = slice_set self.old.alarms at alarm.now } }
     {
-        self.alarms[at] = alarm;
+        self.alarms[at] = *alarm;
         self.summary.put(at, alarm.state().code());
-        self.shelf.put(at, end_or_never(&alarm));
+        self.shelf.put(at, end_or_never(alarm));
     }
 
     /// Takes a scan, which steps the alarms that don't rest.
@@ -195,7 +196,7 @@ impl Bank {
             let mut alarm = self.alarms[at];
             if !alarm.rests(conds[at], sups[at], moment) {
                 let _ = alarm.scan(conds[at], sups[at], moment);
-                self.put(at, alarm);
+                self.put(at, &alarm);
             }
         }
         self.moment = moment;
@@ -222,7 +223,7 @@ impl Bank {
         if let Some(found) = self.alarms.get(at) {
             let mut changed = *found;
             match changed.order(verb, self.moment) {
-                Ok(_) => self.put(at, changed),
+                Ok(_) => self.put(at, &changed),
                 Err(_) => {}
             }
         }
@@ -347,15 +348,22 @@ impl Bank {
         Ok(())
     }
 
-    /// Puts an alarm in the place of the one of a number, as an order has made it; it takes no memory. A number that isn't there changes
-    /// nothing.
-    pub fn replace(&mut self, number: u32, alarm: Alarm)
-        ensures { self.new ≡ record self.old { alarms = slice_set self.old.alarms number alarm } }
+    /// Puts an alarm in the place of the one of a number. A number that isn't there changes nothing.
+    fn put_at(&mut self, number: u32, alarm: &Alarm)
+        ensures { self.new ≡ record self.old { alarms = slice_set self.old.alarms number alarm.now } }
     {
         let at = number as usize;
         if at < self.alarms.len() {
             self.put(at, alarm);
         }
+    }
+
+    /// Puts an alarm in the place of the one of a number, as an order has made it; it takes no memory. A number that isn't there changes
+    /// nothing.
+    pub fn replace(&mut self, number: u32, alarm: Alarm)
+        ensures { self.new ≡ record self.old { alarms = slice_set self.old.alarms number alarm } }
+    {
+        self.put_at(number, &alarm);
     }
 
     /// Takes a scan by the alarms that it moves; it takes no memory and looks at no other alarm. After what `list_moved` lists of this bank,
@@ -366,7 +374,7 @@ impl Bank {
         ensures scanned { (new : List PlainAlarm) → AreMoved 0 self.old.alarms new moved.now → self.new ≡ record self.old { alarms = new; moment = moment } }
     {
         for (number, alarm) in moved {
-            self.replace(*number, *alarm);
+            self.put_at(*number, alarm);
         }
         self.moment = moment;
     }

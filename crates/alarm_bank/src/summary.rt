@@ -88,7 +88,7 @@ impl Summary {
         let row = self.rows[at];
         let from = cell(row.area, row.priority, row.code);
         let to = cell(row.area, row.priority, code);
-        self.rows[at] = Counted { code, ..row };
+        self.rows[at].code = code;
         self.counts[from] -= 1;
         self.counts[to] += 1;
     }

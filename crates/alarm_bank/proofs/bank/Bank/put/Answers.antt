@@ -11,4 +11,4 @@ put-requires c =
 pub invariant_of-self : goal.invariant_of-self
 invariant_of-self c =
     let within : c.args.at < length c.self.inside.alarms.items = omega (arith, c.requires, ap (λ (w : PlainBank). length w.alarms) c.self.view_is) in
-    rw (c.put.ensures, c.code.ensures, c.state.ensures, c.put-2.ensures, c.end_or_never.ensures.end) (bank_put _ _ _ _ _ c.self.invariant c.args.at c.args.alarm within c.end_or_never.ensures.in_range c.end_or_never.ensures.settled)
+    rw (c.put.ensures, c.code.ensures, c.state.ensures, c.put-2.ensures, c.end_or_never.ensures.end) (bank_put _ _ _ _ _ c.self.invariant c.args.at c.args.alarm.now within c.end_or_never.ensures.in_range c.end_or_never.ensures.settled)
