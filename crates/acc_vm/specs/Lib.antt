@@ -1,3 +1,4 @@
 pub mod Machine
 pub mod Codes
 pub mod Steps
+pub mod Flats

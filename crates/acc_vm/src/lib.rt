@@ -5,6 +5,7 @@
 #![tactic(auto)]
 
 mod code;
+mod flat;
 mod instr;
 mod own;
 mod run;

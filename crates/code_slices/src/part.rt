@@ -99,7 +99,7 @@ pub fn relocate(
         clocks.len(),
         code.stack(),
         code.cost(),
-    );
+    )?;
     let printed = PrintedCode::new(alloc, moved)?;
     Ok(Part {
         code: printed,
