@@ -1,8 +1,9 @@
 //! Why texts are refused.
 
-ghost use Rattle.std.specs.Prelude.{◌≢◌, IfOk, IfSome};
+ghost use Rattle.std.specs.Prelude.{◌≢◌, IfNone, IfOk, IfSome};
 ghost use Rattle.plant_config.specs.declared.fault.ConfigFault.TheVariants as config_fault;
 ghost use Rattle.plant_config.specs.Refusals.{IsRefused};
+ghost use Rattle.plant_explain.specs.Told.{AreAccepted};
 
 use plant_config::{ConfigFault, Plant};
 use plant_folder::PlantTexts;
@@ -15,6 +16,7 @@ pub fn refusal<H: Threads + Sync>(
     alloc: Global,
     texts: &PlantTexts<'_>,
 ) -> Result<Option<ConfigFault>, AllocError>
+    ensures accepted { IfOk result (λ found. IfNone found (AreAccepted texts.now)) }
     ensures refused { IfOk result (λ found. IfSome found (IsRefused texts.now)) }
     ensures told { IfOk result (λ found. IfSome found (λ fault. fault ≢ config_fault.Memory)) }
 {

@@ -75,7 +75,8 @@ fn add_further<H: Threads + Sync>(
     found: &mut Vec<Spot>,
 ) -> Result<(), AllocError>
     requires { length found.old.items ≤ 20 }
-    ensures { length found.new.items ≤ 20 }
+    ensures kept { length found.old.items ≤ length found.new.items }
+    ensures most { length found.new.items ≤ 20 }
 {
     let mut rest = Rest::of(alloc, texts)?;
     'readings: for _ in 0..MOST_READINGS {
@@ -95,8 +96,8 @@ fn add_further<H: Threads + Sync>(
     Ok(())
 }
 
-/// The fault of a refused plant, and further ones of the same stage, in the order in which they are found; 20 at most. Where memory is short there may be
-/// fewer. Fails if allocation fails.
+/// The fault of a refused plant, and further ones of the same stage, in the order in which they are found; 1 at least and 20 at most. Where memory is short
+/// there may be fewer. Fails if allocation fails.
 pub fn find_all<H: Threads + Sync>(
     rt: &H,
     alloc: Global,
@@ -104,7 +105,8 @@ pub fn find_all<H: Threads + Sync>(
     fault: &ConfigFault,
 ) -> Result<Vec<Spot>, AllocError>
     requires { fault.now ≢ config_fault.Memory }
-    ensures { IfOk result (λ found. length found.items ≤ 20) }
+    ensures least { IfOk result (λ found. 1 ≤ length found.items) }
+    ensures most { IfOk result (λ found. length found.items ≤ 20) }
 {
     let mut found = Vec::new(alloc);
     let spot = find(alloc, texts, fault)?;
