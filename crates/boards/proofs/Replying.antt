@@ -1,16 +1,18 @@
 -- A reply that a board allows is the one of the table.
-use Rattle.std.proofs.Common.{◌≡◌, ℕ, ◌==◌, Bool, true, false, ◌||◌, if◌then◌else◌, Option, Some, None, refl, sym, ◌∙◌, ap, eqb-true}
+use Rattle.std.proofs.Common.{◌≡◌, ◌≢◌, ℕ, ◌==◌, Bool, true, false, ◌||◌, if◌then◌else◌, Option, Some, None, refl, sym, ◌∙◌, ap, eqb-true}
 use Rattle.std.proofs.lemmas.Bool.{and_parts}
 use Rattle.std.specs.Prelude.{Result, Ok, Err}
 use Rattle.alarm_machine.specs.declared.states.Code.{Code}
 use Rattle.alarm_machine.specs.declared.states.Code.TheVariants as code
 use Rattle.alarm_machine.specs.declared.states.OrderFault.{OrderFault}
 use Rattle.alarm_machine.specs.declared.states.OrderFault.TheVariants as fault
+use Rattle.alarm_machine.specs.declared.states.Verb.{Verb}
+use Rattle.alarm_machine.specs.declared.states.Verb.TheVariants as verb
 use Rattle.alarm_machine.specs.Codes.{PlainChange, rank, same_code}
 use Rattle.alarm_bank.specs.Banks.{PlainBank, reply_of}
 use Rattle.boards.specs.declared.entry.Answer.{Answer}
 use Rattle.boards.specs.declared.entry.Entry.TheVariants as entry
-use Rattle.boards.specs.Replies.{fault_number, same_change, same_reply, is_restart, is_outside, allows}
+use Rattle.boards.specs.Replies.{fault_number, same_change, same_reply, is_restart, is_outside, IsAsked, allows}
 
 -- the code of a place in the list of codes
 abbrev code_by : ℕ → Code
@@ -77,15 +79,32 @@ third true b c x y h = absurd (cc (x))
 third false true c x y h = absurd (cc (y))
 third false false c x y h = h
 
+no_restart : (v : Verb) → v ≢ verb.Restart → is_restart v ≡ false
+no_restart verb.Ack h = refl
+no_restart verb.Reset h = refl
+no_restart (verb.Shelve d) h = refl
+no_restart verb.Unshelve h = refl
+no_restart verb.Remove h = refl
+no_restart verb.PutBack h = refl
+no_restart verb.Restart h = absurd (h refl)
+
+inside : (r : Result (Option PlainChange) OrderFault) → r ≢ Err fault.UnknownTarget → r ≢ Err fault.NotYourArea → is_outside r ≡ false
+inside (Ok c) h k = refl
+inside (Err fault.UnknownTarget) h k = absurd (h refl)
+inside (Err fault.NotYourArea) h k = absurd (k refl)
+inside (Err fault.WrongState) h k = refl
+inside (Err fault.ShelveTime) h k = refl
+inside (Err fault.NotFaulted) h k = refl
+
 -- whether the reply is the table's for the order's alarm
 abbrev fits : PlainBank → Answer → Option ℕ → Bool
 fits b a target = elim target [ None ↦ false | Some n ↦ same_reply a.reply (reply_of n a.order.verb b) ]
 
-pub reply_is : (b : PlainBank) (console alarm : ℕ) (a : Answer) → allows b (entry.Order console a) ≡ true → is_restart a.order.verb ≡ false → is_outside a.reply ≡ false → a.order.target ≡ Some alarm → a.reply ≡ reply_of alarm a.order.verb b
-reply_is b console alarm a may verb inside target =
-    replies_same a.reply (reply_of alarm a.order.verb b) (sym (ap (fits b a) target) ∙ third (is_restart a.order.verb) (is_outside a.reply) (fits b a a.order.target) verb inside may)
+pub reply_is : (b : PlainBank) (console alarm : ℕ) (a : Answer) → allows b (entry.Order console a) ≡ true → IsAsked a → a.order.target ≡ Some alarm → a.reply ≡ reply_of alarm a.order.verb b
+reply_is b console alarm a may asked target =
+    replies_same a.reply (reply_of alarm a.order.verb b) (sym (ap (fits b a) target) ∙ third (is_restart a.order.verb) (is_outside a.reply) (fits b a a.order.target) (no_restart a.order.verb asked.0) (inside a.reply asked.1.0 asked.1.1) may)
 
-pub has_target : (b : PlainBank) (console : ℕ) (a : Answer) → allows b (entry.Order console a) ≡ true → is_restart a.order.verb ≡ false → is_outside a.reply ≡ false → a.order.target ≡ None → ⊥
-has_target b console a may verb inside none =
-    let no : false ≡ true = sym (ap (fits b a) none) ∙ third (is_restart a.order.verb) (is_outside a.reply) (fits b a a.order.target) verb inside may in
+pub has_target : (b : PlainBank) (console : ℕ) (a : Answer) → allows b (entry.Order console a) ≡ true → IsAsked a → a.order.target ≡ None → ⊥
+has_target b console a may asked none =
+    let no : false ≡ true = sym (ap (fits b a) none) ∙ third (is_restart a.order.verb) (is_outside a.reply) (fits b a a.order.target) (no_restart a.order.verb asked.0) (inside a.reply asked.1.0 asked.1.1) may in
     absurd (cc (no))

@@ -1,5 +1,5 @@
 -- What an entry does to the alarms that a board shows, and whether it may come next.
-use Rattle.std.specs.Prelude.{ℕ, ◌==◌, Bool, true, false, ◌&&◌, ◌||◌, if◌then◌else◌, Option, Some, None, Result, Ok, Err, slice_get}
+use Rattle.std.specs.Prelude.{◌≢◌, ℕ, ◌==◌, Bool, true, false, ◌&&◌, ◌||◌, if◌then◌else◌, Option, Some, None, Result, Ok, Err, slice_get}
 use Rattle.alarm_machine.specs.declared.states.Verb.{Verb}
 use Rattle.alarm_machine.specs.declared.states.Verb.TheVariants as verb
 use Rattle.alarm_machine.specs.declared.states.OrderFault.{OrderFault}
@@ -53,6 +53,10 @@ after_answer b a = if is_outside a.reply then b else elim a.order.target [ None 
 -- whether an order may have this reply: an alarm's reply is the one that the table gives now
 abbrev pub may_answer : PlainBank → Answer → Bool
 may_answer b a = is_restart a.order.verb || (is_outside a.reply || elim a.order.target [ None ↦ false | Some n ↦ same_reply a.reply (reply_of n a.order.verb b) ])
+
+-- an order that is no restart, and isn't replied O1 or O2: an alarm was asked
+abbrev pub IsAsked : Answer → Type 0
+IsAsked a = (a.order.verb ≢ verb.Restart) × ((a.reply ≢ Err fault.UnknownTarget) × (a.reply ≢ Err fault.NotYourArea))
 
 -- whether an event is a scan
 abbrev pub is_scan : BankEvent → Bool

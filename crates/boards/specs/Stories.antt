@@ -21,7 +21,7 @@ module _ {P E : Type 0} where
   is_lawful after allows p [] = true
   is_lawful after allows p (e ∷ es) = allows p e && is_lawful after allows (after p e) es
 
-  -- whether an entry may come after a story, whose list has fewer than 2 ^ 64 entries
+  -- whether an entry may come after a story: it fits, and the list has fewer than 2 ^ 64 - 1 entries before it
   abbrev pub may_come : (P → E → P) → (P → E → Bool) → Story P E → E → Bool
   may_come after allows s e = nat_lt (length s.1) 18446744073709551615 && allows (shown after s.0 s.1) e
 

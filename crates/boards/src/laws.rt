@@ -1,12 +1,12 @@
 //! Laws of what a board allows and counts.
-ghost use Rattle.std.specs.Prelude.{◌≡◌, ◌≢◌, ℕ, List, length, true, false, Some, None};
+ghost use Rattle.std.specs.Prelude.{◌≡◌, ◌≢◌, ℕ, List, length, true, Some, None};
 ghost use mathlib.Core.List.{IsPrefix};
 ghost use Rattle.alarm_bank.specs.Banks.{PlainBank, reply_of};
 ghost use Rattle.boards.specs.declared.entry.Answer.{Answer};
 ghost use Rattle.boards.specs.declared.entry.Entry.{Entry};
 ghost use Rattle.boards.specs.declared.entry.Entry.TheVariants as entry;
 ghost use Rattle.boards.specs.Counts.{count_of, answers_of};
-ghost use Rattle.boards.specs.Replies.{is_restart, is_outside, allows};
+ghost use Rattle.boards.specs.Replies.{IsAsked, allows};
 
 /// What is counted of a console are its own orders: entries have as many of them as they have replies for it. And of entries that begin others these replies
 /// begin those of the others.
@@ -18,6 +18,6 @@ pub fn orders_are_counted()
 /// An order that may come next, is for no program and isn't refused before any alarm is asked, is for an alarm, and has the reply that the table of
 /// transitions gives for it now.
 pub fn replies_are_of_the_table()
-    ensures reply { (b : PlainBank) (console alarm : ℕ) (a : Answer) → allows b (entry.Order console a) ≡ true → is_restart a.order.verb ≡ false → is_outside a.reply ≡ false → a.order.target ≡ Some alarm → a.reply ≡ reply_of alarm a.order.verb b }
-    ensures target { (b : PlainBank) (console : ℕ) (a : Answer) → allows b (entry.Order console a) ≡ true → is_restart a.order.verb ≡ false → is_outside a.reply ≡ false → a.order.target ≢ None }
+    ensures reply { (b : PlainBank) (console alarm : ℕ) (a : Answer) → allows b (entry.Order console a) ≡ true → IsAsked a → a.order.target ≡ Some alarm → a.reply ≡ reply_of alarm a.order.verb b }
+    ensures target { (b : PlainBank) (console : ℕ) (a : Answer) → allows b (entry.Order console a) ≡ true → IsAsked a → a.order.target ≢ None }
 {}
