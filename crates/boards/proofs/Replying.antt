@@ -1,5 +1,5 @@
 -- A reply that a board allows is the one of the table.
-use Rattle.std.proofs.Common.{◌≡◌, ◌≢◌, ℕ, ◌==◌, Bool, true, false, ◌||◌, if◌then◌else◌, Option, Some, None, refl, sym, ◌∙◌, ap, eqb-true}
+use Rattle.std.proofs.Common.{◌≡◌, ◌≢◌, ℕ, ◌==◌, Bool, true, false, ◌||◌, if◌then◌else◌, Option, Some, None, List, [], ◌∷◌, ◌++◌, refl, sym, ◌∙◌, ap, eqb-true}
 use Rattle.std.proofs.lemmas.Bool.{and_parts}
 use Rattle.std.specs.Prelude.{Result, Ok, Err}
 use Rattle.alarm_machine.specs.declared.states.Code.{Code}
@@ -11,8 +11,10 @@ use Rattle.alarm_machine.specs.declared.states.Verb.TheVariants as verb
 use Rattle.alarm_machine.specs.Codes.{PlainChange, rank, same_code}
 use Rattle.alarm_bank.specs.Banks.{PlainBank, reply_of}
 use Rattle.boards.specs.declared.entry.Answer.{Answer}
+use Rattle.boards.specs.declared.entry.Entry.{Entry}
 use Rattle.boards.specs.declared.entry.Entry.TheVariants as entry
-use Rattle.boards.specs.Replies.{fault_number, same_change, same_reply, is_restart, is_outside, IsAsked, allows}
+use Rattle.boards.specs.Stories.{shown, is_lawful}
+use Rattle.boards.specs.Replies.{fault_number, same_change, same_reply, is_restart, is_outside, IsAsked, may_answer, after, allows}
 
 -- the code of a place in the list of codes
 abbrev code_by : ℕ → Code
@@ -100,11 +102,23 @@ inside (Err fault.NotFaulted) h k = refl
 abbrev fits : PlainBank → Answer → Option ℕ → Bool
 fits b a target = elim target [ None ↦ false | Some n ↦ same_reply a.reply (reply_of n a.order.verb b) ]
 
-pub reply_is : (b : PlainBank) (console alarm : ℕ) (a : Answer) → allows b (entry.Order console a) ≡ true → IsAsked a → a.order.target ≡ Some alarm → a.reply ≡ reply_of alarm a.order.verb b
-reply_is b console alarm a may asked target =
-    replies_same a.reply (reply_of alarm a.order.verb b) (sym (ap (fits b a) target) ∙ third (is_restart a.order.verb) (is_outside a.reply) (fits b a a.order.target) (no_restart a.order.verb asked.0) (inside a.reply asked.1.0 asked.1.1) may)
+-- an entry of a lawful list might come after those before it
+lawful_at : (b : PlainBank) (es : List Entry) (e : Entry) (fs : List Entry) → is_lawful after allows b (es ++ e ∷ fs) ≡ true → allows (shown after b es) e ≡ true
+lawful_at b [] e fs h = (and_parts (allows b e) (is_lawful after allows (after b e) fs) h).0
+lawful_at b (x ∷ es) e fs h = lawful_at (after b x) es e fs (and_parts (allows b x) (is_lawful after allows (after b x) (es ++ e ∷ fs)) h).1
 
-pub has_target : (b : PlainBank) (console : ℕ) (a : Answer) → allows b (entry.Order console a) ≡ true → IsAsked a → a.order.target ≡ None → ⊥
-has_target b console a may asked none =
-    let no : false ≡ true = sym (ap (fits b a) none) ∙ third (is_restart a.order.verb) (is_outside a.reply) (fits b a a.order.target) (no_restart a.order.verb asked.0) (inside a.reply asked.1.0 asked.1.1) may in
+-- of an order for which an alarm is asked this is left of what it may be replied
+asked_fits : (b : PlainBank) (a : Answer) → may_answer b a ≡ true → IsAsked a → fits b a a.order.target ≡ true
+asked_fits b a may asked = third (is_restart a.order.verb) (is_outside a.reply) (fits b a a.order.target) (no_restart a.order.verb asked.0) (inside a.reply asked.1.0 asked.1.1) may
+
+pub reply_is : (b : PlainBank) (console alarm : ℕ) (a : Answer) (es fs : List Entry) → is_lawful after allows b (es ++ entry.Order console a ∷ fs) ≡ true → IsAsked a → a.order.target ≡ Some alarm
+    → a.reply ≡ reply_of alarm a.order.verb (shown after b es)
+reply_is b console alarm a es fs h asked target =
+    let now = shown after b es in
+    replies_same a.reply (reply_of alarm a.order.verb now) (sym (ap (fits now a) target) ∙ asked_fits now a (lawful_at b es (entry.Order console a) fs h) asked)
+
+pub has_target : (b : PlainBank) (console : ℕ) (a : Answer) (es fs : List Entry) → is_lawful after allows b (es ++ entry.Order console a ∷ fs) ≡ true → IsAsked a → a.order.target ≡ None → ⊥
+has_target b console a es fs h asked none =
+    let now = shown after b es in
+    let no : false ≡ true = sym (ap (fits now a) none) ∙ asked_fits now a (lawful_at b es (entry.Order console a) fs h) asked in
     absurd (cc (no))
