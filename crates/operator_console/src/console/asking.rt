@@ -1,5 +1,5 @@
 //! What a console does with its rings.
-ghost use Rattle.std.specs.Prelude.{◌≡◌, ◌<◌, ◌≤◌, [], ◌∷◌, ◌++◌, OnOk, IfErr, IfSome, IsOk, IfNone};
+ghost use Rattle.std.specs.Prelude.{◌≡◌, ◌<◌, ◌≤◌, ◌+◌, [], ◌∷◌, ◌++◌, OnOk, IfErr, IfSome, IsOk, IfNone};
 ghost use Rattle.boards.specs.Readers.{seen, told, log_of};
 ghost use Rattle.console_link.specs.Seats.{SameConsole};
 ghost use Rattle.operator_console.specs.Consoles.{submitted, taken, known_room, story_seen, story_told, board_log};
@@ -45,6 +45,7 @@ impl<O: Drop, R: Drop> Console<O, R> {
         ensures rings { SameConsole self.old.link self.new.link }
         ensures ok { OnOk result (submitted self.new ≡ submitted self.old ++ order ∷ []) }
         ensures full { IfErr result (λ e. (e ≡ order) × (submitted self.new ≡ submitted self.old) × (known_room self.new ≡ 0)) }
+        ensures room { OnOk result (known_room self.old ≤ known_room self.new + 1) }
         ensures taken { taken self.new ≡ taken self.old }
         ensures succeeds { 0 < known_room self.old → IsOk result }
         ensures sight { self.new.sight ≡ self.old.sight }
@@ -58,6 +59,7 @@ impl<O: Drop, R: Drop> Console<O, R> {
         ensures some { IfSome result (λ a. taken self.new ≡ taken self.old ++ a ∷ []) }
         ensures none { IfNone result (taken self.new ≡ taken self.old) }
         ensures submitted { submitted self.new ≡ submitted self.old }
+        ensures room { known_room self.new ≡ known_room self.old }
         ensures sight { self.new.sight ≡ self.old.sight }
     {
         self.link.answer()
