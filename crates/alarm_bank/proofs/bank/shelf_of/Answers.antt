@@ -1,4 +1,5 @@
 use Rattle.std.proofs.Common.{◌≡◌, ◌<◌, ◌∙◌, ap, arith, length, length-set, slice_index_or}
+use Rattle.std.proofs.lemmas.Grind.{common_steps}
 use Rattle.alarm_machine.specs.Alarms.{PlainAlarm, end_of}
 use Rattle.alarm_bank.specs.Banks.{end_or_never}
 use Rattle.alarm_bank.proofs.BankLaws.{ends_more, time_more, settled_more}
@@ -15,3 +16,6 @@ loop-at-preserved c =
       in_time = time_more c.args.alarms.now c.loop-at.at c.index-alarms-at.result within c.index-alarms-at.is c.end_or_never-end.ensures.in_range c.loop-at.invariant.in_time;
       settled = settled_more c.args.alarms.now c.loop-at.at c.index-alarms-at.result within c.index-alarms-at.is c.end_or_never-end.ensures.settled c.loop-at.invariant.settled;
     }
+
+pub loop-at-init : goal.loop-at-init
+loop-at-init c = grind (arith, common_steps)

@@ -1,4 +1,5 @@
-use Rattle.std.proofs.Common.{◌≡◌, Some, Ok, Err, slice_get, length, ap, refl}
+use Rattle.std.proofs.Common.{◌≡◌, Some, Ok, Err, slice_get, length, ap, refl, arith}
+use Rattle.std.proofs.lemmas.Grind.{common_steps}
 use Rattle.std.proofs.lemmas.Option.{slice_get_read}
 use Rattle.alarm_machine.specs.Alarms.{AnswersOrder, after_order}
 use Rattle.alarm_bank.specs.Banks.{PlainBank}
@@ -20,3 +21,6 @@ returns-in-Err c =
     let found_now : slice_get c.args.self.now.alarms c.args.alarm ≡ Some c.in-Some.found.now = rw (← c.self.view_is) found in
     let answered_now : AnswersOrder (after_order c.args.verb c.args.self.now.moment c.in-Some.found.now) c.in-Some.found.now c.order.new.self (Err c.in-Err.field-0) = rw (← ap (λ (w : PlainBank). w.moment) c.self.view_is) c.in-Err.ensures in
     order_err c.args.self.now c.args.alarm c.args.verb c.in-Some.found.now c.order.new.self c.in-Err.field-0 found_now answered_now
+
+pub returns-in_default : goal.returns-in_default
+returns-in_default c = grind (arith, common_steps)
