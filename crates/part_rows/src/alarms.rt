@@ -1,8 +1,8 @@
 //! The table of an alarm's transitions, cell by cell, and each public call of `alarm_machine`.
 
-use crate::printing::{moment_of, number_of, parts_of, push_all, push_number, truth_text};
+use crate::printing::{moment_of, number_of, parts_of, truth_text};
 use alarm_machine::{Alarm, Change, Code, LONGEST_SHELVE_MS, OrderFault, Verb};
-use std::alloc::{AllocError, Global};
+use row_text::Page;
 
 /// The order that a word spells; a shelving has its time after a mark. A restart for any other word.
 pub fn verb_of(word: &str) -> Verb {
@@ -57,13 +57,13 @@ fn reached(before: &Alarm, after: &Alarm, change: Option<Change>) -> &'static st
 }
 
 /// Adds the codes after a scan at moment 10: suppressed without and with a condition, with a condition, with neither.
-fn push_scans(text: &mut String, alarm: &Alarm) -> Result<(), AllocError> {
+fn push_scans(page: &mut Page, alarm: &Alarm) {
     for (condition, suppressed) in [(false, true), (true, true), (true, false), (false, false)] {
         let mut copy = *alarm;
         let change = copy.scan(condition, suppressed, 10);
-        push_all(text, &[" ", reached(alarm, &copy, change)])?;
+        page.word(reached(alarm, &copy, change));
     }
-    text.push_str(" |")
+    page.add(" |");
 }
 
 /// What comes of an order at moment 2: the code or the refusal; `!` where a refused order changed the alarm.
@@ -81,27 +81,27 @@ const ORDERS: &str =
     "ack reset unshelve remove return restart shelve=1 shelve=5000 shelve=5001 shelve=0";
 
 /// The line of the table for an alarm: its code, the codes after scans, and what comes of orders.
-pub fn push_alarm(text: &mut String, words: &str) -> Result<(), AllocError> {
+pub fn push_alarm(page: &mut Page, words: &str) {
     let alarm = alarm_of(words);
-    push_all(text, &[alarm.state().code().text(), ":"])?;
-    push_scans(text, &alarm)?;
+    page.add(alarm.state().code().text());
+    page.add(":");
+    push_scans(page, &alarm);
     for word in ORDERS.split(" ") {
-        push_all(text, &[" ", ordered(&alarm, verb_of(word))])?;
+        page.word(ordered(&alarm, verb_of(word)));
     }
-    Ok(())
 }
 
 /// Adds the end of a shelf, or `-`.
-fn push_end(alloc: Global, text: &mut String, end: Option<u64>) -> Result<(), AllocError> {
+fn push_end(page: &mut Page, end: Option<u64>) {
     match end {
-        Some(end) => push_number(alloc, text, i128::from(end)),
-        None => text.push_str(" -"),
+        Some(end) => page.number(i128::from(end)),
+        None => page.add(" -"),
     }
 }
 
 /// The ends of an alarm's shelf, from the alarm and from its state, after each order of the words: at its moment, shelving for so long; for
 /// no time the shelf is ended by hand. `!` after an order that is refused.
-pub fn push_ends(alloc: Global, text: &mut String, words: &str) -> Result<(), AllocError> {
+pub fn push_ends(page: &mut Page, words: &str) {
     let mut alarm = Alarm::new(false, LONGEST_SHELVE_MS);
     for word in words.split(" ") {
         let (last, time) = parts_of(word, "+");
@@ -111,21 +111,20 @@ pub fn push_ends(alloc: Global, text: &mut String, words: &str) -> Result<(), Al
             Verb::Shelve(number_of(time))
         };
         if alarm.order(verb, moment_of(last)).is_err() {
-            text.push_str(" !")?;
+            page.add(" !");
         }
-        push_end(alloc, text, alarm.end())?;
-        push_end(alloc, text, alarm.state().end())?;
+        push_end(page, alarm.end());
+        push_end(page, alarm.state().end());
     }
-    Ok(())
 }
 
 /// What an alarm holds, and whether it rests: as it was last scanned, at moments 5001 and 5002, and at moment 3 with the other condition
 /// and with the other suppression.
-pub fn push_held(alloc: Global, text: &mut String, words: &str) -> Result<(), AllocError> {
+pub fn push_held(page: &mut Page, words: &str) {
     let alarm = alarm_of(words);
     let (condition, suppressed) = (alarm.condition(), alarm.suppressed());
-    text.push_str(truth_text(alarm.latching()))?;
-    push_number(alloc, text, i128::from(alarm.max_shelve_ms()))?;
+    page.add(truth_text(alarm.latching()));
+    page.number(i128::from(alarm.max_shelve_ms()));
     for truth in [
         condition,
         suppressed,
@@ -134,19 +133,18 @@ pub fn push_held(alloc: Global, text: &mut String, words: &str) -> Result<(), Al
         alarm.rests(!condition, suppressed, 3),
         alarm.rests(condition, !suppressed, 3),
     ] {
-        push_all(text, &[" ", truth_text(truth)])?;
+        page.truth(truth);
     }
-    Ok(())
 }
 
 /// The places and texts of all codes in their order, the texts of the orders of the words, and those of refusals.
-pub fn push_texts(alloc: Global, text: &mut String, words: &str) -> Result<(), AllocError> {
+pub fn push_texts(page: &mut Page, words: &str) {
     for code in Code::all() {
-        push_number(alloc, text, i128::from(code.rank()))?;
-        push_all(text, &[" ", code.text()])?;
+        page.number(i128::from(code.rank()));
+        page.word(code.text());
     }
     for word in words.split(" ") {
-        push_all(text, &[" ", verb_of(word).text()])?;
+        page.word(verb_of(word).text());
     }
     for fault in [
         OrderFault::UnknownTarget,
@@ -155,24 +153,26 @@ pub fn push_texts(alloc: Global, text: &mut String, words: &str) -> Result<(), A
         OrderFault::ShelveTime,
         OrderFault::NotFaulted,
     ] {
-        push_all(text, &[" ", fault.text()])?;
+        page.word(fault.text());
     }
-    Ok(())
+}
+
+/// Adds the codes of a change.
+fn push_change(page: &mut Page, change: Change) {
+    page.word(change.from().text());
+    page.add(">");
+    page.add(change.to().text());
 }
 
 /// Adds the change between each two codes: the codes of the change, or `-` where there is none.
-pub fn push_changes(text: &mut String) -> Result<(), AllocError> {
+pub fn push_changes(page: &mut Page) {
     for from in Code::all() {
         for to in Code::all() {
             match Change::between(from, to) {
-                Some(change) => push_all(
-                    text,
-                    &[" ", change.from().text(), ">", change.to().text()],
-                )?,
-                None => text.push_str(" -")?,
+                Some(change) => push_change(page, change),
+                None => page.add(" -"),
             }
         }
-        text.push_str("\n")?;
+        page.add("\n");
     }
-    Ok(())
 }

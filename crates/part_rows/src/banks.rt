@@ -1,10 +1,11 @@
 //! The alarms of a bank (`alarm_bank`): what an order would be answered, which events it takes, and when the next shelf ends.
 
 use crate::alarms::verb_of;
-use crate::printing::{number_of, parts_of, push_all, push_number};
+use crate::printing::{number_of, parts_of};
 use alarm_bank::{Bank, BankEvent, Site};
 use alarm_machine::{Alarm, Change, OrderFault, Verb};
 use plant_types::Items;
+use row_text::Page;
 use std::alloc::{AllocError, Global};
 
 /// A bank of three alarms before its first scan, of which the second one latches; each may be shelved for 5000 ms.
@@ -50,14 +51,21 @@ fn order_of(word: &str) -> BankEvent {
     }
 }
 
-/// Gives a bank the event of a word.
-fn advance(alloc: Global, bank: &mut Bank, word: &str) -> Result<(), AllocError> {
-    let event = match word.strip_prefix("scan/") {
-        Some(scan) => scan_of(alloc, scan)?,
-        None => order_of(word),
-    };
-    bank.advance(&event);
-    Ok(())
+/// The event of a word.
+fn event_of(alloc: Global, word: &str) -> Result<BankEvent, AllocError> {
+    match word.strip_prefix("scan/") {
+        Some(scan) => scan_of(alloc, scan),
+        None => Ok(order_of(word)),
+    }
+}
+
+/// Gives a bank the event of a word, and shows it then.
+fn push_advanced(alloc: Global, page: &mut Page, bank: &mut Bank, word: &str) {
+    match event_of(alloc, word) {
+        Ok(event) => bank.advance(&event),
+        Err(_) => page.refuse(),
+    }
+    push_seen(page, bank);
 }
 
 /// The code to which an order would bring an alarm, `-` where it would keep its code; or the refusal.
@@ -73,50 +81,45 @@ fn told(reply: Result<Option<Change>, OrderFault>) -> &'static str {
 const ORDERS: &str = "ack reset shelve=5000 shelve=5001 unshelve remove return restart";
 
 /// Adds what the three alarms, and one that isn't there, would answer to orders, each in a line.
-fn push_replies(text: &mut String, bank: &Bank) -> Result<(), AllocError> {
+fn push_replies(page: &mut Page, bank: &Bank) {
     for alarm in 0..4 {
-        text.push_str("\n")?;
+        page.add("\n");
         for word in ORDERS.split(" ") {
-            push_all(text, &[" ", told(bank.reply(alarm, verb_of(word)))])?;
+            page.word(told(bank.reply(alarm, verb_of(word))));
         }
     }
-    Ok(())
 }
 
 /// Adds a bank's moment, its next end and what its first alarm would answer to ack.
-fn push_seen(alloc: Global, text: &mut String, bank: &Bank) -> Result<(), AllocError> {
-    text.push_str("\n")?;
-    push_number(alloc, text, i128::from(bank.moment()))?;
+fn push_seen(page: &mut Page, bank: &Bank) {
+    page.add("\n");
+    page.number(i128::from(bank.moment()));
     match bank.next_end() {
-        Some(end) => push_number(alloc, text, i128::from(end))?,
-        None => text.push_str(" -")?,
+        Some(end) => page.number(i128::from(end)),
+        None => page.add(" -"),
     }
-    push_all(text, &[" ", told(bank.reply(0, Verb::Ack))])
+    page.word(told(bank.reply(0, Verb::Ack)));
 }
 
 /// Shows a lent bank at first and after each event of the words; for the word `replies` it shows all replies.
-fn push_shown(
-    alloc: Global,
-    text: &mut String,
-    bank: &mut Bank,
-    words: &str,
-) -> Result<(), AllocError> {
-    push_seen(alloc, text, bank)?;
+fn push_shown(alloc: Global, page: &mut Page, bank: &mut Bank, words: &str) {
+    push_seen(page, bank);
     for word in words.split(" ") {
         if word == "replies" {
-            push_replies(text, bank)?;
+            push_replies(page, bank);
         } else {
-            advance(alloc, bank, word)?;
-            push_seen(alloc, text, bank)?;
+            push_advanced(alloc, page, bank, word);
         }
     }
-    Ok(())
 }
 
 /// Shows a bank at first and after each event of the words. It is let go here alone.
-pub fn push_bank(alloc: Global, text: &mut String, words: &str) -> Result<(), AllocError> {
-    let mut bank = bank(alloc)?;
-    let shown = push_shown(alloc, text, &mut bank, words);
-    drop(bank);
-    shown
+pub fn push_bank(alloc: Global, page: &mut Page, words: &str) {
+    match bank(alloc) {
+        Ok(mut bank) => {
+            push_shown(alloc, page, &mut bank, words);
+            drop(bank);
+        }
+        Err(_) => page.refuse(),
+    }
 }

@@ -4,18 +4,16 @@ use crate::printing::{moment_of, number_of, parts_of};
 use alarm_machine::{Change, Code, OrderFault, Verb};
 use journal_core::{Entry, Row, row_text};
 use plant_types::{Place, Trap};
+use row_text::Page;
 use stamps::Epoch;
-use std::alloc::{AllocError, Global};
+use std::alloc::Global;
 
 /// The stamp of a moment after an epoch; `-` where the text is no epoch.
-pub fn push_stamp(alloc: Global, text: &mut String, words: &str) -> Result<(), AllocError> {
+pub fn push_stamp(alloc: Global, page: &mut Page, words: &str) {
     let (epoch, moment) = parts_of(words, " ");
     match Epoch::read(epoch) {
-        Some(epoch) => {
-            let stamp = epoch.stamp(alloc, moment_of(moment))?;
-            text.push_str(stamp.as_str())
-        }
-        None => text.push_str("-"),
+        Some(epoch) => page.add_made(epoch.stamp(alloc, moment_of(moment))),
+        None => page.add("-"),
     }
 }
 
@@ -49,20 +47,19 @@ fn entry_of(number: u64) -> Option<(Entry, &'static str)> {
 }
 
 /// The text of the row of a number, at a moment.
-pub fn push_row(alloc: Global, text: &mut String, words: &str) -> Result<(), AllocError> {
+pub fn push_row(alloc: Global, page: &mut Page, words: &str) {
     let (number, moment) = parts_of(words, " ");
     let number = number_of(number);
     let Some((entry, name)) = entry_of(number) else {
-        return Ok(());
+        return;
     };
     let Some(epoch) = Epoch::read("2024-01-01T00:00:00Z") else {
-        return Ok(());
+        return;
     };
     let row = Row {
         number,
         moment: moment_of(moment),
         entry,
     };
-    let line = row_text(alloc, &epoch, &row, name)?;
-    text.push_str(line.as_str())
+    page.add_made(row_text(alloc, &epoch, &row, name));
 }

@@ -28,6 +28,6 @@ use table::answers_to;
 fn main(rt: HostRuntime) -> io::Result<()> {
     let table = io::read_to_string(rt.alloc(), rt.reader())?;
     let text = answers_to(rt.alloc(), table.as_str())?;
-    io::writer(&rt).write_all(text.as_bytes())?;
+    io::writer(&rt).write_all(text.as_slice())?;
     Ok(())
 }

@@ -2,31 +2,22 @@
 
 ghost use Rattle.std.specs.Prelude.{◌≤◌};
 
-use plant_types::Trap;
-use row_text::push_line;
+use row_text::{Page, push_line};
 use std::alloc::{AllocError, Global};
 
-/// Adds texts, one after another.
-pub fn push_all(text: &mut String, parts: &[&str]) -> Result<(), AllocError> {
-    for part in parts {
-        text.push_str(part)?;
-    }
-    Ok(())
-}
-
-/// Adds a space and a number.
-pub fn push_number(alloc: Global, text: &mut String, number: i128) -> Result<(), AllocError> {
-    let shown = number.to_string(alloc)?;
-    push_all(text, &[" ", shown.as_str()])
-}
+/// The digits of hexadecimal numbers.
+const DIGITS: &[u8; 16] = b"0123456789abcdef";
 
 /// Adds a byte: a character of ASCII that can be seen, or a backslash, `x` and two digits.
-pub fn push_byte(alloc: Global, text: &mut String, byte: u8) -> Result<(), AllocError> {
+pub fn push_byte(page: &mut Page, byte: u8) {
     if byte.is_ascii_graphic() {
-        return text.push(char::from(byte));
+        return page.add_bytes(&[byte]);
     }
-    let shown = format!(in alloc; "\\x{byte:02x}")?;
-    text.push_str(shown.as_str())
+    let (high, low) = (
+        DIGITS[usize::from(byte >> 4)],
+        DIGITS[usize::from(byte & 15)],
+    );
+    page.add_bytes(&[b'\\', b'x', high, low]);
 }
 
 /// How a truth is printed.

@@ -3,11 +3,11 @@
 ghost use Rattle.plant_logic.specs.Blocks.{AreBelow};
 ghost use Rattle.plant_logic.specs.Source.{source_of};
 
-use crate::printing::{push_all, push_number};
 use crate::runs::push_judged;
 use plant_limits::{LimitFault, costs, limits};
 use plant_logic::{BlockRef, Logic, Routine, logic_of, order_is_of_source};
 use plant_sources::units;
+use row_text::Page;
 use st_typing::{Typed, check};
 use std::alloc::{AllocError, Global};
 
@@ -23,69 +23,59 @@ fn of_text(of: BlockRef) -> &'static str {
 }
 
 /// Adds a routine: its name, its variables and its instances.
-fn push_routine(text: &mut String, routine: &Routine) -> Result<(), AllocError> {
-    text.push_str(routine.name.as_str())?;
+fn push_routine(page: &mut Page, routine: &Routine) {
+    page.add(routine.name.as_str());
     for local in &routine.locals {
-        push_all(text, &[" ", local.name.as_str()])?;
+        page.word(local.name.as_str());
     }
     for instance in &routine.instances {
-        push_all(text, &[" ", instance.name.as_str()])?;
-        text.push_str(of_text(instance.of))?;
+        page.word(instance.name.as_str());
+        page.add(of_text(instance.of));
     }
-    text.push_str("; ")
+    page.add("; ");
 }
 
 /// Adds the block types and programs of a logic.
-fn push_logic(text: &mut String, logic: &Logic) -> Result<(), AllocError> {
+fn push_logic(page: &mut Page, logic: &Logic) {
     for block in &logic.blocks {
-        push_routine(text, block)?;
+        push_routine(page, block);
     }
     for program in &logic.programs {
-        push_routine(text, program)?;
+        push_routine(page, program);
     }
-    Ok(())
 }
 
 /// Adds what each program costs; `?` where the source is past a limit.
-fn push_costs(
-    alloc: Global,
-    text: &mut String,
-    logic: &Logic,
-    order: &[usize],
-) -> Result<(), AllocError>
+fn push_costs(alloc: Global, page: &mut Page, logic: &Logic, order: &[usize])
     requires { AreBelow (source_of logic.now).blocks order.now }
 {
     match limits(alloc, logic, order) {
         Ok(()) => {}
-        Err(LimitFault::Memory) => return Err(AllocError),
-        Err(_) => return text.push_str("?"),
+        Err(LimitFault::Memory) => return page.refuse(),
+        Err(_) => return page.add("?"),
     }
-    for cost in &costs(alloc, logic, order)? {
-        push_number(alloc, text, i128::from(*cost))?;
+    let Ok(costs) = costs(alloc, logic, order) else {
+        return page.refuse();
+    };
+    for cost in &costs {
+        page.number(i128::from(*cost));
     }
-    Ok(())
 }
 
 /// Adds what the programs of a logic cost, and what it has before, where that is asked for.
-fn push_seen(
-    alloc: Global,
-    text: &mut String,
-    word: &str,
-    logic: &Logic,
-    order: &[usize],
-) -> Result<(), AllocError>
+fn push_seen(alloc: Global, page: &mut Page, word: &str, logic: &Logic, order: &[usize])
     requires { AreBelow (source_of logic.now).blocks order.now }
 {
     if word == "look" {
-        push_logic(text, logic)?;
+        push_logic(page, logic);
     }
-    push_costs(alloc, text, logic, order)
+    push_costs(alloc, page, logic, order);
 }
 
 /// Adds what there is to see of the logic of a source. The logic is let go here alone.
 fn push_logic_of(
     alloc: Global,
-    text: &mut String,
+    page: &mut Page,
     word: &str,
     typed: &Typed<'_>,
 ) -> Result<(), AllocError> {
@@ -93,26 +83,25 @@ fn push_logic_of(
     let _units = typed.units();
     let order = typed.order();
     let logic = logic_of(alloc, typed)?;
-    let seen = push_seen(alloc, text, word, &logic, order);
+    push_seen(alloc, page, word, &logic, order);
     drop(logic);
-    seen
+    Ok(())
 }
 
 /// Adds what the row's word asks of a source.
-pub fn push_source(
-    alloc: Global,
-    text: &mut String,
-    word: &str,
-    source: &str,
-) -> Result<(), AllocError> {
+pub fn push_source(alloc: Global, page: &mut Page, word: &str, source: &str) {
     let Ok(units) = units(alloc, &[("p.st", source.as_bytes())]) else {
-        return Err(AllocError);
+        return page.refuse();
     };
     let Ok(typed) = check(alloc, &units) else {
-        return Err(AllocError);
+        return page.refuse();
     };
     match word {
-        "look" | "cost" => push_logic_of(alloc, text, word, &typed),
-        _ => push_judged(alloc, text, word, &typed),
+        "look" | "cost" => {
+            if push_logic_of(alloc, page, word, &typed).is_err() {
+                page.refuse();
+            }
+        }
+        _ => push_judged(alloc, page, word, &typed),
     }
 }

@@ -7,88 +7,92 @@ use crate::choices::{push_chosen, push_statuses};
 use crate::codes::{push_cells, push_counts};
 use crate::commands::{push_command, push_lines};
 use crate::journals::{push_row, push_stamp};
-use crate::printing::{number_of, parts_of, push_all};
+use crate::printing::{number_of, parts_of};
 use crate::sources::push_source;
 use crate::trees::{push_copied, push_labels, push_named_body, push_named_sum};
 use crate::values::{push_fitted, push_lists, push_name, push_names, push_same, push_truths};
+use row_text::Page;
 use std::alloc::{AllocError, Global};
 use twin_runs::{push_level_row, push_seed};
 
 /// Adds the answer to a row of words, values, alarms or blocks; of any other row that of `push_other`.
-fn push_answer(alloc: Global, text: &mut String, word: &str, rest: &str) -> Result<(), AllocError> {
+fn push_answer(alloc: Global, page: &mut Page, word: &str, rest: &str) {
     match word {
-        "same" => push_same(alloc, text, rest),
-        "name" => push_name(text, rest),
-        "names" => push_names(alloc, text, rest),
-        "fitted" => push_fitted(alloc, text, rest),
-        "truths" => push_truths(alloc, text),
-        "lists" => push_lists(alloc, text, rest),
-        "alarm" => push_alarm(text, rest),
-        "ends" => push_ends(alloc, text, rest),
-        "held" => push_held(alloc, text, rest),
-        "texts" => push_texts(alloc, text, rest),
-        "changes" => push_changes(text),
-        "bank" => push_bank(alloc, text, rest),
-        "on_delay" => push_on_delay(alloc, text, rest),
-        "off_delay" => push_off_delay(alloc, text, rest),
-        "edges" => push_edges(text, rest),
-        _ => push_other(alloc, text, word, rest),
+        "same" => push_same(alloc, page, rest),
+        "name" => push_name(page, rest),
+        "names" => push_names(alloc, page, rest),
+        "fitted" => push_fitted(page, rest),
+        "truths" => push_truths(page),
+        "lists" => push_lists(alloc, page, rest),
+        "alarm" => push_alarm(page, rest),
+        "ends" => push_ends(page, rest),
+        "held" => push_held(page, rest),
+        "texts" => push_texts(page, rest),
+        "changes" => push_changes(page),
+        "bank" => push_bank(alloc, page, rest),
+        "on_delay" => push_on_delay(page, rest),
+        "off_delay" => push_off_delay(page, rest),
+        "edges" => push_edges(page, rest),
+        _ => push_other(alloc, page, word, rest),
     }
 }
 
 /// Adds what is left where the levels of a source, behind a `|`, are handed the runs that words name.
-fn push_levels(alloc: Global, text: &mut String, words: &str) -> Result<(), AllocError> {
+fn push_levels(alloc: Global, page: &mut Page, words: &str) {
     let (named, source) = parts_of(words, "|");
-    push_level_row(alloc, text, named, source)
+    push_level_row(alloc, page, named, source);
 }
 
 /// Adds the answer to a row of journals, commands, trees, code or sources.
-fn push_other(alloc: Global, text: &mut String, word: &str, rest: &str) -> Result<(), AllocError> {
+fn push_other(alloc: Global, page: &mut Page, word: &str, rest: &str) {
     match word {
-        "stamp" => push_stamp(alloc, text, rest),
-        "row" => push_row(alloc, text, rest),
-        "command" => push_command(alloc, text, rest),
-        "lines" => push_lines(alloc, text),
-        "choose" => push_chosen(alloc, text, rest),
-        "statuses" => push_statuses(alloc, text),
-        "copied" => push_copied(alloc, text),
-        "labels" => push_labels(alloc, text),
-        "named_sum" => push_named_sum(alloc, text),
-        "named_body" => push_named_body(alloc, text),
-        "cells" => push_cells(alloc, text),
-        "counts" => push_counts(alloc, text),
-        "look" | "cost" | "judge" | "walk" | "count" => push_source(alloc, text, word, rest),
-        "levels" => push_levels(alloc, text, rest),
-        "seed" => push_seed(alloc, text, number_of(rest)),
-        _ => text.push_str("?"),
+        "stamp" => push_stamp(alloc, page, rest),
+        "row" => push_row(alloc, page, rest),
+        "command" => push_command(alloc, page, rest),
+        "lines" => push_lines(alloc, page),
+        "choose" => push_chosen(alloc, page, rest),
+        "statuses" => push_statuses(page),
+        "copied" => push_copied(alloc, page),
+        "labels" => push_labels(alloc, page),
+        "named_sum" => push_named_sum(alloc, page),
+        "named_body" => push_named_body(alloc, page),
+        "cells" => push_cells(alloc, page),
+        "counts" => push_counts(alloc, page),
+        "look" | "cost" | "judge" | "walk" | "count" => push_source(alloc, page, word, rest),
+        "levels" => push_levels(alloc, page, rest),
+        "seed" => push_seed(alloc, page, number_of(rest)),
+        _ => page.add("?"),
     }
 }
 
 /// A row and its answer. Fails where memory was refused.
-fn answered(alloc: Global, line: &str) -> Result<String, AllocError> {
-    let mut text = String::new(alloc);
-    push_all(&mut text, &[line, "\n"])?;
+fn answered(alloc: Global, line: &str) -> Result<Vec<u8>, AllocError> {
+    let mut page = Page::new(alloc);
+    page.line(line);
     let (word, rest) = parts_of(line, " ");
-    push_answer(alloc, &mut text, word, rest)?;
-    text.push_str("\n")?;
-    Ok(text)
+    push_answer(alloc, &mut page, word, rest);
+    page.add("\n");
+    page.end()
 }
 
-/// A row and its answer; where memory is refused it is answered once more.
-fn answered_again(alloc: Global, line: &str) -> Result<String, AllocError> {
+/// Adds a row and its answer; where memory is refused it is answered once more.
+fn push_answered(alloc: Global, text: &mut Page, line: &str) {
+    if let Ok(answer) = answered(alloc, line) {
+        return text.add_bytes(answer.as_slice());
+    }
     match answered(alloc, line) {
-        Ok(text) => Ok(text),
-        Err(AllocError) => answered(alloc, line),
+        Ok(answer) => text.add_bytes(answer.as_slice()),
+        Err(_) => text.refuse(),
     }
 }
 
-/// The rows of a table and their answers. A row without words and one that begins with `#` are passed over.
-pub fn answers_to(alloc: Global, table: &str) -> Result<String, AllocError> {
-    let mut text = String::new(alloc);
+/// The rows of a table and their answers. A row without words and one that begins with `#` are passed over. Fails where memory was refused.
+pub fn answers_to(alloc: Global, table: &str) -> Result<Vec<u8>, AllocError> {
+    let mut text = Page::new(alloc);
     for line in table.lines() {
         if !line.is_empty() && !line.starts_with("#") {
-            text.push_str(answered_again(alloc, line)?.as_str())?;
+            push_answered(alloc, &mut text, line);
         }
     }
-    Ok(text)
+    text.end()
 }

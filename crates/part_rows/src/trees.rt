@@ -4,7 +4,7 @@
 ghost use Rattle.std.specs.Prelude.{◌≡◌, ℕ, IfOk};
 ghost use Rattle.st_tree.specs.View.{view_expr};
 
-use crate::printing::push_number;
+use row_text::Page;
 use st_tree::{
     Binary, Expr, Label, Literal, Pass, Stmt, copy_body, copy_labels, map_body, map_expr,
 };
@@ -24,9 +24,16 @@ fn repeated(alloc: Global) -> Result<Stmt<usize>, AllocError> {
     })
 }
 
+/// Adds three numbers.
+fn push_numbers(page: &mut Page, numbers: [usize; 3]) {
+    for number in numbers {
+        page.number(number as i128);
+    }
+}
+
 /// Adds a loop's number, its variable and how many statements it repeats; of an assignment its number, its variable and the variable
 /// that it reads.
-fn push_body(alloc: Global, text: &mut String, body: &[Stmt<usize>]) -> Result<(), AllocError> {
+fn push_body(page: &mut Page, body: &[Stmt<usize>]) {
     let numbers = match body {
         [
             Stmt::For {
@@ -39,29 +46,40 @@ fn push_body(alloc: Global, text: &mut String, body: &[Stmt<usize>]) -> Result<(
         [Stmt::Assign(number, variable, Expr::Read(read))] => {
             [*number as usize, *variable, *read]
         }
-        _ => return text.push_str(" ?"),
+        _ => return page.word("?"),
     };
-    for number in numbers {
-        push_number(alloc, text, number as i128)?;
+    push_numbers(page, numbers);
+}
+
+/// Adds what there is to see of a body, unless memory was refused for it.
+fn push_made(page: &mut Page, body: Result<Vec<Stmt<usize>>, AllocError>) {
+    match body {
+        Ok(body) => push_body(page, body.as_slice()),
+        Err(_) => page.refuse(),
     }
-    Ok(())
 }
 
 /// A loop's copy.
-pub fn push_copied(alloc: Global, text: &mut String) -> Result<(), AllocError> {
+fn copied(alloc: Global) -> Result<Vec<Stmt<usize>>, AllocError> {
     let repeated = [repeated(alloc)?];
-    let copy = copy_body(alloc, &repeated)?;
-    push_body(alloc, text, copy.as_slice())
+    copy_body(alloc, &repeated)
+}
+
+/// Adds a loop's copy.
+pub fn push_copied(alloc: Global, page: &mut Page) {
+    push_made(page, copied(alloc));
 }
 
 /// The copy of the labels 1..1 and 3..5.
-pub fn push_labels(alloc: Global, text: &mut String) -> Result<(), AllocError> {
+pub fn push_labels(alloc: Global, page: &mut Page) {
     let labels = [Label { low: 1, high: 1 }, Label { low: 3, high: 5 }];
-    for label in &copy_labels(alloc, &labels)? {
-        push_number(alloc, text, i128::from(label.low))?;
-        push_number(alloc, text, i128::from(label.high))?;
+    let Ok(labels) = copy_labels(alloc, &labels) else {
+        return page.refuse();
+    };
+    for label in &labels {
+        page.number(i128::from(label.low));
+        page.number(i128::from(label.high));
     }
-    Ok(())
 }
 
 /// The pass that puts one name in the place of each. Its worlds are of a type that has no part in it.
@@ -127,25 +145,41 @@ impl Pass<usize, usize> for Named {
     fn laws(&self) {}
 }
 
-/// v4 + v5.6 with the name 9 in the place of each: the three names.
-pub fn push_named_sum(alloc: Global, text: &mut String) -> Result<(), AllocError> {
+/// v4 + v5.6 with the name 9 in the place of each.
+fn named_sum(alloc: Global) -> Result<Expr<usize>, AllocError> {
     let left = Box::new(alloc, Expr::Read(4))?;
     let right = Box::new(alloc, Expr::Output(5, 6))?;
-    let sum = Expr::Binary(Binary::Add, left, right);
-    let Expr::Binary(Binary::Add, left, right) = map_expr(alloc, &Named { name: 9 }, &sum)? else {
-        return text.push_str(" ?");
+    map_expr(
+        alloc,
+        &Named { name: 9 },
+        &Expr::Binary(Binary::Add, left, right),
+    )
+}
+
+/// The three names of such a sum.
+fn names_of(sum: &Expr<usize>) -> Option<[usize; 3]> {
+    let Expr::Binary(Binary::Add, left, right) = sum else {
+        return None;
     };
-    let (Expr::Read(first), Expr::Output(second, third)) = (&*left, &*right) else {
-        return text.push_str(" ?");
+    match (&**left, &**right) {
+        (Expr::Read(first), Expr::Output(second, third)) => Some([*first, *second, *third]),
+        _ => None,
+    }
+}
+
+/// v4 + v5.6 with the name 9 in the place of each: the three names.
+pub fn push_named_sum(alloc: Global, page: &mut Page) {
+    let Ok(sum) = named_sum(alloc) else {
+        return page.refuse();
     };
-    push_number(alloc, text, *first as i128)?;
-    push_number(alloc, text, *second as i128)?;
-    push_number(alloc, text, *third as i128)
+    match names_of(&sum) {
+        Some(names) => push_numbers(page, names),
+        None => page.word("?"),
+    }
 }
 
 /// v4 := v5 with the name 9 in the place of each: the statement's number and the two names.
-pub fn push_named_body(alloc: Global, text: &mut String) -> Result<(), AllocError> {
+pub fn push_named_body(alloc: Global, page: &mut Page) {
     let body = [Stmt::Assign(7, 4, Expr::Read(5))];
-    let named = map_body(alloc, &Named { name: 9 }, &body)?;
-    push_body(alloc, text, named.as_slice())
+    push_made(page, map_body(alloc, &Named { name: 9 }, &body));
 }

@@ -5,6 +5,7 @@ use crate::names::{
     BLOCKS, BOOLS, Called, DINTS, GLOBALS, GROUPS, NAMES, PROGRAMS, Routine, THIRD, TIMES,
 };
 use plant_types::Kind;
+use row_text::Page;
 use std::alloc::{AllocError, Global};
 
 /// Something still to be written.
@@ -115,18 +116,24 @@ struct Writer<'a> {
     routine: Routine,
     groups: Groups,
     /// What is written.
-    text: String,
+    text: &'a mut Page,
     /// What is still to be written, the next one last.
     pieces: Vec<Piece>,
 }
 
 impl Writer<'_> {
-    /// Puts pieces before all that waits.
-    fn next(&mut self, pieces: &[Piece]) -> Result<(), AllocError> {
-        for piece in pieces.iter().rev() {
-            self.pieces.push(*piece)?;
+    /// Puts a piece before all that waits.
+    fn wait(&mut self, piece: Piece) {
+        if self.pieces.push(piece).is_err() {
+            self.text.refuse();
         }
-        Ok(())
+    }
+
+    /// Puts pieces before all that waits.
+    fn next(&mut self, pieces: &[Piece]) {
+        for piece in pieces.iter().rev() {
+            self.wait(*piece);
+        }
     }
 
     /// A kind.
@@ -138,7 +145,7 @@ impl Writer<'_> {
     }
 
     /// Writes a literal of a kind, now and then one at a bound of its range.
-    fn literal(&mut self, kind: Kind) -> Result<(), AllocError> {
+    fn literal(&mut self, kind: Kind) {
         let from = match (kind, self.dice.is_one_of(30)) {
             (Kind::Bool, _) => BOOL_LITERALS,
             (Kind::Dint, false) => DINT_LITERALS,
@@ -147,23 +154,23 @@ impl Writer<'_> {
             (Kind::Time, true) => FAR_TIME_LITERALS,
         };
         let word = self.dice.pick(from, "");
-        self.text.push_str(word)
+        self.text.add(word);
     }
 
     /// Writes a name: of a global with its group, and where there is no group, the like name of the body's own.
-    fn name(&mut self, name: &'static str, group: &'static str) -> Result<(), AllocError> {
+    fn name(&mut self, name: &'static str, group: &'static str) {
         match name.strip_prefix("g") {
-            Some(own) if group.is_empty() => self.text.push_str(own),
+            Some(own) if group.is_empty() => self.text.add(own),
             Some(_) => {
-                self.text.push_str(name)?;
-                self.text.push_str(group)
+                self.text.add(name);
+                self.text.add(group);
             }
-            None => self.text.push_str(name),
+            None => self.text.add(name),
         }
     }
 
     /// Writes a literal or a name of a kind.
-    fn leaf(&mut self, kind: Kind) -> Result<(), AllocError> {
+    fn leaf(&mut self, kind: Kind) {
         if self.dice.is_one_of(3) {
             return self.literal(kind);
         }
@@ -176,16 +183,11 @@ impl Writer<'_> {
         let name = self.dice.pick(from, "");
         let groups = [self.groups.read, self.groups.assigned];
         let group = self.dice.pick(&groups, "");
-        self.name(name, group)
+        self.name(name, group);
     }
 
     /// Has two expressions of a kind written with an operator between them.
-    fn binary(
-        &mut self,
-        operators: &[&'static str],
-        kind: Kind,
-        depth: u32,
-    ) -> Result<(), AllocError> {
+    fn binary(&mut self, operators: &[&'static str], kind: Kind, depth: u32) {
         let operator = self.dice.pick(operators, " = ");
         self.next(&[
             Piece::Words("("),
@@ -193,20 +195,20 @@ impl Writer<'_> {
             Piece::Words(operator),
             Piece::Expr(kind, depth),
             Piece::Words(")"),
-        ])
+        ]);
     }
 
     /// Has an expression written after an operator.
-    fn unary(&mut self, operator: &'static str, kind: Kind, depth: u32) -> Result<(), AllocError> {
+    fn unary(&mut self, operator: &'static str, kind: Kind, depth: u32) {
         self.next(&[
             Piece::Words(operator),
             Piece::Expr(kind, depth),
             Piece::Words(")"),
-        ])
+        ]);
     }
 
     /// Has a quotient written. Its divisor is seldom 0.
-    fn quotient(&mut self, depth: u32) -> Result<(), AllocError> {
+    fn quotient(&mut self, depth: u32) {
         if self.dice.is_one_of(4) {
             return self.binary(&[" / "], Kind::Dint, depth);
         }
@@ -215,11 +217,11 @@ impl Writer<'_> {
             Piece::Words("("),
             Piece::Expr(Kind::Dint, depth),
             Piece::Words(end),
-        ])
+        ]);
     }
 
     /// Writes an expression of a kind, at most so deep.
-    fn expression(&mut self, kind: Kind, depth: u32) -> Result<(), AllocError> {
+    fn expression(&mut self, kind: Kind, depth: u32) {
         if depth == 0 || self.dice.is_one_of(4) {
             return self.leaf(kind);
         }
@@ -238,11 +240,11 @@ impl Writer<'_> {
     }
 
     /// Writes an assignment. Most of those to numbers and times keep them small, so that not all that follows overflows.
-    fn assignment(&mut self) -> Result<(), AllocError> {
+    fn assignment(&mut self) {
         let kind = self.kind();
         let target = self.dice.pick(targets(kind), "");
-        self.name(target, self.groups.assigned)?;
-        self.text.push_str(" := ")?;
+        self.name(target, self.groups.assigned);
+        self.text.add(" := ");
         let is_free = self.dice.is_one_of(4);
         match (kind, is_free) {
             (Kind::Dint, false) => self.next(&[Piece::Expr(kind, 3), Piece::Words(" MOD 50;\n")]),
@@ -252,7 +254,7 @@ impl Writer<'_> {
     }
 
     /// Puts the arguments of a call before all that waits, from the last to the first.
-    fn arguments(&mut self, called: Called) -> Result<(), AllocError> {
+    fn arguments(&mut self, called: Called) {
         for (name, kind) in called.outputs {
             if self.dice.is_one_of(2) {
                 let target = self.dice.pick(targets(*kind), "");
@@ -261,7 +263,7 @@ impl Writer<'_> {
                     Piece::Words(*name),
                     Piece::Words(" => "),
                     Piece::Target(target),
-                ])?;
+                ]);
             }
         }
         for (name, kind) in called.inputs {
@@ -271,41 +273,40 @@ impl Writer<'_> {
                     Piece::Words(*name),
                     Piece::Words(" := "),
                     Piece::Expr(*kind, 1),
-                ])?;
+                ]);
             }
         }
-        Ok(())
     }
 
     /// Writes a call of a block.
-    fn call_of(&mut self, called: Called) -> Result<(), AllocError> {
-        self.next(&[Piece::Words(");\n")])?;
-        self.arguments(called)?;
+    fn call_of(&mut self, called: Called) {
+        self.next(&[Piece::Words(");\n")]);
+        self.arguments(called);
         let is_first_comma = matches!(self.pieces.last(), Some(Piece::Words(", ")));
         if is_first_comma {
             let _comma = self.pieces.pop();
         }
-        self.text.push_str(called.name)?;
-        self.text.push_str("(")
+        self.text.add(called.name);
+        self.text.add("(");
     }
 
     /// Writes a call.
-    fn call(&mut self) -> Result<(), AllocError> {
+    fn call(&mut self) {
         let called = self.routine.called;
         match called.first() {
             Some(first) => {
                 let chosen = self.dice.pick(called, *first);
-                self.call_of(chosen)
+                self.call_of(chosen);
             }
-            None => self.text.push_str(";\n"),
+            None => self.text.add(";\n"),
         }
     }
 
     /// Writes a branching by tests.
-    fn choice(&mut self, below: u32) -> Result<(), AllocError> {
-        self.next(&[Piece::Words("END_IF;\n")])?;
+    fn choice(&mut self, below: u32) {
+        self.next(&[Piece::Words("END_IF;\n")]);
         if self.dice.is_one_of(2) {
-            self.next(&[Piece::Words("ELSE\n"), Piece::List(below)])?;
+            self.next(&[Piece::Words("ELSE\n"), Piece::List(below)]);
         }
         for _ in 0..self.dice.below(3) {
             self.next(&[
@@ -313,25 +314,25 @@ impl Writer<'_> {
                 Piece::Expr(Kind::Bool, 2),
                 Piece::Words(" THEN\n"),
                 Piece::List(below),
-            ])?;
+            ]);
         }
         self.next(&[
             Piece::Words("IF "),
             Piece::Expr(Kind::Bool, 2),
             Piece::Words(" THEN\n"),
             Piece::List(below),
-        ])
+        ]);
     }
 
     /// Writes a branching by labels.
-    fn labelled(&mut self, below: u32) -> Result<(), AllocError> {
-        self.next(&[Piece::Words("END_CASE;\n")])?;
+    fn labelled(&mut self, below: u32) {
+        self.next(&[Piece::Words("END_CASE;\n")]);
         if self.dice.is_one_of(2) {
-            self.next(&[Piece::Words("ELSE\n"), Piece::List(below)])?;
+            self.next(&[Piece::Words("ELSE\n"), Piece::List(below)]);
         }
         for _ in 0..self.dice.below(4) + 1 {
             let labels = self.dice.pick(LABELS, "0: ");
-            self.next(&[Piece::Words(labels), Piece::List(below)])?;
+            self.next(&[Piece::Words(labels), Piece::List(below)]);
         }
         let end = self
             .dice
@@ -340,11 +341,11 @@ impl Writer<'_> {
             Piece::Words("CASE "),
             Piece::Expr(Kind::Dint, 2),
             Piece::Words(end),
-        ])
+        ]);
     }
 
     /// Writes a loop.
-    fn turns(&mut self, below: u32) -> Result<(), AllocError> {
+    fn turns(&mut self, below: u32) {
         let from = if self.dice.is_one_of(12) {
             FAR_BOUNDS
         } else {
@@ -357,16 +358,16 @@ impl Writer<'_> {
             Piece::Words(bounds),
             Piece::List(below),
             Piece::Words("END_FOR;\n"),
-        ])
+        ]);
     }
 
     /// Writes a statement at most so deep.
-    fn statement(&mut self, depth: u32) -> Result<(), AllocError> {
+    fn statement(&mut self, depth: u32) {
         let chosen = self.dice.below(16);
         if depth == 0 || chosen < 8 {
             return match chosen {
                 0 | 1 => self.call(),
-                2 => self.text.push_str(";\n"),
+                2 => self.text.add(";\n"),
                 _ => self.assignment(),
             };
         }
@@ -380,18 +381,17 @@ impl Writer<'_> {
     }
 
     /// Has a list of statements written, perhaps an empty one.
-    fn list(&mut self, depth: u32) -> Result<(), AllocError> {
+    fn list(&mut self, depth: u32) {
         let length = self.dice.below(self.routine.length.max(1)) + 1;
         for _ in 0..length {
-            self.pieces.push(Piece::Stmt(depth))?;
+            self.wait(Piece::Stmt(depth));
         }
-        Ok(())
     }
 
     /// Writes the next piece.
-    fn write(&mut self, piece: Piece) -> Result<(), AllocError> {
+    fn write(&mut self, piece: Piece) {
         match piece {
-            Piece::Words(words) => self.text.push_str(words),
+            Piece::Words(words) => self.text.add(words),
             Piece::Target(name) => self.name(name, self.groups.assigned),
             Piece::Expr(kind, depth) => self.expression(kind, depth),
             Piece::List(depth) => self.list(depth),
@@ -401,39 +401,32 @@ impl Writer<'_> {
     }
 
     /// Writes all that waits.
-    fn write_all(&mut self) -> Result<(), AllocError> {
+    fn write_all(&mut self) {
         for _ in 0..MOST {
             match self.pieces.pop() {
-                Some(piece) => self.write(piece)?,
-                None => return Ok(()),
+                Some(piece) => self.write(piece),
+                None => return,
             }
         }
-        Ok(())
     }
 }
 
 /// Adds a routine with a random body, which calls each of its blocks at least once.
-fn push_routine(
-    alloc: Global,
-    dice: &mut Dice,
-    text: &mut String,
-    routine: Routine,
-    groups: Groups,
-) -> Result<(), AllocError> {
+fn push_routine(alloc: Global, dice: &mut Dice, text: &mut Page, routine: Routine, groups: Groups) {
+    text.add(routine.head);
     let mut writer = Writer {
         dice,
         routine,
         groups,
-        text: String::from_str(alloc, routine.head)?,
+        text,
         pieces: Vec::new(alloc),
     };
-    writer.next(&[Piece::List(routine.depth)])?;
+    writer.next(&[Piece::List(routine.depth)]);
     for called in routine.called {
-        writer.next(&[Piece::List(routine.depth), Piece::Call(*called)])?;
+        writer.next(&[Piece::List(routine.depth), Piece::Call(*called)]);
     }
-    writer.write_all()?;
-    text.push_str(writer.text.as_str())?;
-    text.push_str(routine.end)
+    writer.write_all();
+    writer.text.add(routine.end);
 }
 
 /// The groups of the block types: the first one, or one time in two none.
@@ -460,19 +453,20 @@ fn program(dice: &mut Dice, many: u32) -> Routine {
     Routine { depth, ..chosen }
 }
 
-/// A random source: two block types, and 2 to 12 programs with random bodies, which share some of the globals.
-pub fn source(alloc: Global, dice: &mut Dice) -> Result<String, AllocError> {
-    let mut text = String::from_str(alloc, GLOBALS)?;
+/// A random source: two block types, and 2 to 12 programs with random bodies, which share some of the globals. Fails if memory was refused.
+pub fn source(alloc: Global, dice: &mut Dice) -> Result<Vec<u8>, AllocError> {
+    let mut text = Page::new(alloc);
+    text.add(GLOBALS);
     let groups = groups_of_blocks(dice);
     for block in BLOCKS {
-        push_routine(alloc, dice, &mut text, block, groups)?;
+        push_routine(alloc, dice, &mut text, block, groups);
     }
     let many = dice.below(11) + 2;
     for name in NAMES.iter().take(many as usize) {
-        text.push_str(name)?;
+        text.add(name);
         let routine = program(dice, many);
         let groups = groups_of_program(dice);
-        push_routine(alloc, dice, &mut text, routine, groups)?;
+        push_routine(alloc, dice, &mut text, routine, groups);
     }
-    Ok(text)
+    text.end()
 }

@@ -51,3 +51,38 @@ impl Source {
         Ok(text)
     }
 }
+
+/// A file and its name.
+#[derive(Drop)]
+pub struct File {
+    pub name: String,
+    pub source: Source,
+}
+
+impl File {
+    /// The file without lines.
+    pub fn new(alloc: Global, name: &str) -> Result<File, AllocError> {
+        Ok(File {
+            name: String::from_str(alloc, name)?,
+            source: Source::new(alloc),
+        })
+    }
+
+    /// Its bytes, with a line in place of its line `..`.
+    pub fn text(&self, alloc: Global, given: &str) -> Result<Vec<u8>, AllocError> {
+        if self.source.has_gap() {
+            return self.source.with(alloc, given);
+        }
+        Vec::from_slice(alloc, self.source.as_slice())
+    }
+}
+
+/// Whether one of files has a line `..`.
+pub fn have_gap(files: &[File]) -> bool {
+    for file in files {
+        if file.source.has_gap() {
+            return true;
+        }
+    }
+    false
+}

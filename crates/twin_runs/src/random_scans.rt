@@ -204,7 +204,7 @@ fn run_framed(alloc: Global, framed: &Framed, dice: &mut Dice) -> Result<Outcome
 
 /// Makes scans of a source, with moments, inputs and restarts from dice: its programs one after another by walk and by code, and level by level,
 /// the jobs of each level run and gathered in an order from dice. Fails if memory was refused.
-pub fn run_source(alloc: Global, source: &str, dice: &mut Dice) -> Result<Outcome, AllocError> {
+pub fn run_source(alloc: Global, source: &[u8], dice: &mut Dice) -> Result<Outcome, AllocError> {
     match framed(alloc, source) {
         Ok(framed) => {
             let outcome = run_framed(alloc, &framed, dice);

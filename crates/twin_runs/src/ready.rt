@@ -37,8 +37,8 @@ fn framed_in(alloc: Global, units: &[Unit]) -> Result<Framed, Unready> {
 }
 
 /// The logic of a source, made ready to run. Fails where it can't be run.
-pub fn framed(alloc: Global, source: &str) -> Result<Framed, Unready> {
-    match units(alloc, &[("p.st", source.as_bytes())]) {
+pub fn framed(alloc: Global, source: &[u8]) -> Result<Framed, Unready> {
+    match units(alloc, &[("p.st", source)]) {
         Ok(units) => {
             let framed = framed_in(alloc, &units);
             drop(units);

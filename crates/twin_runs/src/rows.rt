@@ -9,6 +9,7 @@ use crate::levels::{gather, new_store, split};
 use crate::ready::{Unready, framed};
 use crate::state::{State, is_alike, opened, run_in_order};
 use plant_walk::{Framed, sound_source_is_small};
+use row_text::Page;
 use scan_logic::Levelled;
 use slice_store::{Done, Misfit};
 use std::alloc::{AllocError, Global};
@@ -18,13 +19,6 @@ use std::alloc::{AllocError, Global};
 struct Handed<'a> {
     level: u32,
     words: &'a str,
-}
-
-/// Adds a number after a space.
-fn push_number(alloc: Global, text: &mut String, number: i64) -> Result<(), AllocError> {
-    let shown = number.to_string(alloc)?;
-    text.push_str(" ")?;
-    text.push_str(shown.as_str())
 }
 
 /// The level of the program of a number, from 0.
@@ -38,19 +32,14 @@ fn level_of(framed: &Framed, levelled: &Levelled, program: usize) -> u32
 }
 
 /// Adds the level of each program.
-fn push_levels(
-    alloc: Global,
-    text: &mut String,
-    framed: &Framed,
-    levelled: &Levelled,
-) -> Result<(), AllocError>
+fn push_levels(page: &mut Page, framed: &Framed, levelled: &Levelled)
     requires { AreLevelsOf framed.now levelled.now }
 {
     for program in 0..framed.programs().len() {
         let level = level_of(framed, levelled, program);
-        push_number(alloc, text, i64::from(level))?;
+        page.number(i128::from(level));
     }
-    text.push_str(",")
+    page.add(",");
 }
 
 /// The job's number and the moment that a word names: `3` is job 3 at the moment 0, and `3@5` job 3 at the moment 5.
@@ -161,44 +150,34 @@ fn gather_levels(
 }
 
 /// Adds the values of the globals, and with `!` the numbers of the faulted programs, from 1.
-fn push_values(
-    alloc: Global,
-    text: &mut String,
-    framed: &Framed,
-    state: &State,
-) -> Result<(), AllocError> {
+fn push_values(page: &mut Page, framed: &Framed, state: &State) {
     for value in state.cells.as_slice().iter().take(framed.globals().len()) {
-        push_number(alloc, text, *value)?;
+        page.number(i128::from(*value));
     }
     let mut number: i64 = 0;
     for is_faulted in &state.faulted {
         number = number.saturating_add(1);
         if *is_faulted {
-            push_number(alloc, text, number)?;
-            text.push_str("!")?;
+            page.number(i128::from(number));
+            page.add("!");
         }
     }
-    Ok(())
 }
 
 /// Adds what the levels have left, and whether the programs leave the same that run one after another.
-fn push_left(
-    alloc: Global,
-    text: &mut String,
-    framed: &Framed,
-    state: &mut State,
-) -> Result<(), AllocError>
+fn push_left(alloc: Global, page: &mut Page, framed: &Framed, state: &mut State)
     requires { HasCells framed.now state.old.twin.ran }
 {
-    push_values(alloc, text, framed, state)?;
+    push_values(page, framed, state);
     let stopped = state.stopped.as_mut_slice();
-    let ends = run_in_order(alloc, framed, &mut state.twin, stopped, 0)?;
-    drop(ends);
-    text.push_str(if is_alike(state) {
+    if run_in_order(alloc, framed, &mut state.twin, stopped, 0).is_err() {
+        return page.refuse();
+    }
+    page.add(if is_alike(state) {
         " as in order"
     } else {
         " not as in order"
-    })
+    });
 }
 
 /// How a misfit is printed.
@@ -210,56 +189,64 @@ fn misfit_text(misfit: Misfit) -> &'static str {
     }
 }
 
-/// Adds what is left when each level was handed the runs that words name, or how these don't fit.
-fn push_gathered(
+/// Hands the levels the runs that words name, and adds what is left, or how these don't fit.
+fn push_handed(
     alloc: Global,
-    text: &mut String,
+    page: &mut Page,
     framed: &Framed,
     levelled: &Levelled,
+    state: &mut State,
     named: &str,
-) -> Result<(), AllocError>
+)
+    requires levels { AreLevelsOf framed.now levelled.now }
+    requires ran { HasCells framed.now state.old.twin.ran }
+    requires cells { HasCells framed.now state.old.cells }
+    requires flags { length state.old.faulted.items ≡ length framed.now.programs }
+{
+    match gather_levels(alloc, framed, levelled, state, named) {
+        Ok(None) => push_left(alloc, page, framed, state),
+        Ok(Some(misfit)) => page.add(misfit_text(misfit)),
+        Err(_) => page.refuse(),
+    }
+}
+
+/// Adds the levels, and what is left when each was handed the runs that words name, or how these don't fit.
+fn push_gathered(alloc: Global, page: &mut Page, framed: &Framed, levelled: &Levelled, named: &str)
     requires levels { AreLevelsOf framed.now levelled.now }
 {
-    push_levels(alloc, text, framed, levelled)?;
-    let mut state = opened(alloc, framed)?;
-    let misfit = gather_levels(alloc, framed, levelled, &mut state, named)?;
-    match misfit {
-        Some(misfit) => text.push_str(misfit_text(misfit)),
-        None => push_left(alloc, text, framed, &mut state),
+    push_levels(page, framed, levelled);
+    match opened(alloc, framed) {
+        Ok(mut state) => {
+            push_handed(alloc, page, framed, levelled, &mut state, named);
+            drop(state);
+        }
+        Err(_) => page.refuse(),
     }
 }
 
 /// Adds what a row says of a source that is ready.
-fn push_framed(
-    alloc: Global,
-    text: &mut String,
-    framed: &Framed,
-    named: &str,
-) -> Result<(), AllocError> {
-    let levelled = Levelled::of(alloc, framed)?;
-    let seen = push_gathered(alloc, text, framed, &levelled, named);
-    drop(levelled);
-    seen
+fn push_framed(alloc: Global, page: &mut Page, framed: &Framed, named: &str) {
+    match Levelled::of(alloc, framed) {
+        Ok(levelled) => {
+            push_gathered(alloc, page, framed, &levelled, named);
+            drop(levelled);
+        }
+        Err(_) => page.refuse(),
+    }
 }
 
 /// Adds the levels of a source's programs; then what is left of a scan at the moment 0, in which each level is handed the runs that words name:
 /// the globals' values, the faulted programs, and whether the programs in program order leave the same; or how the runs of a level don't fit.
 ///
 /// A word is the number of a job of the level, with `@5` behind it for its run at another moment, 5. The words of the next level stand behind a
-/// `;`. Of a source that isn't run `?` is added. Fails if memory was refused.
-pub fn push_level_row(
-    alloc: Global,
-    text: &mut String,
-    named: &str,
-    source: &str,
-) -> Result<(), AllocError> {
-    match framed(alloc, source) {
+/// `;`. Of a source that isn't run `?` is added.
+pub fn push_level_row(alloc: Global, page: &mut Page, named: &str, source: &str) {
+    match framed(alloc, source.as_bytes()) {
         Ok(framed) => {
-            let seen = push_framed(alloc, text, &framed, named);
+            push_framed(alloc, page, &framed, named);
             drop(framed);
-            seen
         }
-        Err(Unready::Memory) => Err(AllocError),
-        Err(_) => text.push_str(" ?"),
+        Err(Unready::Memory) => page.refuse(),
+        Err(_) => page.word("?"),
     }
 }

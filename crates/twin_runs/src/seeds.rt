@@ -2,6 +2,7 @@
 
 use crate::random_scans::{Outcome, run_source};
 use random_sources::{Dice, source};
+use row_text::Page;
 use std::alloc::{AllocError, Global};
 
 /// How many sources of a seed are run.
@@ -11,15 +12,15 @@ const COUNT: u32 = 40;
 const TRIES: u32 = 50;
 
 /// A source that is run, and what came of it. It is past a limit only if so are many before it.
-fn next_source(alloc: Global, dice: &mut Dice) -> Result<(String, Outcome), AllocError> {
+fn next_source(alloc: Global, dice: &mut Dice) -> Result<(Vec<u8>, Outcome), AllocError> {
     for _ in 0..TRIES {
         let text = source(alloc, dice)?;
-        let outcome = run_source(alloc, text.as_str(), dice)?;
+        let outcome = run_source(alloc, text.as_slice(), dice)?;
         if outcome != Outcome::Large {
             return Ok((text, outcome));
         }
     }
-    Ok((String::new(alloc), Outcome::Large))
+    Ok((Vec::new(alloc), Outcome::Large))
 }
 
 /// What is wrong with a source, if anything is.
@@ -33,24 +34,24 @@ fn fault_of(outcome: Outcome) -> Option<&'static str> {
     }
 }
 
-/// What there is to say of the sources of a seed.
-fn line_of(alloc: Global, seed: u64) -> Result<String, AllocError> {
-    let mut dice = Dice::new(seed);
-    let mut together: u32 = 0;
-    for _ in 0..COUNT {
-        let (text, outcome) = next_source(alloc, &mut dice)?;
-        if let Some(fault) = fault_of(outcome) {
-            let text = text.as_str();
-            return format!(in alloc; "seed {seed}: {fault}\n{text}");
-        }
-        if outcome == Outcome::Alike(true) {
-            together = together.saturating_add(1);
-        }
-    }
+/// Adds a source of a seed, and what is wrong with it.
+fn push_fault(page: &mut Page, seed: u64, fault: &str, source: &[u8]) {
+    page.add("seed");
+    page.number(i128::from(seed));
+    page.add(": ");
+    page.line(fault);
+    page.add_bytes(source);
+}
+
+/// Adds that all sources of a seed ended alike, unless in too few of them two programs had one level.
+fn push_count(page: &mut Page, seed: u64, together: u32) {
     if together < COUNT / 2 {
-        return format!(in alloc; "seed {seed}: too few programs had one level");
+        return push_fault(page, seed, "too few programs had one level", b"");
     }
-    format!(in alloc; "{COUNT} sources of seed {seed}: walk, code and levels ended alike")
+    page.add_number(i128::from(COUNT));
+    page.add(" sources of seed");
+    page.number(i128::from(seed));
+    page.add(": walk, code and levels ended alike");
 }
 
 /// Adds what came of forty random sources of a seed.
@@ -62,7 +63,20 @@ fn line_of(alloc: Global, seed: u64) -> Result<String, AllocError> {
 /// `40 sources of seed 7: walk, code and levels ended alike`
 ///
 /// and otherwise the first source that didn't, or that isn't well formed; or that in fewer than half of the sources two programs had one level.
-/// A source that is past a limit isn't counted, and another is made in its place. Fails if memory was refused.
-pub fn push_seed(alloc: Global, text: &mut String, seed: u64) -> Result<(), AllocError> {
-    text.push_str(line_of(alloc, seed)?.as_str())
+/// A source that is past a limit isn't counted, and another is made in its place.
+pub fn push_seed(alloc: Global, page: &mut Page, seed: u64) {
+    let mut dice = Dice::new(seed);
+    let mut together: u32 = 0;
+    for _ in 0..COUNT {
+        let Ok((source, outcome)) = next_source(alloc, &mut dice) else {
+            return page.refuse();
+        };
+        if let Some(fault) = fault_of(outcome) {
+            return push_fault(page, seed, fault, source.as_slice());
+        }
+        if outcome == Outcome::Alike(true) {
+            together = together.saturating_add(1);
+        }
+    }
+    push_count(page, seed, together);
 }
