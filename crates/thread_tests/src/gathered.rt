@@ -48,6 +48,36 @@ fn new_standing<H: Threads + Wait + Clone + Send + Drop + 'static>(
     }
 }
 
+/// Whether a crew gives these runs of jobs.
+fn gives<H, C: Crew<Job, Start, Done, H>>(
+    rt: &H,
+    alloc: Global,
+    crew: &mut C,
+    last: u32,
+    want: &[(u32, u64)],
+) -> Result<bool, AllocError>
+    requires { C.asks }
+{
+    Ok(told(rt, alloc, crew, last)?.as_slice() == want)
+}
+
+/// Whether so many workers that stand ready give these runs of jobs, and once more.
+fn stand_and_give<H: Threads + Wait + Clone + Send + Sync + Drop + 'static>(
+    rt: &H,
+    alloc: Global,
+    workers: u32,
+    last: u32,
+    want: &[(u32, u64)],
+) -> Result<bool, AllocError>
+    requires { (0 < workers) × (workers ≤ 64) }
+{
+    let mut crew = new_standing(rt, alloc, workers)?;
+    let first = gives(rt, alloc, &mut crew, last, want);
+    let second = gives(rt, alloc, &mut crew, last, want);
+    crew.close(rt);
+    Ok(first? && second?)
+}
+
 /// Whether so many workers, of one call or standing, give what the caller alone gives of so many jobs.
 fn give_the_same<H: Threads + Wait + Clone + Send + Sync + Drop + 'static>(
     rt: &H,
@@ -58,16 +88,18 @@ fn give_the_same<H: Threads + Wait + Clone + Send + Sync + Drop + 'static>(
     requires workers { (0 < workers) × (workers ≤ 64) }
     requires shared { IsSync H.row }
 {
-    let mut alone = Alone;
-    let want = told(rt, alloc, &mut alone, last)?;
-    let mut crew = Scoped::new(workers, Ungated);
-    let scoped = told(rt, alloc, &mut crew, last)?;
-    let mut crew = new_standing(rt, alloc, workers)?;
-    let first = told(rt, alloc, &mut crew, last)?;
-    let second = told(rt, alloc, &mut crew, last)?;
-    crew.close(rt);
-    let whole = want.len() == last as usize && scoped.as_slice() == want.as_slice();
-    Ok(whole && first.as_slice() == want.as_slice() && second.as_slice() == want.as_slice())
+    let want = told(rt, alloc, &mut Alone, last)?;
+    let scoped = gives(
+        rt,
+        alloc,
+        &mut Scoped::new(workers, Ungated),
+        last,
+        want.as_slice(),
+    );
+    let standing = stand_and_give(rt, alloc, workers, last, want.as_slice());
+    let is_whole = want.len() == last as usize;
+    drop(want);
+    Ok(is_whole && scoped? && standing?)
 }
 
 /// No job, one and many, by one, two and eight workers of each kind.
@@ -112,20 +144,45 @@ fn faults_of<H, C: Crew<Job, Start, Done, H>>(_rt: &H, crew: &C) -> u64 {
     crew.faults()
 }
 
+/// Whether a crew gives the runs of two jobs, and counts no fault.
+fn is_whole<H, C: Crew<Job, Start, Done, H>>(
+    rt: &H,
+    alloc: Global,
+    crew: &mut C,
+) -> Result<bool, AllocError>
+    requires { C.asks }
+{
+    Ok(told(rt, alloc, crew, 2)?.len() == 2 && faults_of(rt, crew) == 0)
+}
+
+/// Whether a crew answers jobs by a fault, its first and its second one.
+fn is_lost<H, C: Crew<Job, Start, Done, H>>(
+    rt: &H,
+    alloc: Global,
+    crew: &mut C,
+) -> Result<bool, AllocError>
+    requires { C.asks }
+{
+    for count in 1..=2u64 {
+        let jobs = jobs_to(alloc, 2)?;
+        let is_lost = matches!(crew.run(rt, alloc, jobs), Err(CrewFault::Lost));
+        if !is_lost || faults_of(rt, crew) != count {
+            return Ok(false);
+        }
+    }
+    Ok(true)
+}
+
 /// Once its workers are retired a crew answers that it is lost, and counts it.
 #[test]
 fn retired_workers_are_a_fault(rt: HostRuntime) -> Result<(), Fail> {
     let alloc = rt.alloc();
     let mut crew = new_standing(&rt, alloc, 2)?;
-    assert!(rt; told(&rt, alloc, &mut crew, 2)?.len() == 2);
-    assert!(rt; faults_of(&rt, &crew) == 0);
+    let before = is_whole(&rt, alloc, &mut crew);
     crew.retire(&rt);
-    for count in 1..=2u64 {
-        let jobs = jobs_to(alloc, 2)?;
-        let answer = crew.run(&rt, alloc, jobs);
-        assert!(rt; matches!(answer, Err(CrewFault::Lost)));
-        assert!(rt; faults_of(&rt, &crew) == count);
-    }
+    let after = is_lost(&rt, alloc, &mut crew);
     crew.close(&rt);
+    assert!(rt; before?);
+    assert!(rt; after?);
     Ok(())
 }

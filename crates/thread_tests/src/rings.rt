@@ -1,22 +1,37 @@
 //! Full rings.
 use crate::turns::{opened, submit, take, turn};
+use console_link::{Console, Lane};
 use std::process::Abort;
 use std::test::*;
+
+/// Whether rings have room for 64 orders, and hand the next one back.
+fn hand_back(console: &mut Console<u32, u8>) -> bool {
+    console.room() == 64
+        && submit(console, 0, 64) == 64
+        && console.room() == 0
+        && console.submit(64) == Err(64)
+}
+
+/// Whether the orders of full rings are taken, and 64 more only where the answers to the first were taken.
+fn take_turns(console: &mut Console<u32, u8>, lane: &mut Lane<u32, u8>) -> bool {
+    turn(lane) == 64
+        && submit(console, 64, 128) == 64
+        && turn(lane) == 0
+        && take(console, 0, 64)
+        && console.answer().is_none()
+        && turn(lane) == 64
+        && take(console, 64, 128)
+}
 
 #[test]
 fn full_rings_hand_orders_back(rt: HostRuntime) -> Result<(), Fail> {
     let (mut console, mut lane) = opened(rt.alloc(), 1)?;
-    assert_eq!(rt; console.room(), 64);
-    assert_eq!(rt; submit(&mut console, 0, 64), 64);
-    assert_eq!(rt; console.room(), 0);
-    assert!(rt; console.submit(64) == Err(64));
-    assert_eq!(rt; turn(&mut lane), 64);
-    assert_eq!(rt; submit(&mut console, 64, 128), 64);
-    assert_eq!(rt; turn(&mut lane), 0);
-    assert!(rt; take(&mut console, 0, 64));
-    assert!(rt; console.answer().is_none());
-    assert_eq!(rt; turn(&mut lane), 64);
-    assert!(rt; take(&mut console, 64, 128));
-    assert!(rt; console.finish(0).is_some());
+    let handed_back = hand_back(&mut console);
+    let took_turns = take_turns(&mut console, &mut lane);
+    drop(lane);
+    let ended = console.finish(0).is_some();
+    assert!(rt; handed_back);
+    assert!(rt; took_turns);
+    assert!(rt; ended);
     Ok(())
 }

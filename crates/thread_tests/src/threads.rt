@@ -68,9 +68,11 @@ fn two_consoles_are_answered(rt: HostRuntime) -> Result<(), Fail> {
     };
     let taken = serve(&rt, &mut first, &mut second);
     let each = (one.join(&rt), two.join(&rt));
+    let left = (turn(&mut first), turn(&mut second));
+    drop(first);
+    drop(second);
     assert_eq!(rt; taken, 200);
     assert!(rt; each.0 && each.1);
-    assert_eq!(rt; turn(&mut first), 0);
-    assert_eq!(rt; turn(&mut second), 0);
+    assert!(rt; left == (0, 0));
     Ok(())
 }

@@ -33,6 +33,24 @@ fn scoped_workers_run_at_once(rt: HostRuntime) -> Result<(), Fail> {
     Ok(())
 }
 
+/// Whether a crew runs two jobs in each of three rounds.
+fn run_rounds<H, C: Crew<Job, Start, Done, H>>(
+    rt: &H,
+    alloc: Global,
+    crew: &mut C,
+    watch: &Watch,
+) -> Result<bool, AllocError>
+    requires { C.asks }
+{
+    let mut fine = true;
+    for _ in 0..3u32 {
+        watch.forget();
+        let jobs = jobs_to(alloc, 2)?;
+        fine = crew.run(rt, alloc, jobs).is_ok() && fine;
+    }
+    Ok(fine)
+}
+
 /// Whether two standing workers run two jobs at once, of which one is held until the other has passed, round after round.
 fn stand_together<H: Threads + Wait + Clone + Send + Drop + 'static>(
     rt: &H,
@@ -48,14 +66,9 @@ fn stand_together<H: Threads + Wait + Clone + Send + Drop + 'static>(
     else {
         return Err(AllocError);
     };
-    let mut fine = true;
-    for _ in 0..3u32 {
-        watch.forget();
-        let jobs = jobs_to(alloc, 2)?;
-        fine = crew.run(rt, alloc, jobs).is_ok() && fine;
-    }
+    let fine = run_rounds(rt, alloc, &mut crew, &*watch);
     crew.close(rt);
-    Ok(fine && !watch.has_missed())
+    Ok(fine? && !watch.has_missed())
 }
 
 #[test]
