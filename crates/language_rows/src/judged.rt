@@ -1,6 +1,6 @@
 //! What the check of a plant's sources answers.
 
-use crate::plants::File;
+use row_text::{File, Page};
 use st_lexer::{LexFault, lex};
 use st_names::UnitPlace;
 use st_parser::{ParseFault, Unit, parse};
@@ -45,51 +45,49 @@ fn unit_name<'a>(units: &'a [Unit], place: UnitPlace) -> &'a str {
     }
 }
 
-/// The line of a fault in a unit.
-fn place_line(
-    alloc: Global,
-    files: &[File],
-    units: &[Unit],
-    number: &str,
-    place: UnitPlace,
-) -> Result<String, AllocError> {
-    let file = match files.get(place.source) {
-        Some(file) => file.name.as_str(),
-        None => "?",
-    };
-    let unit = unit_name(units, place);
-    format!(in alloc; "{number} {file} {unit}")
+/// Adds the line of a fault in a unit.
+fn push_place(page: &mut Page, files: &[File], units: &[Unit], number: &str, place: UnitPlace) {
+    page.add(number);
+    match files.get(place.source) {
+        Some(file) => page.word(file.name.as_str()),
+        None => page.word("?"),
+    }
+    page.word(unit_name(units, place));
 }
 
-/// The line of a fault.
-fn fault_line(
-    alloc: Global,
-    files: &[File],
-    units: &[Unit],
-    fault: TypeFault,
-) -> Result<String, AllocError> {
+/// Adds the line of a fault.
+fn push_fault(page: &mut Page, files: &[File], units: &[Unit], fault: TypeFault) {
     match fault {
-        TypeFault::Memory => Err(AllocError),
-        TypeFault::Name(place) => place_line(alloc, files, units, "C6", place),
-        TypeFault::Kind(place) => place_line(alloc, files, units, "C7", place),
-        TypeFault::HoldsItself(place) => place_line(alloc, files, units, "C8", place),
-        TypeFault::Constant(place) => place_line(alloc, files, units, "C9", place),
-        TypeFault::Turns => String::from_str(alloc, "C10 TURNS"),
-        TypeFault::BlockDepth => String::from_str(alloc, "C10 BLOCK_DEPTH"),
-        TypeFault::Programs => String::from_str(alloc, "C10 PROGRAMS"),
+        TypeFault::Memory => page.refuse(),
+        TypeFault::Name(place) => push_place(page, files, units, "C6", place),
+        TypeFault::Kind(place) => push_place(page, files, units, "C7", place),
+        TypeFault::HoldsItself(place) => push_place(page, files, units, "C8", place),
+        TypeFault::Constant(place) => push_place(page, files, units, "C9", place),
+        TypeFault::Turns => page.add("C10 TURNS"),
+        TypeFault::BlockDepth => page.add("C10 BLOCK_DEPTH"),
+        TypeFault::Programs => page.add("C10 PROGRAMS"),
     }
 }
 
-/// What the check of sources answers, with a line in place of `..`.
-pub fn judged(alloc: Global, files: &[File], given: &str) -> Result<String, AllocError> {
-    let units = units_of(alloc, files, given)?;
+/// Adds what the check of units answers, of which there may be fewer than sources.
+fn push_checked(alloc: Global, page: &mut Page, files: &[File], units: &[Unit]) {
     if let Some(file) = files.get(units.len()) {
-        let name = file.name.as_str();
-        return format!(in alloc; "NO UNIT {name}");
+        page.add("NO UNIT");
+        return page.word(file.name.as_str());
     }
-    let fault = match check(alloc, &units) {
-        Ok(_) => return String::from_str(alloc, "OK"),
-        Err(fault) => fault,
-    };
-    fault_line(alloc, files, units.as_slice(), fault)
+    match check(alloc, units) {
+        Ok(_) => page.add("OK"),
+        Err(fault) => push_fault(page, files, units, fault),
+    }
+}
+
+/// Adds what the check of sources answers, with a line in place of `..`.
+pub fn push_judged(alloc: Global, page: &mut Page, files: &[File], given: &str) {
+    match units_of(alloc, files, given) {
+        Ok(units) => {
+            push_checked(alloc, page, files, &units);
+            drop(units);
+        }
+        Err(_) => page.refuse(),
+    }
 }

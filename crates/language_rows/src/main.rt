@@ -39,28 +39,27 @@
 mod faults;
 mod judged;
 mod plants;
-mod sources;
+mod rows;
 mod spelled;
-mod told;
 mod tree;
 
+use rows::answers_to;
 use std::alloc::{AllocError, Global};
 use std::io;
 use std::io::Write;
 use std::thread::Threads;
 
 /// What a table is answered.
-fn answers_to<H: Threads + Sync>(rt: &H, alloc: Global, table: &str) -> Result<String, AllocError> {
+fn answered<H: Threads + Sync>(rt: &H, alloc: Global, table: &str) -> Result<Vec<u8>, AllocError> {
     let (sources, plants) = table.split_once("\n== plants\n").unwrap_or((table, ""));
-    let mut text = sources::answers_to(alloc, sources)?;
-    let told = told::answers_to(rt, alloc, plants)?;
-    text.push_str(told.as_str())?;
+    let mut text = answers_to(rt, alloc, sources, false)?;
+    text.extend_from_slice(answers_to(rt, alloc, plants, true)?.as_slice())?;
     Ok(text)
 }
 
 fn main(rt: HostRuntime) -> io::Result<()> {
     let table = io::read_to_string(rt.alloc(), rt.reader())?;
-    let text = answers_to(&rt, rt.alloc(), table.as_str())?;
-    io::writer(&rt).write_all(text.as_bytes())?;
+    let text = answered(&rt, rt.alloc(), table.as_str())?;
+    io::writer(&rt).write_all(text.as_slice())?;
     Ok(())
 }

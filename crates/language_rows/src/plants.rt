@@ -3,7 +3,7 @@
 use crate::faults::fault_of;
 use plant_config::ConfigFault;
 use plant_explain::{PlantTexts, explain, explain_all, warn};
-use row_text::Source;
+use row_text::{File, Page};
 use std::alloc::{AllocError, Global};
 use std::thread::Threads;
 
@@ -22,41 +22,6 @@ areas = [\"north\"]
 const ALARMS: &[u8] = b"tag,area,priority,condition,suppress,latch,max_shelve_ms,text
 T1,north,2,c,,FALSE,5000,Feed ratio high
 ";
-
-/// A file and its name.
-#[derive(Drop)]
-pub struct File {
-    pub name: String,
-    pub source: Source,
-}
-
-impl File {
-    /// The file without lines.
-    pub fn new(alloc: Global, name: &str) -> Result<File, AllocError> {
-        Ok(File {
-            name: String::from_str(alloc, name)?,
-            source: Source::new(alloc),
-        })
-    }
-
-    /// Its bytes, with a line in place of its line `..`.
-    pub fn text(&self, alloc: Global, given: &str) -> Result<Vec<u8>, AllocError> {
-        if self.source.has_gap() {
-            return self.source.with(alloc, given);
-        }
-        Vec::from_slice(alloc, self.source.as_slice())
-    }
-}
-
-/// Whether one of files has a line `..`.
-pub fn have_gap(files: &[File]) -> bool {
-    for file in files {
-        if file.source.has_gap() {
-            return true;
-        }
-    }
-    false
-}
 
 /// The text of the file of a name, with a line in place of its line `..`; another text where there is none. Fails if allocation fails.
 fn text_of(
@@ -93,44 +58,85 @@ fn told<H: Threads + Sync>(
     }
 }
 
-/// The names of the sources of files. Fails if allocation fails.
-fn sources_of<'a>(alloc: Global, files: &'a [File]) -> Result<Vec<&'a str>, AllocError> {
-    let mut names = Vec::new(alloc);
-    for file in files {
-        if file.name.as_str().ends_with(".st") {
-            names.push(file.name.as_str())?;
-        }
-    }
-    if names.is_empty() {
-        names.push("p.st")?;
-    }
-    Ok(names)
+/// The texts of a plant's files.
+#[derive(Drop)]
+struct Texts<'a> {
+    plant: Vec<u8>,
+    alarms: Vec<u8>,
+    /// The names and texts of its sources.
+    sources: Vec<(&'a str, Vec<u8>)>,
 }
 
-/// What is told of the plant of files that is refused by a line, or accepted, with another line in place of the line `..`. Fails if allocation fails.
-pub fn told_of<H: Threads + Sync>(
+/// The names and texts of the sources of files, with a line in place of the line `..`. Fails if allocation fails.
+fn sources_of<'a>(
+    alloc: Global,
+    files: &'a [File],
+    given: &str,
+) -> Result<Vec<(&'a str, Vec<u8>)>, AllocError> {
+    let mut sources = Vec::new(alloc);
+    for file in files {
+        if file.name.as_str().ends_with(".st") {
+            sources.push((file.name.as_str(), file.text(alloc, given)?))?;
+        }
+    }
+    if sources.is_empty() {
+        sources.push(("p.st", Vec::new(alloc)))?;
+    }
+    Ok(sources)
+}
+
+/// The texts of files, with a line in place of the line `..`. Fails if allocation fails.
+fn texts_of<'a>(alloc: Global, files: &'a [File], given: &str) -> Result<Texts<'a>, AllocError> {
+    Ok(Texts {
+        plant: text_of(alloc, files, "plant.toml", given, PLANT)?,
+        alarms: text_of(alloc, files, "alarms.csv", given, ALARMS)?,
+        sources: sources_of(alloc, files, given)?,
+    })
+}
+
+/// Names and texts, lent. Fails if allocation fails.
+fn lent<'a>(
+    alloc: Global,
+    sources: &'a [(&'a str, Vec<u8>)],
+) -> Result<Vec<(&'a str, &'a [u8])>, AllocError> {
+    let mut lent = Vec::new(alloc);
+    for (name, text) in sources {
+        lent.push((*name, text.as_slice()))?;
+    }
+    Ok(lent)
+}
+
+/// Adds what is told of the plant of texts that is refused by a line, or accepted.
+fn push_of<H: Threads + Sync>(
     rt: &H,
     alloc: Global,
+    page: &mut Page,
+    texts: &Texts<'_>,
+    line: &str,
+) {
+    let Ok(sources) = lent(alloc, texts.sources.as_slice()) else {
+        return page.refuse();
+    };
+    let lent = PlantTexts {
+        path: "plant.toml",
+        plant: texts.plant.as_slice(),
+        sources: sources.as_slice(),
+        alarms: texts.alarms.as_slice(),
+    };
+    page.add_made(told(rt, alloc, &lent, line));
+}
+
+/// Adds what is told of the plant of files that is refused by a line, or accepted, with another line in place of the line `..`.
+pub fn push_told<H: Threads + Sync>(
+    rt: &H,
+    alloc: Global,
+    page: &mut Page,
     files: &[File],
     words: (&str, &str),
-) -> Result<String, AllocError> {
+) {
     let (line, given) = words;
-    let plant = text_of(alloc, files, "plant.toml", given, PLANT)?;
-    let alarms = text_of(alloc, files, "alarms.csv", given, ALARMS)?;
-    let names = sources_of(alloc, files)?;
-    let mut owned = Vec::new(alloc);
-    for name in names.as_slice() {
-        owned.push(text_of(alloc, files, name, given, b"")?)?;
+    match texts_of(alloc, files, given) {
+        Ok(texts) => push_of(rt, alloc, page, &texts, line),
+        Err(_) => page.refuse(),
     }
-    let mut sources = Vec::new(alloc);
-    for (name, text) in names.iter().zip(owned.iter()) {
-        sources.push((*name, text.as_slice()))?;
-    }
-    let texts = PlantTexts {
-        path: "plant.toml",
-        plant: plant.as_slice(),
-        sources: sources.as_slice(),
-        alarms: alarms.as_slice(),
-    };
-    told(rt, alloc, &texts, line)
 }

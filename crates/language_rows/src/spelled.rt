@@ -1,8 +1,8 @@
 //! What a text spells.
 
-use crate::plants::File;
 use crate::tree::show_unit;
 use const_fold::fold_body;
+use row_text::{File, Page};
 use st_lexer::{LexFault, Token, lex};
 use st_parser::{ParseFault, Unit, parse};
 use std::alloc::{AllocError, Global};
@@ -17,19 +17,11 @@ pub enum Wanted {
     Accepted,
 }
 
-fn push_tokens(alloc: Global, out: &mut String, tokens: &[Token]) -> Result<(), AllocError> {
+fn push_tokens(alloc: Global, page: &mut Page, tokens: &[Token]) {
     for token in tokens {
         let (from, until, kind) = (token.from, token.until, token.kind);
-        let line = format!(in alloc; "{from}..{until} {kind:?}\n")?;
-        out.push_str(line.as_str())?;
+        page.add_made(format!(in alloc; "{from}..{until} {kind:?}\n"));
     }
-    Ok(())
-}
-
-fn push_count(alloc: Global, out: &mut String, tokens: &[Token]) -> Result<(), AllocError> {
-    let count = tokens.len();
-    let line = format!(in alloc; "{count}\n")?;
-    out.push_str(line.as_str())
 }
 
 /// Puts the body with its constants folded in the place of each body.
@@ -40,77 +32,79 @@ fn fold_bodies(alloc: Global, unit: &mut Unit) -> Result<(), AllocError> {
     Ok(())
 }
 
-fn push_unit(
-    alloc: Global,
-    out: &mut String,
-    wanted: Wanted,
-    unit: &Unit,
-) -> Result<(), AllocError> {
-    if let Wanted::Accepted = wanted {
-        return out.push_str("ACCEPTED\n");
+/// Adds a unit as text on a line.
+fn push_shown(alloc: Global, page: &mut Page, unit: &Unit) {
+    let mut shown = Page::new(alloc);
+    show_unit(unit, &mut shown);
+    if shown.is_short() {
+        page.refuse();
     }
-    let shown = show_unit(alloc, unit)?;
-    out.push_str(shown.as_str().trim_end())?;
-    out.push_str("\n")
+    let text = shown.as_slice();
+    page.add_bytes(text.strip_suffix(b" ".as_slice()).unwrap_or(text));
+    page.add("\n");
 }
 
-fn push_tree(
-    alloc: Global,
-    out: &mut String,
-    wanted: Wanted,
-    text: &[u8],
-    tokens: &[Token],
-) -> Result<(), AllocError> {
+fn push_unit(alloc: Global, page: &mut Page, wanted: Wanted, unit: &mut Unit) {
+    match wanted {
+        Wanted::Accepted => page.line("ACCEPTED"),
+        Wanted::Folded => {
+            if fold_bodies(alloc, unit).is_err() {
+                page.refuse();
+            }
+            push_shown(alloc, page, unit);
+        }
+        _ => push_shown(alloc, page, unit),
+    }
+}
+
+fn push_tree(alloc: Global, page: &mut Page, wanted: Wanted, text: &[u8], tokens: &[Token]) {
     match parse(alloc, text, tokens) {
         Ok(mut unit) => {
-            if let Wanted::Folded = wanted {
-                fold_bodies(alloc, &mut unit)?;
-            }
-            push_unit(alloc, out, wanted, &unit)
+            push_unit(alloc, page, wanted, &mut unit);
+            drop(unit);
         }
         Err(ParseFault::At { token }) => {
-            let line = format!(in alloc; "NO TREE {token}\n")?;
-            out.push_str(line.as_str())
+            page.add("NO TREE");
+            page.number(token as i128);
+            page.add("\n");
         }
-        Err(ParseFault::Memory) => Err(AllocError),
+        Err(ParseFault::Memory) => page.refuse(),
+    }
+}
+
+/// Adds what is wanted of a text's tokens.
+fn push_lexed(alloc: Global, page: &mut Page, wanted: Wanted, text: &[u8], tokens: &[Token]) {
+    match wanted {
+        Wanted::Tokens => push_tokens(alloc, page, tokens),
+        Wanted::Count => {
+            page.add_number(tokens.len() as i128);
+            page.add("\n");
+        }
+        _ => push_tree(alloc, page, wanted, text, tokens),
     }
 }
 
 /// Adds what is wanted of a text.
-fn push_spelled(
-    alloc: Global,
-    out: &mut String,
-    wanted: Wanted,
-    text: &[u8],
-) -> Result<(), AllocError> {
-    let tokens = match lex(alloc, text) {
-        Ok(tokens) => tokens,
+fn push_text(alloc: Global, page: &mut Page, wanted: Wanted, text: &[u8]) {
+    match lex(alloc, text) {
+        Ok(tokens) => push_lexed(alloc, page, wanted, text, tokens.as_slice()),
         Err(LexFault::Bad { line, column }) => {
-            let line = format!(in alloc; "NO TOKEN {line} {column}\n")?;
-            return out.push_str(line.as_str());
+            page.add("NO TOKEN");
+            page.number(line as i128);
+            page.number(column as i128);
+            page.add("\n");
         }
-        Err(LexFault::Memory) => return Err(AllocError),
-    };
-    match wanted {
-        Wanted::Tokens => push_tokens(alloc, out, tokens.as_slice()),
-        Wanted::Count => push_count(alloc, out, tokens.as_slice()),
-        Wanted::Tree | Wanted::Folded | Wanted::Accepted => {
-            push_tree(alloc, out, wanted, text, tokens.as_slice())
-        }
+        Err(LexFault::Memory) => page.refuse(),
     }
 }
 
-/// What is wanted of the last of files, with a line in place of `..`.
-pub fn spelled(
-    alloc: Global,
-    files: &[File],
-    wanted: Wanted,
-    given: &str,
-) -> Result<String, AllocError> {
-    let mut out = String::new(alloc);
-    if let Some(file) = files.last() {
-        let text = file.text(alloc, given)?;
-        push_spelled(alloc, &mut out, wanted, text.as_slice())?;
+/// Adds what is wanted of the last of files, with a line in place of `..`.
+pub fn push_spelled(alloc: Global, page: &mut Page, files: &[File], wanted: Wanted, given: &str) {
+    let Some(file) = files.last() else {
+        return;
+    };
+    match file.text(alloc, given) {
+        Ok(text) => push_text(alloc, page, wanted, text.as_slice()),
+        Err(_) => page.refuse(),
     }
-    Ok(out)
 }

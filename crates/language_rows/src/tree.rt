@@ -3,9 +3,9 @@
 //! Each operator with two operands stands in parentheses with them, and each literal with its kind; an integer without a kind stands in square brackets.
 
 use plant_types::{Kind, Region, Text, Value};
+use row_text::Page;
 use st_parser::{Declaration, Pou, PouKind, Section, SectionKind, Sort, Unit};
 use st_tree::{Argument, Binary, Branch, Choice, Expr, Label, Literal, Stmt, Unary};
-use std::alloc::{AllocError, Global};
 
 fn operator(op: &Binary) -> &str {
     match op {
@@ -28,168 +28,139 @@ fn operator(op: &Binary) -> &str {
     }
 }
 
-fn show_number(alloc: Global, n: i64, out: &mut String) -> Result<(), AllocError> {
-    let digits = format!(in alloc; "{n}")?;
-    out.push_str(digits.as_str())
-}
-
-fn show(alloc: Global, expr: &Expr<Text>, out: &mut String) -> Result<(), AllocError> {
+fn show(expr: &Expr<Text>, page: &mut Page) {
     match expr {
-        Expr::Literal(Literal::Value(Value::Bool(true))) => out.push_str("TRUE"),
-        Expr::Literal(Literal::Value(Value::Bool(false))) => out.push_str("FALSE"),
+        Expr::Literal(Literal::Value(Value::Bool(true))) => page.add("TRUE"),
+        Expr::Literal(Literal::Value(Value::Bool(false))) => page.add("FALSE"),
         Expr::Literal(Literal::Value(Value::Dint(n))) => {
-            out.push_str("DINT#")?;
-            show_number(alloc, i64::from(*n), out)
+            page.add("DINT#");
+            page.add_number(i128::from(*n));
         }
         Expr::Literal(Literal::Value(Value::Time(n))) => {
-            out.push_str("T#")?;
-            show_number(alloc, *n, out)
+            page.add("T#");
+            page.add_number(i128::from(*n));
         }
         Expr::Literal(Literal::Integer(n)) => {
-            out.push_str("[")?;
-            show_number(alloc, i64::from(*n), out)?;
-            out.push_str("]")
+            page.add("[");
+            page.add_number(i128::from(*n));
+            page.add("]");
         }
-        Expr::Read(name) => out.push_str(name.as_str()),
+        Expr::Read(name) => page.add(name.as_str()),
         Expr::Output(instance, name) => {
-            out.push_str(instance.as_str())?;
-            out.push_str(".")?;
-            out.push_str(name.as_str())
+            page.add(instance.as_str());
+            page.add(".");
+            page.add(name.as_str());
         }
         Expr::Unary(Unary::Not, a) => {
-            out.push_str("NOT ")?;
-            show(alloc, a, out)
+            page.add("NOT ");
+            show(a, page);
         }
         Expr::Unary(Unary::Negate, a) => {
-            out.push_str("- ")?;
-            show(alloc, a, out)
+            page.add("- ");
+            show(a, page);
         }
         Expr::Unary(Unary::NegateTime, a) => {
-            out.push_str("-TIME ")?;
-            show(alloc, a, out)
+            page.add("-TIME ");
+            show(a, page);
         }
         Expr::Binary(op, a, b) => {
-            out.push_str("(")?;
-            show(alloc, a, out)?;
-            out.push_str(operator(op))?;
-            show(alloc, b, out)?;
-            out.push_str(")")
+            page.add("(");
+            show(a, page);
+            page.add(operator(op));
+            show(b, page);
+            page.add(")");
         }
     }
 }
 
-fn show_output(name: &Text, target: &Text, out: &mut String) -> Result<(), AllocError> {
-    out.push_str(name.as_str())?;
-    out.push_str(" => ")?;
-    out.push_str(target.as_str())
+fn show_output(name: &Text, target: &Text, page: &mut Page) {
+    page.add(name.as_str());
+    page.add(" => ");
+    page.add(target.as_str());
 }
 
-fn show_bound(
-    alloc: Global,
-    argument: &Argument<Text>,
-    out: &mut String,
-) -> Result<(), AllocError> {
+fn show_bound(argument: &Argument<Text>, page: &mut Page) {
     match argument {
-        Argument::Input(name, value) => show_assignment(alloc, name, value, out),
-        Argument::Output(name, target) => show_output(name, target, out),
+        Argument::Input(name, value) => show_assignment(name, value, page),
+        Argument::Output(name, target) => show_output(name, target, page),
     }
 }
 
-fn show_argument(
-    alloc: Global,
-    argument: &Argument<Text>,
-    out: &mut String,
-) -> Result<(), AllocError> {
-    show_bound(alloc, argument, out)?;
-    out.push_str(", ")
+fn show_argument(argument: &Argument<Text>, page: &mut Page) {
+    show_bound(argument, page);
+    page.add(", ");
 }
 
-fn show_label(alloc: Global, label: Label, out: &mut String) -> Result<(), AllocError> {
-    show_number(alloc, label.low, out)?;
-    out.push_str("..")?;
-    show_number(alloc, label.high, out)?;
-    out.push_str(" ")
+fn show_label(label: Label, page: &mut Page) {
+    page.add_number(i128::from(label.low));
+    page.add("..");
+    page.add_number(i128::from(label.high));
+    page.add(" ");
 }
 
-fn show_assignment(
-    alloc: Global,
-    target: &Text,
-    value: &Expr<Text>,
-    out: &mut String,
-) -> Result<(), AllocError> {
-    out.push_str(target.as_str())?;
-    out.push_str(" := ")?;
-    show(alloc, value, out)
+fn show_assignment(target: &Text, value: &Expr<Text>, page: &mut Page) {
+    page.add(target.as_str());
+    page.add(" := ");
+    show(value, page);
 }
 
 #[cycle(shown)]
-fn show_body(alloc: Global, body: &[Stmt<Text>], out: &mut String) -> Result<(), AllocError> {
+fn show_body(body: &[Stmt<Text>], page: &mut Page) {
     for stmt in body {
-        show_stmt(alloc, stmt, out)?;
-        out.push_str("; ")?;
+        show_stmt(stmt, page);
+        page.add("; ");
     }
-    Ok(())
 }
 
 #[cycle(shown)]
-fn show_branches(
-    alloc: Global,
-    branches: &[Branch<Text>],
-    out: &mut String,
-) -> Result<(), AllocError> {
+fn show_branches(branches: &[Branch<Text>], page: &mut Page) {
     for branch in branches {
-        out.push_str("? ")?;
-        show(alloc, &branch.test, out)?;
-        out.push_str(": ")?;
-        show_body(alloc, &branch.body, out)?;
+        page.add("? ");
+        show(&branch.test, page);
+        page.add(": ");
+        show_body(&branch.body, page);
     }
-    Ok(())
 }
 
 #[cycle(shown)]
-fn show_choices(
-    alloc: Global,
-    choices: &[Choice<Text>],
-    out: &mut String,
-) -> Result<(), AllocError> {
+fn show_choices(choices: &[Choice<Text>], page: &mut Page) {
     for choice in choices {
         for label in &choice.labels {
-            show_label(alloc, *label, out)?;
+            show_label(*label, page);
         }
-        out.push_str(": ")?;
-        show_body(alloc, &choice.body, out)?;
+        page.add(": ");
+        show_body(&choice.body, page);
     }
-    Ok(())
 }
 
 #[cycle(shown)]
-fn show_stmt(alloc: Global, stmt: &Stmt<Text>, out: &mut String) -> Result<(), AllocError> {
+fn show_stmt(stmt: &Stmt<Text>, page: &mut Page) {
     match stmt {
-        Stmt::Empty(_) => Ok(()),
-        Stmt::Assign(_, target, value) => show_assignment(alloc, target, value, out),
+        Stmt::Empty(_) => {}
+        Stmt::Assign(_, target, value) => show_assignment(target, value, page),
         Stmt::Call(_, name, arguments) => {
-            out.push_str(name.as_str())?;
-            out.push_str("( ")?;
+            page.add(name.as_str());
+            page.add("( ");
             for argument in arguments {
-                show_argument(alloc, argument, out)?;
+                show_argument(argument, page);
             }
-            out.push_str(")")
+            page.add(")");
         }
         Stmt::If(_, branches, last) => {
-            out.push_str("IF ")?;
-            show_branches(alloc, branches, out)?;
-            out.push_str("ELSE ")?;
-            show_body(alloc, last, out)?;
-            out.push_str("END")
+            page.add("IF ");
+            show_branches(branches, page);
+            page.add("ELSE ");
+            show_body(last, page);
+            page.add("END");
         }
         Stmt::Case(_, selector, choices, last) => {
-            out.push_str("CASE ")?;
-            show(alloc, selector, out)?;
-            out.push_str(" OF ")?;
-            show_choices(alloc, choices, out)?;
-            out.push_str("ELSE ")?;
-            show_body(alloc, last, out)?;
-            out.push_str("END")
+            page.add("CASE ");
+            show(selector, page);
+            page.add(" OF ");
+            show_choices(choices, page);
+            page.add("ELSE ");
+            show_body(last, page);
+            page.add("END");
         }
         Stmt::For {
             variable: name,
@@ -199,17 +170,17 @@ fn show_stmt(alloc: Global, stmt: &Stmt<Text>, out: &mut String) -> Result<(), A
             body,
             ..
         } => {
-            out.push_str("FOR ")?;
-            show_assignment(alloc, name, from, out)?;
-            out.push_str(" TO ")?;
-            show(alloc, to, out)?;
+            page.add("FOR ");
+            show_assignment(name, from, page);
+            page.add(" TO ");
+            show(to, page);
             if let Some(by) = by {
-                out.push_str(" BY ")?;
-                show(alloc, by, out)?;
+                page.add(" BY ");
+                show(by, page);
             }
-            out.push_str(" DO ")?;
-            show_body(alloc, body, out)?;
-            out.push_str("END")
+            page.add(" DO ");
+            show_body(body, page);
+            page.add("END");
         }
     }
 }
@@ -242,50 +213,47 @@ fn region_name(region: &Option<Region>) -> &str {
     }
 }
 
-fn show_declaration(alloc: Global, d: &Declaration, out: &mut String) -> Result<(), AllocError> {
+fn show_declaration(d: &Declaration, page: &mut Page) {
     for name in &d.names {
-        out.push_str(name.as_str())?;
-        out.push_str(" ")?;
+        page.add(name.as_str());
+        page.add(" ");
     }
-    out.push_str(region_name(&d.region))?;
-    out.push_str(sort_name(&d.sort))?;
+    page.add(region_name(&d.region));
+    page.add(sort_name(&d.sort));
     if let Some(initial) = &d.initial {
-        out.push_str(" ")?;
-        show(alloc, initial, out)?;
+        page.add(" ");
+        show(initial, page);
     }
-    out.push_str("; ")
+    page.add("; ");
 }
 
-fn show_section(alloc: Global, section: &Section, out: &mut String) -> Result<(), AllocError> {
-    out.push_str(section_name(&section.kind))?;
+fn show_section(section: &Section, page: &mut Page) {
+    page.add(section_name(&section.kind));
     for declaration in &section.declarations {
-        show_declaration(alloc, declaration, out)?;
+        show_declaration(declaration, page);
     }
-    Ok(())
 }
 
-fn show_pou(alloc: Global, pou: &Pou, out: &mut String) -> Result<(), AllocError> {
+fn show_pou(pou: &Pou, page: &mut Page) {
     match pou.kind {
-        PouKind::Block => out.push_str("BLOCK ")?,
-        PouKind::Program => out.push_str("PROGRAM ")?,
+        PouKind::Block => page.add("BLOCK "),
+        PouKind::Program => page.add("PROGRAM "),
     }
-    out.push_str(pou.name.as_str())?;
-    out.push_str(" ")?;
+    page.add(pou.name.as_str());
+    page.add(" ");
     for section in &pou.sections {
-        show_section(alloc, section, out)?;
+        show_section(section, page);
     }
-    out.push_str("DO ")?;
-    show_body(alloc, &pou.body, out)
+    page.add("DO ");
+    show_body(&pou.body, page);
 }
 
-/// A unit as text.
-pub fn show_unit(alloc: Global, unit: &Unit) -> Result<String, AllocError> {
-    let mut out = String::new(alloc);
+/// Adds a unit as text.
+pub fn show_unit(unit: &Unit, page: &mut Page) {
     for section in &unit.globals {
-        show_section(alloc, section, &mut out)?;
+        show_section(section, page);
     }
     for pou in &unit.pous {
-        show_pou(alloc, pou, &mut out)?;
+        show_pou(pou, page);
     }
-    Ok(out)
 }
