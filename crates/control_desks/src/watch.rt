@@ -1,5 +1,7 @@
 //! What the owner and the consoles tell each other beside the rings.
 
+use std::alloc::{AllocError, Global};
+use std::sync::Arc;
 use std::sync::atomic::{AtomicBool, AtomicU64, Ordering};
 
 /// Whether the day is over, and how many consoles are done with their drill.
@@ -10,11 +12,15 @@ pub struct Watch {
 }
 
 impl Watch {
-    /// The day begins.
-    pub fn new() -> Watch {
-        Watch {
+    /// What owner and consoles share when the day begins. Fails if allocation fails.
+    pub fn shared(alloc: Global) -> Result<Arc<Watch>, AllocError> {
+        let watch = Watch {
             over: AtomicBool::new(false),
             drilled: AtomicU64::new(0),
+        };
+        match Arc::new(alloc, watch) {
+            Ok(watch) => Ok(watch),
+            Err(_) => Err(AllocError),
         }
     }
 

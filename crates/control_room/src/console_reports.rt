@@ -2,13 +2,11 @@
 
 use crate::crews::Workers;
 use crate::events::Events;
-use crate::reports::truth;
 use control_desks::Post;
-use engine::{Engine, Entry};
-use row_text::push_line;
+use engine::{Engine, Entry, Log};
+use row_text::Page;
 use shift_report::{Note, Orders, are_told, count};
 use station::Closing;
-use std::alloc::{AllocError, Global};
 
 /// How many orders may be left of a console at most.
 const MOST_LEFT: u32 = 64;
@@ -64,67 +62,57 @@ fn states_apart(engine: &Engine, post: &Post) -> u32 {
     apart
 }
 
-/// Adds what there is to tell of a console's orders: how many there were, how many were refused, and how many are left; and whether its answers are those
-/// that the history has.
-fn push_orders(
-    alloc: Global,
-    closing: &mut Closing<Workers>,
-    post: &Post,
-    text: &mut Vec<u8>,
-) -> Result<(), AllocError> {
-    let number = post.number;
-    let left = orders_left(closing, number);
-    let log = closing.engine().journal();
-    let orders = count(log, Orders::By(number));
-    let refused = count(log, Orders::RefusedBy(number));
-    push_line(
-        text,
-        format!(in alloc;
-            "CONSOLE {number} ORDERS {orders} REFUSED {refused} LEFT {left}"
-        )?.as_str(),
-    )?;
-    let answers = post.notes.len();
-    let alike = truth(!post.is_short && are_told(log, number, post.notes.as_slice()));
-    push_line(
-        text,
-        format!(in alloc; "CONSOLE {number} ANSWERS {answers} AS IN THE HISTORY {alike}")?.as_str(),
-    )
+/// Adds a console's number, and a word.
+fn push_head(page: &mut Page, post: &Post, word: &str) {
+    page.add("CONSOLE");
+    page.number(i128::from(post.number));
+    page.word(word);
+}
+
+/// Adds what there is to tell of a console's orders: how many there were, how many were refused, and how many are left.
+fn push_orders(page: &mut Page, log: &Log, post: &Post, left: u32) {
+    push_head(page, post, "ORDERS");
+    page.number(i128::from(count(log, Orders::By(post.number))));
+    page.word("REFUSED");
+    page.number(i128::from(count(log, Orders::RefusedBy(post.number))));
+    page.word("LEFT");
+    page.number(i128::from(left));
+    page.add("\n");
+}
+
+/// Adds how many answers a console took, and whether they are those that the history has.
+fn push_answers(page: &mut Page, log: &Log, post: &Post) {
+    push_head(page, post, "ANSWERS");
+    page.number(post.notes.len() as i128);
+    page.word("AS IN THE HISTORY");
+    page.truth(!post.is_short && are_told(log, post.number, post.notes.as_slice()));
+    page.add("\n");
 }
 
 /// Adds what there is to tell of what a console saw.
-fn push_looks(
-    alloc: Global,
-    closing: &Closing<Workers>,
-    events: &Events,
-    post: &Post,
-    text: &mut Vec<u8>,
-) -> Result<(), AllocError> {
-    let number = post.number;
+fn push_looks(page: &mut Page, closing: &Closing<Workers>, events: &Events, post: &Post) {
     let engine = closing.engine();
-    let early = early_looks(engine, events, number, post.notes.as_slice());
-    push_line(
-        text,
-        format!(in alloc; "CONSOLE {number} LOOKS BEFORE AN ANSWERED ORDER {early}")?.as_str(),
-    )?;
-    let apart = states_apart(engine, post);
-    let within = truth(closing.within(number));
-    push_line(
-        text,
-        format!(in alloc; "CONSOLE {number} STATES APART {apart} WITHIN {within}")?.as_str(),
-    )
+    push_head(page, post, "LOOKS BEFORE AN ANSWERED ORDER");
+    page.number(i128::from(early_looks(engine, events, post.number, post.notes.as_slice())));
+    page.add("\n");
+    push_head(page, post, "STATES APART");
+    page.number(i128::from(states_apart(engine, post)));
+    page.word("WITHIN");
+    page.truth(closing.within(post.number));
+    page.add("\n");
 }
 
 /// Adds what there is to tell of each console.
 pub fn push_consoles(
-    alloc: Global,
+    page: &mut Page,
     closing: &mut Closing<Workers>,
     events: &Events,
     posts: &[Post],
-    text: &mut Vec<u8>,
-) -> Result<(), AllocError> {
+) {
     for post in posts {
-        push_orders(alloc, closing, post, text)?;
-        push_looks(alloc, &*closing, events, post, text)?;
+        let left = orders_left(closing, post.number);
+        push_orders(page, closing.engine().journal(), post, left);
+        push_answers(page, closing.engine().journal(), post);
+        push_looks(page, &*closing, events, post);
     }
-    Ok(())
 }

@@ -2,56 +2,89 @@
 
 use engine::Plant;
 use plant_folder::{Deaf, Disk, FetchFault, Fetched, PlantFiles, PlantTexts, fetch, verdict};
-use row_text::push_line;
+use row_text::Page;
 use std::alloc::{AllocError, Global};
 use std::rt::Files;
 use std::thread::Threads;
 
-/// The plant of its texts. Where it is refused, there is none, and the line of its refusal is added to the text. Fails if allocation fails.
-fn judged<H: Threads + Sync>(
-    rt: &H,
-    alloc: Global,
-    path: &str,
-    fetched: &Fetched,
-    text: &mut Vec<u8>,
-) -> Result<Option<Plant>, AllocError> {
+/// Names and texts of sources, lent. Fails if allocation fails.
+fn lent(alloc: Global, fetched: &Fetched) -> Result<Vec<(&str, &[u8])>, AllocError> {
     let mut sources = Vec::new(alloc);
     for source in fetched.sources.as_slice() {
         sources.push((source.name.as_str(), source.text.as_slice()))?;
     }
+    Ok(sources)
+}
+
+/// The plant of texts. Where it is refused, or memory is, there is none, and the line of its refusal is added.
+fn judged<H: Threads + Sync>(
+    rt: &H,
+    alloc: Global,
+    texts: &PlantTexts<'_>,
+    page: &mut Page,
+) -> Option<Plant> {
+    match verdict(rt, alloc, texts, &mut Deaf) {
+        Ok((plant, line)) => {
+            page.add_bytes(line.as_bytes());
+            plant
+        }
+        Err(_) => {
+            page.refuse();
+            None
+        }
+    }
+}
+
+/// The plant of texts that were fetched. Where it is refused, or memory is, there is none, and the line of its refusal is added.
+fn plant_of<H: Threads + Sync>(
+    rt: &H,
+    alloc: Global,
+    path: &str,
+    fetched: &Fetched,
+    page: &mut Page,
+) -> Option<Plant> {
+    let Ok(sources) = lent(alloc, fetched) else {
+        page.refuse();
+        return None;
+    };
     let texts = PlantTexts {
         path,
         plant: fetched.plant.as_slice(),
         sources: sources.as_slice(),
         alarms: fetched.alarms.as_slice(),
     };
-    let (plant, line) = verdict(rt, alloc, &texts, &mut Deaf)?;
-    text.extend_from_slice(line.as_bytes())?;
-    Ok(plant)
+    judged(rt, alloc, &texts, page)
 }
 
-/// The plant of a plant file's path. Where it is refused, or a file isn't found, there is none, and a line that says so is added to the text. Fails if
-/// allocation fails.
+/// Adds why a plant's files can't be read.
+fn push_fault(page: &mut Page, fault: FetchFault) {
+    match fault {
+        FetchFault::Memory => page.refuse(),
+        FetchFault::File(_) => page.line("A FILE IS MISSING"),
+        FetchFault::Config(_) => page.line("NO PLANT FILE"),
+    }
+}
+
+/// The plant of a plant file's path. Where it is refused, or a file isn't found, there is none, and a line that says so is added.
 pub fn read_house<R: Files + Threads + Sync>(
     rt: &R,
     alloc: Global,
     path: &str,
-    text: &mut Vec<u8>,
-) -> Result<Option<Plant>, AllocError> {
+    page: &mut Page,
+) -> Option<Plant> {
     let files = PlantFiles {
         folder: &Disk { files: rt },
         path,
     };
     match fetch(alloc, &files, &mut Deaf) {
-        Ok(fetched) => judged(rt, alloc, path, &fetched, text),
-        Err(FetchFault::Memory) => Err(AllocError),
-        Err(FetchFault::File(_)) => {
-            push_line(text, "A FILE IS MISSING")?;
-            Ok(None)
+        Ok(fetched) => {
+            let plant = plant_of(rt, alloc, path, &fetched, page);
+            drop(fetched);
+            plant
         }
-        Err(FetchFault::Config(_)) => {
-            push_line(text, "NO PLANT FILE")?;
-            Ok(None)
+        Err(fault) => {
+            push_fault(page, fault);
+            None
         }
     }
 }

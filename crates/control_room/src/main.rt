@@ -21,12 +21,12 @@ mod reports;
 mod room;
 mod shift;
 
+use control_desks::Watch;
 use crews::workers;
 use house::read_house;
 use room::run;
-use row_text::push_line;
 use shift::Shift;
-use std::alloc::{AllocError, Global};
+use std::alloc::Global;
 use std::io;
 use std::io::Write;
 use std::marker::Brand;
@@ -47,20 +47,16 @@ fn run_shift<R: Runtime + Threads + Wait + AllocGlobal + Send + Sync + 'static>(
     rt: &R,
     alloc: Global,
     shift: &mut Shift,
-) -> Result<bool, AllocError> {
-    let Some(crew) = workers(rt, alloc, WORKERS)? else {
-        push_line(&mut shift.text, "NO WORKERS")?;
-        return Ok(false);
+) -> bool {
+    let Some(crew) = workers(rt, alloc, WORKERS) else {
+        shift.page.line("NO WORKERS");
+        return false;
     };
-    match read_house(rt, alloc, PLANT, &mut shift.text) {
-        Ok(Some(plant)) => run::<Brand, R>(rt, alloc, plant, crew, shift, Blank::new(1)),
-        Ok(None) => {
+    match read_house(rt, alloc, PLANT, &mut shift.page) {
+        Some(plant) => run::<Brand, R>(rt, alloc, plant, crew, shift, Blank::new(1)),
+        None => {
             crew.close(rt);
-            Ok(false)
-        }
-        Err(refused) => {
-            crew.close(rt);
-            Err(refused)
+            false
         }
     }
 }
@@ -70,10 +66,11 @@ fn tell<R: Runtime + Threads + Wait + AllocGlobal + Send + Sync + 'static>(
     rt: &R,
 ) -> io::Result<bool> {
     let script = io::read_to_string(rt.alloc(), rt.reader())?;
-    let mut shift = Shift::new(rt.alloc(), script)?;
-    let is_whole = run_shift(rt, rt.alloc(), &mut shift)?;
-    io::writer(rt).write_all(shift.text.as_slice())?;
-    Ok(is_whole)
+    let watch = Watch::shared(rt.alloc())?;
+    let mut shift = Shift::new(rt.alloc(), script, watch);
+    let is_whole = run_shift(rt, rt.alloc(), &mut shift);
+    let written = io::writer(rt).write_all(shift.page.as_slice());
+    Ok(written.is_ok() && is_whole && !shift.page.is_short())
 }
 
 fn main(rt: HostRuntime) -> ExitCode {

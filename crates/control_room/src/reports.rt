@@ -3,7 +3,7 @@
 use crate::day::DayFault;
 use crate::events::Events;
 use engine::{Engine, Verb};
-use row_text::push_line;
+use row_text::Page;
 use shift_report::{Orders, count};
 use station::Archive;
 use std::alloc::{AllocError, Global};
@@ -13,63 +13,52 @@ use std::sync::ledger::Ledger;
 /// How many rows the last page has.
 const PAGE: u32 = 12;
 
-/// How something that has to hold is printed.
-pub fn truth(holds: bool) -> &'static str {
-    if holds { "TRUE" } else { "FALSE" }
+/// Adds how many programs, alarms and consoles the plant has.
+fn push_plant(engine: &Engine, page: &mut Page) {
+    let plant = engine.plant();
+    page.add("PLANT PROGRAMS");
+    page.number(i128::from(plant.programs()));
+    page.word("ALARMS");
+    page.number(i128::from(plant.alarms()));
+    page.word("CONSOLES");
+    page.number(plant.consoles().len() as i128);
+    page.add("\n");
 }
 
-/// Adds what there is to tell of the plant and of the events: the scans of the script, all orders, and whether these and the turns are the whole history.
-fn push_events(
-    alloc: Global,
-    engine: &Engine,
-    events: &Events,
-    text: &mut Vec<u8>,
-) -> Result<(), AllocError> {
-    let plant = engine.plant();
-    let (programs, alarms) = (plant.programs(), plant.alarms());
-    let consoles = plant.consoles().len();
-    push_line(
-        text,
-        format!(in alloc;
-            "PLANT PROGRAMS {programs} ALARMS {alarms} CONSOLES {consoles}"
-        )?.as_str(),
-    )?;
-    let scripted = events.scripted;
-    push_line(text, format!(in alloc; "SCRIPT SCANS {scripted}")?.as_str())?;
+/// Adds what there is to tell of the events: the scans of the script, all orders, and whether these and the turns are the whole history.
+fn push_events(engine: &Engine, events: &Events, page: &mut Page) {
+    page.add("SCRIPT SCANS");
+    page.number(i128::from(events.scripted));
     let orders = count(engine.journal(), Orders::All);
     let is_whole = orders == events.orders
         && engine.events() == events.scans.saturating_add(events.orders);
-    let whole = truth(is_whole);
-    push_line(
-        text,
-        format!(in alloc; "HISTORY OF TURNS AND {orders} ORDERS {whole}")?.as_str(),
-    )
+    page.add("\nHISTORY OF TURNS AND");
+    page.number(i128::from(orders));
+    page.word("ORDERS");
+    page.truth(is_whole);
+    page.add("\n");
 }
 
 /// Adds how many orders with a verb there were, if there were any.
-fn push_verb(
-    alloc: Global,
-    engine: &Engine,
-    text: &mut Vec<u8>,
-    verb: Verb,
-) -> Result<(), AllocError> {
+fn push_verb(engine: &Engine, page: &mut Page, verb: Verb) {
     let orders = count(engine.journal(), Orders::With(verb));
-    if orders == 0 {
-        return Ok(());
+    if orders != 0 {
+        page.add("ORDERS");
+        page.word(verb.text());
+        page.number(i128::from(orders));
+        page.add("\n");
     }
-    let word = verb.text();
-    push_line(text, format!(in alloc; "ORDERS {word} {orders}")?.as_str())
 }
 
 /// Adds how many orders of each verb there were.
-fn push_verbs(alloc: Global, engine: &Engine, text: &mut Vec<u8>) -> Result<(), AllocError> {
-    push_verb(alloc, engine, text, Verb::Ack)?;
-    push_verb(alloc, engine, text, Verb::Reset)?;
-    push_verb(alloc, engine, text, Verb::Shelve(0))?;
-    push_verb(alloc, engine, text, Verb::Unshelve)?;
-    push_verb(alloc, engine, text, Verb::Remove)?;
-    push_verb(alloc, engine, text, Verb::PutBack)?;
-    push_verb(alloc, engine, text, Verb::Restart)
+fn push_verbs(engine: &Engine, page: &mut Page) {
+    push_verb(engine, page, Verb::Ack);
+    push_verb(engine, page, Verb::Reset);
+    push_verb(engine, page, Verb::Shelve(0));
+    push_verb(engine, page, Verb::Unshelve);
+    push_verb(engine, page, Verb::Remove);
+    push_verb(engine, page, Verb::PutBack);
+    push_verb(engine, page, Verb::Restart);
 }
 
 /// Whether these lines are those of the engine's journal, one by one.
@@ -87,21 +76,30 @@ fn are_alike(alloc: Global, engine: &Engine, lines: &[String]) -> Result<bool, A
     Ok(true)
 }
 
+/// Adds how many lines the archive has, and whether they are those of the engine's journal.
+fn push_alike(alloc: Global, engine: &Engine, lines: &[String], page: &mut Page) {
+    page.add("JOURNAL");
+    page.number(lines.len() as i128);
+    page.word("LINES, THE ARCHIVE ALIKE");
+    match are_alike(alloc, engine, lines) {
+        Ok(are_alike) => page.truth(are_alike),
+        Err(_) => page.refuse(),
+    }
+    page.add("\n");
+}
+
 /// Adds whether the lines of the archive are those of the engine's journal.
 fn push_journal<L: Ledger, R: Wait>(
     rt: &R,
     alloc: Global,
     archive: &Archive<L>,
     engine: &Engine,
-    text: &mut Vec<u8>,
-) -> Result<(), AllocError> {
-    let kept = archive.page(rt, alloc, 1, u32::MAX)?;
-    let lines = kept.len();
-    let alike = truth(are_alike(alloc, engine, kept.as_slice())?);
-    push_line(
-        text,
-        format!(in alloc; "JOURNAL {lines} LINES, THE ARCHIVE ALIKE {alike}")?.as_str(),
-    )
+    page: &mut Page,
+) {
+    match archive.page(rt, alloc, 1, u32::MAX) {
+        Ok(lines) => push_alike(alloc, engine, lines.as_slice(), page),
+        Err(_) => page.refuse(),
+    }
 }
 
 /// Adds the archive's last page.
@@ -110,13 +108,15 @@ fn push_last_page<L: Ledger, R: Wait>(
     alloc: Global,
     archive: &Archive<L>,
     rows: u64,
-    text: &mut Vec<u8>,
-) -> Result<(), AllocError> {
+    page: &mut Page,
+) {
     let from = rows.saturating_sub(u64::from(PAGE)).saturating_add(1);
-    for line in &archive.page(rt, alloc, from, PAGE)? {
-        push_line(text, line.as_str())?;
+    let Ok(lines) = archive.page(rt, alloc, from, PAGE) else {
+        return page.refuse();
+    };
+    for line in &lines {
+        page.line(line.as_str());
     }
-    Ok(())
 }
 
 /// Adds what there is to tell of the history.
@@ -126,32 +126,27 @@ pub fn push_history<L: Ledger, R: Wait>(
     archive: &Archive<L>,
     engine: &Engine,
     events: &Events,
-    text: &mut Vec<u8>,
-) -> Result<(), AllocError> {
-    push_events(alloc, engine, events, text)?;
-    push_verbs(alloc, engine, text)?;
-    push_journal(rt, alloc, archive, engine, text)?;
-    push_last_page(rt, alloc, archive, engine.journal().len() as u64, text)
+    page: &mut Page,
+) {
+    push_plant(engine, page);
+    push_events(engine, events, page);
+    push_verbs(engine, page);
+    push_journal(rt, alloc, archive, engine, page);
+    push_last_page(rt, alloc, archive, engine.journal().len() as u64, page);
 }
 
 /// Adds how the day ended.
-pub fn push_end(
-    alloc: Global,
-    text: &mut Vec<u8>,
-    day: Result<(), DayFault>,
-) -> Result<(), AllocError> {
+pub fn push_end(page: &mut Page, day: Result<(), DayFault>) {
     match day {
-        Ok(()) => push_line(text, "THE SCRIPT IS OVER"),
+        Ok(()) => page.line("THE SCRIPT IS OVER"),
         Err(DayFault::Refused(fault)) => {
-            let why = fault.text();
-            push_line(
-                text,
-                format!(in alloc; "A TURN WAS REFUSED {why}")?.as_str(),
-            )
+            page.add("A TURN WAS REFUSED");
+            page.word(fault.text());
+            page.add("\n");
         }
-        Err(DayFault::Memory) => push_line(text, "MEMORY WAS REFUSED"),
-        Err(DayFault::Stopped) => push_line(text, "AN ORDER WAS REFUSED AS AN EVENT"),
-        Err(DayFault::Unsettled) => push_line(text, "SOMETHING STILL WAITS"),
-        Err(DayFault::NoScan) => push_line(text, "A LINE OF THE SCRIPT IS NO SCAN"),
+        Err(DayFault::Memory) => page.line("MEMORY WAS REFUSED"),
+        Err(DayFault::Stopped) => page.line("AN ORDER WAS REFUSED AS AN EVENT"),
+        Err(DayFault::Unsettled) => page.line("SOMETHING STILL WAITS"),
+        Err(DayFault::NoScan) => page.line("A LINE OF THE SCRIPT IS NO SCAN"),
     }
 }

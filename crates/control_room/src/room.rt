@@ -9,9 +9,8 @@ use crate::reports::{push_end, push_history};
 use crate::shift::Shift;
 use control_desks::{Ended, join_all, seat_all};
 use engine::Plant;
-use row_text::push_line;
 use station::Station;
-use std::alloc::{AllocError, Global};
+use std::alloc::Global;
 use std::sync::Wait;
 use std::sync::ledger::{Blank, Ledger};
 use std::thread::Threads;
@@ -26,39 +25,36 @@ pub fn run<L: Ledger, R: Threads + Wait + Clock>(
     crew: Workers,
     shift: &mut Shift,
     blank: Blank,
-) -> Result<bool, AllocError>
+) -> bool
     requires { (blank.name ≡ L.name) × (blank.parts ≡ L.parts) × (0 < L.parts) }
 {
     let Shift {
         script,
         watch,
         events,
-        text,
+        page,
     } = shift;
     let Ok((mut station, consoles)) = Station::<L, Workers>::new(rt, alloc, plant, crew, blank)
     else {
-        push_line(text, "NO STATION")?;
-        return Ok(false);
+        page.line("NO STATION");
+        return false;
     };
     let wanted = consoles.len();
     let threads = seat_all(rt, alloc, station.engine().plant(), consoles, watch);
     let day = go_through(rt, alloc, &mut station, events, watch, script);
     watch.end();
     let Ended { finished, posts } = join_all(rt, alloc, threads);
-    let told = push_history(
+    push_history(
         rt,
         alloc,
         &**station.archive(),
         station.engine(),
         events,
-        text,
+        page,
     );
     let mut closing = station.close(rt, finished);
-    let shown = push_consoles(alloc, &mut closing, events, posts.as_slice(), text);
+    push_consoles(page, &mut closing, events, posts.as_slice());
     closing.into_crew().close(rt);
-    let is_whole = day.is_ok() && posts.len() == wanted;
-    told?;
-    shown?;
-    push_end(alloc, text, day)?;
-    Ok(is_whole)
+    push_end(page, day);
+    day.is_ok() && posts.len() == wanted
 }

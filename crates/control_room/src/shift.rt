@@ -2,7 +2,8 @@
 
 use crate::events::Events;
 use control_desks::Watch;
-use std::alloc::{AllocError, Global};
+use row_text::Page;
+use std::alloc::Global;
 use std::sync::Arc;
 
 /// What a shift has beside the station.
@@ -11,20 +12,17 @@ pub struct Shift {
     pub script: String,
     pub watch: Arc<Watch>,
     pub events: Events,
-    pub text: Vec<u8>,
+    pub page: Page,
 }
 
 impl Shift {
-    /// A shift that begins. Fails if allocation fails.
-    pub fn new(alloc: Global, script: String) -> Result<Shift, AllocError> {
-        let Ok(watch) = Arc::new(alloc, Watch::new()) else {
-            return Err(AllocError);
-        };
-        Ok(Shift {
+    /// A shift that begins.
+    pub fn new(alloc: Global, script: String, watch: Arc<Watch>) -> Shift {
+        Shift {
             script,
             watch,
             events: Events::new(alloc),
-            text: Vec::new(alloc),
-        })
+            page: Page::new(alloc),
+        }
     }
 }
