@@ -7,11 +7,11 @@ ghost use Rattle.plant_system.specs.declared.event.Reply.{Reply};
 ghost use Rattle.station.specs.Lanes.{IsEndIn};
 ghost use Rattle.station_rows.specs.Seated.{EndAll};
 
-use crate::orders::order_text;
-use crate::printing::push_line;
+use crate::orders::push_order;
 use crate::workers::Workers;
+use row_text::Page;
 use station::{Closing, Console, Finished};
-use std::alloc::{AllocError, Global};
+use std::alloc::Global;
 
 /// Keeps an ended console; where memory is refused twice it is let go.
 fn keep(finished: &mut Vec<Finished>, end: Finished)
@@ -36,49 +36,32 @@ pub fn end_all(alloc: Global, mut consoles: Vec<Console>) -> Vec<Finished>
 }
 
 /// Adds whether a console saw no more events than the history has.
-fn push_within(
-    alloc: Global,
-    closing: &Closing<Workers>,
-    text: &mut Vec<u8>,
-    console: u32,
-) -> Result<(), AllocError> {
-    let within = if closing.within(console) {
-        "TRUE"
-    } else {
-        "FALSE"
-    };
-    push_line(
-        text,
-        format!(in alloc; "WITHIN {console} {within}")?.as_str(),
-    )
+fn push_within(closing: &Closing<Workers>, page: &mut Page, console: u32) {
+    page.add("WITHIN");
+    page.number(i128::from(console));
+    page.truth(closing.within(console));
+    page.add("\n");
 }
 
 /// Adds the orders that were left of a console, which are 64 at most.
-fn push_left(
-    alloc: Global,
-    closing: &mut Closing<Workers>,
-    text: &mut Vec<u8>,
-    console: u32,
-) -> Result<(), AllocError> {
+fn push_left(closing: &mut Closing<Workers>, page: &mut Page, console: u32) {
     for _ in 0..=64u32 {
         let Some(order) = closing.next_left(console) else {
-            return push_line(text, format!(in alloc; "NO MORE LEFT {console}")?.as_str());
+            page.add("NO MORE LEFT");
+            page.number(i128::from(console));
+            return page.add("\n");
         };
-        let order = order_text(alloc, closing.engine().plant(), order)?;
-        push_line(text, format!(in alloc; "LEFT {console} {order}")?.as_str())?;
+        page.add("LEFT");
+        page.number(i128::from(console));
+        push_order(page, closing.engine().plant(), order);
+        page.add("\n");
     }
-    Ok(())
 }
 
 /// Adds whether a console saw no more than the history has, and its orders that were left.
-fn push_ended(
-    alloc: Global,
-    closing: &mut Closing<Workers>,
-    text: &mut Vec<u8>,
-    console: u32,
-) -> Result<(), AllocError> {
-    push_within(alloc, &*closing, text, console)?;
-    push_left(alloc, closing, text, console)
+fn push_ended(closing: &mut Closing<Workers>, page: &mut Page, console: u32) {
+    push_within(&*closing, page, console);
+    push_left(closing, page, console);
 }
 
 /// The number of the console that the plant lists there, if there is one.
@@ -89,17 +72,13 @@ fn listed(closing: &Closing<Workers>, at: usize) -> Option<u32> {
 
 /// Adds what is left once a station was closed: of each console in the plant's order, and of one that the plant doesn't list, whose number is one above
 /// the greatest.
-pub fn push_end(
-    alloc: Global,
-    closing: &mut Closing<Workers>,
-    text: &mut Vec<u8>,
-) -> Result<(), AllocError> {
+pub fn push_end(closing: &mut Closing<Workers>, page: &mut Page) {
     let mut other = 1u32;
     for at in 0..closing.engine().plant().consoles().len() {
         if let Some(console) = listed(&*closing, at) {
-            push_ended(alloc, closing, text, console)?;
+            push_ended(closing, page, console);
             other = other.max(console.saturating_add(1));
         }
     }
-    push_ended(alloc, closing, text, other)
+    push_ended(closing, page, other);
 }

@@ -3,57 +3,54 @@
 ghost use Rattle.station_rows.specs.Seated.{AreSame};
 
 use crate::asking::{Asked, Told, ask};
-use crate::orders::{order_of, order_text, reply_text};
-use crate::printing::push_line;
+use crate::orders::{order_of, push_order, push_reply};
 use crate::rows::{cut, number};
-use engine::{Order, Plant};
-use station::Console;
-use std::alloc::{AllocError, Global};
+use engine::{Order, Plant, Reply};
+use row_text::Page;
+use station::{Answer, Console};
+use std::alloc::Global;
 
-/// What a board shows.
-fn board_text(
-    alloc: Global,
-    events: u64,
-    state: Option<engine::AlarmState>,
-) -> Result<String, AllocError> {
-    let code = match state {
-        Some(state) => state.code().text(),
-        None => "?",
-    };
-    format!(in alloc; "BOARD {events} {code}")
-}
-
-/// What a console tells, as a text.
-fn told_text(alloc: Global, plant: &Plant, told: Option<Told>) -> Result<String, AllocError> {
-    match told {
-        Some(Told::Submitted(true)) => String::from_str(alloc, "SUBMITTED"),
-        Some(Told::Submitted(false)) => String::from_str(alloc, "HANDED BACK"),
-        Some(Told::Answer(Some(answer))) => {
-            let order = order_text(alloc, plant, answer.order)?;
-            let reply = reply_text(alloc, answer.reply)?;
-            format!(in alloc; "ANSWER {order} {reply}")
-        }
-        Some(Told::Answer(None)) => String::from_str(alloc, "NO ANSWER"),
-        Some(Told::Board(Some((events, state)))) => board_text(alloc, events, state),
-        Some(Told::Board(None)) => String::from_str(alloc, "NO BOARD"),
-        Some(Told::Room(places)) => format!(in alloc; "ROOM {places}"),
-        None => String::from_str(alloc, "NO CONSOLE"),
+/// Adds what a board shows.
+fn push_shown(page: &mut Page, events: u64, state: Option<engine::AlarmState>) {
+    page.add("BOARD");
+    page.number(i128::from(events));
+    match state {
+        Some(state) => page.word(state.code().text()),
+        None => page.word("?"),
     }
 }
 
+/// Adds an answer.
+fn push_answer(page: &mut Page, plant: &Plant, answer: Answer<Order, Reply>) {
+    page.add("ANSWER");
+    push_order(page, plant, answer.order);
+    push_reply(page, answer.reply);
+}
+
+/// Adds what a console tells.
+fn push_told(page: &mut Page, plant: &Plant, told: Option<Told>) {
+    match told {
+        Some(Told::Submitted(true)) => page.add("SUBMITTED"),
+        Some(Told::Submitted(false)) => page.add("HANDED BACK"),
+        Some(Told::Answer(Some(answer))) => push_answer(page, plant, answer),
+        Some(Told::Answer(None)) => page.add("NO ANSWER"),
+        Some(Told::Board(Some((events, state)))) => push_shown(page, events, state),
+        Some(Told::Board(None)) => page.add("NO BOARD"),
+        Some(Told::Room(places)) => {
+            page.add("ROOM");
+            page.number(i128::from(places));
+        }
+        None => page.add("NO CONSOLE"),
+    }
+    page.add("\n");
+}
+
 /// Asks a console, and adds what it tells.
-fn push_told(
-    alloc: Global,
-    plant: &Plant,
-    consoles: &mut [Console],
-    text: &mut Vec<u8>,
-    console: &str,
-    asked: Asked,
-) -> Result<(), AllocError>
+fn push_asking(plant: &Plant, consoles: &mut [Console], page: &mut Page, console: u32, asked: Asked)
     ensures { AreSame consoles.old consoles.new }
 {
-    let told = ask(consoles, number(console), asked);
-    push_line(text, told_text(alloc, plant, told)?.as_str())
+    let told = ask(consoles, console, asked);
+    push_told(page, plant, told);
 }
 
 /// Submits an order so many times, and tells how many were submitted.
@@ -90,16 +87,30 @@ fn push_submitted(
     alloc: Global,
     plant: &Plant,
     consoles: &mut [Console],
-    text: &mut Vec<u8>,
+    page: &mut Page,
     line: &str,
-) -> Result<(), AllocError>
+)
     ensures { AreSame consoles.old consoles.new }
 {
-    let Some((console, order)) = order_of(alloc, plant, line)? else {
-        return push_line(text, "NO ROW");
-    };
-    let told = ask(consoles, console, Asked::Submit(order));
-    push_line(text, told_text(alloc, plant, told)?.as_str())
+    match order_of(alloc, plant, line) {
+        Ok(Some((console, order))) => {
+            push_asking(plant, consoles, page, console, Asked::Submit(order));
+        }
+        Ok(None) => page.line("NO ROW"),
+        Err(_) => page.refuse(),
+    }
+}
+
+/// Submits an order so many times, and adds how many were submitted and how many came back.
+fn push_times(consoles: &mut [Console], page: &mut Page, console: u32, order: Order, times: u32)
+    ensures { AreSame consoles.old consoles.new }
+{
+    let submitted = submit_all(consoles, console, order, times);
+    page.add("SUBMITTED");
+    page.number(i128::from(submitted));
+    page.word("HANDED BACK");
+    page.number(i128::from(times.saturating_sub(submitted)));
+    page.add("\n");
 }
 
 /// Submits the order of a line so many times, and adds how many were submitted and how many came back.
@@ -108,51 +119,37 @@ fn push_repeated(
     alloc: Global,
     plant: &Plant,
     consoles: &mut [Console],
-    text: &mut Vec<u8>,
+    page: &mut Page,
     words: &str,
-) -> Result<(), AllocError>
+)
     ensures { AreSame consoles.old consoles.new }
 {
     let (times, line) = cut(words);
-    let Some((console, order)) = order_of(alloc, plant, line)? else {
-        return push_line(text, "NO ROW");
-    };
-    let times = number(times);
-    let submitted = submit_all(consoles, console, order, times);
-    let back = times.saturating_sub(submitted);
-    push_line(
-        text,
-        format!(in alloc; "SUBMITTED {submitted} HANDED BACK {back}")?.as_str(),
-    )
+    match order_of(alloc, plant, line) {
+        Ok(Some((console, order))) => push_times(consoles, page, console, order, number(times)),
+        Ok(None) => page.line("NO ROW"),
+        Err(_) => page.refuse(),
+    }
 }
 
 /// Takes the answers that a line asks for, and adds how many were there.
-fn push_taken(
-    alloc: Global,
-    consoles: &mut [Console],
-    text: &mut Vec<u8>,
-    words: &str,
-) -> Result<(), AllocError>
+fn push_taken(consoles: &mut [Console], page: &mut Page, words: &str)
     ensures { AreSame consoles.old consoles.new }
 {
     let (console, times) = cut(words);
     let taken = take_all(consoles, number(console), number(times));
-    push_line(text, format!(in alloc; "ANSWERS {taken}")?.as_str())
+    page.add("ANSWERS");
+    page.number(i128::from(taken));
+    page.add("\n");
 }
 
 /// Looks at the alarm of a line on a console's board, and adds what is seen.
-fn push_board(
-    alloc: Global,
-    plant: &Plant,
-    consoles: &mut [Console],
-    text: &mut Vec<u8>,
-    words: &str,
-) -> Result<(), AllocError>
+fn push_board(plant: &Plant, consoles: &mut [Console], page: &mut Page, words: &str)
     ensures { AreSame consoles.old consoles.new }
 {
     let (console, tag) = cut(words);
     let alarm = plant.alarm_number(tag).unwrap_or(u32::MAX);
-    push_told(alloc, plant, consoles, text, console, Asked::Board(alarm))
+    push_asking(plant, consoles, page, number(console), Asked::Board(alarm));
 }
 
 /// Does a line that asks consoles, and adds what it gives.
@@ -160,18 +157,18 @@ pub fn push_asked(
     alloc: Global,
     plant: &Plant,
     consoles: &mut [Console],
-    text: &mut Vec<u8>,
+    page: &mut Page,
     line: &str,
-) -> Result<(), AllocError>
+)
     ensures { AreSame consoles.old consoles.new }
 {
     let (word, words) = cut(line);
     match word {
-        "answer" => push_told(alloc, plant, consoles, text, words, Asked::Answer),
-        "answers" => push_taken(alloc, consoles, text, words),
-        "board" => push_board(alloc, plant, consoles, text, words),
-        "room" => push_told(alloc, plant, consoles, text, words, Asked::Room),
-        "repeat" => push_repeated(alloc, plant, consoles, text, words),
-        _ => push_submitted(alloc, plant, consoles, text, line),
+        "answer" => push_asking(plant, consoles, page, number(words), Asked::Answer),
+        "answers" => push_taken(consoles, page, words),
+        "board" => push_board(plant, consoles, page, words),
+        "room" => push_asking(plant, consoles, page, number(words), Asked::Room),
+        "repeat" => push_repeated(alloc, plant, consoles, page, words),
+        _ => push_submitted(alloc, plant, consoles, page, line),
     }
 }

@@ -35,15 +35,14 @@ mod looking;
 mod orders;
 mod pages;
 mod plants;
-mod printing;
 mod rows;
 mod turns;
 mod workers;
 
 use living::run;
 use plants::{parted, read_plant};
-use printing::push_line;
-use std::alloc::{AllocError, Global};
+use row_text::Page;
+use std::alloc::Global;
 use std::io;
 use std::io::Write;
 use std::marker::Brand;
@@ -55,19 +54,18 @@ use std::thread::Threads;
 const MOST_LIVES: u32 = 100;
 
 /// Adds what a station does by its part of the table.
-fn push_station<R: Threads + Wait + Sync>(
-    rt: &R,
-    alloc: Global,
-    text: &mut Vec<u8>,
-    part: &str,
-) -> Result<(), AllocError> {
+fn push_station<R: Threads + Wait + Sync>(rt: &R, alloc: Global, page: &mut Page, part: &str) {
     let (name, lines) = part.split_once("\n").unwrap_or((part, ""));
-    push_line(text, format!(in alloc; "station {name}")?.as_str())?;
+    page.add("station ");
+    page.line(name);
     let (files, rows) = parted(lines);
-    let rows = String::from_str(alloc, rows)?;
-    match read_plant(rt, alloc, files)? {
-        Some(plant) => run::<Brand, R>(rt, alloc, plant, text, &rows, Blank::new(1)),
-        None => push_line(text, "NO PLANT"),
+    let Ok(rows) = String::from_str(alloc, rows) else {
+        return page.refuse();
+    };
+    match read_plant(rt, alloc, files) {
+        Ok(Some(plant)) => run::<Brand, R>(rt, alloc, plant, page, &rows, Blank::new(1)),
+        Ok(None) => page.line("NO PLANT"),
+        Err(_) => page.refuse(),
     }
 }
 
@@ -75,36 +73,32 @@ fn push_station<R: Threads + Wait + Sync>(
 fn push_station_again<R: Threads + Wait + Sync>(
     rt: &R,
     alloc: Global,
-    text: &mut Vec<u8>,
+    text: &mut Page,
     part: &str,
-) -> Result<(), AllocError> {
+) {
     for _ in 0..MOST_LIVES {
-        let mut told = Vec::new(alloc);
-        if let Ok(()) = push_station(rt, alloc, &mut told, part) {
-            text.extend_from_slice(told.as_slice())?;
-            return push_line(text, "");
+        let mut page = Page::new(alloc);
+        push_station(rt, alloc, &mut page, part);
+        if !page.is_short() {
+            text.add_bytes(page.as_slice());
+            return text.add("\n");
         }
     }
-    Err(AllocError)
+    text.refuse();
 }
 
 /// Adds what the stations of a table do.
-fn push_stations<R: Threads + Wait + Sync>(
-    rt: &R,
-    alloc: Global,
-    text: &mut Vec<u8>,
-    table: &str,
-) -> Result<(), AllocError> {
+fn push_stations<R: Threads + Wait + Sync>(rt: &R, alloc: Global, text: &mut Page, table: &str) {
     for part in table.split("\nstation ").skip(1) {
-        push_station_again(rt, alloc, text, part)?;
+        push_station_again(rt, alloc, text, part);
     }
-    Ok(())
 }
 
 fn main(rt: HostRuntime) -> io::Result<()> {
     let table = io::read_to_string(rt.alloc(), rt.reader())?;
-    let mut text = Vec::new(rt.alloc());
-    push_stations(&rt, rt.alloc(), &mut text, table.as_str())?;
+    let mut text = Page::new(rt.alloc());
+    push_stations(&rt, rt.alloc(), &mut text, table.as_str());
+    let text = text.end()?;
     io::writer(&rt).write_all(text.as_slice())?;
     Ok(())
 }

@@ -2,6 +2,7 @@
 
 use command_text::{Command, Pool, read_command};
 use engine::{Order, Plant, Reply, Verb};
+use row_text::Page;
 use std::alloc::{AllocError, Global};
 
 /// The number of what a word names as an order's target.
@@ -44,24 +45,24 @@ fn target_name(plant: &Plant, order: Order) -> &str {
     }
 }
 
-/// An order, as `ack T1`.
-pub fn order_text(alloc: Global, plant: &Plant, order: Order) -> Result<String, AllocError> {
-    let verb = order.verb.text();
-    let name = target_name(plant, order);
-    format!(in alloc; "{verb} {name}")
+/// Adds an order, as ` ack T1`.
+pub fn push_order(page: &mut Page, plant: &Plant, order: Order) {
+    page.word(order.verb.text());
+    page.word(target_name(plant, order));
 }
 
-/// A reply: `DONE`, with the change of an alarm's code if there is one, or `REFUSED` and why.
-pub fn reply_text(alloc: Global, reply: Reply) -> Result<String, AllocError> {
+/// Adds a reply: ` DONE`, with the change of an alarm's code if there is one, or ` REFUSED` and why.
+pub fn push_reply(page: &mut Page, reply: Reply) {
     match reply {
         Reply::Done(Some(change)) => {
-            let (from, to) = (change.from().text(), change.to().text());
-            format!(in alloc; "DONE {from} {to}")
+            page.word("DONE");
+            page.word(change.from().text());
+            page.word(change.to().text());
         }
-        Reply::Done(None) => String::from_str(alloc, "DONE"),
+        Reply::Done(None) => page.word("DONE"),
         Reply::Refused(fault) => {
-            let why = fault.text();
-            format!(in alloc; "REFUSED {why}")
+            page.word("REFUSED");
+            page.word(fault.text());
         }
     }
 }

@@ -1,8 +1,8 @@
 //! The lines of the table that read the archive.
 
-use crate::printing::push_line;
 use crate::rows::{cut, number};
 use engine::Engine;
+use row_text::Page;
 use station::Archive;
 use std::alloc::{AllocError, Global};
 use std::sync::Wait;
@@ -27,14 +27,16 @@ pub fn push_page<L: Ledger, R: Wait>(
     rt: &R,
     alloc: Global,
     archive: &Archive<L>,
-    text: &mut Vec<u8>,
+    page: &mut Page,
     words: &str,
-) -> Result<(), AllocError> {
+) {
     let (from, n) = cut(words);
-    for line in &page_again(rt, alloc, archive, u64::from(number(from)), number(n))? {
-        push_line(text, line.as_str())?;
+    let Ok(lines) = page_again(rt, alloc, archive, u64::from(number(from)), number(n)) else {
+        return page.refuse();
+    };
+    for line in &lines {
+        page.line(line.as_str());
     }
-    Ok(())
 }
 
 /// The lines of an engine's journal.
@@ -53,15 +55,18 @@ pub fn push_compared<L: Ledger, R: Wait>(
     alloc: Global,
     archive: &Archive<L>,
     engine: &Engine,
-    text: &mut Vec<u8>,
-) -> Result<(), AllocError> {
-    let kept = page_again(rt, alloc, archive, 1, u32::MAX)?;
-    let own = journal_of(alloc, engine)?;
-    let lines = own.len();
-    let word = if kept.as_slice() == own.as_slice() {
-        "ALIKE"
-    } else {
-        "APART"
+    page: &mut Page,
+) {
+    let kept = page_again(rt, alloc, archive, 1, u32::MAX);
+    let own = journal_of(alloc, engine);
+    let (Ok(kept), Ok(own)) = (kept, own) else {
+        return page.refuse();
     };
-    push_line(text, format!(in alloc; "JOURNAL {lines} {word}")?.as_str())
+    page.add("JOURNAL");
+    page.number(own.len() as i128);
+    page.line(if kept.as_slice() == own.as_slice() {
+        " ALIKE"
+    } else {
+        " APART"
+    });
 }

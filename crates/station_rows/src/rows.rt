@@ -4,11 +4,11 @@ ghost use Rattle.station_rows.specs.Seated.{AreOf};
 
 use crate::looking::push_asked;
 use crate::pages::{push_compared, push_page};
-use crate::printing::push_line;
 use crate::turns::push_turn_of;
 use crate::workers::Workers;
+use row_text::Page;
 use station::{Console, Station};
-use std::alloc::{AllocError, Global};
+use std::alloc::Global;
 use std::sync::Wait;
 use std::sync::ledger::Ledger;
 
@@ -32,19 +32,19 @@ fn push_row<L: Ledger, R: Wait>(
     alloc: Global,
     station: &mut Station<L, Workers>,
     consoles: &mut [Console],
-    text: &mut Vec<u8>,
+    page: &mut Page,
     line: &str,
-) -> Result<(), AllocError>
+)
     requires { AreOf station.old.lanes consoles.old }
     ensures { AreOf station.new.lanes consoles.new }
 {
     let (word, words) = cut(line);
     match word {
-        "scan" | "once" => push_turn_of(rt, alloc, station, consoles, text, line),
-        "workers" => Ok(()),
-        "page" => push_page(rt, alloc, &**station.archive(), text, words),
-        "journal" => push_compared(rt, alloc, &**station.archive(), station.engine(), text),
-        _ => push_asked(alloc, station.engine().plant(), consoles, text, line),
+        "scan" | "once" => push_turn_of(rt, alloc, station, consoles, page, line),
+        "workers" => {}
+        "page" => push_page(rt, alloc, &**station.archive(), page, words),
+        "journal" => push_compared(rt, alloc, &**station.archive(), station.engine(), page),
+        _ => push_asked(alloc, station.engine().plant(), consoles, page, line),
     }
 }
 
@@ -54,9 +54,9 @@ pub fn push_rows<L: Ledger, R: Wait>(
     alloc: Global,
     station: &mut Station<L, Workers>,
     consoles: &mut [Console],
-    text: &mut Vec<u8>,
+    page: &mut Page,
     rows: &str,
-) -> Result<(), AllocError>
+)
     requires { AreOf station.old.lanes consoles.old }
     ensures { AreOf station.new.lanes consoles.new }
 {
@@ -64,8 +64,8 @@ pub fn push_rows<L: Ledger, R: Wait>(
         if line.is_empty() {
             continue;
         }
-        push_line(text, format!(in alloc; "> {line}")?.as_str())?;
-        push_row(rt, alloc, station, consoles, text, line)?;
+        page.add("> ");
+        page.line(line);
+        push_row(rt, alloc, station, consoles, page, line);
     }
-    Ok(())
 }

@@ -3,10 +3,10 @@
 ghost use Rattle.station_rows.specs.Seated.{AreOf};
 
 use crate::counts::{count, is_kept};
-use crate::printing::push_line;
 use crate::workers::Workers;
 use command_text::{Command, Pool, push_alarm, push_out, read_command};
 use engine::{Engine, EngineFault, Pair, Plant, Report};
+use row_text::Page;
 use station::{Console, Station, Turn};
 use std::alloc::{AllocError, Global};
 use std::sync::Wait;
@@ -30,97 +30,92 @@ struct Taken {
     is_kept: bool,
 }
 
-/// Adds the changes of alarms of a report.
-fn push_changes(
-    text: &mut Vec<u8>,
+/// The lines of the changes of alarms of a report.
+fn changes_of(
+    alloc: Global,
     plant: &Plant,
     moment: &str,
     report: &Report,
-) -> Result<(), AllocError> {
+) -> Result<Vec<u8>, AllocError> {
+    let mut lines = Vec::new(alloc);
     for (alarm, change) in &report.changes {
         let tag = if *alarm < plant.alarms() {
             plant.tag(*alarm)
         } else {
             "?"
         };
-        push_alarm(text, moment, tag, *change)?;
+        push_alarm(&mut lines, moment, tag, *change)?;
     }
-    Ok(())
+    Ok(lines)
 }
 
-/// Adds the outputs of a report.
-fn push_outs(
-    text: &mut Vec<u8>,
+/// The lines of the outputs of a report.
+fn outs_of(
+    alloc: Global,
     plant: &Plant,
     moment: &str,
     report: &Report,
-) -> Result<(), AllocError> {
+) -> Result<Vec<u8>, AllocError> {
+    let mut lines = Vec::new(alloc);
     for (output, value) in &report.outs {
         let name = match plant.globals().get(*output as usize) {
             Some(global) => global.name.as_str(),
             None => "?",
         };
-        push_out(text, moment, name, *value)?;
+        push_out(&mut lines, moment, name, *value)?;
     }
-    Ok(())
+    Ok(lines)
+}
+
+/// Adds lines, unless memory was refused for them.
+fn push_lines(page: &mut Page, lines: Result<Vec<u8>, AllocError>) {
+    match lines {
+        Ok(lines) => page.add_bytes(lines.as_slice()),
+        Err(_) => page.refuse(),
+    }
+}
+
+/// Adds the changes and outputs of a report.
+fn push_report(alloc: Global, page: &mut Page, plant: &Plant, report: &Report) {
+    let Ok(moment) = report.moment.to_string(alloc) else {
+        return page.refuse();
+    };
+    push_lines(page, changes_of(alloc, plant, moment.as_str(), report));
+    push_lines(page, outs_of(alloc, plant, moment.as_str(), report));
 }
 
 /// Adds what a turn did.
-fn push_turn(
-    alloc: Global,
-    text: &mut Vec<u8>,
-    plant: &Plant,
-    turn: &Turn,
-) -> Result<(), AllocError> {
-    let moment = turn.report.moment;
-    let moment = format!(in alloc; "{moment}")?;
-    push_changes(text, plant, moment.as_str(), &turn.report)?;
-    push_outs(text, plant, moment.as_str(), &turn.report)?;
-    let taken = turn.taken;
-    let stopped = if turn.stopped { "TRUE" } else { "FALSE" };
-    push_line(
-        text,
-        format!(in alloc; "TAKEN {taken} STOPPED {stopped}")?.as_str(),
-    )
+fn push_turn(alloc: Global, page: &mut Page, plant: &Plant, turn: &Turn) {
+    push_report(alloc, page, plant, &turn.report);
+    page.add("TAKEN");
+    page.number(i128::from(turn.taken));
+    page.word("STOPPED");
+    page.truth(turn.stopped);
+    page.add("\n");
 }
 
-/// Adds why a turn is refused. Fails where memory is, but where that is to be told.
-fn push_refusal(
-    alloc: Global,
-    text: &mut Vec<u8>,
-    fault: EngineFault,
-    once: bool,
-) -> Result<(), AllocError> {
-    if let EngineFault::Memory = fault {
-        return if once {
-            push_line(text, "MEMORY")
-        } else {
-            Err(AllocError)
-        };
+/// Adds why a turn is refused. Where memory is, the page is short of it, but where that is to be told.
+fn push_refusal(page: &mut Page, fault: EngineFault, once: bool) {
+    match fault {
+        EngineFault::Memory if once => page.line("MEMORY"),
+        EngineFault::Memory => page.refuse(),
+        _ => {
+            page.add("REFUSED");
+            page.word(fault.text());
+            page.add("\n");
+        }
     }
-    let why = fault.text();
-    push_line(text, format!(in alloc; "REFUSED {why}")?.as_str())
 }
 
-/// Adds what came of a turn. Fails where it was stopped for memory, but where that is to be told.
-fn push_taken(
-    alloc: Global,
-    text: &mut Vec<u8>,
-    engine: &Engine,
-    taken: &Taken,
-    once: bool,
-) -> Result<(), AllocError> {
+/// Adds what came of a turn. Where it was stopped for memory the page is short of it, but where that is to be told.
+fn push_taken(alloc: Global, page: &mut Page, engine: &Engine, taken: &Taken, once: bool) {
     if !taken.is_kept {
-        return push_line(text, "PROMISE BROKEN");
+        return page.line("PROMISE BROKEN");
     }
     match &taken.answer {
-        Ok(turn) => {
-            if turn.stopped && !once && engine.events() < MOST_EVENTS {
-                return Err(AllocError);
-            }
-            push_turn(alloc, text, engine.plant(), turn)
-        }
-        Err(fault) => push_refusal(alloc, text, *fault, once),
+        Ok(turn) if turn.stopped && !once && engine.events() < MOST_EVENTS => page.refuse(),
+        Ok(turn) => push_turn(alloc, page, engine.plant(), turn),
+        Err(fault) => push_refusal(page, *fault, once),
     }
 }
 
@@ -181,14 +176,14 @@ fn push_scan<L: Ledger, R: Wait>(
     alloc: Global,
     station: &mut Station<L, Workers>,
     consoles: &mut [Console],
-    text: &mut Vec<u8>,
+    page: &mut Page,
     scan: Scan<'_>,
-) -> Result<(), AllocError>
+)
     requires { AreOf station.old.lanes consoles.old }
     ensures { AreOf station.new.lanes consoles.new }
 {
     let taken = take_again(rt, alloc, station, consoles, scan);
-    push_taken(alloc, text, station.engine(), &taken, scan.once)
+    push_taken(alloc, page, station.engine(), &taken, scan.once);
 }
 
 /// Takes the turn of a line, `scan ..` or `once scan ..`, and adds what it did.
@@ -197,24 +192,25 @@ pub fn push_turn_of<L: Ledger, R: Wait>(
     alloc: Global,
     station: &mut Station<L, Workers>,
     consoles: &mut [Console],
-    text: &mut Vec<u8>,
+    page: &mut Page,
     line: &str,
-) -> Result<(), AllocError>
+)
     requires { AreOf station.old.lanes consoles.old }
     ensures { AreOf station.new.lanes consoles.new }
 {
     let mut pool = Pool::new(alloc);
     let once = line.starts_with("once ");
     let line = line.strip_prefix("once ").unwrap_or(line);
-    match read_command(alloc, &mut pool, line.as_bytes())? {
-        Command::Scan(moment, pairs) => {
+    match read_command(alloc, &mut pool, line.as_bytes()) {
+        Ok(Command::Scan(moment, pairs)) => {
             let scan = Scan {
                 pairs,
                 moment,
                 once,
             };
-            push_scan(rt, alloc, station, consoles, text, scan)
+            push_scan(rt, alloc, station, consoles, page, scan);
         }
-        _ => push_line(text, "NO ROW"),
+        Ok(_) => page.line("NO ROW"),
+        Err(_) => page.refuse(),
     }
 }

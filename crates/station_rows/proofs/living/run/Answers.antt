@@ -4,6 +4,6 @@ use Rattle.station_rows.proofs.living.run.Goals as goal
 
 pub close-closing-requires : goal.close-closing-requires
 close-closing-requires g c =
-    let seated = c.push_rows-answered.new.consoles in
-    let long : length seated ≡ c.in-Ok.consoles.len = omega (arith, c.push_rows-answered.auto.consoles, c.as_mut_slice.ensures.len) in
-    c.end_all.ensures c.push_rows-answered.new.station.lanes (rw (with_items_is c.in-Ok.consoles seated long) c.push_rows-answered.ensures)
+    let seated = c.push_rows.new.consoles in
+    let long : length seated ≡ c.in-Ok.consoles.len = omega (arith, c.push_rows.auto.consoles, c.as_mut_slice.ensures.len) in
+    c.end_all.ensures c.push_rows.new.station.lanes (rw (with_items_is c.in-Ok.consoles seated long) c.push_rows.ensures)
