@@ -3,14 +3,17 @@
 use engine::{Crew, Done, Engine, Job, Start};
 use plant_config::Plant;
 use plant_service::{Feed, Reading, ServeFault, Sink, Writing, serve};
-use std::alloc::{AllocError, Global};
+use row_text::Page;
+use std::alloc::Global;
 use std::sync::Wait;
 
 /// Adds the line of a plant that is only checked.
-pub fn push_accepted(alloc: Global, text: &mut Vec<u8>, plant: &Plant) -> Result<(), AllocError> {
-    let (programs, alarms) = (plant.programs(), plant.alarms());
-    let line = format!(in alloc; "ACCEPTED PROGRAMS {programs} ALARMS {alarms}\n")?;
-    text.extend_from_slice(line.as_bytes())
+pub fn push_accepted(page: &mut Page, plant: &Plant) {
+    page.add("ACCEPTED PROGRAMS");
+    page.number(i128::from(plant.programs()));
+    page.word("ALARMS");
+    page.number(i128::from(plant.alarms()));
+    page.add("\n");
 }
 
 /// What an input is answered. Neither the feed nor the sink has failed then.
@@ -32,27 +35,40 @@ fn served<H: Wait, C: Crew<Job, Start, Done, H>>(
     Ok(sink.into_inner())
 }
 
-/// What an input is answered. Over memory a session stops only where memory was refused.
-pub fn answers<H: Wait, C: Crew<Job, Start, Done, H>>(
+/// Adds what an input is answered. Over memory a session stops only where memory was refused.
+pub fn push_answers<H: Wait, C: Crew<Job, Start, Done, H>>(
     rt: &H,
     alloc: Global,
+    page: &mut Page,
     engine: &mut Engine,
     crew: &mut C,
     input: &[u8],
-) -> Result<Vec<u8>, AllocError>
+)
     requires { C.asks }
 {
-    served(rt, alloc, engine, crew, input).map_err(|_| AllocError)
+    match served(rt, alloc, engine, crew, input) {
+        Ok(answers) => page.add_bytes(answers.as_slice()),
+        Err(_) => page.refuse(),
+    }
 }
 
 /// Adds how many events an engine has taken, its last moment and the state of its first alarm.
-pub fn push_seen(alloc: Global, text: &mut Vec<u8>, engine: &Engine) -> Result<(), AllocError> {
-    let (events, moment) = (engine.events(), engine.moment());
-    let state = if engine.plant().alarms() > 0 {
+pub fn push_seen(page: &mut Page, engine: &Engine) {
+    page.add("SEEN");
+    page.number(i128::from(engine.events()));
+    page.number(i128::from(engine.moment()));
+    page.word(if engine.plant().alarms() > 0 {
         engine.state(0).code().text()
     } else {
         "-"
-    };
-    let line = format!(in alloc; "SEEN {events} {moment} {state}\n")?;
-    text.extend_from_slice(line.as_bytes())
+    });
+    page.add("\n");
+}
+
+/// Adds another page.
+pub fn push_page(page: &mut Page, other: &Page) {
+    page.add_bytes(other.as_slice());
+    if other.is_short() {
+        page.refuse();
+    }
 }

@@ -4,7 +4,7 @@ use alarm_machine::Verb;
 use command_text::{Command, Pool, read_command};
 use engine::Engine;
 use plant_config::Plant;
-use row_text::push_line;
+use row_text::Page;
 use std::alloc::{AllocError, Global};
 use twin_runs::{Scanned, TwinScans};
 
@@ -41,6 +41,19 @@ fn restarted(plant: &Plant, verb: Verb, console: u32, word: &[u8]) -> Option<u32
     }
 }
 
+/// Adds a line where both ways of a scan differ.
+fn push_scanned(page: &mut Page, moment: u64, scanned: Result<Scanned, AllocError>) {
+    match scanned {
+        Ok(Scanned::Apart) => {
+            page.add("WALK AND CODE DIFFER");
+            page.number(i128::from(moment));
+            page.add("\n");
+        }
+        Ok(Scanned::Alike | Scanned::Refused) => {}
+        Err(_) => page.refuse(),
+    }
+}
+
 impl Beside {
     /// The programs of a plant before the first scan.
     pub fn new(alloc: Global, plant: &Plant) -> Result<Beside, AllocError> {
@@ -50,44 +63,27 @@ impl Beside {
     }
 
     /// Takes a line of the server's input. Where both ways of a scan differ, a line that says so is added.
-    fn take_line(
-        &mut self,
-        alloc: Global,
-        plant: &Plant,
-        text: &mut Vec<u8>,
-        line: &[u8],
-    ) -> Result<(), AllocError> {
-        match read_command(alloc, &mut self.pool, without_end(line))? {
-            Command::Scan(moment, pairs) => match self.scans.scan(alloc, pairs, moment)? {
-                Scanned::Apart => {
-                    let line = format!(in alloc; "WALK AND CODE DIFFER {moment}")?;
-                    push_line(text, line.as_str())
-                }
-                Scanned::Alike | Scanned::Refused => Ok(()),
-            },
-            Command::Order(verb, console, word) => {
-                self.scans.order(restarted(plant, verb, console, word));
-                Ok(())
+    fn take_line(&mut self, alloc: Global, page: &mut Page, plant: &Plant, line: &[u8]) {
+        match read_command(alloc, &mut self.pool, without_end(line)) {
+            Ok(Command::Scan(moment, pairs)) => {
+                push_scanned(page, moment, self.scans.scan(alloc, pairs, moment));
             }
-            Command::Nothing | Command::Unknown | Command::List | Command::Journal => Ok(()),
+            Ok(Command::Order(verb, console, word)) => {
+                self.scans.order(restarted(plant, verb, console, word));
+            }
+            Ok(_) => {}
+            Err(_) => page.refuse(),
         }
     }
 
     /// Takes what an engine was served. Where both ways of a scan differ, or the engine shows something else, a line that says so is added.
-    pub fn take(
-        &mut self,
-        alloc: Global,
-        engine: &Engine,
-        text: &mut Vec<u8>,
-        input: &[u8],
-    ) -> Result<(), AllocError> {
+    pub fn take(&mut self, alloc: Global, page: &mut Page, engine: &Engine, input: &[u8]) {
         for line in input.split_inclusive(|byte| *byte == b'\n') {
-            self.take_line(alloc, engine.plant(), text, line)?;
+            self.take_line(alloc, page, engine.plant(), line);
         }
         let (events, moment) = (engine.events(), engine.moment());
-        if self.scans.shows(events, moment, engine.outputs()) {
-            return Ok(());
+        if !self.scans.shows(events, moment, engine.outputs()) {
+            page.line("WALK AND SERVER DIFFER");
         }
-        push_line(text, "WALK AND SERVER DIFFER")
     }
 }

@@ -4,7 +4,7 @@ ghost use Rattle.std.specs.Prelude.{◌<◌, ◌≤◌};
 
 use crew::Ungated;
 use engine::{Done, Job, Start};
-use row_text::push_line;
+use row_text::Page;
 use standing_crew::Standing;
 use std::alloc::{AllocError, Global};
 use std::sync::{Arc, Wait};
@@ -70,20 +70,16 @@ impl Crews {
     }
 
     /// Holds what so many workers answer against what the caller alone does. Where these differ it is added, after a line that says so.
-    pub fn hold(
-        &mut self,
-        text: &mut Vec<u8>,
-        alone: &[u8],
-        number: &str,
-        answer: &[u8],
-    ) -> Result<(), AllocError> {
-        if alone == answer {
-            return Ok(());
+    pub fn hold(&mut self, page: &mut Page, alone: &Page, number: &str, answer: &Page) {
+        if answer.is_short() {
+            page.refuse();
         }
-        self.are_alike = false;
-        text.extend_from_slice(number.as_bytes())?;
-        push_line(text, " WORKERS DIFFER")?;
-        text.extend_from_slice(answer)
+        if alone.as_slice() != answer.as_slice() {
+            self.are_alike = false;
+            page.add(number);
+            page.line(" WORKERS DIFFER");
+            page.add_bytes(answer.as_slice());
+        }
     }
 
     /// Ends the workers, and tells whether all was answered alike.

@@ -1,6 +1,7 @@
 //! The rows before the first plant: the plants of the folder `examples`, checked and served from their files; the texts of refusals; and the
 //! laws, which do nothing when they are called.
 
+use crate::answers::push_page;
 use crate::crews::Crews;
 use crate::laws::call_laws;
 use crate::shown::push_texts;
@@ -8,8 +9,8 @@ use engine::{Alone, Crew, Done, Job, Start};
 use plant_service::{
     Deaf, Disk, Ends, PlantFiles, Reading, ServeFault, Writing, check_from, run_from,
 };
-use row_text::push_line;
-use std::alloc::{AllocError, Global};
+use row_text::Page;
+use std::alloc::Global;
 use std::fs;
 use std::rt::Files;
 use std::sync::Wait;
@@ -62,21 +63,21 @@ fn push_example<R: Files + Threads + Wait + Sync, C: Crew<Job, Start, Done, R>>(
     rt: &R,
     alloc: Global,
     crew: &mut C,
-    text: &mut Vec<u8>,
+    page: &mut Page,
     words: &str,
-) -> Result<(), AllocError>
+)
     requires { C.asks }
 {
-    push_line(text, words)?;
+    page.line(words);
     let (word, rest) = words.split_once(" ").unwrap_or((words, ""));
     let answers = match rest.split_once(" ") {
         Some((path, commands)) if word == "run" => served(rt, alloc, crew, path, commands),
         _ => checked(rt, alloc, rest),
     };
     match answers {
-        Ok(answers) => text.extend_from_slice(answers.as_slice()),
-        Err(ServeFault::Read) => push_line(text, "RUN READ"),
-        Err(_) => Err(AllocError),
+        Ok(answers) => page.add_bytes(answers.as_slice()),
+        Err(ServeFault::Read) => page.line("RUN READ"),
+        Err(_) => page.refuse(),
     }
 }
 
@@ -85,41 +86,67 @@ fn push_row<R: Files + Threads + Wait + Sync, C: Crew<Job, Start, Done, R>>(
     rt: &R,
     alloc: Global,
     crew: &mut C,
-    text: &mut Vec<u8>,
+    page: &mut Page,
     line: &str,
-) -> Result<(), AllocError>
+)
     requires { C.asks }
 {
-    if let Some(words) = line.strip_prefix("example ") {
-        return push_example(rt, alloc, crew, text, words);
+    match line {
+        "laws" => call_laws(),
+        "texts" => push_texts(alloc, page),
+        _ => {
+            if let Some(words) = line.strip_prefix("example ") {
+                push_example(rt, alloc, crew, page, words);
+            }
+        }
     }
-    if line == "laws" {
-        call_laws();
-    }
-    if line == "texts" {
-        return push_texts(alloc, text);
-    }
-    Ok(())
 }
 
-/// Adds the answers to the lines `example ..`, `texts` and `laws` of a table. Where memory is refused a line is answered once more.
-fn push_examples<R: Files + Threads + Wait + Sync, C: Crew<Job, Start, Done, R>>(
+/// The answer to a line.
+fn row<R: Files + Threads + Wait + Sync, C: Crew<Job, Start, Done, R>>(
     rt: &R,
     alloc: Global,
     crew: &mut C,
-    text: &mut Vec<u8>,
-    table: &str,
-) -> Result<(), AllocError>
+    line: &str,
+) -> Page
     requires { C.asks }
 {
-    for line in table.lines() {
-        let start = text.len();
-        if push_row(rt, alloc, crew, text, line).is_err() {
-            text.truncate(start);
-            push_row(rt, alloc, crew, text, line)?;
-        }
+    let mut page = Page::new(alloc);
+    push_row(rt, alloc, crew, &mut page, line);
+    page
+}
+
+/// Adds the answer to a line. Where memory is refused it is answered once more.
+fn push_row_again<R: Files + Threads + Wait + Sync, C: Crew<Job, Start, Done, R>>(
+    rt: &R,
+    alloc: Global,
+    crew: &mut C,
+    text: &mut Page,
+    line: &str,
+)
+    requires { C.asks }
+{
+    let page = row(rt, alloc, crew, line);
+    if page.is_short() {
+        return push_page(text, &row(rt, alloc, crew, line));
     }
-    Ok(())
+    push_page(text, &page);
+}
+
+/// The answers to the lines `example ..`, `texts` and `laws` of a table.
+fn examples<R: Files + Threads + Wait + Sync, C: Crew<Job, Start, Done, R>>(
+    rt: &R,
+    alloc: Global,
+    crew: &mut C,
+    table: &str,
+) -> Page
+    requires { C.asks }
+{
+    let mut text = Page::new(alloc);
+    for line in table.lines() {
+        push_row_again(rt, alloc, crew, &mut text, line);
+    }
+    text
 }
 
 /// Adds the answers to the lines `example ..`, `texts` and `laws` of a table, which each crew of workers answers once more.
@@ -127,16 +154,13 @@ pub fn push_examples_by_all<R: Files + Threads + Wait + Sync>(
     rt: &R,
     alloc: Global,
     crews: &mut Crews,
-    text: &mut Vec<u8>,
+    page: &mut Page,
     table: &str,
-) -> Result<(), AllocError> {
-    let mut alone = Vec::new(alloc);
-    push_examples(rt, alloc, &mut Alone, &mut alone, table)?;
-    text.extend_from_slice(alone.as_slice())?;
-    let mut answer = Vec::new(alloc);
-    push_examples(rt, alloc, &mut crews.two, &mut answer, table)?;
-    crews.hold(text, alone.as_slice(), "2", answer.as_slice())?;
-    answer.clear();
-    push_examples(rt, alloc, &mut crews.eight, &mut answer, table)?;
-    crews.hold(text, alone.as_slice(), "8", answer.as_slice())
+) {
+    let alone = examples(rt, alloc, &mut Alone, table);
+    push_page(page, &alone);
+    let two = examples(rt, alloc, &mut crews.two, table);
+    crews.hold(page, &alone, "2", &two);
+    let eight = examples(rt, alloc, &mut crews.eight, table);
+    crews.hold(page, &alone, "8", &eight);
 }

@@ -2,14 +2,14 @@
 
 ghost use Rattle.std.specs.Prelude.{◌≡◌, false};
 
-use crate::plants::{File, Plan, text_of, texts_of};
+use crate::plants::{Plan, text_of, texts_of};
 use engine::{Crew, Done, Job, Start};
 use plant_service::{
     Deaf, Ends, FileFault, Folder, PlantFiles, PlantTexts, Reading, RunEnd, ServeFault, Writing,
     check_from, run, run_from,
 };
-use row_text::push_line;
-use std::alloc::{AllocError, Global};
+use row_text::{File, Page};
+use std::alloc::Global;
 use std::sync::Wait;
 use std::thread::Threads;
 
@@ -40,27 +40,29 @@ impl Folder for Shelf<'_> {
 /// The path of the plant file in the folder.
 const PATH: &str = "plant/plant.toml";
 
+/// Adds what there is to say of the plant of a folder.
+fn push_shelved<H: Threads + Sync>(rt: &H, alloc: Global, page: &mut Page, shelf: &Shelf<'_>) {
+    let mut sink = Writing::new(Vec::new(alloc));
+    let files = PlantFiles {
+        folder: shelf,
+        path: PATH,
+    };
+    match check_from(rt, alloc, &files, &mut Deaf, &mut sink) {
+        Ok(_) => page.add_bytes(sink.get_ref().as_slice()),
+        Err(_) => page.refuse(),
+    }
+}
+
 /// Adds what there is to say of the plant of files in a folder.
-pub fn push_checked<H: Threads + Sync>(
-    rt: &H,
-    alloc: Global,
-    text: &mut Vec<u8>,
-    plan: &Plan<'_>,
-) -> Result<(), AllocError> {
-    let texts = texts_of(alloc, plan.files, plan.given)?;
+pub fn push_checked<H: Threads + Sync>(rt: &H, alloc: Global, page: &mut Page, plan: &Plan<'_>) {
+    let Ok(texts) = texts_of(alloc, plan.files, plan.given) else {
+        return page.refuse();
+    };
     let shelf = Shelf {
         files: plan.files,
         texts: &texts,
     };
-    let mut sink = Writing::new(Vec::new(alloc));
-    let files = PlantFiles {
-        folder: &shelf,
-        path: PATH,
-    };
-    if check_from(rt, alloc, &files, &mut Deaf, &mut sink).is_err() {
-        return Err(AllocError);
-    }
-    text.extend_from_slice(sink.get_ref().as_slice())
+    push_shelved(rt, alloc, page, &shelf);
 }
 
 /// What a run in memory is joined to.
@@ -96,18 +98,34 @@ fn ran<H: Threads + Wait + Sync, C: Crew<Job, Start, Done, H>>(
     run(rt, alloc, crew, &texts, ends)
 }
 
+/// Adds what a run writes, how it ends, and how many bytes of the lines it leaves.
+fn push_run(page: &mut Page, run: Result<RunEnd, ServeFault>, ends: &MemoryEnds<'_>, lines: &str) {
+    page.add_bytes(ends.sink.get_ref().as_slice());
+    match run {
+        Ok(RunEnd::Served) => page.add("SERVED,"),
+        Ok(RunEnd::Refused) => page.add("REFUSED,"),
+        Err(_) => page.refuse(),
+    }
+    page.number(ends.feed.get_ref().len() as i128);
+    page.word("of");
+    page.number(lines.len() as i128);
+    page.line(" bytes left");
+}
+
 /// Adds what the run of a plant writes, how it ends, and how many bytes of the input it leaves.
 pub fn push_ran<H: Threads + Wait + Sync, C: Crew<Job, Start, Done, H>>(
     rt: &H,
     alloc: Global,
     crew: &mut C,
-    text: &mut Vec<u8>,
+    page: &mut Page,
     plan: &Plan<'_>,
     is_of_texts: bool,
-) -> Result<(), AllocError>
+)
     requires { C.asks }
 {
-    let texts = texts_of(alloc, plan.files, plan.given)?;
+    let Ok(texts) = texts_of(alloc, plan.files, plan.given) else {
+        return page.refuse();
+    };
     let shelf = Shelf {
         files: plan.files,
         texts: &texts,
@@ -117,15 +135,6 @@ pub fn push_ran<H: Threads + Wait + Sync, C: Crew<Job, Start, Done, H>>(
         sink: Writing::new(Vec::new(alloc)),
         listener: Deaf,
     };
-    let end = match ran(rt, alloc, crew, &shelf, is_of_texts, &mut ends) {
-        Ok(RunEnd::Served) => "SERVED",
-        Ok(RunEnd::Refused) => "REFUSED",
-        Err(_) => return Err(AllocError),
-    };
-    text.extend_from_slice(ends.sink.get_ref().as_slice())?;
-    let (left, bytes) = (ends.feed.get_ref().len(), plan.lines.len());
-    push_line(
-        text,
-        format!(in alloc; "{end}, {left} of {bytes} bytes left")?.as_str(),
-    )
+    let run = ran(rt, alloc, crew, &shelf, is_of_texts, &mut ends);
+    push_run(page, run, &ends, plan.lines);
 }

@@ -63,47 +63,37 @@ mod table;
 
 use crews::Crews;
 use examples::push_examples_by_all;
-use row_text::push_line;
-use std::alloc::{AllocError, Global};
+use row_text::Page;
+use std::alloc::Global;
 use std::io;
 use std::io::Write;
 use std::rt::Files;
 use std::sync::Wait;
 use std::thread::Threads;
-use table::answers_to;
-
-/// Adds what a table is answered.
-fn push_answers<R: Files + Threads + Wait + Sync>(
-    rt: &R,
-    alloc: Global,
-    crews: &mut Crews,
-    text: &mut Vec<u8>,
-    table: &str,
-) -> Result<(), AllocError> {
-    push_examples_by_all(rt, alloc, crews, text, table)?;
-    let answers = answers_to(rt, alloc, crews, table)?;
-    text.extend_from_slice(answers.as_slice())
-}
+use table::push_answers_to;
 
 /// Adds what a table is answered, and a last line where all crews answer alike. The crews are let go here alone.
 fn push_all<R: Files + Threads + Wait + Clone + Send + Sync + Drop + 'static>(
     rt: &R,
     alloc: Global,
-    text: &mut Vec<u8>,
+    page: &mut Page,
     table: &str,
-) -> Result<(), AllocError> {
-    let mut crews = Crews::new_again(rt, alloc)?;
-    let answered = push_answers(rt, alloc, &mut crews, text, table);
+) {
+    let Ok(mut crews) = Crews::new_again(rt, alloc) else {
+        return page.refuse();
+    };
+    push_examples_by_all(rt, alloc, &mut crews, page, table);
+    push_answers_to(rt, alloc, &mut crews, page, table);
     if crews.end(rt) {
-        push_line(text, "ALIKE WITH 1, 2 AND 8 WORKERS")?;
+        page.line("ALIKE WITH 1, 2 AND 8 WORKERS");
     }
-    answered
 }
 
 fn main(rt: HostRuntime) -> io::Result<()> {
     let table = io::read_to_string(rt.alloc(), rt.reader())?;
-    let mut text = Vec::new(rt.alloc());
-    push_all(&rt, rt.alloc(), &mut text, table.as_str())?;
+    let mut page = Page::new(rt.alloc());
+    push_all(&rt, rt.alloc(), &mut page, table.as_str());
+    let text = page.end()?;
     io::writer(&rt).write_all(text.as_slice())?;
     Ok(())
 }

@@ -1,8 +1,7 @@
 //! The files of a plant, as the table gives them, and the plant that they make.
 
 use plant_config::{ConfigFault, Files, Plant};
-use plant_types::Text;
-use row_text::{Source, push_line};
+use row_text::{File, Page};
 use std::alloc::{AllocError, Global};
 use std::thread::Threads;
 
@@ -22,33 +21,6 @@ areas = [\"south\"]";
 /// What stands in `alarms.csv` likewise.
 const ALARMS: &str = "tag,area,priority,condition,suppress,latch,max_shelve_ms,text
 T1,north,2,c,,FALSE,5000,Feed ratio high";
-
-/// A file and its name.
-#[derive(Drop)]
-pub struct File {
-    pub name: String,
-    pub source: Source,
-}
-
-impl File {
-    /// The file of some lines.
-    fn new(alloc: Global, name: &str, lines: &str) -> Result<File, AllocError> {
-        let mut source = Source::new(alloc);
-        for line in lines.lines() {
-            source.add(line)?;
-        }
-        let name = String::from_str(alloc, name)?;
-        Ok(File { name, source })
-    }
-
-    /// Its bytes, with a line in place of its line `..`.
-    fn text(&self, alloc: Global, given: &str) -> Result<Vec<u8>, AllocError> {
-        if self.source.has_gap() {
-            return self.source.with(alloc, given);
-        }
-        Vec::from_slice(alloc, self.source.as_slice())
-    }
-}
 
 /// What is to be done with a plant.
 #[derive(Clone, Copy, Drop)]
@@ -90,19 +62,34 @@ impl Plan<'_> {
     }
 }
 
-/// The files of a plant for which the table has given none: the last of them is `p.st`, and empty.
-pub fn first_files(alloc: Global) -> Result<Vec<File>, AllocError> {
-    let mut files = Vec::new(alloc);
-    files.push(File::new(alloc, "plant.toml", PLANT)?)?;
-    files.push(File::new(alloc, "alarms.csv", ALARMS)?)?;
-    files.push(File::new(alloc, "p.st", "")?)?;
-    Ok(files)
+/// The file of some lines.
+fn file_of(alloc: Global, name: &str, lines: &str) -> Result<File, AllocError> {
+    let mut file = File::new(alloc, name)?;
+    for line in lines.lines() {
+        file.source.add(line)?;
+    }
+    Ok(file)
 }
 
-/// Adds an empty file.
-pub fn push_file(alloc: Global, files: &mut Vec<File>, name: &str) -> Result<(), AllocError> {
-    files.push(File::new(alloc, name, "")?)?;
-    Ok(())
+/// Adds a file, and tells whether there was memory for it.
+fn is_added(files: &mut Vec<File>, file: Result<File, AllocError>) -> bool {
+    match file {
+        Ok(file) => files.push(file).is_ok(),
+        Err(_) => false,
+    }
+}
+
+/// Puts in place those files of a plant that the table needn't give: the last of them is `p.st`, and empty. Tells whether there was memory for them.
+pub fn put_first(alloc: Global, files: &mut Vec<File>) -> bool {
+    files.clear();
+    let plant = is_added(files, file_of(alloc, "plant.toml", PLANT));
+    let alarms = is_added(files, file_of(alloc, "alarms.csv", ALARMS));
+    plant && alarms && put_file(alloc, files, "p.st")
+}
+
+/// Adds an empty file, and tells whether there was memory for it.
+pub fn put_file(alloc: Global, files: &mut Vec<File>, name: &str) -> bool {
+    is_added(files, File::new(alloc, name))
 }
 
 /// The bytes of files, with a line in place of a line `..`.
@@ -125,16 +112,22 @@ pub fn text_of<'a>(files: &[File], texts: &'a [Vec<u8>], name: &str) -> Option<&
     found
 }
 
-/// The names of the sources that are handed in (the words of a line, or else what plant.toml lists), and of the alarms.
-fn names_of(alloc: Global, words: &str, listed: Files) -> Result<Vec<Text>, AllocError> {
-    let mut names = listed.sources.into_vec();
-    if !words.is_empty() {
-        names.clear();
-        for word in words.split(" ") {
-            names.push(Text::from_str(alloc, word)?)?;
+/// The names of the sources that are handed in: the words of a line, or else what plant.toml lists.
+fn names_of<'a>(
+    alloc: Global,
+    words: &'a str,
+    listed: &'a Files,
+) -> Result<Vec<&'a str>, AllocError> {
+    let mut names = Vec::new(alloc);
+    if words.is_empty() {
+        for source in listed.sources.as_slice() {
+            names.push(source.as_str())?;
         }
+        return Ok(names);
     }
-    names.push(listed.alarms)?;
+    for word in words.split(" ") {
+        names.push(word)?;
+    }
     Ok(names)
 }
 
@@ -143,12 +136,12 @@ fn named<'a>(
     alloc: Global,
     files: &[File],
     texts: &'a [Vec<u8>],
-    names: &'a [Text],
+    names: &[&'a str],
 ) -> Result<Vec<(&'a str, &'a [u8])>, AllocError> {
     let mut found = Vec::new(alloc);
     for name in names {
-        match text_of(files, texts, name.as_str()) {
-            Some(text) => found.push((name.as_str(), text))?,
+        match text_of(files, texts, name) {
+            Some(text) => found.push((*name, text))?,
             None => return Ok(found),
         }
     }
@@ -156,53 +149,114 @@ fn named<'a>(
 }
 
 /// Adds the line of a refused plant.
-fn refused(
-    alloc: Global,
-    printed: &mut Vec<u8>,
-    fault: ConfigFault,
-) -> Result<Option<Plant>, AllocError> {
-    if let ConfigFault::Memory = fault {
-        return Err(AllocError);
+fn push_refused(alloc: Global, page: &mut Page, fault: &ConfigFault) {
+    match fault {
+        ConfigFault::Memory => page.refuse(),
+        _ => {
+            page.add_made(fault.line(alloc));
+            page.add("\n");
+        }
     }
-    push_line(printed, fault.line(alloc)?.as_str())?;
-    Ok(None)
 }
 
 /// Adds the names of the files that a plant file names, each after a space.
-fn push_listed(printed: &mut Vec<u8>, listed: &Files) -> Result<(), AllocError> {
+fn push_listed(page: &mut Page, listed: &Files) {
     for source in listed.sources.as_slice() {
-        printed.push(b' ')?;
-        printed.extend_from_slice(source.as_bytes())?;
+        page.word(source.as_str());
     }
-    printed.push(b' ')?;
-    printed.extend_from_slice(listed.alarms.as_bytes())?;
-    printed.push(b'\n')?;
-    Ok(())
+    page.word(listed.alarms.as_str());
+    page.add("\n");
 }
 
-/// The plant of texts, of which the files that its plant file names are those of the plan. Where there is none, a line that says why is added.
+/// The texts of a plan, and the names of its files.
+#[derive(Clone, Copy, Drop)]
+struct Given<'a> {
+    files: &'a [File],
+    texts: &'a [Vec<u8>],
+    names: &'a [&'a str],
+    alarms: &'a str,
+}
+
+/// The plant of texts. Where there is none, a line that says why is added.
 fn plant_in<H: Threads + Sync>(
     rt: &H,
     alloc: Global,
-    printed: &mut Vec<u8>,
+    page: &mut Page,
+    given: Given<'_>,
+) -> Option<Plant> {
+    let Ok(sources) = named(alloc, given.files, given.texts, given.names) else {
+        page.refuse();
+        return None;
+    };
+    let alarms = text_of(given.files, given.texts, given.alarms);
+    let lacking = given.names.get(sources.len());
+    let (None, Some(alarms)) = (lacking, alarms) else {
+        page.add("FILE");
+        page.word(lacking.copied().unwrap_or(given.alarms));
+        page.add("\n");
+        return None;
+    };
+    let plant = text_of(given.files, given.texts, "plant.toml").unwrap_or(&[]);
+    read(rt, alloc, page, (plant, &sources, alarms))
+}
+
+/// Reads a plant. Where it is refused, a line that says why is added.
+fn read<H: Threads + Sync>(
+    rt: &H,
+    alloc: Global,
+    page: &mut Page,
+    texts: (&[u8], &[(&str, &[u8])], &[u8]),
+) -> Option<Plant> {
+    match Plant::read(rt, alloc, texts.0, texts.1, texts.2) {
+        Ok(plant) => Some(plant),
+        Err(fault) => {
+            push_refused(alloc, page, &fault);
+            None
+        }
+    }
+}
+
+/// The plant of a plan and its texts, of which the plant file lists files. Where there is none, or these are to be listed, lines that say so are added.
+fn plant_by<H: Threads + Sync>(
+    rt: &H,
+    alloc: Global,
+    page: &mut Page,
     plan: &Plan<'_>,
     texts: &[Vec<u8>],
-    listed: Files,
-) -> Result<Option<Plant>, AllocError> {
-    let names = names_of(alloc, plan.handed, listed)?;
-    let mut sources = named(alloc, plan.files, texts, &names)?;
-    if let Some(name) = names.get(sources.len()) {
-        let name = name.as_str();
-        push_line(printed, format!(in alloc; "FILE {name}")?.as_str())?;
-        return Ok(None);
+    listed: &Files,
+) -> Option<Plant> {
+    if let Asked::List = plan.asked {
+        push_listed(page, listed);
+        return None;
     }
-    let Some((_, alarms)) = sources.pop() else {
-        return Ok(None);
+    let Ok(names) = names_of(alloc, plan.handed, listed) else {
+        page.refuse();
+        return None;
     };
+    let given = Given {
+        files: plan.files,
+        texts,
+        names: names.as_slice(),
+        alarms: listed.alarms.as_str(),
+    };
+    plant_in(rt, alloc, page, given)
+}
+
+/// The plant of a plan and its texts. Where there is none, or its files are to be listed, lines that say so are added.
+fn plant_of_texts<H: Threads + Sync>(
+    rt: &H,
+    alloc: Global,
+    page: &mut Page,
+    plan: &Plan<'_>,
+    texts: &[Vec<u8>],
+) -> Option<Plant> {
     let plant = text_of(plan.files, texts, "plant.toml").unwrap_or(&[]);
-    match Plant::read(rt, alloc, plant, &sources, alarms) {
-        Ok(plant) => Ok(Some(plant)),
-        Err(fault) => refused(alloc, printed, fault),
+    match Plant::files(alloc, plant) {
+        Ok(listed) => plant_by(rt, alloc, page, plan, texts, &listed),
+        Err(fault) => {
+            push_refused(alloc, page, &fault);
+            None
+        }
     }
 }
 
@@ -210,17 +264,14 @@ fn plant_in<H: Threads + Sync>(
 pub fn plant_of<H: Threads + Sync>(
     rt: &H,
     alloc: Global,
-    printed: &mut Vec<u8>,
+    page: &mut Page,
     plan: &Plan<'_>,
-) -> Result<Option<Plant>, AllocError> {
-    let texts = texts_of(alloc, plan.files, plan.given)?;
-    let plant = text_of(plan.files, &texts, "plant.toml").unwrap_or(&[]);
-    match Plant::files(alloc, plant) {
-        Ok(listed) if matches!(plan.asked, Asked::List) => {
-            push_listed(printed, &listed)?;
-            Ok(None)
+) -> Option<Plant> {
+    match texts_of(alloc, plan.files, plan.given) {
+        Ok(texts) => plant_of_texts(rt, alloc, page, plan, &texts),
+        Err(_) => {
+            page.refuse();
+            None
         }
-        Ok(listed) => plant_in(rt, alloc, printed, plan, &texts, listed),
-        Err(fault) => refused(alloc, printed, fault),
     }
 }

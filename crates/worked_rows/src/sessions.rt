@@ -5,7 +5,7 @@ ghost use Rattle.std.specs.Prelude.{◌≡◌, false};
 use engine::{Crew, Done, Engine, Job, Start};
 use plant_config::Plant;
 use plant_service::{Failed, Feed, ServeFault, Sink, serve};
-use row_text::push_line;
+use row_text::Page;
 use std::alloc::{AllocError, Global};
 use std::sync::Wait;
 
@@ -134,6 +134,11 @@ fn served<H: Wait, C: Crew<Job, Start, Done, H>>(
     })
 }
 
+/// An engine of a plant's copy.
+fn engine_of(alloc: Global, plant: &Plant) -> Result<Engine, AllocError> {
+    Engine::new(alloc, plant.copy(alloc)?)
+}
+
 /// Serves an input to a new engine of a plant, which is let go here alone.
 fn session<H: Wait, C: Crew<Job, Start, Done, H>>(
     rt: &H,
@@ -145,7 +150,7 @@ fn session<H: Wait, C: Crew<Job, Start, Done, H>>(
 ) -> Result<Ended, AllocError>
     requires { C.asks }
 {
-    let mut engine = Engine::new(alloc, plant.copy(alloc)?)?;
+    let mut engine = engine_of(alloc, plant)?;
     let ended = served(rt, alloc, &mut engine, crew, input, ends);
     drop(engine);
     ended
@@ -153,23 +158,18 @@ fn session<H: Wait, C: Crew<Job, Start, Done, H>>(
 
 /// Adds how a session ended, how many bytes and line ends it wrote, and after how many events; `APART` where it wrote no beginning of the
 /// whole answers.
-fn push_ended(
-    alloc: Global,
-    text: &mut Vec<u8>,
-    name: &str,
-    ended: &Ended,
-    whole: &[u8],
-) -> Result<(), AllocError> {
+fn push_ended(page: &mut Page, ended: &Ended, whole: &[u8]) {
     let wrote = ended.bytes.as_slice();
-    let (outcome, bytes, events) = (ended.outcome, wrote.len(), ended.events);
     let lines = wrote.iter().filter(|byte| **byte == b'\n').count();
-    let apart = if whole.starts_with(wrote) {
+    page.word(ended.outcome);
+    page.number(wrote.len() as i128);
+    page.number(lines as i128);
+    page.number(i128::from(ended.events));
+    page.line(if whole.starts_with(wrote) {
         ""
     } else {
         " APART"
-    };
-    let line = format!(in alloc; "{name} {outcome} {bytes} {lines} {events}{apart}")?;
-    push_line(text, line.as_str())
+    });
 }
 
 /// The ends of a word: `feed 5` gives at most 5 bytes a read, `sink 5` takes at most 5 a write; the first call that fails is the one after so
@@ -191,28 +191,35 @@ fn push_failing<H: Wait, C: Crew<Job, Start, Done, H>>(
     rt: &H,
     alloc: Global,
     crew: &mut C,
-    text: &mut Vec<u8>,
+    page: &mut Page,
     plant: &Plant,
     input: &[u8],
     word: &str,
     whole: &[u8],
-) -> Result<(), AllocError>
+)
     requires { C.asks }
 {
     for calls in 0..1_000_000usize {
-        let ended = session(rt, alloc, crew, plant, input, ends_of(word, calls))?;
-        push_ended(
-            alloc,
-            text,
-            format!(in alloc; "{calls}")?.as_str(),
-            &ended,
-            whole,
-        )?;
+        let Ok(ended) = session(rt, alloc, crew, plant, input, ends_of(word, calls)) else {
+            return page.refuse();
+        };
+        page.add_number(calls as i128);
+        push_ended(page, &ended, whole);
         if ended.outcome == "DONE" {
-            return Ok(());
+            return;
         }
     }
-    Ok(())
+}
+
+/// The ends of words: `5 7` gives at most 5 bytes a read, and takes at most 7 a write.
+fn little_ends(words: &str) -> Ends {
+    let (read, write) = words.split_once(" ").unwrap_or((words, ""));
+    Ends {
+        read: read.parse::<usize>().unwrap_or(NO_LIMIT),
+        reads: NO_LIMIT,
+        write: write.parse::<usize>().unwrap_or(NO_LIMIT),
+        writes: NO_LIMIT,
+    }
 }
 
 /// Adds the session of a plant whose feed and sink take little: `little 5 7` gives at most 5 bytes a read, and takes at most 7 a write.
@@ -220,23 +227,29 @@ fn push_little<H: Wait, C: Crew<Job, Start, Done, H>>(
     rt: &H,
     alloc: Global,
     crew: &mut C,
-    text: &mut Vec<u8>,
+    page: &mut Page,
     plant: &Plant,
     input: &[u8],
     words: &str,
     whole: &[u8],
-) -> Result<(), AllocError>
+)
     requires { C.asks }
 {
-    let (read, write) = words.split_once(" ").unwrap_or((words, ""));
-    let ends = Ends {
-        read: read.parse::<usize>().unwrap_or(NO_LIMIT),
-        reads: NO_LIMIT,
-        write: write.parse::<usize>().unwrap_or(NO_LIMIT),
-        writes: NO_LIMIT,
-    };
-    let ended = session(rt, alloc, crew, plant, input, ends)?;
-    push_ended(alloc, text, words, &ended, whole)
+    match session(rt, alloc, crew, plant, input, little_ends(words)) {
+        Ok(ended) => {
+            page.add(words);
+            push_ended(page, &ended, whole);
+        }
+        Err(_) => page.refuse(),
+    }
+}
+
+/// Adds what a session wrote, how it ended, and after how many events.
+fn push_served(page: &mut Page, ended: &Ended) {
+    page.add_bytes(ended.bytes.as_slice());
+    page.add(ended.outcome);
+    page.number(i128::from(ended.events));
+    page.add("\n");
 }
 
 /// Adds what a session of a plant writes, how it ends, and after how many events.
@@ -244,16 +257,16 @@ pub fn push_session<H: Wait, C: Crew<Job, Start, Done, H>>(
     rt: &H,
     alloc: Global,
     crew: &mut C,
-    text: &mut Vec<u8>,
+    page: &mut Page,
     plant: &Plant,
     input: &[u8],
-) -> Result<(), AllocError>
+)
     requires { C.asks }
 {
-    let ended = session(rt, alloc, crew, plant, input, ends_of("sink", NO_LIMIT))?;
-    text.extend_from_slice(ended.bytes.as_slice())?;
-    let (outcome, events) = (ended.outcome, ended.events);
-    push_line(text, format!(in alloc; "{outcome} {events}")?.as_str())
+    match session(rt, alloc, crew, plant, input, ends_of("sink", NO_LIMIT)) {
+        Ok(ended) => push_served(page, &ended),
+        Err(_) => page.refuse(),
+    }
 }
 
 /// Whether a line of a run asks for sessions.
@@ -266,18 +279,20 @@ pub fn push_sessions<H: Wait, C: Crew<Job, Start, Done, H>>(
     rt: &H,
     alloc: Global,
     crew: &mut C,
-    text: &mut Vec<u8>,
+    page: &mut Page,
     plant: &Plant,
     input: &[u8],
     line: &str,
-) -> Result<(), AllocError>
+)
     requires { C.asks }
 {
-    push_line(text, line)?;
-    let whole = session(rt, alloc, crew, plant, input, ends_of("sink", NO_LIMIT))?;
+    page.line(line);
+    let Ok(whole) = session(rt, alloc, crew, plant, input, ends_of("sink", NO_LIMIT)) else {
+        return page.refuse();
+    };
     let answers = whole.bytes.as_slice();
     match line.strip_prefix("little ") {
-        Some(words) => push_little(rt, alloc, crew, text, plant, input, words, answers),
-        None => push_failing(rt, alloc, crew, text, plant, input, line, answers),
+        Some(words) => push_little(rt, alloc, crew, page, plant, input, words, answers),
+        None => push_failing(rt, alloc, crew, page, plant, input, line, answers),
     }
 }

@@ -3,10 +3,10 @@
 use crate::answers::push_seen;
 use alarm_machine::{Code, Verb};
 use command_text::{Command, Pool, read_command};
-use engine::{Crew, Done, Engine, EngineFault, Job, Order, Report, Start};
+use engine::{Crew, Done, Engine, EngineFault, Job, Order, Pair, Report, Start};
 use plant_config::Plant;
-use row_text::push_line;
-use std::alloc::{AllocError, Global};
+use row_text::Page;
+use std::alloc::Global;
 
 /// The order of a verb for the alarm with a tag, or for the program with a name.
 fn order_of(plant: &Plant, verb: Verb, word: &[u8]) -> Order {
@@ -19,75 +19,94 @@ fn order_of(plant: &Plant, verb: Verb, word: &[u8]) -> Order {
 }
 
 /// Adds a report's moment, and how many programs have stopped.
-fn push_report(alloc: Global, text: &mut Vec<u8>, report: &Report) -> Result<(), AllocError> {
-    let (moment, faults) = (report.moment, report.faults.len());
-    push_line(
-        text,
-        format!(in alloc; "REPORT {moment} {faults}")?.as_str(),
-    )
+fn push_report(page: &mut Page, report: &Report) {
+    page.add("REPORT");
+    page.number(i128::from(report.moment));
+    page.number(report.faults.len() as i128);
+    page.add("\n");
 }
 
-/// Adds why an event was refused; fails where memory was.
-fn push_refused(text: &mut Vec<u8>, fault: EngineFault) -> Result<(), AllocError> {
+/// Adds why an event was refused, unless memory was.
+fn push_refused(page: &mut Page, fault: EngineFault) {
     if let EngineFault::Memory = fault {
-        return Err(AllocError);
+        return page.refuse();
     }
-    text.extend_from_slice(b"REFUSED ")?;
-    push_line(text, fault.text())
+    page.add("REFUSED ");
+    page.line(fault.text());
+}
+
+/// Makes a scan ready, adds what the engine shows then, and commits it.
+fn push_ready_scan<H, C: Crew<Job, Start, Done, H>>(
+    rt: &H,
+    alloc: Global,
+    page: &mut Page,
+    engine: &mut Engine,
+    crew: &mut C,
+    pairs: &[Pair],
+    moment: u64,
+)
+    requires { C.asks }
+{
+    match engine.prepare(rt, alloc, crew, pairs, moment) {
+        Ok(prepared) => {
+            push_seen(page, engine);
+            let report = engine.commit(prepared);
+            push_report(page, &report);
+            engine.reuse(report);
+        }
+        Err(fault) => push_refused(page, fault),
+    }
+}
+
+/// Makes an order ready, adds what the engine shows then, and commits it.
+fn push_ready_order(
+    alloc: Global,
+    page: &mut Page,
+    engine: &mut Engine,
+    console: u32,
+    order: Order,
+) {
+    match engine.prepare_order(alloc, console, order) {
+        Ok(prepared) => {
+            push_seen(page, engine);
+            let _ = engine.commit_order(prepared);
+        }
+        Err(fault) => push_refused(page, fault),
+    }
 }
 
 /// Makes a command ready, adds what the engine shows then, and commits it.
 fn push_ready<H, C: Crew<Job, Start, Done, H>>(
     rt: &H,
     alloc: Global,
-    text: &mut Vec<u8>,
+    page: &mut Page,
     engine: &mut Engine,
     crew: &mut C,
     command: Command<'_>,
-) -> Result<(), AllocError>
+)
     requires { C.asks }
 {
     match command {
-        Command::Scan(moment, pairs) => {
-            let prepared = match engine.prepare(rt, alloc, crew, pairs, moment) {
-                Ok(prepared) => prepared,
-                Err(fault) => return push_refused(text, fault),
-            };
-            let seen = push_seen(alloc, text, engine);
-            let report = engine.commit(prepared);
-            let reported = push_report(alloc, text, &report);
-            engine.reuse(report);
-            seen.and(reported)
-        }
+        Command::Scan(moment, pairs) => push_ready_scan(
+            rt, alloc, page, engine, crew, pairs, moment,
+        ),
         Command::Order(verb, console, word) => {
             let order = order_of(engine.plant(), verb, word);
-            let prepared = match engine.prepare_order(alloc, console, order) {
-                Ok(prepared) => prepared,
-                Err(fault) => return push_refused(text, fault),
-            };
-            let seen = push_seen(alloc, text, engine);
-            let _ = engine.commit_order(prepared);
-            seen
+            push_ready_order(alloc, page, engine, console, order);
         }
-        _ => push_line(text, "?"),
+        _ => page.line("?"),
     }
 }
 
 /// Gives an order by the engine's call for it, and adds that it was taken.
-fn push_ordered(
-    alloc: Global,
-    text: &mut Vec<u8>,
-    engine: &mut Engine,
-    console: u32,
-    order: Order,
-) -> Result<(), AllocError> {
+fn push_ordered(alloc: Global, page: &mut Page, engine: &mut Engine, console: u32, order: Order) {
     let taken = match order.verb {
         Verb::Restart => engine.restart(alloc, console, order.target),
         _ => engine.order(alloc, console, order),
     };
     match taken {
-        Ok(_) => push_line(text, "TAKEN"),
-        Err(fault) => push_refused(text, fault),
+        Ok(_) => page.line("TAKEN"),
+        Err(fault) => push_refused(page, fault),
     }
 }
 
@@ -95,74 +114,68 @@ fn push_ordered(
 fn push_done<H, C: Crew<Job, Start, Done, H>>(
     rt: &H,
     alloc: Global,
-    text: &mut Vec<u8>,
+    page: &mut Page,
     engine: &mut Engine,
     crew: &mut C,
     command: Command<'_>,
-) -> Result<(), AllocError>
+)
     requires { C.asks }
 {
     match command {
         Command::Scan(moment, pairs) => match engine.scan(rt, alloc, crew, pairs, moment) {
-            Ok(report) => push_report(alloc, text, &report),
-            Err(fault) => push_refused(text, fault),
+            Ok(report) => push_report(page, &report),
+            Err(fault) => push_refused(page, fault),
         },
         Command::Order(verb, console, word) => {
             let order = order_of(engine.plant(), verb, word);
-            push_ordered(alloc, text, engine, console, order)
+            push_ordered(alloc, page, engine, console, order);
         }
-        _ => push_line(text, "-"),
+        _ => page.line("-"),
     }
 }
 
 /// Adds how many alarms of an area and a priority have each code; codes that none has are left out.
-fn push_codes(
-    alloc: Global,
-    text: &mut Vec<u8>,
-    engine: &Engine,
-    area: u32,
-    priority: u32,
-) -> Result<(), AllocError> {
+fn push_codes(page: &mut Page, engine: &Engine, area: u32, priority: u32) {
     for code in Code::all() {
         let count = engine.summary().count(area, priority, code);
         if count != 0 {
-            let name = code.text();
-            let line = format!(in alloc; "COUNT {area} {priority} {name} {count}")?;
-            push_line(text, line.as_str())?;
+            page.add("COUNT");
+            page.number(i128::from(area));
+            page.number(i128::from(priority));
+            page.word(code.text());
+            page.number(i128::from(count));
+            page.add("\n");
         }
     }
-    Ok(())
 }
 
 /// Adds how many alarms of each area and priority have each code.
-fn push_counts(alloc: Global, text: &mut Vec<u8>, engine: &Engine) -> Result<(), AllocError> {
+fn push_counts(page: &mut Page, engine: &Engine) {
     for area in 0..engine.plant().areas() {
         for priority in 1..5 {
-            push_codes(alloc, text, engine, area, priority)?;
+            push_codes(page, engine, area, priority);
         }
     }
-    Ok(())
 }
 
 /// Gives an engine the command of a line by its own calls, `ready` it and then commit it, or `step` at once; then adds what it shows.
 pub fn push_step<H, C: Crew<Job, Start, Done, H>>(
     rt: &H,
     alloc: Global,
-    text: &mut Vec<u8>,
+    page: &mut Page,
     engine: &mut Engine,
     crew: &mut C,
     is_ready: bool,
     line: &str,
-) -> Result<(), AllocError>
+)
     requires { C.asks }
 {
     let mut pool = Pool::new(alloc);
-    let command = read_command(alloc, &mut pool, line.as_bytes())?;
-    if is_ready {
-        push_ready(rt, alloc, text, engine, crew, command)?;
-    } else {
-        push_done(rt, alloc, text, engine, crew, command)?;
+    match read_command(alloc, &mut pool, line.as_bytes()) {
+        Ok(command) if is_ready => push_ready(rt, alloc, page, engine, crew, command),
+        Ok(command) => push_done(rt, alloc, page, engine, crew, command),
+        Err(_) => page.refuse(),
     }
-    push_seen(alloc, text, engine)?;
-    push_counts(alloc, text, engine)
+    push_seen(page, engine);
+    push_counts(page, engine);
 }

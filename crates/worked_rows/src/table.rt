@@ -1,15 +1,17 @@
 //! The lines of the table.
 
+use crate::answers::push_page;
 use crate::crews::Crews;
-use crate::plants::{Asked, File, Plan, first_files, push_file};
-use crate::scripts::{push_plan_again, push_plan_by_all};
-use std::alloc::{AllocError, Global};
+use crate::plants::{Asked, Plan, put_file, put_first};
+use crate::scripts::{page_again, push_plan_by_all};
+use row_text::{File, Page, have_gap};
+use std::alloc::Global;
 use std::sync::Wait;
 use std::thread::Threads;
 
 /// What the table has said so far.
 #[derive(Drop)]
-struct Table {
+struct Table<'a> {
     /// The files of the last plant.
     files: Vec<File>,
     /// Whether they go on.
@@ -17,15 +19,15 @@ struct Table {
     /// What is to be done with the plant.
     asked: Asked,
     /// The sources that are handed in for it, where the table names them.
-    handed: String,
+    handed: &'a str,
     /// Whether the plant is to be run.
     is_run: bool,
     /// The text in the gap of its files.
-    given: String,
+    given: &'a str,
     /// The lines of its run so far.
-    script: String,
+    script: Page,
     /// What is printed.
-    text: Vec<u8>,
+    page: Page,
 }
 
 /// What a line asks to do with a plant, after its files.
@@ -41,103 +43,97 @@ fn asked_by(line: &str) -> Option<Asked> {
     }
 }
 
-impl Table {
-    fn new(alloc: Global) -> Table {
-        Table {
-            files: Vec::new(alloc),
-            is_open: false,
-            asked: Asked::Run,
-            handed: String::new(alloc),
-            is_run: false,
-            given: String::new(alloc),
-            script: String::new(alloc),
-            text: Vec::new(alloc),
-        }
+/// The table before its first line.
+fn new_table<'a>(alloc: Global) -> Table<'a> {
+    Table {
+        files: Vec::new(alloc),
+        is_open: false,
+        asked: Asked::Run,
+        handed: "",
+        is_run: false,
+        given: "",
+        script: Page::new(alloc),
+        page: Page::new(alloc),
     }
+}
 
-    /// Prints a line of the table.
-    fn print(&mut self, line: &str) -> Result<(), AllocError> {
-        self.text.extend_from_slice(line.as_bytes())?;
-        self.text.push(b'\n')?;
-        Ok(())
-    }
-
+impl<'a> Table<'a> {
     /// Runs the plant, if it is to be run, on the lines of its run.
-    fn flush<H: Threads + Wait + Sync>(
-        &mut self,
-        rt: &H,
-        alloc: Global,
-        crews: &mut Crews,
-    ) -> Result<(), AllocError> {
-        if self.is_run {
-            let plan = Plan {
-                files: &self.files,
-                handed: self.handed.as_str(),
-                given: self.given.as_str(),
-                asked: self.asked,
-                lines: self.script.as_str(),
-            };
-            let text = &mut self.text;
-            match plan.asked {
-                Asked::RunGone => push_plan_again(rt, alloc, &mut crews.gone, text, &plan)?,
-                _ => push_plan_by_all(rt, alloc, crews, text, &plan)?,
+    fn flush<H: Threads + Wait + Sync>(&mut self, rt: &H, alloc: Global, crews: &mut Crews) {
+        let plan = Plan {
+            files: &self.files,
+            handed: self.handed,
+            given: self.given,
+            asked: self.asked,
+            lines: str::from_utf8(self.script.as_slice()).unwrap_or(""),
+        };
+        if self.script.is_short() {
+            self.page.refuse();
+        }
+        match self.asked {
+            _ if !self.is_run => {}
+            Asked::RunGone => {
+                let gone = page_again(rt, alloc, &mut crews.gone, &plan);
+                push_page(&mut self.page, &gone);
             }
+            _ => push_plan_by_all(rt, alloc, crews, &mut self.page, &plan),
         }
         self.is_run = false;
-        self.script.clear();
-        Ok(())
+        self.script = Page::new(alloc);
     }
 
     /// Begins a plant.
-    fn plant(&mut self, alloc: Global, line: &str) -> Result<(), AllocError> {
-        self.files = first_files(alloc)?;
+    fn plant(&mut self, alloc: Global, line: &str) {
+        if !put_first(alloc, &mut self.files) {
+            self.page.refuse();
+        }
         self.is_open = true;
         self.asked = Asked::Run;
-        self.handed.clear();
-        self.print(line)
+        self.handed = "";
+        self.page.line(line);
     }
 
     /// Begins a run of the plant, with a text in the gap of its files.
-    fn begin(&mut self, given: &str) -> Result<(), AllocError> {
-        self.given.clear();
-        self.given.push_str(given)?;
+    fn begin(&mut self, given: &'a str) {
+        self.given = given;
         self.is_run = true;
-        Ok(())
     }
 
     /// Takes the end of the files, and what is to be done with the plant.
-    fn end(&mut self, asked: Asked) -> Result<(), AllocError> {
+    fn end(&mut self, asked: Asked) {
         self.is_open = false;
         self.asked = asked;
-        if self.files.iter().any(|file| file.source.has_gap()) {
-            return Ok(());
+        if !have_gap(&self.files) {
+            self.begin("");
         }
-        self.begin("")
+    }
+
+    /// Takes a line of a file.
+    fn add_line(&mut self, line: &str) {
+        if let Some(file) = self.files.last_mut() {
+            if file.source.add(line).is_err() {
+                self.page.refuse();
+            }
+        }
     }
 
     /// Takes a line of a plant's files, or their end.
-    fn file_line(&mut self, alloc: Global, line: &str) -> Result<(), AllocError> {
-        if let Some(name) = line.strip_prefix("file ") {
-            return push_file(alloc, &mut self.files, name);
-        }
+    fn file_line(&mut self, alloc: Global, line: &'a str) {
         if let Some(asked) = asked_by(line) {
             return self.end(asked);
         }
         if let Some(words) = line.strip_prefix("check") {
-            self.handed.push_str(words.trim_start())?;
+            self.handed = words.trim_start();
             return self.end(Asked::Check);
         }
-        match self.files.last_mut() {
-            Some(file) => file.source.add(line),
-            None => Ok(()),
+        match line.strip_prefix("file ") {
+            Some(name) => {
+                if !put_file(alloc, &mut self.files, name) {
+                    self.page.refuse();
+                }
+            }
+            None => self.add_line(line),
         }
-    }
-
-    /// Adds a line to those of the run.
-    fn script_line(&mut self, line: &str) -> Result<(), AllocError> {
-        self.script.push_str(line)?;
-        self.script.push_str("\n")?;
-        Ok(())
     }
 
     /// Takes a line.
@@ -146,46 +142,38 @@ impl Table {
         rt: &H,
         alloc: Global,
         crews: &mut Crews,
-        line: &str,
-    ) -> Result<(), AllocError> {
+        line: &'a str,
+    ) {
         if self.is_open {
             return self.file_line(alloc, line);
         }
         if line.starts_with("plant ") {
-            self.flush(rt, alloc, crews)?;
+            self.flush(rt, alloc, crews);
             return self.plant(alloc, line);
         }
-        if let Some(given) = line.strip_prefix("with ") {
-            self.flush(rt, alloc, crews)?;
-            self.print(line)?;
-            return self.begin(given);
+        match line.strip_prefix("with ") {
+            Some(given) => {
+                self.flush(rt, alloc, crews);
+                self.page.line(line);
+                self.begin(given);
+            }
+            None => self.script.line(line),
         }
-        self.script_line(line)
-    }
-
-    /// Takes lines.
-    fn take_all<H: Threads + Wait + Sync>(
-        &mut self,
-        rt: &H,
-        alloc: Global,
-        crews: &mut Crews,
-        lines: &str,
-    ) -> Result<(), AllocError> {
-        for line in lines.lines() {
-            self.take(rt, alloc, crews, line)?;
-        }
-        self.flush(rt, alloc, crews)
     }
 }
 
-/// What a table is answered.
-pub fn answers_to<H: Threads + Wait + Sync>(
+/// Adds what a table is answered.
+pub fn push_answers_to<H: Threads + Wait + Sync>(
     rt: &H,
     alloc: Global,
     crews: &mut Crews,
+    page: &mut Page,
     lines: &str,
-) -> Result<Vec<u8>, AllocError> {
-    let mut table = Table::new(alloc);
-    table.take_all(rt, alloc, crews, lines)?;
-    Ok(table.text)
+) {
+    let mut table = new_table(alloc);
+    for line in lines.lines() {
+        table.take(rt, alloc, crews, line);
+    }
+    table.flush(rt, alloc, crews);
+    push_page(page, &table.page);
 }
