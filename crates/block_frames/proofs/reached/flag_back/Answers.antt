@@ -1,5 +1,6 @@
 use Rattle.std.proofs.Common.{◌≡◌, ◌∙◌, ◌+◌, ◌-◌, ◌<◌, ap, take, map, length, get_or, arith}
 use Rattle.std.proofs.lemmas.Option.{slice_get-get_or}
+use Rattle.std.proofs.lemmas.Grind.{common_steps}
 use Rattle.plant_logic.specs.Source.{view_routine}
 use Rattle.block_frames.specs.Reached as reached
 use Rattle.block_frames.proofs.Flags.{back_flagged}
@@ -19,3 +20,6 @@ loop-left-preserved c =
       within = omega (arith, within);
       same = back_flagged c.args.calls blocks order k (get_or order k 0) l.flags.items c.flag_onward.new.flags.items _ less (slice_get-get_or order k 0 less) (ap (λ m. reached.flag_back c.args.calls blocks (take m order) l.flags.items) whole ∙ l.invariant.same) c.in_ok-flag_onward.ensures;
     }
+
+pub loop-left-init : goal.loop-left-init
+loop-left-init c = grind (arith, common_steps)

@@ -1,4 +1,5 @@
-use Rattle.std.proofs.Common.{◌∙◌, ◌+◌, ap, sym, map}
+use Rattle.std.proofs.Common.{◌∙◌, ◌+◌, ap, sym, map, arith}
+use Rattle.std.proofs.lemmas.Grind.{common_steps}
 use Rattle.st_tree.specs.Plain.{call}
 use Rattle.st_tree.specs.Kinds.{resolved_argument}
 use Rattle.st_tree.specs.Mapping.{mapped_argument}
@@ -49,3 +50,12 @@ resolve_stmt-returns-in_ok-arguments-in-Call-clause-stmt t c =
     let called = c.instance-called.ensures ∙ ap (scope_instance scope) c.as_str-in-Call.ensures in
     let arguments = c.in_ok-arguments-in-Call.ensures ∙ ap (λ a. map (mapped_argument (mapping_of scope) c.in-Call.instance) (map (resolved_argument (scope_kind scope) (scope_output_kind scope)) (map view_argument a))) c.deref.ensures.value in
     view_stmt-Call _ _ _ ∙ (λ i. call (own i) (called i) (arguments i)) ∙ ap (flat_stmt scope c.args.number.now) (sym (view_stmt-Call _ _ _) ∙ ap view_stmt (sym c.in-Call.is))
+
+pub resolve_choices-returns-clause-count : goal.resolve_choices-returns-clause-count
+resolve_choices-returns-clause-count t c = grind (arith, common_steps)
+
+pub resolve_branches-returns-clause-count : goal.resolve_branches-returns-clause-count
+resolve_branches-returns-clause-count t c = grind (arith, common_steps)
+
+pub resolve_body-returns-clause-count : goal.resolve_body-returns-clause-count
+resolve_body-returns-clause-count t c = grind (arith, common_steps)
