@@ -28,8 +28,8 @@ fn full_rings_hand_orders_back(rt: HostRuntime) -> Result<(), Fail> {
     let (mut console, mut lane) = opened(rt.alloc(), 1)?;
     let handed_back = hand_back(&mut console);
     let took_turns = take_turns(&mut console, &mut lane);
-    drop(lane);
     let ended = console.finish(0).is_some();
+    drop(lane);
     assert!(rt; handed_back);
     assert!(rt; took_turns);
     assert!(rt; ended);
