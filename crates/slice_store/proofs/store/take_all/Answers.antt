@@ -1,5 +1,6 @@
 use Rattle.std.proofs.Common.{length, arith, sym, subst, take, ◌++◌, ◌∷◌, []}
 use Rattle.std.proofs.lemmas.List.{take_more}
+use Rattle.std.proofs.lemmas.Grind.{common_steps}
 use Rattle.plant_cells.specs.Cells.{PlainCells}
 use Rattle.slice_store.specs.Starts.{Begun}
 use Rattle.slice_store.specs.Level.{TakesRuns}
@@ -38,3 +39,6 @@ loop-done-preserved c =
     (apart_before old (length c.args.faulted.now) c.requires.0 runs c.requires.1 n s c.loop-done-test.true (sym c.done-item.is)) in
     let P : Begun → Type 0 = λ t. TakesRuns old c.args.faulted.now (take n runs ++ t ∷ []) new c.take_into.new.faulted in
     rw (take_more runs n s c.loop-done-test.true) (subst P c.done-item.is more)
+
+pub returns : goal.returns
+returns c = grind (arith, common_steps)

@@ -2,6 +2,7 @@ use Rattle.std.proofs.Common.{◌≡◌, ◌+◌, ◌∷◌, ◌++◌, [], true,
 use Rattle.std.specs.Prelude.{slice_get, option_map}
 use Rattle.std.specs.Arc.{arc_value}
 use Rattle.std.proofs.lemmas.Option.{slice_get-map, slice_get_read}
+use Rattle.std.proofs.lemmas.Grind.{common_steps}
 use Rattle.slice_store.specs.Splits.{IsChosen, AreJobsBefore}
 use Rattle.slice_store.proofs.Splitting.{jobs_none, jobs_skip, jobs_push}
 use Rattle.slice_store.proofs.store.Store.begin_level.Goals as goal
@@ -41,3 +42,15 @@ returns c =
     let low = c.loop-p.auto.p-end in let high = c.loop-p-test.false in
     let end : c.loop-p.p ≡ length c.args.parts.now = omega arith in
     subst (λ n. AreJobsBefore (map arc_value c.args.parts.now) c.args.levels.now c.args.level c.args.self.now n c.loop-p.jobs.items) end c.loop-p.invariant
+
+pub is_chosen-requires-clause-flagged : goal.is_chosen-requires-clause-flagged
+is_chosen-requires-clause-flagged c = grind (arith, common_steps)
+
+pub is_chosen-requires-clause-levelled : goal.is_chosen-requires-clause-levelled
+is_chosen-requires-clause-levelled c = grind (arith, common_steps)
+
+pub begin_program-requires-clause-few : goal.begin_program-requires-clause-few
+begin_program-requires-clause-few c = grind (arith, common_steps)
+
+pub is_chosen-requires-clause-few : goal.is_chosen-requires-clause-few
+is_chosen-requires-clause-few c = grind (arith, common_steps)
