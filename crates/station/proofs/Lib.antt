@@ -1,4 +1,5 @@
 pub mod Agrees
+pub mod Answered
 pub mod Beginnings
 pub mod Ends
 pub mod Openings

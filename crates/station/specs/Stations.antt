@@ -1,5 +1,5 @@
 -- What a contract sees of a station: its engine, and its lanes, each of which agrees with the history.
-use Rattle.std.specs.Prelude.{◌≡◌, ℕ, ◌≤◌, Bool, List, [], ◌∷◌, ◌++◌, length, Option, Some, None, Ok, All, refl}
+use Rattle.std.specs.Prelude.{◌≡◌, ℕ, ◌≤◌, Bool, List, [], ◌∷◌, ◌++◌, length, map, Option, Some, None, Ok, All, refl}
 use Rattle.std.specs.Coded.{Coded, code_by, coded×, coded_list, coded_ℕ}
 use mathlib.Core.List.{IsPrefix}
 use Rattle.logbook.specs.Pages.{Book}
@@ -19,7 +19,10 @@ use Rattle.plant_system.specs.System.{scan_event}
 use Rattle.plant_system.specs.Reports.{PlainReport}
 use Rattle.plant_system.specs.States.{IsReport}
 use Rattle.engine.specs.Engines.{PlainEngine, engine_code, state_of}
+use Rattle.boards.specs.declared.entry.Answer.{Answer as Shown}
 use Rattle.boards.specs.declared.entry.Entry.{Entry}
+use Rattle.boards.specs.Counts.{answers_of as answers_shown}
+use Rattle.board_entries.specs.Entries.{board_reply}
 use Rattle.order_taking.specs.Parts.{answers_of, orders_in}
 use Rattle.order_taking.specs.Turns.{TookParts}
 use Rattle.operator_console.specs.declared.console.Finished.{Finished as Ended}
@@ -91,3 +94,11 @@ pub record AreBeginnings (entries : List Entry) (consoles : List (Ended Order Re
   pub one : List Entry
   pub own : IsPrefix entries one
   pub theirs : All (λ (f : Ended Order Reply). IsPrefix f.mark.entries one) consoles
+
+-- an answer, as a board has it
+abbrev pub board_answer : Answer Order Reply → Shown
+board_answer a = record { order = a.order; reply = board_reply a.reply }
+
+-- the first orders of a console that these entries have are those of these answers, with the same replies
+abbrev pub HasAnswers : ℕ → List Entry → List (Answer Order Reply) → Type 0
+HasAnswers n entries taken = IsPrefix (map board_answer taken) (answers_shown n entries)
