@@ -1,5 +1,6 @@
 use Rattle.std.proofs.Common.{◌≡◌, ◌<◌, ◌≤◌, ◌-◌, ap, length, get_or, arith}
 use Rattle.std.proofs.lemmas.List.{length-map}
+use Rattle.std.proofs.lemmas.Grind.{common_steps}
 use Rattle.plant_logic.specs.Source.{view_routine, source_of}
 use Rattle.block_frames.specs.Opening.{programs_started}
 use Rattle.plant_walk.proofs.Started.{started_more, started_all}
@@ -43,3 +44,15 @@ returns c =
     let end = c.len-program-end.ensures in
     let none : length source.programs - i ≡ 0 = omega (arith, ok.0, long, test, end) in
     started_all source c.args.order.now c.args.frames.now (length source.programs) i c.loop-program.cells (programs_started source c.args.order.now c.args.frames.now (length source.programs) 0 c.args.cells.now) none c.loop-program.invariant.left_is
+
+pub offset_bounds-values-program : goal.offset_bounds-values-program
+offset_bounds-values-program c = grind (arith, common_steps)
+
+pub bounds-clocks-program : goal.bounds-clocks-program
+bounds-clocks-program c = grind (arith, common_steps)
+
+pub offset_bounds-clocks-program : goal.offset_bounds-clocks-program
+offset_bounds-clocks-program c = grind (arith, common_steps)
+
+pub bounds-values-program : goal.bounds-values-program
+bounds-values-program c = grind (arith, common_steps)

@@ -1,5 +1,6 @@
 use Rattle.std.proofs.Common.{◌≡◌, ◌∙◌, ap, sym, subst, length, get_or, arith}
 use Rattle.std.proofs.lemmas.List.{length-map, get_or_default}
+use Rattle.std.proofs.lemmas.Grind.{common_steps}
 use Rattle.plant_logic.specs.Source.{Source, view_routine, source_of}
 use Rattle.plant_logic.specs.Layout.{cell_paths}
 use Rattle.plant_logic.specs.Worlds.{opening}
@@ -43,3 +44,6 @@ returns c =
     c.in_ok-cells.ensures c.start_frame.ensures last
     in
     subst (λ (s : Source). StandFor s c.start_programs.new.cells (opening s)) c.self.view_is (subst (λ (cells : PlainCells). StandFor source cells (opening source)) (sym is) stands)
+
+pub index-all-requires : goal.index-all-requires
+index-all-requires c = grind (arith, common_steps)

@@ -2,6 +2,7 @@ use Rattle.std.proofs.Common.{◌≡◌, ◌∙◌, ◌<◌, ◌≤◌, ◌+◌,
 use Rattle.std.specs.Prelude.{IfOk, string_bytes}
 use Rattle.std.proofs.lemmas.List.{length-map, get_or_default}
 use Rattle.std.proofs.lemmas.Option.{get_or_from_slice_get}
+use Rattle.std.proofs.lemmas.Grind.{common_steps}
 use Rattle.plant_logic.specs.declared.logic.Routine.{Routine}
 use Rattle.plant_logic.specs.Source.{PlainRoutine, Source, view_routine, source_of}
 use Rattle.plant_logic.specs.Worlds.{Path, globals_routine}
@@ -96,3 +97,12 @@ returns c =
     ∙ ap (λ t. old ++ t) (sym (text_below source row n path base there are.paths_begin begins ends base_is)) ∙ ap (λ (s : Source). old ++ path_text (get_or (paths_of s) path [])) c.self.view_is
     in
     subst (λ t. IfOk c.push_path.result (λ _. string_bytes c.push_path.new.text ≡ t)) told c.push_path.ensures
+
+pub index-requires : goal.index-requires
+index-requires c = grind (arith, common_steps)
+
+pub program_of-program-requires-clause-long : goal.program_of-program-requires-clause-long
+program_of-program-requires-clause-long c = grind (arith, common_steps)
+
+pub overflow_sub-below : goal.overflow_sub-below
+overflow_sub-below c = grind (arith, common_steps)
