@@ -1,6 +1,7 @@
 use Rattle.std.proofs.Common.{◌≡◌, ◌∙◌, ◌-◌, ◌≤◌, ap, sym, map, [], ◌∷◌, length, arith}
 use Rattle.std.specs.Prelude.{string_bytes}
 use Rattle.std.proofs.lemmas.List.{map-append, length-map}
+use Rattle.std.proofs.lemmas.Grind.{common_steps}
 use Rattle.engine.specs.Journal.{named_row, journal_of}
 use Rattle.archive.proofs.Pages.{page_none, page_more, page_whole}
 use Rattle.archive.proofs.page.page_of.Goals as goal
@@ -30,3 +31,6 @@ returns c =
     page_whole e.plant e.history c.args.from c.args.n c.len-rows.result c.page_end-before-end.result c.loop-before.before (map string_bytes c.loop-before.lines.items)
     many c.page_end-before-end.ensures c.loop-before-test.false start
     (λ h. omega (arith, h, c.saturating_sub-before.ensures, c.loop-before.auto.before-end)) c.loop-before.invariant
+
+pub line-requires-clause-last : goal.line-requires-clause-last
+line-requires-clause-last c = grind (arith, common_steps)
