@@ -2,6 +2,7 @@ use Rattle.std.proofs.Common.{◌≡◌, ◌<◌, ◌∙◌, sym, ap, subst, ari
 use Rattle.std.specs.Prelude.{slice_set}
 use Rattle.std.proofs.lemmas.List.{length-set}
 use Rattle.std.proofs.lemmas.List.Elements.{All-push}
+use Rattle.std.proofs.lemmas.Grind.{common_steps}
 use Rattle.plant_types.specs.declared.values.Place.{Place}
 use Rattle.plant_types.specs.declared.values.Trap.{Trap}
 use Rattle.plant_logic.specs.Paths.{paths_of}
@@ -43,3 +44,6 @@ loop-at-preserved c =
                 (λ v s. subst (λ o. Agree source (run_by flag source l.at c.args.moment v) (ended_by source o after)) w.in_default.is (c.in_ok-fault.ensures.ran v s)) (l.invariant.reached u stands));
           }
     ]
+
+pub loop-at-init : goal.loop-at-init
+loop-at-init c = grind (arith, common_steps)

@@ -1,3 +1,5 @@
+use Rattle.std.proofs.Common.{arith}
+use Rattle.std.proofs.lemmas.Grind.{common_steps}
 use Rattle.scan_logic.proofs.FirstParts.{first_more}
 use Rattle.scan_logic.proofs.parts.parts_of.Goals as goal
 
@@ -16,3 +18,6 @@ loop-program-preserved c =
       clocks = c.in_ok-part_of.ensures.clocks;
       first = rw (c.in_ok-push.ensures.items) (first_more c.args.framed.now l.program l.parts.items c.code-code.result.now c.in_ok-part_of.field-0 l.invariant.first c.code-code.ensures c.in_ok-part_of.ensures.part);
     }
+
+pub loop-program-init : goal.loop-program-init
+loop-program-init c = grind (arith, common_steps)
