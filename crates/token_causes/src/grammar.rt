@@ -189,9 +189,13 @@ fn told(tokens: &[Token], number: usize) -> &'static str {
     }
 }
 
-/// Whether a semicolon seems to be missing before the token of a number.
-fn lacks_semicolon(tokens: &[Token], number: usize) -> bool {
+/// Whether something seems to be missing before the token of a number: a statement, or the head of one, may end before it, and it may begin what follows; the
+/// first label of a CASE too, where its head has no OF.
+fn lacks_end(tokens: &[Token], number: usize) -> bool {
     match (kind_before(tokens, number, 1), kind_at(tokens, number)) {
+        (Some(before), Some(TokenKind::Integer(_))) => {
+            may_end(before) && lacking(tokens, number) == "OF"
+        }
         (Some(before), Some(kind)) => may_end(before) && may_begin(kind),
         _ => false,
     }
@@ -243,7 +247,7 @@ fn cause_of_token(
     let told = told(tokens, number);
     let said = if !told.is_empty() {
         format!(in alloc; "found '{word}{told}")?
-    } else if lacks_semicolon(tokens, number) {
+    } else if lacks_end(tokens, number) {
         let line = place_of(text, tokens, number.saturating_sub(1)).0;
         let lacks = lacking(tokens, number);
         format!(in alloc; "found '{word}': {lacks} seems to be missing before it, in line {line}")?
