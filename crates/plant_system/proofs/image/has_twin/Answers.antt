@@ -17,3 +17,9 @@ loop-input-preserved c =
       flags = grind (arith, common_steps);
       twins = c.loop-input.invariant.twins ∙ twins_step c.args.globals seen c.args.inputs.now c.loop-input.input-index _ c.loop-input.invariant.flags c.requires c.loop-input-test.true (read_unset seen _ c.index.result.now c.index.ensures c.if-index.false);
     }
+
+pub returns-then-index : goal.returns-then-index
+returns-then-index c = grind (arith, common_steps)
+
+pub returns : goal.returns
+returns c = grind (arith, common_steps)

@@ -1,4 +1,5 @@
-use Rattle.std.proofs.Common.{◌≡◌, ◌∙◌, ap}
+use Rattle.std.proofs.Common.{◌≡◌, ◌∙◌, ap, arith}
+use Rattle.std.proofs.lemmas.Grind.{common_steps}
 use Rattle.plant_system.specs.System.{sites_of}
 use Rattle.plant_system.proofs.Systems.{sites_there}
 use Rattle.plant_system.proofs.state.opening_bank.Goals as goal
@@ -7,3 +8,9 @@ pub new-requires-clause-sites : goal.new-requires-clause-sites
 new-requires-clause-sites c =
     let sites : c.in_ok-sites.sites.items ≡ sites_of c.args.plant.now.alarms = c.in_ok-sites.ensures ∙ ap sites_of c.alarm_rows-rows.ensures.rows in
     rw (sites, c.areas.ensures) (sites_there c.args.plant.now c.alarm_rows-rows.ensures.plant)
+
+pub new-requires-clause-each : goal.new-requires-clause-each
+new-requires-clause-each c = grind (arith, common_steps)
+
+pub new-requires-clause-few : goal.new-requires-clause-few
+new-requires-clause-few c = grind (arith, common_steps)

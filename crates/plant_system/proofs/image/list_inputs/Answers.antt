@@ -1,0 +1,9 @@
+use Rattle.std.proofs.Common.{arith}
+use Rattle.std.proofs.lemmas.Grind.{common_steps}
+use Rattle.plant_system.proofs.image.list_inputs.Goals as goal
+
+pub returns-clause-inputs : goal.returns-clause-inputs
+returns-clause-inputs c = grind (arith, common_steps)
+
+pub returns-in-None-clause-inputs : goal.returns-in-None-clause-inputs
+returns-in-None-clause-inputs c = grind (arith, common_steps)
