@@ -1,0 +1,12 @@
+use Rattle.std.proofs.Common.{arith}
+use Rattle.std.proofs.lemmas.Grind.{common_steps}
+use Rattle.st_names.proofs.taken.one_taken.Goals as goal
+
+pub loop-declared-preserved : goal.loop-declared-preserved
+loop-declared-preserved c = grind (arith, common_steps)
+
+pub returns-then-branch : goal.returns-then-branch
+returns-then-branch c = grind (arith, common_steps)
+
+pub returns : goal.returns
+returns c = grind (arith, common_steps)
