@@ -1,5 +1,6 @@
 use Rattle.std.proofs.Common.{◌∙◌, ap, refl, ◌<◌, length, map, get_or, set, rules, arith}
 use Rattle.std.proofs.lemmas.List.{length-map, length-set}
+use Rattle.std.proofs.lemmas.Grind.{common_steps}
 use Rattle.plant_logic.specs.Source.{view_routine}
 use Rattle.plant_limits.specs.Measures.{counts_by}
 use Rattle.plant_limits.proofs.Tables.{within, filled, filled_all, routine_at}
@@ -52,3 +53,6 @@ loop-number-preserved c =
 
 pub returns : goal.returns
 returns c = filled_all (map view_routine c.args.blocks.now) c.args.order.now c.requires c.loop-number.table.items c.loop-number.number-index c.loop-number.invariant.long c.loop-number-test.false c.loop-number.invariant.known
+
+pub loop-number-init : goal.loop-number-init
+loop-number-init c = grind (arith, common_steps)

@@ -1,3 +1,5 @@
+use Rattle.std.proofs.Common.{arith}
+use Rattle.std.proofs.lemmas.Grind.{common_steps}
 use Rattle.plant_limits.proofs.Naming.{pushed_again, pushed_more}
 use Rattle.plant_limits.proofs.instances.push_instance.Goals as goal
 
@@ -11,3 +13,6 @@ returns-clause-found c =
     let instances = c.args.instances.now in
     pushed_more instances.names c.add.new.self instances.blocks.items c.push.new.self.items c.as_str.result.now c.args.instance.now.name c.args.instance.now.of c.in_ok-add.field-0 c.as_str.ensures c.requires c.in_ok-add.ensures.names c.if-not-branch.false
     c.in_ok-push.ensures.items
+
+pub returns-clause-long : goal.returns-clause-long
+returns-clause-long c = grind (arith, common_steps)

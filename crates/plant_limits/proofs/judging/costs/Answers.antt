@@ -1,5 +1,6 @@
-use Rattle.std.proofs.Common.{◌∙◌, ap, map}
+use Rattle.std.proofs.Common.{◌∙◌, ap, map, arith}
 use Rattle.std.proofs.lemmas.List.{take_all}
+use Rattle.std.proofs.lemmas.Grind.{common_steps}
 use Rattle.plant_logic.specs.Source.{source_of}
 use Rattle.plant_limits.specs.declared.measures.Counts.{Counts}
 use Rattle.plant_limits.proofs.Totals.{costs_stop, costs_kept}
@@ -19,3 +20,6 @@ returns-clause-kept c = λ keeps.
     let cost = λ (p : Counts). p.cost in
     c.loop-program.invariant ∙ ap (map cost) (take_all c.loop-program.program-index items c.loop-program-test.false) ∙ ap (map cost) c.deref-program-items.ensures.value ∙ costs_stop source c.in_ok-programs.programs.items c.in_ok-programs.ensures
     ∙ costs_kept source keeps
+
+pub loop-program-preserved : goal.loop-program-preserved
+loop-program-preserved c = grind (arith, common_steps)

@@ -1,4 +1,5 @@
-use Rattle.std.proofs.Common.{◌∙◌, ap, sym, ◌+◌, min}
+use Rattle.std.proofs.Common.{◌∙◌, ap, sym, ◌+◌, min, arith}
+use Rattle.std.proofs.lemmas.Grind.{common_steps}
 use Rattle.st_tree.specs.View.{view_expr, view_stmt, view_body, view_choices}
 use Rattle.st_tree.specs.Costs.{expr_cost, labels_cost}
 use Rattle.st_tree.proofs.Views.{view_stmt-Case}
@@ -20,3 +21,15 @@ weigh_stmt-returns-in-Case t c =
     around scale.measure stop c.last-last.result (1 + expr_cost (view_expr c.in-Case.selector) + labels_cost (view_choices choices.items)) (choices_weight scale (view_choices choices.items)) (body_weight scale (view_body last_body.items))
     c.weigh_selection-selected.result c.weigh_choices-inside.result c.weigh_body-otherwise-in-Case.result c.join-joined-in-Case.result c.add-in-Case.result c.last-last.ensures selected inside otherwise c.join-joined-in-Case.ensures c.add-in-Case.ensures
     ∙ ap (λ w. min w stop) (sym same)
+
+pub weigh_body-loop-stmt-preserved : goal.weigh_body-loop-stmt-preserved
+weigh_body-loop-stmt-preserved t c = grind (arith, common_steps)
+
+pub weigh_branches-returns : goal.weigh_branches-returns
+weigh_branches-returns t c = grind (arith, common_steps)
+
+pub weigh_choices-returns : goal.weigh_choices-returns
+weigh_choices-returns t c = grind (arith, common_steps)
+
+pub weigh_body-returns : goal.weigh_body-returns
+weigh_body-returns t c = grind (arith, common_steps)
