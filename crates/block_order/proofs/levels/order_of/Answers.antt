@@ -1,5 +1,6 @@
 use Rattle.std.proofs.Common.{◌≡◌, ◌∙◌, sym, ap, false, ◌+◌, ◌++◌, List, Bool, map, get_or, arith, Vec, Global, ℕ}
 use Rattle.std.specs.List.{list_any}
+use Rattle.std.proofs.lemmas.Grind.{common_steps}
 use Rattle.block_order.specs.Ranks.{ranked}
 use Rattle.block_order.proofs.LevelSteps.{IsLevel, level_more, part_more, deep_at}
 use Rattle.block_order.proofs.levels.order_of.Goals as goal
@@ -19,3 +20,9 @@ loop-step-preserved c =
 pub returns-then-has_mark : goal.returns-then-has_mark
 returns-then-has_mark c =
     deep_at c.args.graph.now c.loop-step._step c.args.limit c.loop-step.chains.items c.loop-step.invariant.0 (omega (arith, c.loop-step-test.false, c.loop-step.auto._step-end)) (sym (ap (list_any (λ mark. mark)) c.deref-2.ensures.value) ∙ sym c.if-has_mark.ensures)
+
+pub add_ranked-requires : goal.add_ranked-requires
+add_ranked-requires c = grind (arith, common_steps)
+
+pub loop-step-init : goal.loop-step-init
+loop-step-init c = grind (arith, common_steps)
