@@ -1,6 +1,7 @@
 use Rattle.std.proofs.Common.{◌≡◌, true, arith, get_or, sym, ◌∙◌}
 use Rattle.std.proofs.lemmas.List.Folds.{list_all_more}
 use Rattle.std.specs.Char.{is_ascii_digit}
+use Rattle.std.proofs.lemmas.Grind.{common_steps}
 use Rattle.alarm_db.proofs.DigitLaws.{next_small, small_fits, next_value, digit_small}
 use Rattle.alarm_db.proofs.forms.number.Goals as goal
 
@@ -23,3 +24,6 @@ loop-byte-preserved c =
       value = rw c.from.ensures (next_value c.args.field.now _ _ c.loop-byte-test.true digit c.loop-byte.invariant.value);
       small = rw c.from.ensures (next_small _ _ _ c.loop-byte.invariant.small (digit_small b digit));
     }
+
+pub returns-then-not-is_ascii_digit : goal.returns-then-not-is_ascii_digit
+returns-then-not-is_ascii_digit c = grind (arith, common_steps)

@@ -1,4 +1,5 @@
 use Rattle.std.proofs.Common.{◌<◌, ◌+◌, ◌∷◌, ◌++◌, ◌∙◌, [], ap, sym, refl, arith}
+use Rattle.std.proofs.lemmas.Grind.{common_steps}
 use Rattle.csv.specs.Records.{fields_of}
 use Rattle.alarm_db.proofs.Gathered.{none_of, one_behind, one_right, one_wrong}
 use Rattle.alarm_db.proofs.gathering.add_row.Goals as goal
@@ -20,3 +21,6 @@ returns-in_ok-push-in-None c =
     λ rows has. one_right rows (fields_of c.args.row.now) c.args.gathered.now _ has room refl
     (none_of _ (sym c.is_some.ensures ∙ c.if-is_some.false)) (sym c.wrong_column.ensures ∙ c.in-None.is) refl
     (c.in_ok-push-in-None.ensures.items ∙ ap (λ alarm. c.args.gathered.now.rows.items ++ alarm ∷ []) c.in_ok-alarm-in-None.ensures)
+
+pub returns-then-gathered-ge-MOST_ROWS : goal.returns-then-gathered-ge-MOST_ROWS
+returns-then-gathered-ge-MOST_ROWS c = grind (arith, common_steps)
