@@ -96,8 +96,8 @@ fn add_further<H: Threads + Sync>(
     Ok(())
 }
 
-/// The fault of a refused plant, and further ones of the same stage, in the order in which they are found; 1 at least and 20 at most. Where memory is short
-/// there may be fewer. Fails if allocation fails.
+/// The fault of a refused plant, and further ones of the same stage, in the order in which they are found; 20 at most. Where memory is short further ones
+/// may be missing, but not the first. Fails if allocation fails.
 pub fn find_all<H: Threads + Sync>(
     rt: &H,
     alloc: Global,
