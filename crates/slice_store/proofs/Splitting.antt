@@ -1,5 +1,5 @@
 -- The jobs of a level.
-use Rattle.std.proofs.Common.{◌≡◌, ℕ, zero, ◌+◌, ◌<◌, Bool, false, replicate, List, [], ◌∷◌, ◌++◌, length, slice_index_or, Contains, Some, refl, sym, ◌∙◌, ap, subst, arith, suc, inl, inr, ⊎_elim, lit<}
+use Rattle.std.proofs.Common.{◌≡◌, ℕ, zero, ◌+◌, ◌-◌, ◌<◌, Bool, false, replicate, List, [], ◌∷◌, ◌++◌, length, slice_index_or, Contains, Some, refl, sym, ◌∙◌, ap, subst, arith, suc, inl, inr, ⊎_elim, lit<}
 use Rattle.std.specs.Prelude.{slice_get}
 use Rattle.std.proofs.lemmas.Bool.{cases_lt}
 use Rattle.std.proofs.lemmas.List.Elements.{Contains-append_left, Contains-append_right, Contains-append_cases}
@@ -9,11 +9,17 @@ use Rattle.crew.specs.Runs.{AreNumbered, IsDistinct}
 use Rattle.plant_cells.specs.Cells.{PlainCells}
 use Rattle.code_slices.specs.Parts.{PlainPart}
 use Rattle.code_slices.proofs.Places.{split_last}
-use Rattle.slice_store.specs.Starts.{Begun}
+use Rattle.slice_store.specs.Starts.{Begun, no_part, part_of}
 use Rattle.slice_store.specs.Level.{Stored, AreJobsOf, IsReady}
 use Rattle.slice_store.specs.Splits.{CanSplit, IsChosen, IsJobBefore, AreJobsBefore, begun}
 use Rattle.slice_store.proofs.Taking.{one}
 use Rattle.slice_store.proofs.Ticks.{read_any}
+
+-- the part of a program's number
+pub part_there : (parts : List PlainPart) (p : ℕ) → p < length parts → slice_get parts p ≡ Some (part_of parts (p + 1))
+part_there parts p lt =
+    let same : p ≡ p + 1 - 1 = omega arith in
+    slice_get-get_or parts p no_part lt ∙ ap (λ n. Some (slice_index_or parts n no_part)) same
 
 at_of : (xs : List Begun) (i : ℕ) (x : Begun) → i < length xs → slice_index_or xs i x ≡ x → slice_get xs i ≡ Some x
 at_of xs i x lt e = slice_get-get_or xs i x lt ∙ ap Some e

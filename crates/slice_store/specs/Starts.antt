@@ -1,11 +1,24 @@
 -- Where jobs start, and what their code gives from there.
-use Rattle.std.specs.Prelude.{◌≡◌, ◌<◌, ℕ, List, length, Result, IfErr}
+use Rattle.std.specs.Prelude.{◌≡◌, ◌<◌, ◌≤◌, ◌-◌, ℕ, List, [], length, slice_index_or, Result, IfErr}
 use Rattle.plant_cells.specs.declared.stop.Stop.{Stop}
 use Rattle.plant_cells.specs.Cells.{PlainCells}
 use Rattle.plant_cells.specs.Runs.{Path, ended}
 use Rattle.acc_vm.specs.Machine.{Over}
 use Rattle.acc_vm.specs.Codes.{SameShape, run_of}
 use Rattle.code_slices.specs.Parts.{PlainPart, IsPart}
+
+-- a part of nothing
+abbrev pub no_part : PlainPart
+no_part = record { code = record { instrs = []; places = []; paths = 0; values = 0; clocks = 0; stack = 0; cost = 0 }; slots = []; written = 0; clocks = [] }
+
+-- the part of a number, from 1 on, in a list of parts
+abbrev pub part_of : List PlainPart → ℕ → PlainPart
+part_of parts number = slice_index_or parts (number - 1) no_part
+
+-- a list of parts has one of this number
+pub record HasNumber (parts : List PlainPart) (number : ℕ) : Type 0 where
+  pub above : 0 < number
+  pub inside : number ≤ length parts
 
 -- a job's number, the part of its program, the moment, and the part's cells as they were
 pub record Begun : Type 0 where

@@ -2,19 +2,20 @@
 
 ghost use Rattle.std.specs.Prelude.{◌≡◌, ◌↔◌, IsTrue};
 ghost use Rattle.std.specs.Arc.{arc_value};
-ghost use Rattle.slice_store.specs.Starts.{Begun, CanRun};
+ghost use Rattle.slice_store.specs.Starts.{Begun, CanRun, HasNumber, part_of};
 
+use crate::parts::Parts;
 use code_slices::{Part, same_cells};
 use plant_cells::Cells;
 use std::marker::Model;
 use std::mem::swap;
 use std::sync::Arc;
 
-/// Where a job starts: its number, which is 1 more than its program's, the part of the program, the moment in milliseconds, and the part's
-/// cells as they were.
+/// Where a job starts: its number, which is 1 more than its program's, the moment in milliseconds, and the cells of its program's part as they
+/// were. It holds the list of all parts, of which its own is the one of its number: so all starts share one owners' count.
 pub struct Start {
     number: u32,
-    part: Arc<Part>,
+    parts: Arc<Parts>,
     moment: u64,
     cells: Cells,
 }
@@ -23,7 +24,7 @@ impl Drop for Start {
     fn drop(self) {
         let Start {
             number: _,
-            part: _,
+            parts: _,
             moment: _,
             cells: _,
         } = self;
@@ -32,24 +33,25 @@ impl Drop for Start {
 
 impl Model for Start {
     ghost use Rattle.std.specs.Arc.{arc_value};
-    ghost use Rattle.slice_store.specs.Starts.{Begun, CanRun};
+    ghost use Rattle.slice_store.specs.Starts.{Begun, CanRun, HasNumber, part_of};
 
     ghost Value = { Begun };
 
-    ghost view = { λ s. record { number = s.number; part = arc_value s.part; moment = s.moment; cells = s.cells } };
+    ghost view = { λ s. record { number = s.number; part = part_of (arc_value s.parts) s.number; moment = s.moment; cells = s.cells } };
 
-    ghost invariant = { λ s. CanRun (record { number = s.number; part = arc_value s.part; moment = s.moment; cells = s.cells }) };
+    ghost invariant = { λ s. HasNumber (arc_value s.parts) s.number × CanRun (record { number = s.number; part = part_of (arc_value s.parts) s.number; moment = s.moment; cells = s.cells }) };
 }
 
 impl Start {
-    /// A start of a number, with the cells of a part at a moment.
-    pub(crate) fn new(number: u32, part: Arc<Part>, moment: u64, cells: Cells) -> Start
-        requires { CanRun (record { number = number; part = arc_value part; moment = moment; cells = cells }) }
-        ensures { result ≡ record { number = number; part = arc_value part; moment = moment; cells = cells } }
+    /// A start of a number, with the cells of the part of that number at a moment.
+    pub(crate) fn new(number: u32, parts: Arc<Parts>, moment: u64, cells: Cells) -> Start
+        requires there { HasNumber (arc_value parts) number }
+        requires runs { CanRun (record { number = number; part = part_of (arc_value parts) number; moment = moment; cells = cells }) }
+        ensures { result ≡ record { number = number; part = part_of (arc_value parts) number; moment = moment; cells = cells } }
     {
         Start {
             number,
-            part,
+            parts,
             moment,
             cells,
         }
@@ -67,7 +69,7 @@ impl Start {
         ensures is { result.now ≡ self.now.part }
         ensures runs { CanRun self.now }
     {
-        &self.part
+        self.parts.numbered(self.number)
     }
 
     /// The moment of the run, in milliseconds.
@@ -85,12 +87,13 @@ impl Start {
     }
 
     /// Becomes another start, and leaves its earlier cells in the place of those that it takes. It copies none of them.
-    pub(crate) fn renew(&mut self, number: u32, part: Arc<Part>, moment: u64, cells: &mut Cells)
-        requires { CanRun (record { number = number; part = arc_value part; moment = moment; cells = cells.old }) }
-        ensures { self.new ≡ record { number = number; part = arc_value part; moment = moment; cells = cells.old } }
+    pub(crate) fn renew(&mut self, number: u32, parts: Arc<Parts>, moment: u64, cells: &mut Cells)
+        requires there { HasNumber (arc_value parts) number }
+        requires runs { CanRun (record { number = number; part = part_of (arc_value parts) number; moment = moment; cells = cells.old }) }
+        ensures { self.new ≡ record { number = number; part = part_of (arc_value parts) number; moment = moment; cells = cells.old } }
     {
         self.number = number;
-        self.part = part;
+        self.parts = parts;
         self.moment = moment;
         swap(&mut self.cells, cells);
     }
@@ -102,6 +105,6 @@ impl Start {
         self.number == other.number
             && self.moment == other.moment
             && same_cells(&self.cells, &other.cells)
-            && self.part.same(&other.part)
+            && self.part().same(other.part())
     }
 }

@@ -1,20 +1,21 @@
 //! The store that jobs are split from and gathered into.
 
-ghost use Rattle.std.specs.Prelude.{◌≡◌, ◌+◌, ◌<◌, ◌^◌, ℕ, [], length, map, replicate, false, slice_index, slice_index_or, IsTrue, OnOk, IfOk, IfErr};
+ghost use Rattle.std.specs.Prelude.{◌≡◌, ◌+◌, ◌<◌, ◌^◌, ℕ, [], length, replicate, false, slice_index, slice_index_or, IsTrue, OnOk, IfOk, IfErr};
 ghost use Rattle.std.specs.Arc.{arc_value};
 ghost use Rattle.slice_store.specs.Level.{TakesRuns, AreJobsOf};
 ghost use Rattle.crew.specs.Runs.{AreNumbered, IsEachOnce};
 ghost use Rattle.code_slices.specs.Parts.{HasPart};
 ghost use Rattle.slice_store.specs.Splits.{CanSplit, AreJobsBefore, SameStore, begun};
 ghost use Rattle.slice_store.specs.Fits.{IsMisfit};
+ghost use Rattle.slice_store.specs.Starts.{HasNumber, part_of};
 ghost use Rattle.slice_store.specs.Ready.{IsReadyJob};
 
 use crate::done::{Done, Job, Run};
 use crate::matching::{Out, match_up};
 use crate::misfit::Misfit;
+use crate::parts::Parts;
 use crate::reserve::Reserve;
 use crate::start::Start;
-use code_slices::Part;
 use crew::Work;
 use level_plan::Levels;
 use plant_cells::{Cells, Clock};
@@ -69,15 +70,21 @@ fn take_all(values: &mut [i64], clocks: &mut [Clock], faulted: &mut [bool], runs
     }
 }
 
-/// Where the job of a number starts, with the cells of a part. Fails if memory was refused.
-fn start_of(number: u32, part: &Arc<Part>, moment: u64, cells: Cells) -> Result<Start, AllocError>
-    requires values { length cells.values ≡ length (arc_value part.now).slots }
-    requires clocks { length cells.clocks ≡ length (arc_value part.now).clocks }
-    ensures { IfOk result (λ start. start ≡ record { number = number; part = arc_value part.now; moment = moment; cells = cells }) }
+/// Where the job of a number starts, with the cells of its part. Fails if memory was refused.
+fn start_of(
+    number: u32,
+    parts: &Arc<Parts>,
+    moment: u64,
+    cells: Cells,
+) -> Result<Start, AllocError>
+    requires there { HasNumber (arc_value parts.now) number }
+    requires values { length cells.values ≡ length (part_of (arc_value parts.now) number).slots }
+    requires clocks { length cells.clocks ≡ length (part_of (arc_value parts.now) number).clocks }
+    ensures { IfOk result (λ start. start ≡ record { number = number; part = part_of (arc_value parts.now) number; moment = moment; cells = cells }) }
 {
-    let _code = part.code();
-    let part = Arc::try_clone(part)?;
-    Ok(Start::new(number, part, moment, cells))
+    let _code = parts.numbered(number).code();
+    let parts = Arc::try_clone(parts)?;
+    Ok(Start::new(number, parts, moment, cells))
 }
 
 /// Starts in the place of an earlier start, whose cells it leaves in the place of those that it takes, and tells whether it could: not where somebody
@@ -85,20 +92,21 @@ fn start_of(number: u32, part: &Arc<Part>, moment: u64, cells: Cells) -> Result<
 fn renewed(
     place: &mut Arc<Start>,
     number: u32,
-    part: &Arc<Part>,
+    parts: &Arc<Parts>,
     moment: u64,
     cells: &mut Cells,
 ) -> Result<bool, AllocError>
-    requires values { length cells.old.values ≡ length (arc_value part.now).slots }
-    requires clocks { length cells.old.clocks ≡ length (arc_value part.now).clocks }
-    ensures put { IfOk result (λ could. IsTrue could → arc_value place.new ≡ record { number = number; part = arc_value part.now; moment = moment; cells = cells.old }) }
+    requires there { HasNumber (arc_value parts.now) number }
+    requires values { length cells.old.values ≡ length (part_of (arc_value parts.now) number).slots }
+    requires clocks { length cells.old.clocks ≡ length (part_of (arc_value parts.now) number).clocks }
+    ensures put { IfOk result (λ could. IsTrue could → arc_value place.new ≡ record { number = number; part = part_of (arc_value parts.now) number; moment = moment; cells = cells.old }) }
     ensures kept { IfOk result (λ could. could ≡ false → cells.new ≡ cells.old) }
 {
-    let _code = part.code();
-    let part = Arc::try_clone(part)?;
+    let _code = parts.numbered(number).code();
+    let parts = Arc::try_clone(parts)?;
     match Arc::get_mut(place) {
         Some(there) => {
-            there.renew(number, part, moment, cells);
+            there.renew(number, parts, moment, cells);
             Ok(true)
         }
         None => Ok(false),
@@ -126,19 +134,20 @@ fn put_start(
     alloc: Global,
     place: &mut Arc<Start>,
     number: u32,
-    part: &Arc<Part>,
+    parts: &Arc<Parts>,
     moment: u64,
     cells: &mut Cells,
 ) -> Result<(), AllocError>
-    requires values { length cells.old.values ≡ length (arc_value part.now).slots }
-    requires clocks { length cells.old.clocks ≡ length (arc_value part.now).clocks }
-    ensures { OnOk result (arc_value place.new ≡ record { number = number; part = arc_value part.now; moment = moment; cells = cells.old }) }
+    requires there { HasNumber (arc_value parts.now) number }
+    requires values { length cells.old.values ≡ length (part_of (arc_value parts.now) number).slots }
+    requires clocks { length cells.old.clocks ≡ length (part_of (arc_value parts.now) number).clocks }
+    ensures { OnOk result (arc_value place.new ≡ record { number = number; part = part_of (arc_value parts.now) number; moment = moment; cells = cells.old }) }
 {
-    if renewed(place, number, part, moment, cells)? {
+    if renewed(place, number, parts, moment, cells)? {
         return Ok(());
     }
     let taken = replace(cells, no_cells(alloc));
-    let start = start_of(number, part, moment, taken)?;
+    let start = start_of(number, parts, moment, taken)?;
     *place = shared_start(alloc, start)?;
     Ok(())
 }
@@ -297,12 +306,14 @@ impl Store {
     }
 
     /// The job of a number, from the cells and at the moment of the store, in memory of its own. Fails if memory was refused.
-    fn begin_anew(&self, alloc: Global, number: u32, part: &Arc<Part>) -> Result<Job, AllocError>
-        requires there { HasPart (arc_value part.now) self.now.cells }
-        ensures { IfOk result (λ job. job ≡ begun number (arc_value part.now) self.now.moment self.now.cells) }
+    fn begin_anew(&self, alloc: Global, number: u32, parts: &Arc<Parts>) -> Result<Job, AllocError>
+        requires there { HasNumber (arc_value parts.now) number }
+        requires inside { HasPart (part_of (arc_value parts.now) number) self.now.cells }
+        ensures { IfOk result (λ job. job ≡ begun number (part_of (arc_value parts.now) number) self.now.moment self.now.cells) }
     {
+        let part = parts.numbered(number);
         let cells = part.load(self.values(), self.clocks(), no_cells(alloc))?;
-        let start = start_of(number, part, self.moment(), cells)?;
+        let start = start_of(number, parts, self.moment(), cells)?;
         let start = shared_start(alloc, start)?;
         let run = Run {
             start,
@@ -321,11 +332,13 @@ impl Store {
         alloc: Global,
         earlier: Box<Run>,
         number: u32,
-        part: &Arc<Part>,
+        parts: &Arc<Parts>,
     ) -> Result<Job, AllocError>
-        requires there { HasPart (arc_value part.now) self.now.cells }
-        ensures { IfOk result (λ job. job ≡ begun number (arc_value part.now) self.now.moment self.now.cells) }
+        requires there { HasNumber (arc_value parts.now) number }
+        requires inside { HasPart (part_of (arc_value parts.now) number) self.now.cells }
+        ensures { IfOk result (λ job. job ≡ begun number (part_of (arc_value parts.now) number) self.now.moment self.now.cells) }
     {
+        let part = parts.numbered(number);
         let mut run = earlier;
         let Run {
             start,
@@ -335,7 +348,7 @@ impl Store {
         } = &mut *run;
         let room = replace(cells, no_cells(alloc));
         *cells = part.load(self.values(), self.clocks(), room)?;
-        put_start(alloc, start, number, part, self.moment(), cells)?;
+        put_start(alloc, start, number, parts, self.moment(), cells)?;
         make_ready(alloc, &mut run)?;
         Ok(Job::new(run))
     }
@@ -346,17 +359,16 @@ impl Store {
         &self,
         alloc: Global,
         reserve: &mut Reserve,
-        program: usize,
-        part: &Arc<Part>,
+        number: u32,
+        parts: &Arc<Parts>,
     ) -> Result<Job, AllocError>
-        requires there { HasPart (arc_value part.now) self.now.cells }
-        requires few { program + 1 < 2 ^ 32 }
-        ensures { IfOk result (λ job. job ≡ begun (program + 1) (arc_value part.now) self.now.moment self.now.cells) }
+        requires there { HasNumber (arc_value parts.now) number }
+        requires inside { HasPart (part_of (arc_value parts.now) number) self.now.cells }
+        ensures { IfOk result (λ job. job ≡ begun number (part_of (arc_value parts.now) number) self.now.moment self.now.cells) }
     {
-        let number = program as u32 + 1;
         match reserve.take(number)? {
-            Some(run) => self.begin_again(alloc, run, number, part),
-            None => self.begin_anew(alloc, number, part),
+            Some(run) => self.begin_again(alloc, run, number, parts),
+            None => self.begin_anew(alloc, number, parts),
         }
     }
 
@@ -365,17 +377,18 @@ impl Store {
         &self,
         alloc: Global,
         reserve: &mut Reserve,
-        parts: &[Arc<Part>],
+        parts: &Arc<Parts>,
         levels: &Levels,
         level: u32,
     ) -> Result<Vec<Job>, AllocError>
-        requires { CanSplit (map arc_value parts.now) levels.now level self.now.cells (length self.now.faulted) }
-        ensures { IfOk result (λ jobs. AreJobsBefore (map arc_value parts.now) levels.now level self.now (length parts.now) jobs.items) }
+        requires { CanSplit (arc_value parts.now) levels.now level self.now.cells (length self.now.faulted) }
+        ensures { IfOk result (λ jobs. AreJobsBefore (arc_value parts.now) levels.now level self.now (length (arc_value parts.now)) jobs.items) }
     {
-        let mut jobs = Vec::with_capacity(alloc, parts.len())?;
-        for p in 0..parts.len() {
+        let many = parts.count();
+        let mut jobs = Vec::with_capacity(alloc, many)?;
+        for p in 0..many {
             if self.is_chosen(levels, level, p) {
-                let job = self.begin_program(alloc, reserve, p, &parts[p])?;
+                let job = self.begin_program(alloc, reserve, p as u32 + 1, parts)?;
                 jobs.push(job)?;
             }
         }
@@ -387,12 +400,12 @@ impl Store {
         &self,
         alloc: Global,
         reserve: &mut Reserve,
-        parts: &[Arc<Part>],
+        parts: &Arc<Parts>,
         levels: &Levels,
         level: u32,
     ) -> Result<(Vec<Job>, Vec<Out>, Vec<bool>), AllocError>
-        requires { CanSplit (map arc_value parts.now) levels.now level self.now.cells (length self.now.faulted) }
-        ensures jobs { IfOk result (λ r. AreJobsBefore (map arc_value parts.now) levels.now level self.now (length parts.now) r.0.items) }
+        requires { CanSplit (arc_value parts.now) levels.now level self.now.cells (length self.now.faulted) }
+        ensures jobs { IfOk result (λ r. AreJobsBefore (arc_value parts.now) levels.now level self.now (length (arc_value parts.now)) r.0.items) }
         ensures out { IfOk result (λ r. r.1.items ≡ r.0.items) }
         ensures ticks { IfOk result (λ r. r.2.items ≡ replicate (length r.0.items) false) }
     {
@@ -406,12 +419,12 @@ impl Store {
     fn begin_lent(
         &mut self,
         alloc: Global,
-        parts: &[Arc<Part>],
+        parts: &Arc<Parts>,
         levels: &Levels,
         level: u32,
     ) -> Result<(Vec<Job>, Vec<Out>, Vec<bool>), AllocError>
-        requires { CanSplit (map arc_value parts.now) levels.now level self.old.cells (length self.old.faulted) }
-        ensures jobs { IfOk result (λ r. AreJobsBefore (map arc_value parts.now) levels.now level self.old (length parts.now) r.0.items) }
+        requires { CanSplit (arc_value parts.now) levels.now level self.old.cells (length self.old.faulted) }
+        ensures jobs { IfOk result (λ r. AreJobsBefore (arc_value parts.now) levels.now level self.old (length (arc_value parts.now)) r.0.items) }
         ensures out { IfOk result (λ r. r.1.items ≡ r.0.items) }
         ensures ticks { IfOk result (λ r. r.2.items ≡ replicate (length r.0.items) false) }
         ensures same { self.new ≡ self.old }
@@ -427,13 +440,13 @@ impl Store {
     pub fn split(
         &mut self,
         alloc: Global,
-        parts: &[Arc<Part>],
+        parts: &Arc<Parts>,
         levels: &Levels,
         level: u32,
     ) -> Result<Vec<Job>, AllocError>
         requires gathered { self.old.out ≡ [] }
-        requires programs { CanSplit (map arc_value parts.now) levels.now level self.old.cells (length self.old.faulted) }
-        ensures jobs { IfOk result (λ jobs. AreJobsBefore (map arc_value parts.now) levels.now level self.old (length parts.now) jobs.items) }
+        requires programs { CanSplit (arc_value parts.now) levels.now level self.old.cells (length self.old.faulted) }
+        ensures jobs { IfOk result (λ jobs. AreJobsBefore (arc_value parts.now) levels.now level self.old (length (arc_value parts.now)) jobs.items) }
         ensures numbered { IfOk result (λ jobs. AreNumbered (λ s. s.number) jobs.items) }
         ensures out { IfOk result (λ jobs. self.new.out ≡ jobs.items) }
         ensures refused { IfErr result (λ e. self.new.out ≡ []) }
