@@ -1,6 +1,6 @@
 //! Levels one after another, the jobs of each by a crew.
 
-ghost use Rattle.std.specs.Prelude.{◌≡◌, ◌<◌, ℕ, [], All, List, length, map, Contains, IsPermutation, IfOk, OnOk};
+ghost use Rattle.std.specs.Prelude.{◌≡◌, ◌<◌, ℕ, [], All, List, length, Contains, IsPermutation, IfOk, OnOk};
 ghost use Rattle.std.specs.List.Sorted.{IsNonDecreasingBy};
 ghost use Rattle.std.specs.Arc.{arc_value};
 ghost use Rattle.crew.specs.Faults.{faults_after};
@@ -18,10 +18,9 @@ ghost use Rattle.level_jobs.specs.Gathers.{GathersLevel, GathersLevels, GathersA
 ghost use Rattle.level_jobs.specs.Spotted.{Tell, HasItsPath, spotted};
 
 use crate::fault::ProgramFault;
-use code_slices::Part;
 use crew::{Crew, CrewFault};
 use level_plan::Levels;
-use slice_store::{Done, Job, Start, Store};
+use slice_store::{Done, Job, Parts, Start, Store};
 use std::alloc::{AllocError, Global};
 use std::sync::Arc;
 
@@ -63,16 +62,16 @@ fn run_level<C: Crew<Job, Start, Done, H>, H>(
     rt: &H,
     alloc: Global,
     crew: &mut C,
-    parts: &[Arc<Part>],
+    parts: &Arc<Parts>,
     levels: &Levels,
     level: u32,
     store: &mut Store,
 ) -> Result<Vec<ProgramFault>, CrewFault>
     requires asked { C.asks }
     requires gathered { store.old.out ≡ [] }
-    requires programs { CanSplit (map arc_value parts.now) levels.now level store.old.cells (length store.old.faulted) }
-    ensures level { IfOk result (λ faults. (paths : ℕ → List Path) → GathersLevel paths (map arc_value parts.now) levels.now level store.old store.new (spotted paths faults.items)) }
-    ensures paths { IfOk result (λ faults. (codes : List PlainCode) → ArePartsOf codes (map arc_value parts.now) → All (HasItsPath codes) faults.items) }
+    requires programs { CanSplit (arc_value parts.now) levels.now level store.old.cells (length store.old.faulted) }
+    ensures level { IfOk result (λ faults. (paths : ℕ → List Path) → GathersLevel paths (arc_value parts.now) levels.now level store.old store.new (spotted paths faults.items)) }
+    ensures paths { IfOk result (λ faults. (codes : List PlainCode) → ArePartsOf codes (arc_value parts.now) → All (HasItsPath codes) faults.items) }
     ensures gathered { OnOk result (store.new.out ≡ []) }
     ensures counted { C.faulted crew.new ≡ faults_after (C.faulted crew.old) result }
 {
@@ -92,15 +91,15 @@ fn run_in_turn<C: Crew<Job, Start, Done, H>, H>(
     rt: &H,
     alloc: Global,
     crew: &mut C,
-    parts: &[Arc<Part>],
+    parts: &Arc<Parts>,
     levels: &Levels,
     store: &mut Store,
 ) -> Result<Vec<ProgramFault>, CrewFault>
     requires asked { C.asks }
     requires gathered { store.old.out ≡ [] }
-    requires programs { (level : ℕ) → CanSplit (map arc_value parts.now) levels.now level store.old.cells (length store.old.faulted) }
-    ensures levels { IfOk result (λ faults. (paths : ℕ → List Path) → GathersLevels paths (map arc_value parts.now) levels.now store.old (last_of levels.now) store.new (spotted paths faults.items)) }
-    ensures paths { IfOk result (λ faults. (codes : List PlainCode) → ArePartsOf codes (map arc_value parts.now) → All (HasItsPath codes) faults.items) }
+    requires programs { (level : ℕ) → CanSplit (arc_value parts.now) levels.now level store.old.cells (length store.old.faulted) }
+    ensures levels { IfOk result (λ faults. (paths : ℕ → List Path) → GathersLevels paths (arc_value parts.now) levels.now store.old (last_of levels.now) store.new (spotted paths faults.items)) }
+    ensures paths { IfOk result (λ faults. (codes : List PlainCode) → ArePartsOf codes (arc_value parts.now) → All (HasItsPath codes) faults.items) }
     ensures gathered { OnOk result (store.new.out ≡ []) }
     ensures counted { C.faulted crew.new ≡ faults_after (C.faulted crew.old) result }
 {
@@ -128,17 +127,17 @@ pub fn run_levels<C: Crew<Job, Start, Done, H>, H>(
     rt: &H,
     alloc: Global,
     crew: &mut C,
-    parts: &[Arc<Part>],
+    parts: &Arc<Parts>,
     levels: &Levels,
     store: &mut Store,
 ) -> Result<Vec<ProgramFault>, CrewFault>
     requires asked { C.asks }
     requires gathered { store.old.out ≡ [] }
-    requires programs { (level : ℕ) → CanSplit (map arc_value parts.now) levels.now level store.old.cells (length store.old.faulted) }
-    ensures levels { IfOk result (λ faults. GathersAll (map arc_value parts.now) levels.now store.old store.new faults.items) }
+    requires programs { (level : ℕ) → CanSplit (arc_value parts.now) levels.now level store.old.cells (length store.old.faulted) }
+    ensures levels { IfOk result (λ faults. GathersAll (arc_value parts.now) levels.now store.old store.new faults.items) }
     ensures gathered { OnOk result (store.new.out ≡ []) }
-    ensures paths { IfOk result (λ faults. (codes : List PlainCode) → ArePartsOf codes (map arc_value parts.now) → All (HasItsPath codes) faults.items) }
-    ensures in_order { IfOk result (λ faults. (paths : ℕ → List Path) (globals : ℕ) (codes : List PlainCode) → ArePartsOf codes (map arc_value parts.now) → IsPlanOf globals codes levels.now → HaveOwnCells globals codes
+    ensures paths { IfOk result (λ faults. (codes : List PlainCode) → ArePartsOf codes (arc_value parts.now) → All (HasItsPath codes) faults.items) }
+    ensures in_order { IfOk result (λ faults. (paths : ℕ → List Path) (globals : ℕ) (codes : List PlainCode) → ArePartsOf codes (arc_value parts.now) → IsPlanOf globals codes levels.now → HaveOwnCells globals codes
         → length store.old.faulted ≡ length codes
         → EndsInOrder (in_order (programs_at store.old.moment paths codes levels.now).run 0 store.old.faulted store.old.cells) store.new (spotted paths faults.items)) }
     ensures faults { C.faulted crew.new ≡ faults_after (C.faulted crew.old) result }

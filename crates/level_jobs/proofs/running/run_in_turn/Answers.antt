@@ -1,4 +1,4 @@
-use Rattle.std.proofs.Common.{◌≡◌, ◌+◌, ◌++◌, ℕ, suc, [], List, map, refl, sym, ap, ◌∙◌, subst, arith}
+use Rattle.std.proofs.Common.{◌≡◌, ◌+◌, ◌++◌, ℕ, suc, [], List, refl, sym, ap, ◌∙◌, subst, arith}
 use Rattle.std.specs.Prelude.{All}
 use Rattle.std.specs.Arc.{arc_value}
 use Rattle.std.proofs.lemmas.List.Elements.{All-append, All-nil}
@@ -12,7 +12,7 @@ use Rattle.level_jobs.proofs.running.run_in_turn.Goals as goal
 
 pub loop-below-init : goal.loop-below-init
 loop-below-init g c =
-    let parts = map arc_value c.args.parts.now in
+    let parts = arc_value c.args.parts.now in
     record {
       gathered = c.requires.gathered;
       levels = λ paths. subst (λ (xs : List ProgramFault). GathersLevels paths parts c.args.levels.now c.args.store.now 0 c.args.store.now (spotted paths xs)) (sym c.new-faults.ensures.items) no_level;
@@ -22,14 +22,14 @@ loop-below-init g c =
 
 pub run_level-requires-clause-programs : goal.run_level-requires-clause-programs
 run_level-requires-clause-programs g c =
-    let parts = map arc_value c.args.parts.now in
+    let parts = arc_value c.args.parts.now in
     let none : ℕ → List Path = λ p. [] in
     let shape = shape_lasts none parts c.args.levels.now c.args.store.now c.loop-below.below c.loop-below.store (spotted none c.loop-below.faults.items) (c.loop-below.invariant.levels none) in
     can_again parts c.args.levels.now (c.loop-below.below + 1) c.args.store.now c.loop-below.store shape.0 shape.1 (c.requires.programs (c.loop-below.below + 1))
 
 pub loop-below-preserved : goal.loop-below-preserved
 loop-below-preserved g c =
-    let parts = map arc_value c.args.parts.now in
+    let parts = arc_value c.args.parts.now in
     let next : c.loop-below.below + 1 ≡ suc c.loop-below.below = omega arith in
     let items : c.loop-below.faults.items ++ c.in_ok-here.here.items ≡ c.append.new.self.items = sym c.in-Ok.ensures.items in
     record {

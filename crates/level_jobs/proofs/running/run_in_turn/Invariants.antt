@@ -1,4 +1,4 @@
-use Rattle.std.proofs.Common.{◌≡◌, ℕ, [], List, map}
+use Rattle.std.proofs.Common.{◌≡◌, ℕ, [], List}
 use Rattle.std.specs.Prelude.{All}
 use Rattle.std.specs.Arc.{arc_value}
 use Rattle.plant_cells.specs.Runs.{Path}
@@ -11,7 +11,7 @@ use Rattle.level_jobs.proofs.running.run_in_turn.Given as goal
 abbrev pub invariant-loop-below : goal.invariant-loop-below
 invariant-loop-below g l = record {
   gathered : l.store.out ≡ [];
-  levels : (paths : ℕ → List Path) → GathersLevels paths (map arc_value l.parts) l.levels l.fn.store l.below l.store (spotted paths l.faults.items);
-  paths : (codes : List PlainCode) → ArePartsOf codes (map arc_value l.parts) → All (HasItsPath codes) l.faults.items;
+  levels : (paths : ℕ → List Path) → GathersLevels paths (arc_value l.parts) l.levels l.fn.store l.below l.store (spotted paths l.faults.items);
+  paths : (codes : List PlainCode) → ArePartsOf codes (arc_value l.parts) → All (HasItsPath codes) l.faults.items;
   counted : g.C.Crew.faulted l.crew ≡ g.C.Crew.faulted l.fn.crew;
 }

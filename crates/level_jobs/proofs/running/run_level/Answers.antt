@@ -1,4 +1,4 @@
-use Rattle.std.proofs.Common.{◌≡◌, suc, map, length, ap, subst, arith}
+use Rattle.std.proofs.Common.{◌≡◌, suc, length, ap, subst, arith}
 use Rattle.std.specs.Prelude.{Contains}
 use Rattle.std.specs.Arc.{arc_value}
 use Rattle.slice_store.specs.Starts.{Begun}
@@ -16,5 +16,5 @@ faults_of-requires g c = λ s has.
 pub returns-clause-paths : goal.returns-clause-paths
 returns-clause-paths g c = λ codes are.
     let tell : Tell c.in_ok-runs.runs.items c.in-Ok-faults_of.faults.items = subst (λ xs. Tell xs c.in-Ok-faults_of.faults.items) c.as_slice.ensures.value c.in-Ok-faults_of.ensures in
-    their_paths codes (map arc_value c.args.parts.now) c.args.levels.now c.args.level c.args.store.now (length c.args.parts.now) c.in-Ok.jobs.items c.in_ok-runs.runs.items are c.in-Ok.ensures.jobs c.in_ok-runs.ensures.each
+    their_paths codes (arc_value c.args.parts.now) c.args.levels.now c.args.level c.args.store.now (length (arc_value c.args.parts.now)) c.in-Ok.jobs.items c.in_ok-runs.runs.items are c.in-Ok.ensures.jobs c.in_ok-runs.ensures.each
     c.in-Ok-faults_of.faults.items tell.of_runs

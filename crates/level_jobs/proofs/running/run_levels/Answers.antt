@@ -1,4 +1,3 @@
-use Rattle.std.proofs.Common.{map}
 use Rattle.std.specs.Arc.{arc_value}
 use Rattle.std.proofs.lemmas.List.Sorted.{All-permutation}
 use Rattle.level_jobs.specs.Spotted.{HasItsPath}
@@ -13,5 +12,5 @@ returns-clause-paths g c = λ codes are. All-permutation (HasItsPath codes) c.in
 
 pub returns-clause-in_order : goal.returns-clause-in_order
 returns-clause-in_order g c = λ paths globals codes are is own many.
-    ends_in_order paths globals codes (map arc_value c.args.parts.now) c.args.levels.now are is own c.args.store.now c.run_in_turn.new.store c.sort_faults.new.faults.items many
+    ends_in_order paths globals codes (arc_value c.args.parts.now) c.args.levels.now are is own c.args.store.now c.run_in_turn.new.store c.sort_faults.new.faults.items many
     (record { told = c.in_ok-faults.faults.items; gathers = c.in_ok-faults.ensures.levels; same = c.sort_faults.ensures.same; rising = c.sort_faults.ensures.rising })
