@@ -1,21 +1,21 @@
 //! The programs of a plant, each in its part of the cells, and their levels.
 
-ghost use Rattle.std.specs.Prelude.{◌≡◌, map, IfOk};
+ghost use Rattle.std.specs.Prelude.{◌≡◌, IfOk};
 ghost use Rattle.std.specs.Arc.{arc_value};
 ghost use Rattle.scan_logic.specs.Levels.{AreLevelsOf};
 
 use crate::parts::{parts_of, shared};
-use code_slices::Part;
 use level_plan::Levels;
 use level_runs::plan_of;
 use plant_walk::{Framed, sound_source_is_small};
+use slice_store::Parts;
 use std::alloc::{AllocError, Global};
 use std::marker::Model;
 use std::sync::Arc;
 
 /// The programs of a plant, each in its part of the cells, and the levels in which they may run together. Contracts see these.
 pub struct Levelled {
-    parts: Vec<Arc<Part>>,
+    parts: Arc<Parts>,
     levels: Levels,
 }
 
@@ -29,13 +29,12 @@ impl Drop for Levelled {
 }
 
 impl Model for Levelled {
-    ghost use Rattle.std.specs.Prelude.{map};
     ghost use Rattle.std.specs.Arc.{arc_value};
     ghost use Rattle.scan_logic.specs.Levels.{PlainLevelled};
 
     ghost Value = { PlainLevelled };
 
-    ghost view = { λ l. record { parts = map arc_value l.parts.items; levels = l.levels } };
+    ghost view = { λ l. record { parts = arc_value l.parts; levels = l.levels } };
 }
 
 impl Levelled {
@@ -53,10 +52,10 @@ impl Levelled {
     }
 
     /// The programs' parts of the cells.
-    pub fn parts(&self) -> &[Arc<Part>]
-        ensures { map arc_value result.now ≡ self.now.parts }
+    pub fn parts(&self) -> &Arc<Parts>
+        ensures { arc_value result.now ≡ self.now.parts }
     {
-        self.parts.as_slice()
+        &self.parts
     }
 
     /// The programs' levels.

@@ -1,6 +1,6 @@
 //! The programs' parts of the cells.
 
-ghost use Rattle.std.specs.Prelude.{◌≡◌, ◌≤◌, ◌^◌, length, map, IfOk, OnOk};
+ghost use Rattle.std.specs.Prelude.{◌≡◌, ◌≤◌, ◌^◌, length, IfOk, OnOk};
 ghost use Rattle.std.specs.Arc.{arc_value};
 ghost use Rattle.code_slices.specs.Parts.{IsPartOf};
 ghost use Rattle.scan_logic.specs.Levels.{AreProgramParts};
@@ -8,6 +8,7 @@ ghost use Rattle.scan_logic.specs.Levels.{AreProgramParts};
 use acc_vm::Code;
 use code_slices::{Part, relocate};
 use plant_walk::Framed;
+use slice_store::Parts;
 use std::alloc::{AllocError, Global};
 use std::sync::Arc;
 
@@ -58,16 +59,12 @@ pub fn parts_of(alloc: Global, framed: &Framed) -> Result<Vec<Part>, AllocError>
     Ok(parts)
 }
 
-/// Parts that threads may share. Fails if memory was refused.
-pub fn shared(alloc: Global, parts: Vec<Part>) -> Result<Vec<Arc<Part>>, AllocError>
-    ensures { IfOk result (λ shared. map arc_value shared.items ≡ parts.items) }
+/// Parts that threads share as one list. Fails if memory was refused.
+pub fn shared(alloc: Global, parts: Vec<Part>) -> Result<Arc<Parts>, AllocError>
+    ensures { IfOk result (λ shared. arc_value shared ≡ parts.items) }
 {
-    let mut shared = Vec::with_capacity(alloc, parts.len())?;
-    for part in parts {
-        let Ok(part) = Arc::new(alloc, part) else {
-            return Err(AllocError);
-        };
-        shared.push(part)?;
+    match Arc::new(alloc, Parts::new(parts)) {
+        Ok(shared) => Ok(shared),
+        Err(_) => Err(AllocError),
     }
-    Ok(shared)
 }

@@ -1,4 +1,4 @@
-use Rattle.std.proofs.Common.{◌≡◌, List, map, sym, subst, rules}
+use Rattle.std.proofs.Common.{◌≡◌, List, sym, subst, rules}
 use Rattle.std.specs.Arc.{arc_value}
 use Rattle.code_slices.specs.Parts.{PlainPart}
 use Rattle.slice_store.specs.Splits.{ArePartsOf}
@@ -12,7 +12,7 @@ run_levels-requires-clause-programs g c = λ level.
     let cells = c.args.cells.now in
     let start_is : c.lend.new.self ≡ stored cells c.args.faulted.now.items c.args.moment = search rules in
     can_split source (record { values = c.programs_share_no_cell.ensures.values source; clocks = c.programs_share_no_cell.ensures.clocks source }) c.args.levelled.now c.requires.levels cells c.args.faulted.now.items c.args.moment c.requires.cells c.requires.flags
-    (c.sound_source_is_small.ensures.programs source c.programs-programs.ensures.sound) (map arc_value c.parts-parts.result.now) c.levels.result.now c.lend.new.self c.parts-parts.ensures c.levels.ensures start_is level
+    (c.sound_source_is_small.ensures.programs source c.programs-programs.ensures.sound) (arc_value c.parts-parts.result.now) c.levels.result.now c.lend.new.self c.parts-parts.ensures c.levels.ensures start_is level
 
 pub returns-in-Ok-clause-ran : goal.returns-in-Ok-clause-ran
 returns-in-Ok-clause-ran g c = λ w stands.
@@ -20,7 +20,7 @@ returns-in-Ok-clause-ran g c = λ w stands.
     let l = c.args.levelled.now in
     let cells = c.args.cells.now in
     let is = c.requires.levels in
-    let parts = map arc_value c.parts-parts.result.now in
+    let parts = arc_value c.parts-parts.result.now in
     let faults = c.in-Ok.faults.items in
     let start_is : c.lend.new.self ≡ stored cells c.args.faulted.now.items c.args.moment = search rules in
     let there : ArePartsOf is.codes parts = subst (λ (p : List PlainPart). ArePartsOf is.codes p) (sym c.parts-parts.ensures) (parts_are is.codes l.parts is.parts) in
@@ -32,5 +32,5 @@ returns-in-Ok-clause-ran g c = λ w stands.
 pub returns-in-Ok-clause-told : goal.returns-in-Ok-clause-told
 returns-in-Ok-clause-told g c =
     let is = c.requires.levels in
-    let there : ArePartsOf is.codes (map arc_value c.parts-parts.result.now) = subst (λ (p : List PlainPart). ArePartsOf is.codes p) (sym c.parts-parts.ensures) (parts_are is.codes c.args.levelled.now.parts is.parts) in
+    let there : ArePartsOf is.codes (arc_value c.parts-parts.result.now) = subst (λ (p : List PlainPart). ArePartsOf is.codes p) (sym c.parts-parts.ensures) (parts_are is.codes c.args.levelled.now.parts is.parts) in
     of_programs c.args.framed.now is.codes is.are c.in-Ok.faults.items (c.in-Ok.ensures.paths is.codes there)
