@@ -1,5 +1,5 @@
 -- What a contract sees of a console that looks at a board.
-use Rattle.std.specs.Prelude.{◌≡◌, ℕ, List, length, Option}
+use Rattle.std.specs.Prelude.{◌≡◌, ℕ, List, length, Option, None}
 use Rattle.logbook.specs.Pages.{Book}
 use Rattle.console_link.specs.declared.answer.Answer.{Answer}
 use Rattle.console_link.specs.Seats.{submitted as link_submitted, taken as link_taken, known_room as link_room, all_submitted, all_taken, Ends}
@@ -8,7 +8,7 @@ use Rattle.boards.specs.Replies.{after, allows}
 use Rattle.boards.specs.Marks.{IsMark}
 use Rattle.operator_console.specs.declared.console.Console.{Console}
 use Rattle.operator_console.specs.declared.console.Finished.{Finished}
-use Rattle.operator_console.specs.Sights.{BoardStory, seen_by, told_by, log_by, GoesOn, IsSeenSince, HasOrders}
+use Rattle.operator_console.specs.Sights.{BoardStory, seen_by, told_by, log_by, looked_at, GoesOn, IsSeenSince, HasOrders}
 
 module _ {O R : Type 0} where
   -- every order that the console submitted, in order
@@ -42,12 +42,21 @@ module _ {O R : Type 0} where
     pub told : story_told b ≡ story_told a
     pub log : board_log b ≡ board_log a
 
+  -- it doesn't look at the board, so it keeps nobody waiting
+  abbrev pub IsIdle : Console O R → Type 0
+  IsIdle c = looked_at c.sight ≡ None
+
   -- it looks no more
   pub record HasLeft (a b : Console O R) : Type 0 where
     pub link : b.link ≡ a.link
     pub seen : story_seen b ≡ story_seen a
     pub told : story_told b ≡ story_told a
     pub log : board_log b ≡ board_log a
+    pub idle : IsIdle b
+
+  -- it has tried to look, and doesn't look
+  abbrev pub HasTried : Console O R → Console O R → Type 0
+  HasTried a b = HasLooked a b × IsIdle b
 
   -- what it looks at: a lawful list, which goes on from all that it saw and was told of before, with as many of its orders as it took answers, or more
   pub record ShowsFrom (a : Console O R) (story : Option BoardStory) : Type 0 where
