@@ -71,12 +71,7 @@ fn take_all(values: &mut [i64], clocks: &mut [Clock], faulted: &mut [bool], runs
 }
 
 /// Where the job of a number starts, with the cells of its part. Fails if memory was refused.
-fn start_of(
-    number: u32,
-    parts: &Arc<Parts>,
-    moment: u64,
-    cells: Cells,
-) -> Result<Start, AllocError>
+fn start_of(number: u32, parts: &Arc<Parts>, moment: u64, cells: Cells) -> Result<Start, AllocError>
     requires there { HasNumber (arc_value parts.now) number }
     requires values { length cells.values ≡ length (part_of (arc_value parts.now) number).slots }
     requires clocks { length cells.clocks ≡ length (part_of (arc_value parts.now) number).clocks }
