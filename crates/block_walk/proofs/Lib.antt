@@ -3,6 +3,7 @@ pub mod Firsts
 pub mod Numbers
 pub mod Moved
 mod Steps
+mod Choosing
 mod Turns
 pub mod Apart
 pub mod Beginning

@@ -1,4 +1,5 @@
 use Rattle.std.proofs.Common.{◌≡◌, ◌<◌, length, arith}
+use Rattle.std.proofs.lemmas.Grind.{common_steps}
 use Rattle.block_walk.proofs.Ranks.{frame_at}
 use Rattle.block_walk.proofs.Marks.{standards_past, none_counted, some_pushed, none_pushed}
 use Rattle.block_walk.proofs.standards.+push.Goals as goal
@@ -19,3 +20,9 @@ push_within-returns-else-frame-gt0 t c =
 pub push_within-returns-else-k-limit : goal.push_within-returns-else-k-limit
 push_within-returns-else-k-limit t c =
     none_pushed c.args.frames.now c.args.limit c.args.k c.args.standards.now.items (standards_past c.args.frames.now c.args.limit c.args.k (omega arith))
+
+pub push_seats-loop-seat-preserved : goal.push_seats-loop-seat-preserved
+push_seats-loop-seat-preserved t c = grind (arith, common_steps)
+
+pub push_seats-returns : goal.push_seats-returns
+push_seats-returns t c = grind (arith, common_steps)

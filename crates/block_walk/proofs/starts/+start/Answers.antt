@@ -1,4 +1,5 @@
 use Rattle.std.proofs.Common.{◌<◌, ◌∙◌, sym, length, arith, []}
+use Rattle.std.proofs.lemmas.Grind.{common_steps}
 use Rattle.block_walk.specs.Walks.{paths_within}
 use Rattle.block_walk.proofs.Ranks.{frame_at}
 use Rattle.block_walk.proofs.Beginning.{begun_by, begun_past}
@@ -19,3 +20,9 @@ start_within-returns-else-frame t c =
 
 pub start_within-returns-else-k-limit : goal.start_within-returns-else-k-limit
 start_within-returns-else-k-limit t c = sym (begun_past c.args.globals c.args.frames.now c.args.limit c.args.k c.args.base c.args.cells.now (omega arith))
+
+pub start_seats-loop-seat-preserved : goal.start_seats-loop-seat-preserved
+start_seats-loop-seat-preserved t c = grind (arith, common_steps)
+
+pub start_seats-returns : goal.start_seats-returns
+start_seats-returns t c = grind (arith, common_steps)

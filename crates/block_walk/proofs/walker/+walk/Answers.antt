@@ -1,15 +1,18 @@
-use Rattle.std.proofs.Common.{◌≡◌, ◌∙◌, ap, sym, subst, refl, length, ◌<◌, pos, neg_ℤ, ◌^◌, ◌+ℤ◌, ◌≤ℤ◌, ◌<ℤ◌, to_z, of_z, w64, arith, rules, [], ℕ}
+use Rattle.std.proofs.Common.{true, false, ◌≡◌, ◌∙◌, ap, sym, subst, refl, length, ◌<◌, pos, neg_ℤ, ◌^◌, ◌+ℤ◌, ◌≤ℤ◌, ◌<ℤ◌, to_z, of_z, w64, arith, rules, [], ℕ}
 use Rattle.std.specs.Int.{w128}
 use Rattle.std.proofs.lemmas.Int.{ints}
 use Rattle.std.proofs.lemmas.Bool.{ltb-false}
 use Rattle.std.proofs.lemmas.Option.{slice_get_past}
 use Rattle.std.proofs.lemmas.Result.{err_from_is_err_and}
+use Rattle.std.proofs.lemmas.Grind.{common_steps}
+use Rattle.plant_types.specs.Values.{is_true}
+use Rattle.plant_cells.specs.Runs.{ended}
 use Rattle.st_tree.specs.declared.tree.Stmt.{size-Stmt}
-use Rattle.st_tree.specs.declared.tree.Branch.{size-Branch}
-use Rattle.st_tree.specs.declared.tree.Choice.{size-Choice}
-use denote.Param.Weighed.{most}
-use Rattle.st_tree.specs.View.{view_expr, view_option, view_stmt, view_body}
-use Rattle.st_tree.specs.Meaning.{run_all, turns}
+use Rattle.st_tree.specs.declared.tree.Branch.{size-Branch, size_is-Branch}
+use Rattle.st_tree.specs.declared.tree.Choice.{size-Choice, size_is-Choice}
+use denote.Param.Weighed.{most, at_most}
+use Rattle.st_tree.specs.View.{view_expr, view_option, view_stmt, view_body, view_choices}
+use Rattle.st_tree.specs.Meaning.{run_all, first_fit, turns}
 use Rattle.st_tree.specs.Controls.{control_values}
 use Rattle.st_tree.proofs.Views.{view_stmt-For}
 use Rattle.st_tree.proofs.Depth.{size-If, size-Case, size-For}
@@ -20,6 +23,7 @@ use Rattle.block_walk.proofs.Ranks.{frame_at, frame_less}
 use Rattle.block_walk.proofs.Firsts.{within_past}
 use Rattle.block_walk.proofs.Numbers.{number_below}
 use Rattle.block_walk.proofs.Steps.{seat_at, standard_called, frame_passed, inside_done, inside_trapped, for_done, frame_ran, frame_path}
+use Rattle.block_walk.proofs.Choosing.{branch_trapped, branch_taken, branch_passed, choice_taken, choice_passed, stmt_done}
 use Rattle.block_walk.proofs.Turns.{ran_body, between_fits, up_same, down_same}
 use Rattle.block_walk.proofs.walker.+walk.Goals as goal
 
@@ -205,3 +209,116 @@ count_down-returns-in_err-run_body-clause-ran t c =
     rw (p.1, p.2)
     (down_on (λ w n. s.put w c.args.slot n) (run_all s (view_body c.args.body.now)) at to step (at +ℤ step) c.loop-at.cells _ _ c.loop-at.invariant.0 sign within refl did
     ∙ down_same s paths c.args.slot (view_body c.args.body.now) (to_z w64 (of_z w64 c.args.from)) c.args.from to c.args.to step c.args.step c.args.cells.now first second third)
+
+pub run_body-returns-in_err-run_stmt-clause-ran : goal.run_body-returns-in_err-run_stmt-clause-ran
+run_body-returns-in_err-run_stmt-clause-ran t c = grind (arith, common_steps)
+
+pub run_first_true-returns-clause-ran : goal.run_first_true-returns-clause-ran
+run_first_true-returns-clause-ran t c = grind (arith, common_steps)
+
+pub run_first_fit-returns-clause-ran : goal.run_first_fit-returns-clause-ran
+run_first_fit-returns-clause-ran t c = grind (arith, common_steps)
+
+pub run_body-returns-clause-ran : goal.run_body-returns-clause-ran
+run_body-returns-clause-ran t c = grind (arith, common_steps)
+
+pub run_turns-count_down-requires : goal.run_turns-count_down-requires
+run_turns-count_down-requires t c = grind (arith, common_steps)
+
+pub run_turns-count_up-requires : goal.run_turns-count_up-requires
+run_turns-count_up-requires t c = grind (arith, common_steps)
+
+pub count_up-returns-clause-ran : goal.count_up-returns-clause-ran
+count_up-returns-clause-ran t c = grind (arith, common_steps)
+
+pub count_down-loop-at-init : goal.count_down-loop-at-init
+count_down-loop-at-init t c = grind (arith, common_steps)
+
+pub count_up-loop-at-init : goal.count_up-loop-at-init
+count_up-loop-at-init t c = grind (arith, common_steps)
+
+pub run_called-run_within-requires : goal.run_called-run_within-requires
+run_called-run_within-requires t c = grind (arith, common_steps)
+
+pub count_up-overflow_add-at : goal.count_up-overflow_add-at
+count_up-overflow_add-at t c = grind (arith, common_steps)
+
+pub run_stmt-run_call-requires : goal.run_stmt-run_call-requires
+run_stmt-run_call-requires t c = grind (arith, common_steps)
+
+pub count_down-overflow_add-at : goal.count_down-overflow_add-at
+count_down-overflow_add-at t c = grind (arith, common_steps)
+
+pub count_down-run_body-requires : goal.count_down-run_body-requires
+count_down-run_body-requires t c = grind (arith, common_steps)
+
+pub count_up-run_body-requires : goal.count_up-run_body-requires
+count_up-run_body-requires t c = grind (arith, common_steps)
+
+pub count_down-returns-clause-ran : goal.count_down-returns-clause-ran
+count_down-returns-clause-ran t c = grind (arith, common_steps)
+
+pub run_stmt-returns-in_ok-span-in-For-clause-path : goal.run_stmt-returns-in_ok-span-in-For-clause-path
+run_stmt-returns-in_ok-span-in-For-clause-path t c = grind (arith, common_steps)
+
+pub run_first_true-run_body-requires : goal.run_first_true-run_body-requires
+run_first_true-run_body-requires t c =
+    let deep = at_most (size-Branch ℕ) c.args.branches.now c.loop-branch.branch-index c.branch-item.result c.loop-branch-test.true in
+    let same = ap (size-Branch ℕ) c.branch-item.is in
+    let whole = size_is-Branch ℕ c.branch-item.result in
+    let part = ap (most (size-Stmt ℕ)) c.deref.ensures.value in
+    (omega (arith, deep, same, whole, part), (c.requires.there, (c.requires.in_turn, (c.requires.own, c.requires.room))))
+
+pub run_first_fit-run_body-requires : goal.run_first_fit-run_body-requires
+run_first_fit-run_body-requires t c =
+    let deep = at_most (size-Choice ℕ) c.args.choices.now c.loop-choice.choice-index c.choice-item.result c.loop-choice-test.true in
+    let same = ap (size-Choice ℕ) c.choice-item.is in
+    let whole = size_is-Choice ℕ c.choice-item.result in
+    let part = ap (most (size-Stmt ℕ)) c.deref-then-labels_fit.ensures.value in
+    (omega (arith, deep, same, whole, part), (c.requires.there, (c.requires.in_turn, (c.requires.own, c.requires.room))))
+
+pub run_body-loop-stmt-preserved : goal.run_body-loop-stmt-preserved
+run_body-loop-stmt-preserved t c =
+    stmt_done c.args.moment c.args.globals (placed (run_within c.args.moment c.args.globals c.args.frames.now c.args.limit)) c.args.seats.now c.args.base (paths_within c.args.frames.now c.args.limit c.args.seats.now) c.args.body.now c.loop-stmt.stmt-index c.stmt-item.result c.loop-stmt.cells c.run_stmt.new.cells c.run_stmt.result _ _ c.loop-stmt-test.true c.stmt-item.is c.in_ok-run_stmt.was
+    c.run_stmt.ensures.ran c.loop-stmt.invariant
+
+pub run_first_true-loop-branch-preserved : goal.run_first_true-loop-branch-preserved
+run_first_true-loop-branch-preserved t c =
+    let fails : is_true c.in_ok-in_statement.field-0 ≡ false = grind (arith, common_steps) in
+    branch_passed c.args.moment c.args.globals (placed (run_within c.args.moment c.args.globals c.args.frames.now c.args.limit)) c.args.seats.now c.args.base c.args.statement c.args.branches.now c.loop-branch.branch-index c.branch-item.result c.loop-branch.cells c.loop-branch-test.true c.branch-item.is c.outcome.result c.in_ok-in_statement.field-0 _ c.outcome.ensures c.in_ok-in_statement.ensures.ok c.loop-branch.invariant fails
+
+pub run_first_true-returns-then-branch-ne0-clause-ran : goal.run_first_true-returns-then-branch-ne0-clause-ran
+run_first_true-returns-then-branch-ne0-clause-ran t c =
+    let holds : is_true c.in_ok-in_statement.field-0 ≡ true = grind (arith, common_steps) in
+    let did = ap (λ r. ended (paths_within c.args.frames.now c.args.limit c.args.seats.now) r c.run_body.new.cells) (sym c.in_ok-run_body.was) ∙ c.run_body.ensures.ran in
+    branch_taken c.args.moment c.args.globals (placed (run_within c.args.moment c.args.globals c.args.frames.now c.args.limit)) c.args.seats.now c.args.base c.args.statement c.args.branches.now c.loop-branch.branch-index c.branch-item.result c.loop-branch.cells c.loop-branch-test.true c.branch-item.is c.outcome.result c.in_ok-in_statement.field-0 _ c.outcome.ensures c.in_ok-in_statement.ensures.ok c.loop-branch.invariant c.deref.result.now _ holds c.deref.ensures.value did
+
+pub run_first_true-returns-in_err-run_body-clause-ran : goal.run_first_true-returns-in_err-run_body-clause-ran
+run_first_true-returns-in_err-run_body-clause-ran t c =
+    let holds : is_true c.in_ok-in_statement.field-0 ≡ true = grind (arith, common_steps) in
+    let did = ap (λ r. ended (paths_within c.args.frames.now c.args.limit c.args.seats.now) r c.run_body.new.cells) (sym c.in_err-run_body.was) ∙ c.run_body.ensures.ran in
+    let p = err_from_is_err_and c.from_residual-in_err-run_body.result c.from_residual-in_err-run_body.ensures.1 in
+    rw (p.1, p.2) (branch_taken c.args.moment c.args.globals (placed (run_within c.args.moment c.args.globals c.args.frames.now c.args.limit)) c.args.seats.now c.args.base c.args.statement c.args.branches.now c.loop-branch.branch-index c.branch-item.result c.loop-branch.cells c.loop-branch-test.true c.branch-item.is c.outcome.result c.in_ok-in_statement.field-0 _ c.outcome.ensures c.in_ok-in_statement.ensures.ok c.loop-branch.invariant c.deref.result.now _ holds c.deref.ensures.value did)
+
+pub run_first_true-returns-in_err-in_statement-clause-ran : goal.run_first_true-returns-in_err-in_statement-clause-ran
+run_first_true-returns-in_err-in_statement-clause-ran t c =
+    let p = err_from_is_err_and c.from_residual.result c.from_residual.ensures.1 in
+    rw (p.1, p.2) (branch_trapped c.args.moment c.args.globals (placed (run_within c.args.moment c.args.globals c.args.frames.now c.args.limit)) c.args.seats.now c.args.base c.args.statement c.args.branches.now c.loop-branch.branch-index c.branch-item.result c.loop-branch.cells c.loop-branch-test.true c.branch-item.is _ c.outcome.result _ _ c.outcome.ensures c.in_err-in_statement.ensures.err.0 c.in_err-in_statement.ensures.err.1 c.loop-branch.invariant)
+
+pub run_first_fit-loop-choice-preserved : goal.run_first_fit-loop-choice-preserved
+run_first_fit-loop-choice-preserved t c = choice_passed c.args.moment c.args.globals (placed (run_within c.args.moment c.args.globals c.args.frames.now c.args.limit)) c.args.seats.now c.args.base (to_z w64 (of_z w64 c.args.n)) c.args.choices.now c.loop-choice.choice-index c.choice-item.result c.loop-choice.cells _ c.loop-choice-test.true c.choice-item.is c.loop-choice.invariant c.labels_fit.result c.deref.result.now c.labels_fit.ensures c.deref.ensures.value c.if-labels_fit.false
+
+pub run_first_fit-returns-then-labels_fit-clause-ran : goal.run_first_fit-returns-then-labels_fit-clause-ran
+run_first_fit-returns-then-labels_fit-clause-ran t c =
+    let same : to_z w64 (of_z w64 c.args.n) ≡ c.args.n = omega (arith, ints) in
+    let last = ap (λ n. first_fit (space_within c.args.moment c.args.globals c.args.frames.now c.args.limit c.args.seats.now c.args.base) n (view_choices c.args.choices.now) c.args.cells.now) same in
+    let did = ap (λ r. ended (paths_within c.args.frames.now c.args.limit c.args.seats.now) r c.run_body.new.cells) (sym c.in_ok-run_body.was) ∙ c.run_body.ensures.ran in
+    choice_taken c.args.moment c.args.globals (placed (run_within c.args.moment c.args.globals c.args.frames.now c.args.limit)) c.args.seats.now c.args.base (to_z w64 (of_z w64 c.args.n)) c.args.choices.now c.loop-choice.choice-index c.choice-item.result c.loop-choice.cells _ c.loop-choice-test.true c.choice-item.is c.loop-choice.invariant c.labels_fit.result c.deref.result.now c.labels_fit.ensures c.deref.ensures.value c.deref-then-labels_fit.result.now _ c.if-labels_fit.true c.deref-then-labels_fit.ensures.value did ∙ last
+
+pub run_first_fit-returns-in_err-run_body-clause-ran : goal.run_first_fit-returns-in_err-run_body-clause-ran
+run_first_fit-returns-in_err-run_body-clause-ran t c =
+    let same : to_z w64 (of_z w64 c.args.n) ≡ c.args.n = omega (arith, ints) in
+    let last = ap (λ n. first_fit (space_within c.args.moment c.args.globals c.args.frames.now c.args.limit c.args.seats.now c.args.base) n (view_choices c.args.choices.now) c.args.cells.now) same in
+    let did = ap (λ r. ended (paths_within c.args.frames.now c.args.limit c.args.seats.now) r c.run_body.new.cells) (sym c.in_err-run_body.was) ∙ c.run_body.ensures.ran in
+    let p = err_from_is_err_and c.from_residual.result c.from_residual.ensures.1 in
+    rw (p.1, p.2) (choice_taken c.args.moment c.args.globals (placed (run_within c.args.moment c.args.globals c.args.frames.now c.args.limit)) c.args.seats.now c.args.base (to_z w64 (of_z w64 c.args.n)) c.args.choices.now c.loop-choice.choice-index c.choice-item.result c.loop-choice.cells _ c.loop-choice-test.true c.choice-item.is c.loop-choice.invariant c.labels_fit.result c.deref.result.now c.labels_fit.ensures c.deref.ensures.value c.deref-then-labels_fit.result.now _ c.if-labels_fit.true c.deref-then-labels_fit.ensures.value did ∙ last)
