@@ -22,6 +22,22 @@ module _ {V : Type 0} (rule : PlainStmt V → Bool) where
       at_drop_more (λ l. every rule (view_body l)) xs i x within ∙ (λ j. first j && (inner j && every rule (view_body (drop (i + 1) xs)))) in
       sym one ∙ before
 
+  pub stmt_broken : (xs : List (Stmt V)) (i : ℕ) (x : Stmt V) → i < length xs → x ≡ get_or xs i x → rule (view_stmt x) ≡ false → every rule (view_body (drop i xs)) ≡ every rule (view_body xs) → false ≡ every rule (view_body xs)
+  stmt_broken xs i x within is broken before =
+      let first : rule (view_stmt (get_or xs i x)) ≡ false = ap (λ s. rule (view_stmt s)) (sym is) ∙ broken in
+      let one : every rule (view_body (drop i xs)) ≡ false =
+      at_drop_more (λ l. every rule (view_body l)) xs i x within ∙ (λ j. first j && (every_inside rule (view_stmt (get_or xs i x)) && every rule (view_body (drop (i + 1) xs)))) in
+      sym one ∙ before
+
+  pub inside_broken : (xs : List (Stmt V)) (i : ℕ) (x : Stmt V) → i < length xs → x ≡ get_or xs i x → rule (view_stmt x) ≡ true → every_inside rule (view_stmt x) ≡ false → every rule (view_body (drop i xs)) ≡ every rule (view_body xs)
+      → false ≡ every rule (view_body xs)
+  inside_broken xs i x within is keeps broken before =
+      let first : rule (view_stmt (get_or xs i x)) ≡ true = ap (λ s. rule (view_stmt s)) (sym is) ∙ keeps in
+      let inner : every_inside rule (view_stmt (get_or xs i x)) ≡ false = ap (λ s. every_inside rule (view_stmt s)) (sym is) ∙ broken in
+      let one : every rule (view_body (drop i xs)) ≡ false =
+      at_drop_more (λ l. every rule (view_body l)) xs i x within ∙ (λ j. first j && (inner j && every rule (view_body (drop (i + 1) xs)))) in
+      sym one ∙ before
+
   branch_first : (xs : List (Branch V)) (i : ℕ) (x : Branch V) (keeps : Bool) → x ≡ get_or xs i x → every rule (view_body x.body.items) ≡ keeps → every rule (view_branch (get_or xs i x)).1 ≡ keeps
   branch_first xs i x keeps is kept = ap (λ b. every rule (view_branch b).1) (sym is) ∙ ap (λ p. every rule p.1) (view_branch_is x) ∙ kept
 

@@ -6,25 +6,43 @@ use Rattle.std.specs.declared.alloc.Global.{Global}
 use Rattle.st_tree.specs.declared.tree.Unary.{Unary}
 use Rattle.st_tree.specs.declared.tree.Binary.{Binary}
 use Rattle.st_tree.specs.declared.tree.Label.{Label}
+use Rattle.st_tree.specs.declared.tree.Literal.{Literal}
 use Rattle.st_tree.specs.declared.tree.Argument.{Argument}
 use Rattle.st_tree.specs.declared.tree.Expr.{Expr, fold-roll-Expr}
 use Rattle.st_tree.specs.declared.tree.Expr.TheOpen.{Expr-F}
 use Rattle.st_tree.specs.declared.tree.Expr.TheVariants as expr
-use Rattle.st_tree.specs.declared.tree.Expr.TheVariants.{rolls-Unary, rolls-Binary}
+use Rattle.st_tree.specs.declared.tree.Expr.TheVariants.{rolls-Literal, rolls-Read, rolls-Output, rolls-Unary, rolls-Binary}
 use Rattle.st_tree.specs.declared.tree.Branch.{Branch, roll-Branch, fold-roll-Branch, fold_out-Branch}
 use Rattle.st_tree.specs.declared.tree.Choice.{Choice, roll-Choice, fold-roll-Choice, fold_out-Choice}
-use Rattle.st_tree.specs.declared.tree.Stmt.{Stmt, Call, If, Case, For, fold-roll-Stmt}
+use Rattle.st_tree.specs.declared.tree.Stmt.{Stmt, Empty, Assign, Call, If, Case, For, fold-roll-Stmt}
 use Rattle.st_tree.specs.declared.tree.Stmt.TheOpen.{Stmt-F}
-use Rattle.st_tree.specs.declared.tree.Stmt.TheVariants.{rolls-Call, rolls-If, rolls-Case, rolls-For}
-use Rattle.st_tree.specs.Plain.{PlainExpr, unary, binary, PlainStmt, PlainBody, call, if_else, case_of, for_to}
+use Rattle.st_tree.specs.declared.tree.Stmt.TheVariants.{rolls-Empty, rolls-Assign, rolls-Call, rolls-If, rolls-Case, rolls-For}
+use Rattle.st_tree.specs.Plain.{PlainExpr, literal, read, output_of, unary, binary, PlainStmt, PlainBody, empty, assign, call, if_else, case_of, for_to}
 use Rattle.st_tree.specs.View.{view_expr_step, view_step, view_branch_step, view_choice_step, view_expr, view_option, view_argument, view_stmt, view_body, view_branch, view_branches, view_choice, view_choices}
 
 module _ {V : Type 0} where
+  pub view_expr-Literal : (n : Literal) → view_expr {V = V} (expr.Literal n) ≡ literal n
+  view_expr-Literal n = ap view_expr (sym (rolls-Literal n)) ∙ fold-roll-Expr V (PlainExpr V) view_expr_step (Expr-F.Literal n)
+
+  pub view_expr-Read : (v : V) → view_expr (expr.Read v) ≡ read v
+  view_expr-Read v = ap view_expr (sym (rolls-Read v)) ∙ fold-roll-Expr V (PlainExpr V) view_expr_step (Expr-F.Read v)
+
+  pub view_expr-Output : (instance name : V) → view_expr (expr.Output instance name) ≡ output_of instance name
+  view_expr-Output instance name = ap view_expr (sym (rolls-Output instance name)) ∙ fold-roll-Expr V (PlainExpr V) view_expr_step (Expr-F.Output instance name)
+
   pub view_expr-Unary : (op : Unary) (a : Box (Expr V) Global) → view_expr (expr.Unary op a) ≡ unary op (view_expr a.value)
   view_expr-Unary op a = ap view_expr (sym (rolls-Unary op a)) ∙ fold-roll-Expr V (PlainExpr V) view_expr_step (Expr-F.Unary op a)
 
   pub view_expr-Binary : (op : Binary) (a b : Box (Expr V) Global) → view_expr (expr.Binary op a b) ≡ binary op (view_expr a.value) (view_expr b.value)
   view_expr-Binary op a b = ap view_expr (sym (rolls-Binary op a b)) ∙ fold-roll-Expr V (PlainExpr V) view_expr_step (Expr-F.Binary op a b)
+
+  pub view_stmt-Empty : (number : ℕ) → view_stmt {V = V} (Empty number) ≡ empty number
+  view_stmt-Empty number =
+      ap view_stmt (sym (rolls-Empty number)) ∙ fold-roll-Stmt V (PlainStmt V) (PlainExpr V × PlainBody V) (List Label × PlainBody V) view_step view_branch_step view_choice_step (Stmt-F.Empty number)
+
+  pub view_stmt-Assign : (number : ℕ) (v : V) (e : Expr V) → view_stmt (Assign number v e) ≡ assign number v (view_expr e)
+  view_stmt-Assign number v e =
+      ap view_stmt (sym (rolls-Assign number v e)) ∙ fold-roll-Stmt V (PlainStmt V) (PlainExpr V × PlainBody V) (List Label × PlainBody V) view_step view_branch_step view_choice_step (Stmt-F.Assign number v e)
 
   pub view_stmt-Call : (number : ℕ) (v : V) (arguments : Vec (Argument V) Global) → view_stmt (Call number v arguments) ≡ call number v (map view_argument arguments.items)
   view_stmt-Call number v arguments =

@@ -1,13 +1,14 @@
 use Rattle.std.proofs.Common.{arith, ap, sym, ◌∙◌, map}
 use Rattle.std.proofs.lemmas.List.{take_all}
+use Rattle.std.proofs.lemmas.Grind.{common_steps}
 use denote.Param.Weighed.{most, at_most}
-use Rattle.st_tree.specs.Plain.{call, if_else, case_of, for_to}
+use Rattle.st_tree.specs.Plain.{assign, call, if_else, case_of, for_to}
 use Rattle.st_tree.specs.View.{view_argument, view_stmt, view_branch, view_choice, view_body, view_branches, view_choices, body_of, branches_of, choices_of}
 use Rattle.st_tree.specs.declared.tree.Stmt.{size-Stmt}
 use Rattle.st_tree.specs.declared.tree.Branch.{size-Branch, size_is-Branch}
 use Rattle.st_tree.specs.declared.tree.Choice.{size-Choice, size_is-Choice}
 use Rattle.st_tree.specs.Mapping.{mapped_argument, mapped_stmt, mapped_body, mapped_branches, mapped_choices}
-use Rattle.st_tree.proofs.Views.{view_stmt-Call, view_stmt-If, view_stmt-Case, view_stmt-For, one_more, view_branch_is, view_branch_made, view_choice_is, view_choice_made}
+use Rattle.st_tree.proofs.Views.{view_stmt-Empty, view_stmt-Assign, view_stmt-Call, view_stmt-If, view_stmt-Case, view_stmt-For, one_more, view_branch_is, view_branch_made, view_choice_is, view_choice_made}
 use Rattle.st_tree.proofs.Depth.{size-If, size-Case, size-For}
 use Rattle.st_tree.proofs.Mapped.{stmt_of, branch_of, choice_of, mapped_pair, mapped_labelled, body_whole, branches_whole, choices_whole}
 use Rattle.st_tree.proofs.map.+map.Goals as goal
@@ -138,3 +139,26 @@ mapped_stmt-returns-in-Ok-mapped_body-2 g t c =
     let bounds = c.in_ok-bounds-in-For.ensures in
     let body = c.in-Ok-mapped_body-2.ensures ∙ ap (λ b. mapped_body m (view_body b)) c.deref-in-For.ensures.value in
     c.for_of.ensures ∙ (λ i. for_to c.in-For.number (variable i) (bounds.from i) (bounds.to i) (bounds.by i) (body i)) ∙ ap (mapped_stmt m) (sym (view_stmt-For _ _ _ _ _ _) ∙ ap view_stmt (sym c.in-For.is))
+
+pub mapped_stmt-returns-in_ok-mapped_expr-in-Assign : goal.mapped_stmt-returns-in_ok-mapped_expr-in-Assign
+mapped_stmt-returns-in_ok-mapped_expr-in-Assign g t c =
+    let m = g.P.Pass.mapping c.args.pass.now in
+    view_stmt-Assign _ _ _ ∙ (λ i. assign c.in-Assign.number (c.in_ok-variable-in-Assign.ensures i) (c.in_ok-mapped_expr-in-Assign.ensures i)) ∙ ap (mapped_stmt m) (sym (view_stmt-Assign _ _ _) ∙ ap view_stmt (sym c.in-Assign.is))
+
+pub mapped_stmt-returns-in-Empty : goal.mapped_stmt-returns-in-Empty
+mapped_stmt-returns-in-Empty g t c = let m = g.P.Pass.mapping c.args.pass.now in view_stmt-Empty _ ∙ ap (mapped_stmt m) (sym (view_stmt-Empty _) ∙ ap view_stmt (sym c.in-Empty.is))
+
+pub mapped_body-bounds-body-stmt-index : goal.mapped_body-bounds-body-stmt-index
+mapped_body-bounds-body-stmt-index g t c = grind (arith, common_steps)
+
+pub mapped_body-offset_bounds-body-stmt-index : goal.mapped_body-offset_bounds-body-stmt-index
+mapped_body-offset_bounds-body-stmt-index g t c = grind (arith, common_steps)
+
+pub mapped_branches-loop-branch-init : goal.mapped_branches-loop-branch-init
+mapped_branches-loop-branch-init g t c = grind (arith, common_steps)
+
+pub mapped_choices-loop-choice-init : goal.mapped_choices-loop-choice-init
+mapped_choices-loop-choice-init g t c = grind (arith, common_steps)
+
+pub mapped_body-loop-stmt-init : goal.mapped_body-loop-stmt-init
+mapped_body-loop-stmt-init g t c = grind (arith, common_steps)

@@ -1,12 +1,13 @@
 use Rattle.std.proofs.Common.{◌≡◌, ap, sym, subst, ◌∙◌, arith, IfOk}
+use Rattle.std.proofs.lemmas.List.{at_drop_all}
 use denote.Param.Weighed.{most, at_most}
 use Rattle.st_tree.specs.View.{view_body, view_branches, view_choices}
 use Rattle.st_tree.specs.declared.tree.Stmt.{size-Stmt}
 use Rattle.st_tree.specs.declared.tree.Branch.{size-Branch, size_is-Branch}
 use Rattle.st_tree.specs.declared.tree.Choice.{size-Choice, size_is-Choice}
 use Rattle.st_tree.specs.Every.{every, every_branch, every_choice}
-use Rattle.st_tree.proofs.Depth.{size-If, size-Case}
-use Rattle.st_tree.proofs.RuleLaws.{stmt_kept, branch_kept, branch_broken, choice_kept, choice_broken, inside-If, inside-Case, inside-For}
+use Rattle.st_tree.proofs.Depth.{size-If, size-Case, size-For}
+use Rattle.st_tree.proofs.RuleLaws.{stmt_kept, stmt_broken, inside_broken, branch_kept, branch_broken, choice_kept, choice_broken, inside-If, inside-Case, inside-For}
 use Rattle.st_tree.proofs.rules.+every.Goals as goal
 
 pub every-loop-stmt-preserved : goal.every-loop-stmt-preserved
@@ -101,3 +102,40 @@ every_inside-returns-in-For g t c =
     let same = ap (λ b. every rule (view_body b)) c.deref-in-For.ensures.value
     ∙ inside-For rule c.in-For.number c.in-For.variable c.in-For.from c.in-For.to c.in-For.by c.in-For.body c.args.stmt.now c.in-For.is in
     subst (λ p. IfOk c.every-in-For.result (λ keep. keep ≡ p)) same c.every-in-For.ensures
+
+pub every-every_inside-requires : goal.every-every_inside-requires
+every-every_inside-requires g t c κs within =
+    let size = size-Stmt g.row.V.Denot in
+    let deep = at_most size c.args.body.now c.loop-stmt.stmt-index c.stmt-item.result c.loop-stmt-test.true in
+    let same = ap size c.stmt-item.is in
+    (omega arith, within)
+
+pub every_inside-every-requires-in-For : goal.every_inside-every-requires-in-For
+every_inside-every-requires-in-For g t c κs within =
+    let whole = ap (size-Stmt g.row.V.Denot) c.in-For.is ∙ size-For c.in-For.number c.in-For.variable c.in-For.from c.in-For.to c.in-For.by c.in-For.body in
+    let part = ap (most (size-Stmt g.row.V.Denot)) c.deref-in-For.ensures.value in
+    (omega arith, within)
+
+pub every-returns-then-not-branch : goal.every-returns-then-not-branch
+every-returns-then-not-branch g t c =
+    stmt_broken (g.R.Rule.rule c.args.rule.now) _ _ _ c.loop-stmt-test.true c.stmt-item.is (sym c.in_ok-keeps.ensures ∙ c.if-not-branch.true) c.loop-stmt.invariant
+
+pub every-returns-then-not-branch-2 : goal.every-returns-then-not-branch-2
+every-returns-then-not-branch-2 g t c =
+    inside_broken (g.R.Rule.rule c.args.rule.now) _ _ _ c.loop-stmt-test.true c.stmt-item.is (sym c.in_ok-keeps.ensures ∙ c.if-not-branch.false) (sym c.in_ok-every_inside.ensures ∙ c.if-not-branch-2.true)
+    c.loop-stmt.invariant
+
+pub every-returns : goal.every-returns
+every-returns g t c =
+    let rule = g.R.Rule.rule c.args.rule.now in
+    sym (at_drop_all (λ l. every rule (view_body l)) c.args.body.now c.loop-stmt.stmt-index c.loop-stmt-test.false) ∙ c.loop-stmt.invariant
+
+pub every_branch-returns : goal.every_branch-returns
+every_branch-returns g t c =
+    let rule = g.R.Rule.rule c.args.rule.now in
+    sym (at_drop_all (λ l. every_branch rule (view_branches l)) c.args.branches.now c.loop-branch.branch-index c.loop-branch-test.false) ∙ c.loop-branch.invariant
+
+pub every_choice-returns : goal.every_choice-returns
+every_choice-returns g t c =
+    let rule = g.R.Rule.rule c.args.rule.now in
+    sym (at_drop_all (λ l. every_choice rule (view_choices l)) c.args.choices.now c.loop-choice.choice-index c.loop-choice-test.false) ∙ c.loop-choice.invariant
