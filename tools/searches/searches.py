@@ -1,14 +1,15 @@
 #!/usr/bin/env python3
-"""Lists the goals at which `search` failed before `grind` proved them, and what both took.
+"""Lists the goals at which `search` took long, and failed before `grind` proved them or found the proof, and what both took.
 
-    python3 tools/searches/searches.py CRATE [--least N] [--write] [--most N]
+    python3 tools/searches/searches.py CRATE [--least N] [--found] [--write] [--most N]
 
 At a goal without an answer the prover first tries `search`, which may take a second or more in vain, and then `grind`.
 This reads what `rt check` left in crates/CRATE/out/incremental (so run that first, on the text as it is), and prints a
-line for each such goal, the dearest first: steps in vain, steps of `grind`, the function and the goal. A million steps
+line for each such goal, the dearest first: steps of `search`, steps of `grind`, the function and the goal. A million steps
 are about a second. The last line sums them up.
 
     --least N   goals whose search took at least N steps (200000)
+    --found     also goals that the search proved, but with so many steps: `grind` mostly proves these with a fifth of them
     --write     writes an answer for each of these whose `grind` took at most --most steps (50000), in a function without
                 type parameters and without a tactic of its own: `grind (arith, common_steps)`, which is what the prover
                 tries after its search. Then run `rt check`, and take those out that it prints as open: `grind` had
@@ -63,15 +64,15 @@ def goals_of(file):
             yield name[1].decode(), calls
 
 
-def in_vain(folder, crate, least):
-    """Returns the goals whose search was in vain: its steps, those of `grind`, the function's path and the goal."""
+def in_vain(folder, crate, least, found):
+    """Returns the goals whose search was in vain, or also those that it found: its steps, those of `grind`, the function's path and the goal."""
     rows, head, tail = {}, f"Rattle-{crate}-proofs.", ".Proof.decls.oantt"
     for file in glob.glob(f"{glob.escape(folder)}/*/records/{head}*{tail}"):
         path = os.path.basename(file)[len(head) : -len(tail)]
         for goal, calls in goals_of(file):
-            kinds = [kind for kind, _ in calls]
-            if kinds[:2] == ["search", "grind"] and {*kinds} <= TRIED and kinds.count("grind") == 1 and calls[0][1] >= least:
-                rows[path, goal] = (calls[0][1], calls[1][1], path, goal)
+            steps = dict(calls)
+            if len(steps) == len(calls) and {"search", "first_of"} <= {*steps} <= TRIED and steps["search"] >= least and (found or "grind" in steps):
+                rows[path, goal] = (steps["search"], steps.get("grind", 0), path, goal)
     return sorted(rows.values(), reverse=True)
 
 
@@ -139,10 +140,10 @@ def main(words):
     if not os.path.isdir(folder):
         print(f"there is no {folder}: run rt check in the crate's folder first", file=sys.stderr)
         return 2
-    rows = in_vain(folder, crate, number_after(words, "--least", 200000))
+    rows = in_vain(folder, crate, number_after(words, "--least", 200000), "--found" in words)
     for vain, steps, path, goal in rows:
         print(f"{vain:>9} {steps:>8}  {path}  {goal}")
-    print(f"{len(rows)} goals, {sum(row[0] for row in rows)} steps in vain")
+    print(f"{len(rows)} goals, {sum(row[0] for row in rows)} steps of searches")
     if "--write" in words:
         most = number_after(words, "--most", 50000)
         print(f"{write(crate, [row for row in rows if row[1] <= most])} answers written")
