@@ -24,3 +24,6 @@ returns-in-Err c =
 
 pub returns-in_default : goal.returns-in_default
 returns-in_default c = grind (arith, common_steps)
+
+pub put-requires : goal.put-requires
+put-requires c = grind (arith, common_steps)

@@ -16,3 +16,9 @@ mend-requires-clause-few c = grind (arith, common_steps)
 
 pub invariant_of-self : goal.invariant_of-self
 invariant_of-self c = grind (arith, common_steps)
+
+pub mend-requires-clause-tree : goal.mend-requires-clause-tree
+mend-requires-clause-tree c = grind (arith, common_steps)
+
+pub index-requires : goal.index-requires
+index-requires c = grind (arith, common_steps)
