@@ -1,6 +1,7 @@
 -- The instructions of the parts are some of those of the whole.
-use Rattle.std.proofs.Common.{◌≡◌, ◌∙◌, ap, sym, ℕ, zero, suc, ◌+◌, ◌<◌, ◌≤◌, List, [], ◌∷◌, Option, length, get_or, drop, drop-cons, map, arith}
+use Rattle.std.proofs.Common.{◌≡◌, ◌∙◌, ap, sym, ℕ, zero, suc, ◌+◌, ◌<◌, ◌≤◌, List, [], ◌∷◌, Option, length, get_or, drop, drop-cons, map, max, arith}
 use Rattle.std.specs.Prelude.{Vec, slice_get}
+use Rattle.std.proofs.lemmas.List.{at_drop_more}
 use Rattle.std.specs.declared.alloc.Global.{Global}
 use Rattle.st_tree.specs.declared.tree.Argument.{Argument}
 use Rattle.st_tree.specs.declared.tree.Label.{Label}
@@ -8,11 +9,11 @@ use Rattle.st_tree.specs.declared.tree.Branch.{Branch}
 use Rattle.st_tree.specs.declared.tree.Choice.{Choice}
 use Rattle.st_tree.specs.declared.tree.Expr.{Expr}
 use Rattle.st_tree.specs.declared.tree.Stmt.{Stmt, Call, If, Case, For}
-use Rattle.st_tree.specs.Plain.{PlainExpr, literal, read, output_of, unary, binary, Branches, no_branch, branch, Choices, no_choice, choice}
+use Rattle.st_tree.specs.Plain.{PlainExpr, literal, read, output_of, unary, binary, PlainBody, Branches, no_branch, branch, Choices, no_choice, choice}
 use Rattle.st_tree.specs.View.{view_expr, view_option, view_argument, view_stmt, view_body, view_branch, view_branches, view_choice, view_choices}
-use Rattle.st_tree.proofs.Views.{view_stmt-Call, view_stmt-If, view_stmt-Case, view_stmt-For}
+use Rattle.st_tree.proofs.Views.{view_branch_is, view_choice_is, view_stmt-Call, view_stmt-If, view_stmt-Case, view_stmt-For}
 use Rattle.block_walk.specs.declared.frame.Seat.{Seat}
-use Rattle.code_sizes.specs.Sizes.{binary_lines, expr_lines, inputs_lines, outputs_lines, entered, choice_lines, for_lines, frame_turns, stmt_lines, body_lines, branches_lines, choices_lines}
+use Rattle.code_sizes.specs.Sizes.{binary_lines, expr_lines, expr_words, stmt_words, body_words, branches_words, choices_words, inputs_lines, outputs_lines, entered, choice_lines, for_lines, frame_turns, stmt_lines, body_lines, branches_lines, choices_lines}
 
 -- the operands of an operator
 pub left_few : (b : PlainExpr ℕ) (m n : ℕ) → m ≤ binary_lines b m n
@@ -69,6 +70,37 @@ module _ (seats : List Seat) (inner : ℕ → ℕ) where
       ap (λ (l : List (Choice ℕ)). choices_lines seats inner (view_choices l) n) (drop-cons choices i c within)
       ∙ ap (λ (y : Choice ℕ). choice_lines (view_choice y).0 (body_lines seats inner (view_choice y).1) (choices_lines seats inner (view_choices (drop (suc i) choices)) n)) (sym is)
       ∙ ap (λ m. choice_lines (view_choice c).0 (body_lines seats inner (view_choice c).1) (choices_lines seats inner (view_choices (drop m choices)) n)) (let e : suc i ≡ i + 1 = omega arith in e)
+
+  -- a branch and a choice by their own test, labels and body
+  pub branch_whole : (branches : List (Branch ℕ)) (i n : ℕ) (b : Branch ℕ) → i < length branches → b ≡ get_or branches i b
+      → branches_lines seats inner (view_branches (drop i branches)) n ≡ expr_lines (view_expr b.test) + 1 + (body_lines seats inner (view_body b.body.items) + 1 + branches_lines seats inner (view_branches (drop (i + 1) branches)) n)
+  branch_whole branches i n b within is =
+      branch_at branches i n b within is ∙ ap (λ (p : PlainExpr ℕ × PlainBody ℕ). expr_lines p.0 + 1 + (body_lines seats inner p.1 + 1 + branches_lines seats inner (view_branches (drop (i + 1) branches)) n)) (view_branch_is b)
+
+  pub choice_whole : (choices : List (Choice ℕ)) (i n : ℕ) (c : Choice ℕ) → i < length choices → c ≡ get_or choices i c → 0 < length c.labels.items
+      → choices_lines seats inner (view_choices (drop i choices)) n ≡ length c.labels.items + 1 + (body_lines seats inner (view_body c.body.items) + 1 + choices_lines seats inner (view_choices (drop (i + 1) choices)) n)
+  choice_whole choices i n c within is some =
+      choice_at choices i n c within is
+      ∙ ap (λ (p : List Label × PlainBody ℕ). choice_lines p.0 (body_lines seats inner p.1) (choices_lines seats inner (view_choices (drop (i + 1) choices)) n)) (view_choice_is c)
+      ∙ labelled c.labels.items (body_lines seats inner (view_body c.body.items)) (choices_lines seats inner (view_choices (drop (i + 1) choices)) n) some
+
+  -- the words of stack of a body from a statement on, and of branches and choices from one on
+  pub words_at_stmt : (body : List (Stmt ℕ)) (i : ℕ) (x : Stmt ℕ) → i < length body → x ≡ get_or body i x
+      → body_words seats inner (view_body (drop i body)) ≡ max (stmt_words seats inner (view_stmt x)) (body_words seats inner (view_body (drop (i + 1) body)))
+  words_at_stmt body i x within is =
+      at_drop_more (λ l. body_words seats inner (view_body l)) body i x within ∙ ap (λ y. max (stmt_words seats inner (view_stmt y)) (body_words seats inner (view_body (drop (i + 1) body)))) (sym is)
+
+  pub words_at_branch : (branches : List (Branch ℕ)) (i : ℕ) (b : Branch ℕ) → i < length branches → b ≡ get_or branches i b
+      → branches_words seats inner (view_branches (drop i branches)) ≡ max (expr_words (view_expr b.test)) (max (body_words seats inner (view_body b.body.items)) (branches_words seats inner (view_branches (drop (i + 1) branches))))
+  words_at_branch branches i b within is =
+      at_drop_more (λ l. branches_words seats inner (view_branches l)) branches i b within
+      ∙ ap (λ (p : PlainExpr ℕ × PlainBody ℕ). max (expr_words p.0) (max (body_words seats inner p.1) (branches_words seats inner (view_branches (drop (i + 1) branches))))) (ap view_branch (sym is) ∙ view_branch_is b)
+
+  pub words_at_choice : (choices : List (Choice ℕ)) (i : ℕ) (c : Choice ℕ) → i < length choices → c ≡ get_or choices i c
+      → choices_words seats inner (view_choices (drop i choices)) ≡ max (body_words seats inner (view_body c.body.items)) (choices_words seats inner (view_choices (drop (i + 1) choices)))
+  words_at_choice choices i c within is =
+      at_drop_more (λ l. choices_words seats inner (view_choices l)) choices i c within
+      ∙ ap (λ (p : List Label × PlainBody ℕ). max (body_words seats inner p.1) (choices_words seats inner (view_choices (drop (i + 1) choices)))) (ap view_choice (sym is) ∙ view_choice_is c)
 
   -- what follows branches, and choices
   pub behind_branches : (branches : Branches ℕ) (n : ℕ) → n ≤ branches_lines seats inner branches n

@@ -2,3 +2,4 @@ pub mod Few
 mod Tables
 mod Stopping
 mod Alike
+mod Lookups

@@ -1,4 +1,5 @@
 use Rattle.std.proofs.Common.{◌≡◌, sym, subst, arith, ◌<◌, length, rules, ◌++◌, ◌∷◌, []}
+use Rattle.std.proofs.lemmas.Grind.{common_steps}
 use Rattle.block_walk.proofs.Ranks.{frame_at}
 use Rattle.code_sizes.specs.Counts.{lines_at, IsCountOf}
 use Rattle.code_sizes.specs.Sizes.{routine_lines}
@@ -22,3 +23,6 @@ loop-frame-preserved c =
     let counted : IsCountOf c.loop-frame.table.items c.frame-item.result c.count_frame-count.result = subst (λ t. IsCountOf t c.frame-item.result c.count_frame-count.result) c.deref.ensures.value c.count_frame-count.ensures in
     let pushed : c.push.new.self.items ≡ c.loop-frame.table.items ++ c.count_frame-count.result ∷ [] = search rules in
     first_pushed c.args.frames.now c.loop-frame.table.items c.push.new.self.items c.frame-item.result c.count_frame-count.result c.loop-frame.frame-index there c.loop-frame.invariant counted pushed
+
+pub returns : goal.returns
+returns c = grind (arith, common_steps)
