@@ -2,11 +2,5 @@ use Rattle.std.proofs.Common.{arith}
 use Rattle.std.proofs.lemmas.Grind.{common_steps}
 use Rattle.st_expressions.proofs.expr.next_operator.Goals as goal
 
-pub returns-then-level_wanted-level : goal.returns-then-level_wanted-level
-returns-then-level_wanted-level c = grind (arith, common_steps)
-
-pub returns-else-level_wanted-level : goal.returns-else-level_wanted-level
-returns-else-level_wanted-level c = grind (arith, common_steps)
-
 pub returns-in_default-2 : goal.returns-in_default-2
 returns-in_default-2 c = grind (arith, common_steps)
