@@ -11,7 +11,7 @@ use Rattle.plant_system.specs.declared.event.TheConstants.{MOST_EVENTS}
 use Rattle.event_history.specs.declared.event.Event.{Event}
 use Rattle.event_history.specs.declared.event.Event.TheVariants as event
 use Rattle.event_history.specs.declared.event.Order.{Order}
-use Rattle.order_taking.specs.Turns.{IsOrderFault}
+use Rattle.archive.specs.Refusals.{IsOrderFault}
 
 -- a refusal that isn't counted from 0 is never counted
 never_counted : (e : EngineFault) → faults_with 0 e ≡ 0 → (n : ℕ) → faults_with n e ≡ n

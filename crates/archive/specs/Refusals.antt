@@ -2,7 +2,18 @@
 use Rattle.std.specs.Prelude.{◌⊎◌, Result, IsOk}
 use Rattle.event_history.specs.declared.event.Event.{Event}
 use Rattle.plant_system.specs.declared.event.EngineFault.{EngineFault}
+use Rattle.plant_system.specs.declared.event.EngineFault.TheVariants as refusal
 use Rattle.plant_system.specs.Image.{IsDue}
+
+-- why an order is no event: memory was refused, or the history is full
+abbrev pub IsOrderFault : EngineFault → Type 0
+IsOrderFault refusal.Memory = Unit {0}
+IsOrderFault refusal.MomentBack = ⊥
+IsOrderFault refusal.MomentRange = ⊥
+IsOrderFault refusal.ImageName = ⊥
+IsOrderFault refusal.ImageKind = ⊥
+IsOrderFault (refusal.Crew fault) = ⊥
+IsOrderFault refusal.HistoryFull = Unit {0}
 
 -- a refusal is due where the engine is asked for the event; or the engine takes it, and the refusal is due where the book is asked
 abbrev pub IsDueInBoth : EngineFault → Result Event EngineFault → Result Event EngineFault → Type 0

@@ -7,8 +7,8 @@ ghost use Rattle.plant_system.specs.Image.{IsDue};
 ghost use Rattle.plant_system.specs.System.{scan_event, order_event};
 ghost use Rattle.engine.specs.Engines.{state_of, Fits, FitsOrder};
 ghost use Rattle.engine.specs.Lawful.{IsLawfulHistory};
-ghost use Rattle.order_taking.specs.Turns.{IsOrderFault};
 ghost use Rattle.archive.specs.Pages.{IsPage};
+ghost use Rattle.archive.specs.Refusals.{IsOrderFault};
 
 use crate::page::page_of;
 use engine::{Alone, Engine, EngineFault, Order, Pair, Plant, Prepared, PreparedOrder};

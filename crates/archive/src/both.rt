@@ -6,8 +6,7 @@ ghost use Rattle.plant_system.specs.Faults.{faults_by};
 ghost use Rattle.plant_system.specs.States.{IsReport};
 ghost use Rattle.plant_system.specs.System.{scan_event, order_event, reply_to};
 ghost use Rattle.engine.specs.Engines.{state_of, Fits, FitsOrder};
-ghost use Rattle.order_taking.specs.Turns.{IsOrderFault};
-ghost use Rattle.archive.specs.Refusals.{IsDueInBoth};
+ghost use Rattle.archive.specs.Refusals.{IsDueInBoth, IsOrderFault};
 
 use crate::book::{Book, order_in};
 use engine::{

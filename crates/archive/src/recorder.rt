@@ -12,7 +12,7 @@ use crate::lock::Archive;
 use board_entries::{lay_order, lay_scan};
 use boards::BoardWriter;
 use engine::{Crew, Done, Engine, EngineFault, Job, Order, Pair, Reply, Report, Start};
-use order_taking::Recording;
+use order_taking::{NotTaken, Recording};
 use std::alloc::Global;
 use std::sync::ledger::{Ledger, Share};
 use std::sync::{Arc, Wait};
@@ -103,7 +103,7 @@ impl<L: Ledger, H: Wait> Recording<H> for Recorder<L> {
         alloc: Global,
         console: u32,
         order: Order,
-    ) -> Result<Reply, EngineFault> {
+    ) -> Result<Reply, NotTaken> {
         let Recorder {
             engine,
             share,
@@ -113,15 +113,15 @@ impl<L: Ledger, H: Wait> Recording<H> for Recorder<L> {
         let mut book = archive.lock(rt);
         let ready = match ready_order(alloc, engine, &mut *book, console, order) {
             Ok(ready) => ready,
-            Err(fault) => {
+            Err(_) => {
                 drop(book);
-                return Err(fault);
+                return Err(NotTaken);
             }
         };
         let Ok(()) = lay_order(board, engine, &ready.own) else {
             drop(ready);
             drop(book);
-            return Err(EngineFault::Memory);
+            return Err(NotTaken);
         };
         let reply = commit_order(engine, &mut *book, share, ready);
         drop(book);

@@ -5,21 +5,10 @@ use Rattle.console_link.specs.Seats.{orders_taken, orders_known, answers_given, 
 use Rattle.event_history.specs.declared.event.Event.{Event}
 use Rattle.event_history.specs.declared.event.Order.{Order}
 use Rattle.plant_config.specs.Plants.{PlainPlant}
-use Rattle.plant_system.specs.declared.event.EngineFault.{EngineFault}
-use Rattle.plant_system.specs.declared.event.EngineFault.TheVariants as refusal
 use Rattle.plant_system.specs.declared.event.Reply.{Reply}
 use Rattle.plant_system.specs.System.{system}
+use Rattle.order_taking.specs.declared.recording.NotTaken.{NotTaken}
 use Rattle.order_taking.specs.Parts.{answers_from, events_by}
-
--- why an order is no event: memory was refused, or the history is full
-abbrev pub IsOrderFault : EngineFault → Type 0
-IsOrderFault refusal.Memory = Unit {0}
-IsOrderFault refusal.MomentBack = ⊥
-IsOrderFault refusal.MomentRange = ⊥
-IsOrderFault refusal.ImageName = ⊥
-IsOrderFault refusal.ImageKind = ⊥
-IsOrderFault (refusal.Crew fault) = ⊥
-IsOrderFault refusal.HistoryFull = Unit {0}
 
 -- no order that is known to wait can be answered: none is known, or no place for an answer is known to be free
 abbrev pub HasNoneToTake : Lane Order Reply → Type 0
@@ -38,7 +27,7 @@ pub record Took (plant : PlainPlant) (a b : Lane Order Reply) (old new : List Ev
   pub events : new ≡ old ++ events_by a.number orders
 
 -- the order that waits first was taken, where there is one that can be answered; or there is none to take; or one that is refused, which stays
-abbrev pub TookOne : PlainPlant → Lane Order Reply → Lane Order Reply → List Event → List Event → Result Bool EngineFault → Type 0
+abbrev pub TookOne : PlainPlant → Lane Order Reply → Lane Order Reply → List Event → List Event → Result Bool NotTaken → Type 0
 TookOne plant a b old new result =
     MatchResult result
     (λ took. MatchBool took ((order : Order) × Took plant a b old new (order ∷ [])) (Took plant a b old new [] × HasNoneToTake b))

@@ -3,10 +3,10 @@
 ghost use Rattle.std.specs.Prelude.{◌≡◌, ◌≤◌, ◌*◌, length};
 ghost use Rattle.order_taking.specs.Turns.{TookOne, TookPart, TookParts};
 
-use crate::recording::Recording;
+use crate::recording::{NotTaken, Recording};
 use console_link::Lane;
 use event_history::Order;
-use plant_system::{EngineFault, Reply};
+use plant_system::Reply;
 use std::alloc::Global;
 
 /// How many orders of one console a turn takes at most.
@@ -28,7 +28,7 @@ fn take_order<T: Recording<H>, H>(
     alloc: Global,
     recorder: &mut T,
     lane: &mut Lane<Order, Reply>,
-) -> Result<bool, EngineFault>
+) -> Result<bool, NotTaken>
     ensures plant { T.plant_of recorder.new ≡ T.plant_of recorder.old }
     ensures share { T.parts_of recorder.new ≡ T.parts_of recorder.old }
     ensures log { T.log_of recorder.new ≡ T.log_of recorder.old }
@@ -64,7 +64,7 @@ fn take_part<T: Recording<H>, H>(
                     stopped: false,
                 };
             }
-            Err(_) => {
+            Err(NotTaken) => {
                 return Part {
                     taken,
                     stopped: true,

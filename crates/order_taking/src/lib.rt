@@ -9,4 +9,4 @@ mod answering;
 mod recording;
 
 pub use answering::{Part, take_parts};
-pub use recording::Recording;
+pub use recording::{NotTaken, Recording};

@@ -1,16 +1,20 @@
 //! Where orders become events.
 
-ghost use Rattle.std.specs.Prelude.{◌≡◌, ℕ, List, ◌++◌, [], ◌∷◌, IfOk, IfErr, OnOk, OnErr};
+ghost use Rattle.std.specs.Prelude.{◌≡◌, ℕ, List, ◌++◌, [], ◌∷◌, IfOk, OnOk, OnErr};
 ghost use Rattle.event_history.specs.declared.event.Event.{Event};
 ghost use Rattle.event_history.specs.declared.event.Event.TheVariants as event;
 ghost use Rattle.plant_config.specs.Plants.{PlainPlant};
 ghost use Rattle.plant_system.specs.System.{system, reply_to};
 ghost use Rattle.logbook.specs.Pages.{Book};
-ghost use Rattle.order_taking.specs.Turns.{IsOrderFault};
 
 use event_history::Order;
-use plant_system::{EngineFault, Reply};
+use plant_system::Reply;
 use std::alloc::Global;
+
+/// An order that is no event: memory was refused for it, or the history is full. Which of the two isn't told: the number of events says
+/// whether the history is full.
+#[derive(Clone, Copy, Drop)]
+pub struct NotTaken;
 
 /// What makes orders events of the history of a plant. `H` is the handle that it is lent.
 pub trait Recording<H> {
@@ -34,11 +38,10 @@ pub trait Recording<H> {
         alloc: Global,
         console: u32,
         order: Order,
-    ) -> Result<Reply, EngineFault>
+    ) -> Result<Reply, NotTaken>
         ensures plant { plant_of self.new ≡ plant_of self.old }
         ensures ok { OnOk result (history_of self.new ≡ history_of self.old ++ event.Order console order ∷ []) }
         ensures reply { IfOk result (λ r. r ≡ reply_to (system (plant_of self.old) (history_of self.old)) console order) }
-        ensures err { IfErr result (λ e. IsOrderFault e) }
         ensures kept { OnErr result (history_of self.new ≡ history_of self.old) }
         ensures parts { parts_of self.new ≡ parts_of self.old }
         ensures log { log_of self.new ≡ log_of self.old };
