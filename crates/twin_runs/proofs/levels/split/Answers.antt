@@ -1,11 +1,10 @@
-use Rattle.std.proofs.Common.{map}
 use Rattle.std.specs.Arc.{arc_value}
 use Rattle.twin_runs.proofs.Stores.{can_by}
 use Rattle.twin_runs.proofs.levels.split.Goals as goal
 
 pub split-requires-clause-programs : goal.split-requires-clause-programs
 split-requires-clause-programs c =
-    can_by c.args.levelled.now c.args.level c.args.store.now (map arc_value c.parts-parts.result.now) c.levels.result.now c.parts-parts.ensures c.levels.ensures c.requires.can
+    can_by c.args.levelled.now c.args.level c.args.store.now (arc_value c.parts-parts.result.now) c.levels.result.now c.parts-parts.ensures c.levels.ensures c.requires.can
 
 pub returns-clause-cells : goal.returns-clause-cells
 returns-clause-cells c = c.split.ensures.same.cells
