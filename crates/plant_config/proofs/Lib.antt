@@ -8,3 +8,4 @@ pub mod Refused
 pub mod Sizes
 pub mod SourceNames
 pub mod Stops
+pub mod WhoOrders

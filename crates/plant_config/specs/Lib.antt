@@ -5,6 +5,7 @@ pub mod Files
 pub mod Limits
 pub mod Logics
 pub mod Names
+pub mod Orderers
 pub mod Plants
 pub mod Refusals
 pub mod Stages

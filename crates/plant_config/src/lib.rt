@@ -7,6 +7,7 @@ mod fault;
 mod files;
 mod laws;
 mod limits;
+mod orderers;
 mod plant;
 mod rows;
 mod running;

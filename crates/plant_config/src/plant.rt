@@ -1,6 +1,7 @@
 //! The plant, its parts and their names.
 
 ghost use Rattle.std.specs.Prelude.{◌≡◌, ◌<◌, ◌++◌, Some, get_or, length, map, option_map, position, string_bytes, IfSome, IfOk, IfErr, MatchResult};
+ghost use Rattle.std.specs.List.{list_any};
 ghost use Rattle.plant_types.specs.Words.{same_word};
 ghost use Rattle.st_parser.specs.Units.{view_unit};
 ghost use Rattle.plant_file.specs.Read.{plant_file_in};
@@ -13,7 +14,8 @@ ghost use Rattle.plant_file.specs.PlantFiles.{IsPlantFile};
 ghost use Rattle.plant_config.specs.Alarms.{alarms_of};
 ghost use Rattle.plant_config.specs.Logics.{IsLogic};
 ghost use Rattle.plant_config.specs.Plants.{PlainPlant, IsPlant, plant_with, tags_of};
-ghost use Rattle.plant_config.specs.Stages.{Accepted, AreParts, HasAlarms, HasEpoch, HasUnits, IsSized, IsWellFormed};
+ghost use Rattle.plant_config.specs.Orderers.{has_area, SayWho};
+ghost use Rattle.plant_config.specs.Stages.{Accepted, AreParts, HasAlarms, HasEpoch, HasUnits, IsLimited, IsSized, IsWellFormed};
 ghost use Rattle.plant_config.specs.Refusals.{IsFileFault, IsRefused};
 ghost use Rattle.plant_config.specs.declared.fault.ConfigFault.TheVariants as fault;
 ghost use Rattle.plant_config.specs.Names.{alarm_number, globals_of, global_number, program_number, programs_of, program_at, body_paths, body_path, tag_of, area_of, global_of, priority_of};
@@ -21,14 +23,14 @@ ghost use Rattle.plant_config.specs.Names.{alarm_number, globals_of, global_numb
 use crate::epoch::epoch_of;
 use crate::fault::ConfigFault;
 use crate::files::{Files, Handed, file_of, files_of, listed};
-use crate::limits::check_limits;
+use crate::orderers::{is_orderer, limited_orderers, orderers_in};
 use crate::rows::{AlarmRow, copy_rows};
 use crate::running::{database_of, known_alarms, logic_of};
 use crate::spelling::{mistyped, units_of};
 use alarm_db::Tags;
 use plant_file::{Console, PlantFile};
 use plant_logic::{Routine, Variable};
-use plant_types::same_word;
+use plant_types::{Items, same_word};
 use plant_walk::Framed;
 use st_parser::Unit;
 use st_typing::{Typed, check};
@@ -45,6 +47,8 @@ pub struct Plant {
     logic: Framed,
     alarms: Vec<AlarmRow>,
     tags: Tags,
+    /// Of each area the numbers of the consoles that may order its alarms.
+    orderers: Vec<Items<u32>>,
 }
 
 impl Drop for Plant {
@@ -55,6 +59,7 @@ impl Drop for Plant {
             logic: _,
             alarms: _,
             tags: _,
+            orderers: _,
         } = self;
     }
 }
@@ -63,6 +68,7 @@ impl Model for Plant {
     ghost use Rattle.std.specs.Prelude.{◌≡◌};
     ghost use Rattle.plant_config.specs.Plants.{PlainPlant, IsPlant, tags_of};
     ghost use Rattle.plant_config.specs.Code.{plant_code};
+    ghost use Rattle.plant_config.specs.Orderers.{SayWho};
 
     ghost Value = { PlainPlant };
 
@@ -70,7 +76,7 @@ impl Model for Plant {
 
     ghost view = { λ p. record { source = p.logic; areas = p.file.areas; consoles = p.file.consoles; alarms = p.alarms.items; epoch = p.epoch } };
 
-    ghost invariant = { λ p. IsPlant (record { source = p.logic; areas = p.file.areas; consoles = p.file.consoles; alarms = p.alarms.items; epoch = p.epoch }) × (p.tags ≡ tags_of p.alarms.items) };
+    ghost invariant = { λ p. IsPlant (record { source = p.logic; areas = p.file.areas; consoles = p.file.consoles; alarms = p.alarms.items; epoch = p.epoch }) × (p.tags ≡ tags_of p.alarms.items) × SayWho p.file.consoles p.orderers.items };
 }
 
 /// A plant of its parts.
@@ -80,9 +86,11 @@ fn assembled(
     logic: Framed,
     alarms: Vec<AlarmRow>,
     tags: Tags,
+    orderers: Vec<Items<u32>>,
 ) -> Plant
     requires plant { IsPlant (plant_with logic file alarms.items epoch) }
     requires tags { tags ≡ tags_of alarms.items }
+    requires orderers { SayWho file.consoles orderers.items }
     ensures { result ≡ plant_with logic file alarms.items epoch }
 {
     Plant {
@@ -91,6 +99,7 @@ fn assembled(
         logic,
         alarms,
         tags,
+        orderers,
     }
 }
 
@@ -175,7 +184,7 @@ fn with_units(
     }
 }
 
-/// The parts of the plant of texts whose plant file and epoch are right, or why there are none.
+/// The parts of the plant of texts whose plant file, epoch and limits of texts are right, or why there are none.
 fn parts_in<H: Threads + Sync>(
     rt: &H,
     alloc: Global,
@@ -183,12 +192,9 @@ fn parts_in<H: Threads + Sync>(
     file: &PlantFile,
     epoch: Epoch,
 ) -> Result<(Framed, Vec<AlarmRow>, Tags), ConfigFault>
-    requires { HasEpoch handed.now file.now epoch }
+    requires { IsLimited handed.now file.now epoch }
     ensures { MatchResult result (λ parts. AreParts handed.now file.now epoch parts.0 parts.1.items parts.2) (IsRefused handed.now) }
 {
-    if let Err(fault) = check_limits(handed, file, epoch) {
-        return Err(fault);
-    }
     match units_of(rt, alloc, handed, file, epoch) {
         Ok(units) => with_units(alloc, handed, file, epoch, units.as_slice()),
         Err(fault) => Err(fault),
@@ -206,8 +212,12 @@ fn plant_in<H: Threads + Sync>(
     requires { HasEpoch handed.now file epoch }
     ensures { MatchResult result (Accepted handed.now) (IsRefused handed.now) }
 {
+    let orderers = match limited_orderers(alloc, handed, &file, epoch) {
+        Ok(lists) => lists,
+        Err(fault) => return Err(fault),
+    };
     match parts_in(rt, alloc, handed, &file, epoch) {
-        Ok((logic, alarms, tags)) => Ok(assembled(file, epoch, logic, alarms, tags)),
+        Ok((logic, alarms, tags)) => Ok(assembled(file, epoch, logic, alarms, tags, orderers)),
         Err(fault) => Err(fault),
     }
 }
@@ -230,16 +240,18 @@ fn accepted<H: Threads + Sync>(
     }
 }
 
-/// A plant file and the index of tags again. Fails if allocation fails.
+/// A plant file, the index of tags and the lists of who may order again. Fails if allocation fails.
 fn copied_names(
     alloc: Global,
     file: &PlantFile,
     tags: &Tags,
-) -> Result<(PlantFile, Tags), AllocError>
-    ensures { IfOk result (λ copy. (copy.0 ≡ file.now) × (copy.1 ≡ tags.now)) }
+) -> Result<(PlantFile, Tags, Vec<Items<u32>>), AllocError>
+    ensures names { IfOk result (λ copy. (copy.0 ≡ file.now) × (copy.1 ≡ tags.now)) }
+    ensures orderers { IfOk result (λ copy. SayWho file.now.consoles copy.2.items) }
 {
+    let orderers = orderers_in(alloc, file)?;
     let tags = tags.copy()?;
-    Ok((file.copy(alloc)?, tags))
+    Ok((file.copy(alloc)?, tags, orderers))
 }
 
 /// Logic and alarms again. Fails if allocation fails.
@@ -303,7 +315,7 @@ impl Plant {
     pub fn copy(&self, alloc: Global) -> Result<Plant, AllocError>
         ensures { IfOk result (λ copy. copy ≡ self.now) }
     {
-        let (file, tags) = copied_names(alloc, &self.file, &self.tags)?;
+        let (file, tags, orderers) = copied_names(alloc, &self.file, &self.tags)?;
         let (logic, alarms) = copied_logic(alloc, &self.logic, &self.alarms)?;
         Ok(Plant {
             file,
@@ -311,6 +323,7 @@ impl Plant {
             logic,
             alarms,
             tags,
+            orderers,
         })
     }
 
@@ -343,6 +356,13 @@ impl Plant {
         ensures plant { IsPlant self.now }
     {
         self.file.consoles()
+    }
+
+    /// Whether a console may order the alarms of an area: one of this number has it among its areas. It goes through no console's areas.
+    pub fn may_order(&self, console: u32, area: u32) -> bool
+        ensures { result ≡ list_any (has_area console area) self.now.consoles }
+    {
+        is_orderer(self.orderers.as_slice(), console, area)
     }
 
     /// The alarms, in the order of the database.
