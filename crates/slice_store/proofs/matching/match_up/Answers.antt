@@ -1,4 +1,5 @@
 use Rattle.std.proofs.Common.{refl, arith}
+use Rattle.std.proofs.lemmas.Grind.{common_steps}
 use Rattle.slice_store.specs.Level.{IsTicked}
 use Rattle.slice_store.proofs.Ticks.{no_stranger, no_double, lacks}
 use Rattle.slice_store.proofs.matching.match_up.Goals as goal
@@ -11,3 +12,18 @@ returns-then-not-all_ticked c =
       no_double c.args.runs.now t.once,
       lacks c.args.out.now c.args.runs.now c.tick_off.new.ticks off.0 t (omega (arith, off.1, c.if-not-tick_off.ensures.size)) off.2,
     )
+
+pub returns-then-not-tick_off : goal.returns-then-not-tick_off
+returns-then-not-tick_off c = grind (arith, common_steps)
+
+pub returns : goal.returns
+returns c = grind (arith, common_steps)
+
+pub returns-then-not-all_known : goal.returns-then-not-all_known
+returns-then-not-all_known c = grind (arith, common_steps)
+
+pub tick_off-requires-clause-known : goal.tick_off-requires-clause-known
+tick_off-requires-clause-known c = grind (arith, common_steps)
+
+pub tick_off-requires-clause-distinct : goal.tick_off-requires-clause-distinct
+tick_off-requires-clause-distinct c = grind (arith, common_steps)

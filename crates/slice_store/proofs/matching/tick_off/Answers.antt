@@ -4,3 +4,12 @@ use Rattle.slice_store.proofs.matching.tick_off.Goals as goal
 
 pub returns-clause-ticked : goal.returns-clause-ticked
 returns-clause-ticked c = grind (arith, common_steps)
+
+pub returns-then-ticks-place-clause-ticked : goal.returns-then-ticks-place-clause-ticked
+returns-then-ticks-place-clause-ticked c = grind (arith, common_steps)
+
+pub loop-done-init : goal.loop-done-init
+loop-done-init c = grind (arith, common_steps)
+
+pub returns-clause-double : goal.returns-clause-double
+returns-clause-double c = grind (arith, common_steps)

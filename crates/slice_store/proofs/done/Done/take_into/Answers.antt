@@ -1,7 +1,8 @@
-use Rattle.std.proofs.Common.{◌≡◌, ◌-◌, set, length, ap, sym, ◌∙◌, subst}
+use Rattle.std.proofs.Common.{◌≡◌, ◌-◌, set, length, ap, sym, ◌∙◌, subst, arith}
 use Rattle.plant_cells.specs.Cells.{PlainCells}
 use Rattle.code_slices.specs.Parts.{PlainPart, IsPart, HasPart}
 use Rattle.std.specs.Arc.{arc_value}
+use Rattle.std.proofs.lemmas.Grind.{common_steps}
 use Rattle.slice_store.specs.declared.done.Run.{Run}
 use Rattle.slice_store.specs.Starts.{Begun, CanRun, Gives}
 use Rattle.slice_store.specs.Level.{PutsPart, trapped}
@@ -35,3 +36,9 @@ returns c =
     let flags : set c.args.faulted.now (c.number.result - 1) c.is_err.result ≡ set c.args.faulted.now (c.args.self.now.number - 1) (trapped c.deref.result.now.result) = λ i. set c.args.faulted.now (n i - 1) (t i) in
     takes_one c.args.self.now c.deref.result.now.result c.deref.result.now.cells c.args.values.now c.put_part.new.values c.args.clocks.now c.put_part.new.clocks c.args.faulted.now
     (set c.args.faulted.now (c.number.result - 1) c.is_err.result) gives puts c.requires.numbered.0 c.requires.numbered.1 flags
+
+pub bounds-faulted-program : goal.bounds-faulted-program
+bounds-faulted-program c = grind (arith, common_steps)
+
+pub overflow_sub-program : goal.overflow_sub-program
+overflow_sub-program c = grind (arith, common_steps)

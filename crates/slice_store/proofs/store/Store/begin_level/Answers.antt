@@ -54,3 +54,12 @@ is_chosen-requires-clause-levelled c = grind (arith, common_steps)
 
 pub is_chosen-requires-clause-few : goal.is_chosen-requires-clause-few
 is_chosen-requires-clause-few c = grind (arith, common_steps)
+
+pub overflow_add-p : goal.overflow_add-p
+overflow_add-p c = grind (arith, common_steps)
+
+pub overflow_cast-p : goal.overflow_cast-p
+overflow_cast-p c = grind (arith, common_steps)
+
+pub begin_program-requires-clause-there : goal.begin_program-requires-clause-there
+begin_program-requires-clause-there c = grind (arith, common_steps)

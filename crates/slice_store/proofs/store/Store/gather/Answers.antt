@@ -1,5 +1,6 @@
-use Rattle.std.proofs.Common.{◌≡◌, Result, Ok, Err, MatchResult, IfErr, sym, true}
+use Rattle.std.proofs.Common.{◌≡◌, Result, Ok, Err, MatchResult, IfErr, sym, true, arith}
 use Rattle.std.specs.Result.{is_ok}
+use Rattle.std.proofs.lemmas.Grind.{common_steps}
 use Rattle.crew.specs.Runs.{IsEachOnce}
 use Rattle.slice_store.proofs.Taking.{jobs_of_runs, ready_empty}
 use Rattle.slice_store.proofs.store.Store.gather.Goals as goal
@@ -24,3 +25,9 @@ invariant_of-self c = rw (c.keep_lists.ensures.out, c.keep_lists.ensures.ticks) 
 pub returns-clause-misfit : goal.returns-clause-misfit
 returns-clause-misfit c =
     rw (← c.self.view_is) (at_err _ _ c.match_up-fits.result (rw (c.deref.ensures.value, c.deref-2.ensures.value) at c.match_up-fits.ensures))
+
+pub returns-clause-fits : goal.returns-clause-fits
+returns-clause-fits c = grind (arith, common_steps)
+
+pub match_up-fits-requires-clause-distinct : goal.match_up-fits-requires-clause-distinct
+match_up-fits-requires-clause-distinct c = grind (arith, common_steps)

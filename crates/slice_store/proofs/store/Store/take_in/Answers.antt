@@ -1,4 +1,5 @@
-use Rattle.std.proofs.Common.{sym, subst}
+use Rattle.std.proofs.Common.{sym, subst, arith}
+use Rattle.std.proofs.lemmas.Grind.{common_steps}
 use Rattle.crew.specs.Runs.{IsEachOnce}
 use Rattle.slice_store.specs.Level.{Stored}
 use Rattle.slice_store.proofs.Taking.{jobs_of_runs, ready_empty}
@@ -11,3 +12,9 @@ take_all-requires c =
 
 pub invariant_of-self : goal.invariant_of-self
 invariant_of-self c = rw (c.keep_lists.ensures.out, c.keep_lists.ensures.ticks) (ready_empty _ _ _)
+
+pub returns-clause-taken : goal.returns-clause-taken
+returns-clause-taken c = grind (arith, common_steps)
+
+pub returns-clause-moment : goal.returns-clause-moment
+returns-clause-moment c = grind (arith, common_steps)
