@@ -1,4 +1,5 @@
 use Rattle.std.proofs.Common.{◌≡◌, ◌+◌, ℕ, ap, subst, length, arith}
+use Rattle.std.proofs.lemmas.Grind.{common_steps}
 use Rattle.journal_core.specs.Rows.{PlainLog}
 use Rattle.event_history.specs.declared.event.Event.TheVariants as event
 use Rattle.plant_system.specs.System.{system}
@@ -36,3 +37,6 @@ returns-clause-row_room c =
     let added : PlainPreparedOrder → ℕ = λ p. length (added_entries (system own.plant own.history) (event.Order p.console p.order)) in
     subst (λ (e : PlainEngine). c.push_order.new.log.room + length (added_entries (state_of e) (event.Order c.args.prepared.console c.args.prepared.order)) ≡ e.row_room) c.self.view_is
     (subst (λ (p : PlainPreparedOrder). c.push_order.new.log.room + added p ≡ own.log.room) c.prepared.view_is (omega (arith, left, now)))
+
+pub returns-clause-plant : goal.returns-clause-plant
+returns-clause-plant c = grind (arith, common_steps)

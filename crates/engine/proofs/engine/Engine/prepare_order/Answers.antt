@@ -1,4 +1,5 @@
 use Rattle.std.proofs.Common.{◌≡◌, length, rules, arith}
+use Rattle.std.proofs.lemmas.Grind.{common_steps}
 use Rattle.engine.proofs.Ready.{ready}
 use Rattle.plant_system.proofs.Systems.{order_event_ready, order_event_full}
 use Rattle.engine.proofs.Fitting.{order_fits}
@@ -21,3 +22,15 @@ returns-clause-ok c =
       made.console_is,
       made.order_is,
     )
+
+pub invariant_of-self-2 : goal.invariant_of-self-2
+invariant_of-self-2 c = grind (arith, common_steps)
+
+pub invariant_of-self : goal.invariant_of-self
+invariant_of-self c = grind (arith, common_steps)
+
+pub returns-clause-plant : goal.returns-clause-plant
+returns-clause-plant c = grind (arith, common_steps)
+
+pub returns-clause-row_room : goal.returns-clause-row_room
+returns-clause-row_room c = grind (arith, common_steps)

@@ -1,4 +1,5 @@
 use Rattle.std.proofs.Common.{arith}
+use Rattle.std.proofs.lemmas.Grind.{common_steps}
 use Rattle.engine.proofs.Commits.{scan_state, scan_committed, scan_until, scan_in_order, scan_room}
 use Rattle.engine.proofs.Lawful.{lawful_next, lawful_short}
 use Rattle.engine.proofs.engine.Engine.put_scan.Goals as goal
@@ -36,3 +37,6 @@ returns-clause-row_room c =
     let fits = rw (← c.self.view_is) at c.requires in
     let report = c.args.ready.now.report in
     rw (← c.self.view_is, c.push_scan.ensures) (scan_room report.moment c.self.inside.log report fits.row_room)
+
+pub returns-clause-plant : goal.returns-clause-plant
+returns-clause-plant c = grind (arith, common_steps)
