@@ -1,4 +1,5 @@
 use Rattle.std.proofs.Common.{ap, ◌≡◌, ◌∙◌, ◌-◌, ◌++◌, ◌∷◌, [], length, arith}
+use Rattle.std.proofs.lemmas.Grind.{common_steps}
 use Rattle.journal_core.specs.Rows.{after_entry}
 use Rattle.journal_core.specs.Kept.{rows_in}
 use Rattle.journal_core.proofs.KeptLaws.{apart_seen, apart_kept, apart_row, log_of}
@@ -24,3 +25,9 @@ returns c =
     ∙ ap (λ words. log_of (rows_in (c.self.inside.apart.items ++ apart_row c.args.moment c.args.entry ∷ []) words) left) c.push_reserved-2.ensures.items
     ∙ ap (λ rows. log_of rows left) (apart_seen c.self.inside.apart.items c.self.inside.rows.items c.args.moment c.len-place.result c.apart_word.result c.args.entry c.apart_word.ensures place c.self.invariant.places)
     ∙ ap (λ l. after_entry c.args.moment l c.args.entry) c.self.view_is
+
+pub push_reserved-requires-2 : goal.push_reserved-requires-2
+push_reserved-requires-2 c = grind (arith, common_steps)
+
+pub overflow_sub-self : goal.overflow_sub-self
+overflow_sub-self c = grind (arith, common_steps)
