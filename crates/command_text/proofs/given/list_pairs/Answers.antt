@@ -1,4 +1,5 @@
-use Rattle.std.proofs.Common.{◌≡◌, false, sym, ap, ◌∙◌}
+use Rattle.std.proofs.Common.{◌≡◌, false, sym, ap, ◌∙◌, arith}
+use Rattle.std.proofs.lemmas.Grind.{common_steps}
 use Rattle.command_text.specs.Given.{pairs_of}
 use Rattle.command_text.specs.Words.{at_gap, words_of}
 use Rattle.command_text.proofs.PairLaws.{after_pairs, pair-next, pair-bad}
@@ -24,3 +25,6 @@ returns-in-None c =
     let rest = c.loop-rest.rest.now in
     let at_word : at_gap rest ≡ false = c.loop-rest.invariant.at_word (some_bytes rest (sym c.is_empty.ensures ∙ c.loop-rest-test.true)) in
     c.loop-rest.invariant.same ∙ pair-bad rest c.loop-rest.pool at_word c.in-None.ensures.pair
+
+pub returns : goal.returns
+returns c = grind (arith, common_steps)

@@ -1,4 +1,5 @@
-use Rattle.std.proofs.Common.{sym, ◌∙◌}
+use Rattle.std.proofs.Common.{sym, ◌∙◌, arith}
+use Rattle.std.proofs.lemmas.Grind.{common_steps}
 use Rattle.command_text.proofs.CutLaws.{is_cut, pair-none, no_pair, no_value, a_pair, after_pair}
 use Rattle.command_text.proofs.given.pair.Goals as goal
 
@@ -22,3 +23,15 @@ returns-clause-pair c =
 
 pub returns-clause-after : goal.returns-clause-after
 returns-clause-after c = sym (after_pair c.args.line.now c.in_ok-name.name.now c.in_ok-name.rest.now c.split_word.result.0.now c.split_word.result.1.now c.in_ok-name.ensures.cut c.split_word.ensures.split)
+
+pub returns-in_err-given-clause-name : goal.returns-in_err-given-clause-name
+returns-in_err-given-clause-name c = grind (arith, common_steps)
+
+pub returns-clause-shorter : goal.returns-clause-shorter
+returns-clause-shorter c = grind (arith, common_steps)
+
+pub returns-in_err-given-clause-shorter : goal.returns-in_err-given-clause-shorter
+returns-in_err-given-clause-shorter c = grind (arith, common_steps)
+
+pub returns-in_err-given-clause-after : goal.returns-in_err-given-clause-after
+returns-in_err-given-clause-after c = grind (arith, common_steps)

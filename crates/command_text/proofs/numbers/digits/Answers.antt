@@ -1,6 +1,7 @@
 use Rattle.std.proofs.Common.{◌≡◌, true, arith, get_or, sym, ◌∙◌}
 use Rattle.std.proofs.lemmas.List.Folds.{list_all_more}
 use Rattle.std.specs.Char.{is_ascii_digit}
+use Rattle.std.proofs.lemmas.Grind.{common_steps}
 use Rattle.command_text.proofs.NumberLaws.{next_small, small_fits, small_within, next_value, digit_small}
 use Rattle.command_text.proofs.numbers.digits.Goals as goal
 
@@ -26,3 +27,9 @@ loop-byte-preserved c =
 
 pub returns-clause-small : goal.returns-clause-small
 returns-clause-small c = small_within _ _ _ c.loop-byte.invariant.small (omega arith)
+
+pub returns-then-not-is_ascii_digit-clause-value : goal.returns-then-not-is_ascii_digit-clause-value
+returns-then-not-is_ascii_digit-clause-value c = grind (arith, common_steps)
+
+pub returns-clause-value : goal.returns-clause-value
+returns-clause-value c = grind (arith, common_steps)

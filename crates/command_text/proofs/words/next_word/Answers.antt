@@ -1,4 +1,5 @@
 use Rattle.std.proofs.Common.{◌<◌, false, ◌≡◌, arith, sym, ◌∙◌, length}
+use Rattle.std.proofs.lemmas.Grind.{common_steps}
 use Rattle.command_text.specs.Words.{at_gap}
 use Rattle.command_text.proofs.WordLaws.{words-first, some-first, some_bytes}
 use Rattle.command_text.proofs.words.next_word.Goals as goal
@@ -13,3 +14,6 @@ returns c =
       sym c.trim_start-line.ensures.words ∙ words-first line word rest at_word c.split_word.ensures.split,
       omega (arith, some, c.split_word.ensures.sizes, c.trim_start-line.ensures.shorter),
     )
+
+pub returns-then-is_empty : goal.returns-then-is_empty
+returns-then-is_empty c = grind (arith, common_steps)
