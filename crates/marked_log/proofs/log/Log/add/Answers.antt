@@ -1,4 +1,5 @@
-use Rattle.std.proofs.Common.{◌≡◌, length, sym, ◌∙◌, ap}
+use Rattle.std.proofs.Common.{◌≡◌, length, sym, ◌∙◌, ap, arith}
+use Rattle.std.proofs.lemmas.Grind.{common_steps}
 use Rattle.marked_log.proofs.Adding.{adds_moves}
 use Rattle.marked_log.proofs.log.Log.add.Goals as goal
 
@@ -16,3 +17,21 @@ compare_exchange-found-requires g c =
       offer.0,
       rw (ap (λ w. w.key) h, pen.1, offer.1, offer.3) (adds_moves c.seen.inside.seen.log c.args.entry.now.value s.count many),
     )
+
+pub invariant_of-self : goal.invariant_of-self
+invariant_of-self c = grind (arith, common_steps)
+
+pub returns-clause-entries : goal.returns-clause-entries
+returns-clause-entries c = grind (arith, common_steps)
+
+pub returns-clause-room : goal.returns-clause-room
+returns-clause-room c = grind (arith, common_steps)
+
+pub returns-then-found-count-clause-room : goal.returns-then-found-count-clause-room
+returns-then-found-count-clause-room c = grind (arith, common_steps)
+
+pub returns-clause-log : goal.returns-clause-log
+returns-clause-log c = grind (arith, common_steps)
+
+pub returns-then-count-clause-room : goal.returns-then-count-clause-room
+returns-then-count-clause-room c = grind (arith, common_steps)
