@@ -1,4 +1,5 @@
 use Rattle.std.proofs.Common.{map, refl, arith}
+use Rattle.std.proofs.lemmas.Grind.{common_steps}
 use Rattle.standing_crew.proofs.Ticks.{no_stranger, no_double, lacks_there}
 use Rattle.standing_crew.proofs.assembly.all_there.Goals as goal
 
@@ -12,3 +13,6 @@ returns-then-not-all_ticked g c =
       no_double runs t.once,
       lacks_there starts runs c.args.ticks.now off.0 t (omega (arith, off.1, t.sized)) off.2,
     )
+
+pub returns : goal.returns
+returns g c = grind (arith, common_steps)

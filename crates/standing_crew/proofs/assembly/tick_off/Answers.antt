@@ -1,4 +1,5 @@
 use Rattle.std.proofs.Common.{rules, ◌≡◌, ◌<◌, length, Contains, slice_index_or, true, false, inl, inr, arith}
+use Rattle.std.proofs.lemmas.Grind.{common_steps}
 use Rattle.standing_crew.proofs.Ticks.{stranger_next, double_next, tick_next}
 use Rattle.standing_crew.proofs.assembly.tick_off.Goals as goal
 
@@ -19,3 +20,12 @@ loop-at-preserved g c =
     let inside : c.loop-at.at < length c.args.got.now = omega (arith, c.loop-at-test.true) in
     let off : slice_index_or c.loop-at.ticks c.in-Some.place false ≡ false = search rules in
     tick_next g.J.Work.ended_from c.args.starts.now c.args.got.now c.loop-at.at c.index-got-at.result c.loop-at.ticks c.in-Some.place c.loop-at.invariant c.requires.distinct inside c.index-got-at.is c.in-Some.ensures.0 c.in-Some.ensures.1 off
+
+pub returns-clause-ticked : goal.returns-clause-ticked
+returns-clause-ticked g c = grind (arith, common_steps)
+
+pub returns-then-ticks-place-clause-ticked : goal.returns-then-ticks-place-clause-ticked
+returns-then-ticks-place-clause-ticked g c = grind (arith, common_steps)
+
+pub returns-in_default-clause-ticked : goal.returns-in_default-clause-ticked
+returns-in_default-clause-ticked g c = grind (arith, common_steps)

@@ -1,4 +1,5 @@
-use Rattle.std.proofs.Common.{◌≡◌, ◌++◌, IfOk, map, sym, subst}
+use Rattle.std.proofs.Common.{◌≡◌, ◌++◌, IfOk, map, sym, subst, arith}
+use Rattle.std.proofs.lemmas.Grind.{common_steps}
 use Rattle.crew.specs.Runs.{IsDistinct, IsEachOnce}
 use Rattle.crew.proofs.Same.{distinct}
 use Rattle.standing_crew.proofs.Ticks.{parted}
@@ -13,3 +14,24 @@ pub returns-clause-each : goal.returns-clause-each
 returns-clause-each g c =
     let all = parted g.J.Work.start_of c.args.jobs.items c.split_off.new.self.items c.in-Ok.others.items c.kept-many.result c.in-Ok.ensures.items c.in-Ok.ensures.tail in
     subst (λ xs. IfOk c.run_shared.result (λ runs. IsEachOnce xs (map g.J.Work.ended_from runs.items))) all c.run_shared.ensures.each
+
+pub returns-in_default-clause-faults : goal.returns-in_default-clause-faults
+returns-in_default-clause-faults g c = grind (arith, common_steps)
+
+pub returns-clause-faults : goal.returns-clause-faults
+returns-clause-faults g c = grind (arith, common_steps)
+
+pub returns-clause-lost : goal.returns-clause-lost
+returns-clause-lost g c = grind (arith, common_steps)
+
+pub returns-in_default-clause-lost : goal.returns-in_default-clause-lost
+returns-in_default-clause-lost g c = grind (arith, common_steps)
+
+pub run_alone-requires : goal.run_alone-requires
+run_alone-requires g c = grind (arith, common_steps)
+
+pub returns-then-self-lt2-clause-lost : goal.returns-then-self-lt2-clause-lost
+returns-then-self-lt2-clause-lost g c = grind (arith, common_steps)
+
+pub returns-in_default-clause-stands : goal.returns-in_default-clause-stands
+returns-in_default-clause-stands g c = grind (arith, common_steps)

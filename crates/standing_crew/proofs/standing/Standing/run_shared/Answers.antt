@@ -1,4 +1,5 @@
-use Rattle.std.proofs.Common.{rules, ◌≡◌, ◌++◌, ◌∙◌, map, true, ap, sym, subst}
+use Rattle.std.proofs.Common.{rules, ◌≡◌, ◌++◌, ◌∙◌, map, true, ap, sym, subst, arith}
+use Rattle.std.proofs.lemmas.Grind.{common_steps}
 use Rattle.crew.specs.Runs.{IsDistinct, IsEachOnce}
 use Rattle.standing_crew.proofs.Ticks.{if_ok, joined_once, second_distinct}
 use Rattle.standing_crew.proofs.standing.Standing.run_shared.Goals as goal
@@ -20,3 +21,9 @@ returns-clause-each g c =
     let got : c.gather.new.gathered.runs.items ≡ c.end_round-got.result.items = cc (c.end_round-got.ensures.runs) in
     let once : IsEachOnce others (map f c.end_round-got.result.items) = subst (λ xs. IsEachOnce others (map f xs)) got (subst (λ xs. IsEachOnce xs (map f c.gather.new.gathered.runs.items)) starts c.in_ok-answer.ensures) in
     if_ok _ _ c.joined.result (λ all are. joined_once f own others c.run_all-whole.new.runs.items c.end_round-got.result.items all.items mine are c.requires once) c.joined.ensures
+
+pub gather-requires-clause-ticked : goal.gather-requires-clause-ticked
+gather-requires-clause-ticked g c = grind (arith, common_steps)
+
+pub gathered_all-answer-requires : goal.gathered_all-answer-requires
+gathered_all-answer-requires g c = grind (arith, common_steps)

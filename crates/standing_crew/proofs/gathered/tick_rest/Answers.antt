@@ -1,0 +1,9 @@
+use Rattle.std.proofs.Common.{arith}
+use Rattle.std.proofs.lemmas.Grind.{common_steps}
+use Rattle.standing_crew.proofs.gathered.tick_rest.Goals as goal
+
+pub returns-else-not-tick_off : goal.returns-else-not-tick_off
+returns-else-not-tick_off g c = grind (arith, common_steps)
+
+pub tick_off-requires-clause-ticked : goal.tick_off-requires-clause-ticked
+tick_off-requires-clause-ticked g c = grind (arith, common_steps)
