@@ -9,7 +9,7 @@ use std::alloc::AllocError;
 
 /// The runs that came back, where there is one of each job that was handed out, in any order. `Misfit` where one is of no job that was handed
 /// out, or comes twice; else `Lost` where one is missing. It ticks them off in a list, whatever that holds.
-pub fn assemble<J: Work<S, D>, S, D: Drop>(
+pub fn assemble<J: Work<S, D>, S: Drop, D: Drop>(
     starts: &[Begun<S>],
     got: Vec<D>,
     ticks: &mut Vec<bool>,
@@ -42,7 +42,7 @@ pub(crate) fn begin_ticks<S>(starts: &[Begun<S>], ticks: &mut Vec<bool>) -> Resu
 /// Ticks off the runs from a place on, where those before it are ticked off, and tells whether all are known and none comes twice. The first
 /// is sought near the start of a place.
 #[tactic(auto, using(crate::proofs::Ticks::tick_next, crate::proofs::Ticks::stranger_next, crate::proofs::Ticks::double_next))]
-pub(crate) fn tick_off<J: Work<S, D>, S, D>(
+pub(crate) fn tick_off<J: Work<S, D>, S: Drop, D>(
     starts: &[Begun<S>],
     got: &[D],
     from: usize,
@@ -65,6 +65,7 @@ pub(crate) fn tick_off<J: Work<S, D>, S, D>(
             return false;
         }
         ticks[place] = true;
+        starts[place].fetch();
         next = place.saturating_add(1);
     }
     true

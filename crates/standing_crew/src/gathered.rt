@@ -20,7 +20,7 @@ pub(crate) struct Gathered<J, D> {
 
 /// Ticks off the runs from a place on, where those before it are ticked off. The first is sought near the start of a place.
 #[tactic(auto, using(crate::proofs::Ticks::still_gathered))]
-fn tick_rest<J: Work<S, D>, S, D>(
+fn tick_rest<J: Work<S, D>, S: Drop, D>(
     starts: &[Begun<S>],
     from: usize,
     near: usize,
@@ -39,7 +39,7 @@ fn tick_rest<J: Work<S, D>, S, D>(
 }
 
 /// Ticks off runs that came back of jobs that were handed out together, the first near the start of a place.
-fn add_runs<J: Work<S, D>, S, D: Drop>(
+fn add_runs<J: Work<S, D>, S: Drop, D: Drop>(
     starts: &[Begun<S>],
     lists: Lists<J, D>,
     near: usize,
@@ -60,7 +60,7 @@ fn add_runs<J: Work<S, D>, S, D: Drop>(
 }
 
 /// Runs jobs that were handed out together, the first near the start of a place, and ticks off their runs.
-fn run_more<J: Work<S, D>, S, D: Drop, G: Gate>(
+fn run_more<J: Work<S, D>, S: Drop, D: Drop, G: Gate>(
     gate: &G,
     starts: &[Begun<S>],
     lists: Lists<J, D>,
@@ -83,7 +83,7 @@ fn run_more<J: Work<S, D>, S, D: Drop, G: Gate>(
 
 /// Takes in runs that came back of jobs that were handed out together, the first near the start of a place. After a fault they are dropped.
 #[tactic(auto, using(crate::proofs::Ticks::was_ticked))]
-pub(crate) fn take_in<J: Work<S, D>, S, D: Drop>(
+pub(crate) fn take_in<J: Work<S, D>, S: Drop, D: Drop>(
     starts: &[Begun<S>],
     lists: Lists<J, D>,
     near: usize,
@@ -101,7 +101,7 @@ pub(crate) fn take_in<J: Work<S, D>, S, D: Drop>(
 
 /// Runs jobs that were handed out together, the first near the start of a place, and takes in their runs. After a fault they are given up.
 #[tactic(auto, using(crate::proofs::Ticks::was_ticked))]
-pub(crate) fn run_in<J: Work<S, D>, S, D: Drop, G: Gate>(
+pub(crate) fn run_in<J: Work<S, D>, S: Drop, D: Drop, G: Gate>(
     gate: &G,
     starts: &[Begun<S>],
     lists: Lists<J, D>,

@@ -42,6 +42,13 @@ impl<S> Begun<S> {
     }
 }
 
+impl<S: Drop> Begun<S> {
+    /// Fetches the count of its owners from the cache of the thread that has run it, so that whoever gives it up later needn't wait for that.
+    pub(crate) fn fetch(&self) {
+        let _ = Arc::try_clone(&self.start);
+    }
+}
+
 /// What jobs start from, in their order, in the room of another list. Fails if memory was refused.
 pub fn starts_of<J: Work<S, D>, S: Drop, D>(
     jobs: &[J],
