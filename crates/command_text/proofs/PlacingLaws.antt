@@ -3,7 +3,8 @@ use Rattle.std.proofs.Common.{◌≡◌, ℕ, ◌+◌, ◌-◌, ◌≤◌, List,
 use Rattle.std.specs.Prelude.{codes}
 use Rattle.alarm_machine.specs.Codes.{PlainChange, code_text}
 use Rattle.alarm_machine.specs.declared.states.Code.{Code}
-use Rattle.command_text.specs.Lines.{alarm_front, alarm_line}
+use Rattle.plant_types.specs.declared.values.Value.{Value}
+use Rattle.command_text.specs.Lines.{alarm_front, alarm_line, out_front, out_line, value_text}
 use Rattle.command_text.specs.Placing.{IsPlaced}
 
 -- a second write begins where the first ended
@@ -67,3 +68,22 @@ pub line_placed : {a b c d e : List ℕ} {i j k l m : ℕ} {f g : Code} {tag : L
 line_placed {a = a} {e = e} {i = i} {m = m} {tag = tag} t change p q front tagged left last =
     let same = (λ k. alarm_front t ++ (tag ++ ((32 ∷ (code_text (p k) ++ 32 ∷ [])) ++ (code_text (q k) ++ 10 ∷ [])))) ∙ line_parts t tag change in
     subst (λ (xs : List ℕ). IsPlaced a e i xs m) same (IsPlaced-then front (IsPlaced-then tagged (IsPlaced-then left last)))
+
+-- the parts of an OUT line
+output_parts : (t : ℕ) (name : List ℕ) (value : Value) → out_front t ++ (name ++ (32 ∷ (value_text value ++ 10 ∷ []))) ≡ out_line t name value
+unfolding out_line
+output_parts t name value =
+    let d = decimal t in
+    let v = value_text value in
+    let last : List ℕ = 10 ∷ [] in
+    let placed : (d ++ 32 ∷ []) ++ (name ++ (32 ∷ (v ++ last))) ≡ d ++ (32 ∷ (name ++ (32 ∷ (v ++ last)))) = append_assoc d (32 ∷ []) _ in
+    let fields : (d ++ ((32 ∷ name) ++ ((32 ∷ v) ++ []))) ++ last ≡ d ++ (32 ∷ (name ++ (32 ∷ (v ++ last)))) =
+    append_assoc d _ last ∙ ap (λ (l : List ℕ). d ++ (32 ∷ l)) (append_assoc name _ last ∙ ap (λ (l : List ℕ). name ++ (32 ∷ (l ++ last))) (append-nil v))
+    in
+    ap (λ (l : List ℕ). codes "OUT " ++ l) (placed ∙ sym fields)
+
+-- they are put one after another
+pub output_placed : {a b c d : List ℕ} {i j k l : ℕ} (t : ℕ) (name : List ℕ) (value : Value)
+    → IsPlaced a b i (out_front t) j → IsPlaced b c j name k → IsPlaced c d k (32 ∷ (value_text value ++ 10 ∷ [])) l → IsPlaced a d i (out_line t name value) l
+output_placed {a = a} {d = d} {i = i} {l = l} t name value front named valued =
+    subst (λ (xs : List ℕ). IsPlaced a d i xs l) (output_parts t name value) (IsPlaced-then front (IsPlaced-then named valued))

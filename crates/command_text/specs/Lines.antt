@@ -33,6 +33,10 @@ alarm_front moment = codes "ALARM " ++ decimal moment ++ 32 ∷ []
 unfoldable pub alarm_line : ℕ → List ℕ → PlainChange → List ℕ
 alarm_line moment tag change = line_of (codes "ALARM") (decimal moment ∷ tag ∷ code_text change.from ∷ code_text change.to ∷ [])
 
+-- what the lines of a moment begin with that tell of outputs
+abbrev pub out_front : ℕ → List ℕ
+out_front moment = codes "OUT " ++ decimal moment ++ 32 ∷ []
+
 -- the line for an output whose value changed
 unfoldable pub out_line : ℕ → List ℕ → Value → List ℕ
 out_line moment name value = line_of (codes "OUT") (decimal moment ∷ name ∷ value_text value ∷ [])

@@ -1,6 +1,6 @@
 -- Writing at places of a text that has room.
 use Rattle.std.specs.Prelude.{◌≡◌, ℕ, ◌+◌, ◌≤◌, List, ◌++◌, length, take}
-use Rattle.command_text.specs.Lines.{alarm_front}
+use Rattle.command_text.specs.Lines.{alarm_front, out_front}
 
 -- new has xs after the first `at` bytes of old, up to `end`, and is as long
 pub record IsPlaced (old new : List ℕ) (at : ℕ) (xs : List ℕ) (end : ℕ) : Type 0 where
@@ -28,3 +28,9 @@ pub record IsFront (moment : ℕ) (bytes : List ℕ) (size : ℕ) : Type 0 where
   pub few : size ≤ 32
   pub room : length bytes ≡ 32
   pub text : take size bytes ≡ alarm_front moment
+
+-- of 32 bytes the first are what the OUT lines of a moment begin with
+pub record IsOutFront (moment : ℕ) (bytes : List ℕ) (size : ℕ) : Type 0 where
+  pub few : size ≤ 32
+  pub room : length bytes ≡ 32
+  pub text : take size bytes ≡ out_front moment

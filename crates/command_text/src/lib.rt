@@ -8,6 +8,7 @@ mod given;
 mod laws;
 mod lines;
 mod numbers;
+mod outputs;
 mod parse;
 mod placing;
 mod pool;
@@ -19,6 +20,7 @@ pub use lines::{
     push_alarm, push_count, push_done, push_end, push_fault, push_out, push_refused, push_reply,
     push_row, push_state,
 };
+pub use outputs::{OutFront, put_out};
 pub use parse::read_command;
 pub use placing::{AlarmFront, put_alarm};
 pub use pool::Pool;

@@ -1,7 +1,8 @@
 ghost use Rattle.std.specs.Prelude.{◌≡◌, ◌≤◌, ◌++◌, ℕ, OnOk, OnErr, length, map, take, ◌∷◌, [], codes, decimal};
 ghost use Rattle.command_text.specs.Lines.{line_of, fault_line, alarm_line, out_line, done_line, reply_line, refused_line, state_line, count_line, row_line, end_line};
 
-use crate::placing::{is_short, open_line, place_change, place_done, place_out};
+use crate::outputs::place_out;
+use crate::placing::{is_short, open_line, place_change, place_done};
 use alarm_machine::{Change, Code, OrderFault};
 use itoa::Buffer;
 use plant_types::{Trap, Value};
@@ -118,37 +119,43 @@ pub fn push_alarm(
     Ok(())
 }
 
-/// Appends an OUT line, of whose value this is the text. Where memory is refused the text is unchanged.
-fn push_valued(out: &mut Vec<u8>, moment: &str, name: &str, value: &str) -> Result<(), AllocError>
-    requires { length value.now ≤ 20 }
-    ensures ok { OnOk result (out.new.items ≡ out.old.items ++ line_of (codes "OUT") (moment.now ∷ name.now ∷ value.now ∷ [])) }
-    ensures err { OnErr result (out.new.items ≡ out.old.items) }
-{
-    let (digits, letters) = (moment.as_bytes(), name.as_bytes());
-    if !is_short(digits, letters) {
-        return push_three(out, "OUT", moment, name, value);
-    }
-    let start = out.len();
-    open_line(out)?;
-    let end = place_out(out.as_mut_slice(), start, digits, letters, value.as_bytes());
-    out.truncate(end);
-    Ok(())
-}
-
-/// Appends `OUT MOMENT NAME VALUE`: this output's value changed. The moment is given by its digits. Where memory is refused the text is
-/// unchanged.
+/// Appends an OUT line field by field. Where memory is refused the text is unchanged.
 #[tactic(auto, unfolding(crate::specs::Lines::out_line))]
-pub fn push_out(out: &mut Vec<u8>, moment: &str, name: &str, value: Value) -> Result<(), AllocError>
+fn push_long_out(
+    out: &mut Vec<u8>,
+    moment: &str,
+    name: &str,
+    value: Value,
+) -> Result<(), AllocError>
     ensures ok { (t : ℕ) → moment.now ≡ decimal t → OnOk result (out.new.items ≡ out.old.items ++ out_line t name.now value) }
     ensures err { OnErr result (out.new.items ≡ out.old.items) }
 {
     let mut shown = Buffer::new();
     match value {
-        Value::Bool(true) => push_valued(out, moment, name, "TRUE"),
-        Value::Bool(false) => push_valued(out, moment, name, "FALSE"),
-        Value::Dint(number) => push_valued(out, moment, name, shown.format(number)),
-        Value::Time(number) => push_valued(out, moment, name, shown.format(number)),
+        Value::Bool(true) => push_three(out, "OUT", moment, name, "TRUE"),
+        Value::Bool(false) => push_three(out, "OUT", moment, name, "FALSE"),
+        Value::Dint(number) => push_three(out, "OUT", moment, name, shown.format(number)),
+        Value::Time(number) => push_three(out, "OUT", moment, name, shown.format(number)),
     }
+}
+
+/// Appends `OUT MOMENT NAME VALUE`: this output's value changed. The moment is given by its digits. Where memory is refused the text is
+/// unchanged.
+#[inline(never)]
+#[tactic(auto, unfolding(crate::specs::Lines::out_line))]
+pub fn push_out(out: &mut Vec<u8>, moment: &str, name: &str, value: Value) -> Result<(), AllocError>
+    ensures ok { (t : ℕ) → moment.now ≡ decimal t → OnOk result (out.new.items ≡ out.old.items ++ out_line t name.now value) }
+    ensures err { OnErr result (out.new.items ≡ out.old.items) }
+{
+    let (digits, letters) = (moment.as_bytes(), name.as_bytes());
+    if !is_short(digits, letters) {
+        return push_long_out(out, moment, name, value);
+    }
+    let start = out.len();
+    open_line(out)?;
+    let end = place_out(out.as_mut_slice(), start, digits, letters, value);
+    out.truncate(end);
+    Ok(())
 }
 
 /// Appends `DONE MOMENT LINES`: the end of a scan's answer, with the number of lines before it. The moment is given by its digits. Where memory

@@ -36,7 +36,12 @@ fn place_front<const N: usize>(row: &mut [u8], at: usize, bytes: &[u8]) -> usize
 
 /// Puts the first `size` bytes of a text at a place that has room for N, and returns the place after them.
 #[inline(always)]
-fn place_part<const N: usize>(row: &mut [u8], at: usize, bytes: &[u8], size: usize) -> usize
+pub(crate) fn place_part<const N: usize>(
+    row: &mut [u8],
+    at: usize,
+    bytes: &[u8],
+    size: usize,
+) -> usize
     requires bytes { N ≤ length bytes.now }
     requires room { at + N ≤ length row.old }
     requires size { size ≤ N }
@@ -61,7 +66,7 @@ fn place_ends<const N: usize>(row: &mut [u8], at: usize, bytes: &[u8]) -> usize
 
 /// Puts a text at a place, and returns the place after it.
 #[inline(always)]
-fn place_slice(row: &mut [u8], at: usize, bytes: &[u8]) -> usize
+pub(crate) fn place_slice(row: &mut [u8], at: usize, bytes: &[u8]) -> usize
     requires { at + length bytes.now ≤ length row.old }
     ensures { IsPlaced row.old row.new at bytes.now result }
 {
@@ -89,7 +94,7 @@ fn place_few(row: &mut [u8], at: usize, bytes: &[u8]) -> usize
 
 /// Puts a text at a place, one of 1 to 32 bytes without a call, and returns the place after it.
 #[inline(always)]
-fn place_text(row: &mut [u8], at: usize, bytes: &[u8]) -> usize
+pub(crate) fn place_text(row: &mut [u8], at: usize, bytes: &[u8]) -> usize
     requires { at + length bytes.now ≤ length row.old }
     ensures { IsPlaced row.old row.new at bytes.now result }
 {
@@ -124,13 +129,14 @@ impl Model for AlarmFront {
     ghost invariant = { λ f. IsFront f.moment f.bytes f.size };
 }
 
-/// Puts `ALARM`, digits and the spaces after both at the start of a text that has room, and returns the place after them.
-fn place_digits(row: &mut [u8], digits: &[u8]) -> usize
-    requires { length digits.now + 7 ≤ length row.old }
-    ensures { IsPlaced row.old row.new 0 (codes "ALARM " ++ digits.now ++ 32 ∷ []) result }
+/// Puts a line's name with its space, digits and a space at the start of a text that has room, and returns the place after them.
+#[inline(always)]
+pub(crate) fn place_digits(row: &mut [u8], name: &[u8], digits: &[u8]) -> usize
+    requires { length name.now + length digits.now + 1 ≤ length row.old }
+    ensures { IsPlaced row.old row.new 0 (name.now ++ (digits.now ++ 32 ∷ [])) result }
 {
-    let named = place_slice(row, 0, b"ALARM ");
-    let timed = place_slice(row, named, digits);
+    let named = place_slice(row, 0, name);
+    let timed = place_text(row, named, digits);
     place_slice(row, timed, b" ")
 }
 
@@ -142,7 +148,7 @@ impl AlarmFront {
         let mut digits = Buffer::new();
         let digits = digits.format(moment).as_bytes();
         let mut bytes = [b' '; 32];
-        let size = place_digits(&mut bytes, digits);
+        let size = place_digits(&mut bytes, b"ALARM ", digits);
         AlarmFront {
             moment,
             bytes,
@@ -238,7 +244,7 @@ fn place_alarm(row: &mut [u8], at: usize, front: &AlarmFront, tag: &[u8], change
 
 /// Makes room in a text after its first `at` bytes for a tag and 64 bytes, if there is none. Where memory is refused the first bytes stay.
 #[inline(always)]
-fn make_room(text: &mut Vec<u8>, at: usize, tag: &[u8]) -> Result<(), AllocError>
+pub(crate) fn make_room(text: &mut Vec<u8>, at: usize, tag: &[u8]) -> Result<(), AllocError>
     requires { at ≤ length text.old.items }
     ensures first { take at text.new.items ≡ take at text.old.items }
     ensures room { OnOk result (at + length tag.now + 64 ≤ length text.new.items) }
@@ -305,28 +311,6 @@ pub(crate) fn place_change(
     let tagged = place_text(row, apart, tag);
     let left = place_from(row, tagged, from);
     place_to(row, left, to)
-}
-
-/// Puts an OUT line at a place, and returns the place after it.
-#[inline(always)]
-pub(crate) fn place_out(
-    row: &mut [u8],
-    at: usize,
-    moment: &[u8],
-    name: &[u8],
-    value: &[u8],
-) -> usize
-    requires room { at + 96 ≤ length row.old }
-    requires short { IsShort moment.now name.now × (length value.now ≤ 20) }
-    ensures { IsPlaced row.old row.new at (codes "OUT " ++ (moment.now ++ (32 ∷ (name.now ++ (32 ∷ (value.now ++ 10 ∷ [])))))) result }
-{
-    let kind = place_slice(row, at, b"OUT ");
-    let timed = place_text(row, kind, moment);
-    let apart = place_slice(row, timed, b" ");
-    let named = place_text(row, apart, name);
-    let valued = place_slice(row, named, b" ");
-    let last = place_text(row, valued, value);
-    place_slice(row, last, b"\n")
 }
 
 /// Puts a DONE line at a place, and returns the place after it.
