@@ -43,7 +43,7 @@ fn limit(word: &str) -> Limit {
     }
 }
 
-/// A fault at a line and a column of a source. Fails if allocation fails.
+/// A fault at a line and a column of a source.
 fn at_place(alloc: Global, words: &str, is_spelling: bool) -> Result<ConfigFault, AllocError> {
     let (file, place) = cut(words);
     let (line, column) = cut(place);
@@ -55,7 +55,7 @@ fn at_place(alloc: Global, words: &str, is_spelling: bool) -> Result<ConfigFault
     Ok(ConfigFault::Grammar { file, line, column })
 }
 
-/// A fault in a unit. Fails if allocation fails.
+/// A fault in a unit.
 fn in_unit(alloc: Global, rule: &str, words: &str) -> Result<ConfigFault, AllocError> {
     let (file, unit) = cut(words);
     let file = Text::from_str(alloc, file)?;
@@ -68,7 +68,7 @@ fn in_unit(alloc: Global, rule: &str, words: &str) -> Result<ConfigFault, AllocE
     }
 }
 
-/// The fault of a refusal's line, without its `CONFIG`. Fails if allocation fails.
+/// The fault of a refusal's line, without its `CONFIG`.
 pub fn fault_of(alloc: Global, line: &str) -> Result<ConfigFault, AllocError> {
     let (rule, words) = cut(line);
     let (first, second) = cut(words);

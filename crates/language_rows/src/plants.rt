@@ -23,7 +23,7 @@ const ALARMS: &[u8] = b"tag,area,priority,condition,suppress,latch,max_shelve_ms
 T1,north,2,c,,FALSE,5000,Feed ratio high
 ";
 
-/// The text of the file of a name, with a line in place of its line `..`; another text where there is none. Fails if allocation fails.
+/// The text of the file of a name, with a line in place of its line `..`; another text where there is none.
 fn text_of(
     alloc: Global,
     files: &[File],
@@ -39,7 +39,7 @@ fn text_of(
     Vec::from_slice(alloc, other)
 }
 
-/// What is told of a plant that is refused by a line, or that is accepted, as a text. Fails if allocation fails.
+/// What is told of a plant that is refused by a line, or that is accepted, as a text.
 fn told<H: Threads + Sync>(
     rt: &H,
     alloc: Global,
@@ -67,7 +67,7 @@ struct Texts<'a> {
     sources: Vec<(&'a str, Vec<u8>)>,
 }
 
-/// The names and texts of the sources of files, with a line in place of the line `..`. Fails if allocation fails.
+/// The names and texts of the sources of files, with a line in place of the line `..`.
 fn sources_of<'a>(
     alloc: Global,
     files: &'a [File],
@@ -85,7 +85,7 @@ fn sources_of<'a>(
     Ok(sources)
 }
 
-/// The texts of files, with a line in place of the line `..`. Fails if allocation fails.
+/// The texts of files, with a line in place of the line `..`.
 fn texts_of<'a>(alloc: Global, files: &'a [File], given: &str) -> Result<Texts<'a>, AllocError> {
     Ok(Texts {
         plant: text_of(alloc, files, "plant.toml", given, PLANT)?,
@@ -94,7 +94,7 @@ fn texts_of<'a>(alloc: Global, files: &'a [File], given: &str) -> Result<Texts<'
     })
 }
 
-/// Names and texts, lent. Fails if allocation fails.
+/// Names and texts, lent.
 fn lent<'a>(
     alloc: Global,
     sources: &'a [(&'a str, Vec<u8>)],

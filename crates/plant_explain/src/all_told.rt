@@ -13,7 +13,7 @@ use plant_places::{Spot, shown, shown_alone};
 use std::alloc::{AllocError, Global};
 use std::thread::Threads;
 
-/// The last line: how many faults are told, where that is more than one. Fails if allocation fails.
+/// The last line: how many faults are told, where that is more than one.
 fn last_line(alloc: Global, count: usize) -> Result<String, AllocError> {
     if count <= 1 {
         return Ok(String::new(alloc));
@@ -26,8 +26,7 @@ fn last_line(alloc: Global, count: usize) -> Result<String, AllocError> {
     format!(in alloc; "{count} faults told: correct these and check again\n")
 }
 
-/// What is said of faults, each with its place in these texts, and where to read on where that isn't the page of the fault before. Fails if allocation
-/// fails.
+/// What is said of faults, each with its place in these texts, and where to read on where that isn't the page of the fault before.
 fn all_shown(alloc: Global, texts: &PlantTexts<'_>, spots: &[Spot]) -> Result<String, AllocError> {
     let mut told = String::new(alloc);
     let mut page = "";
@@ -46,7 +45,7 @@ fn all_shown(alloc: Global, texts: &PlantTexts<'_>, spots: &[Spot]) -> Result<St
 }
 
 /// What a person is told when a plant is refused: first the line of the refusal, then its explanation, then those of further faults of the same stage that
-/// are certain, 20 in all at most, each in the plant's own texts, and how many are told. Fails if allocation fails.
+/// are certain, 20 in all at most, each in the plant's own texts, and how many are told.
 pub fn explain_all<H: Threads + Sync>(
     rt: &H,
     alloc: Global,

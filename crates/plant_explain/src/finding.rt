@@ -1,12 +1,13 @@
 //! The cause of a refusal is looked for.
 
+use crate::globals::unknown;
 use crate::turns::too_many_turns;
 use crate::units::cause_in;
 use plant_config::{ConfigFault, Limit};
 use plant_folder::PlantTexts;
 use plant_places::{
-    FileOf, Spot, byte_at, doubled, malformed, no_epoch, not_toml, over_limit, text_of, uneven,
-    unknown, wrong_keys,
+    FileOf, Spot, byte_at, doubled, field_of, malformed, no_epoch, not_toml, over_limit, text_of,
+    uneven, wrong_keys,
 };
 use plant_types::Text;
 use std::alloc::{AllocError, Global};
@@ -25,7 +26,7 @@ fn source_named(refused: &PlantTexts<'_>, name: &Text) -> usize {
     }
 }
 
-/// The cause of a fault of spelling or grammar, at a line and a column. Fails if allocation fails.
+/// The cause of a fault of spelling or grammar, at a line and a column.
 fn in_text(
     alloc: Global,
     refused: &PlantTexts<'_>,
@@ -44,7 +45,7 @@ fn in_text(
     Ok(Spot { file, cause })
 }
 
-/// The cause of a fault in a unit of a source. Fails if allocation fails.
+/// The cause of a fault in a unit of a source.
 fn in_unit(
     alloc: Global,
     refused: &PlantTexts<'_>,
@@ -60,7 +61,7 @@ fn in_unit(
     })
 }
 
-/// The cause of a fault in the plant file, or in the alarm database. Fails if allocation fails.
+/// The cause of a fault in the plant file, or in the alarm database.
 fn in_table(
     alloc: Global,
     refused: &PlantTexts<'_>,
@@ -72,12 +73,14 @@ fn in_table(
         ConfigFault::Epoch => no_epoch(alloc, refused.plant),
         ConfigFault::Field { row, column } => malformed(alloc, refused.alarms, *row, *column),
         ConfigFault::Twice { row } => doubled(alloc, refused.alarms, *row),
-        ConfigFault::Unknown { row, column } => unknown(alloc, refused, *row, *column),
+        ConfigFault::Unknown { row, column } => {
+            unknown(alloc, refused, field_of(refused.alarms, *row, *column))
+        }
         _ => uneven(alloc, refused.alarms),
     }
 }
 
-/// The file in which a refused plant has a fault, and its cause there. Fails if allocation fails.
+/// The file in which a refused plant has a fault, and its cause there.
 pub fn find(
     alloc: Global,
     refused: &PlantTexts<'_>,

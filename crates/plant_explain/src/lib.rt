@@ -21,6 +21,7 @@
 
 mod all_told;
 mod finding;
+mod globals;
 mod narrow;
 mod refusal;
 mod rest;

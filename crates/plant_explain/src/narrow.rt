@@ -35,7 +35,7 @@ fn blank_out(text: &mut [u8], part: (usize, usize)) {
     }
 }
 
-/// A text with blanks in place of its parts from a number on. Fails if allocation fails.
+/// A text with blanks in place of its parts from a number on.
 fn without(
     alloc: Global,
     text: &[u8],
@@ -49,7 +49,7 @@ fn without(
     Ok(left)
 }
 
-/// Whether texts with another text in place of a source are refused by the same line. Fails if allocation fails.
+/// Whether texts with another text in place of a source are refused by the same line.
 fn is_refused_so<H: Threads + Sync>(
     rt: &H,
     alloc: Global,
@@ -79,7 +79,7 @@ fn is_refused_so<H: Threads + Sync>(
 }
 
 /// The first of the parts of a text in which what is wrong is: with those behind it left out the refusal stays, and with it left out too it doesn't. `None`
-/// where it is in none. Fails if allocation fails.
+/// where it is in none.
 fn first_wrong<H: Threads + Sync>(
     rt: &H,
     alloc: Global,
@@ -110,7 +110,7 @@ fn first_wrong<H: Threads + Sync>(
 }
 
 /// The bytes of the statement in which something is wrong, by a byte of the name of its block or program; of an IF, a CASE or a FOR by what it asks. `None`
-/// where it is in none. Fails if allocation fails.
+/// where it is in none.
 fn wrong_statement<H: Threads + Sync>(
     rt: &H,
     alloc: Global,
@@ -143,7 +143,7 @@ fn wrong_statement<H: Threads + Sync>(
     )
 }
 
-/// What is wrong in texts, at its statement where only its block or program was told. Fails if allocation fails.
+/// What is wrong in texts, at its statement where only its block or program was told.
 pub fn narrowed<H: Threads + Sync>(
     rt: &H,
     alloc: Global,

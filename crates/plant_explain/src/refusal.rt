@@ -10,7 +10,7 @@ use plant_folder::PlantTexts;
 use std::alloc::{AllocError, Global};
 use std::thread::Threads;
 
-/// Why texts are refused; `None` where they are accepted. Fails if allocation fails.
+/// Why texts are refused; `None` where they are accepted.
 pub fn refusal<H: Threads + Sync>(
     rt: &H,
     alloc: Global,

@@ -39,7 +39,7 @@ fn row_at(text: &[u8], at: usize) -> Option<(usize, usize)> {
     None
 }
 
-/// The bytes of a source that are left out for what is wrong at one of them; `None` where nothing can be. Fails if allocation fails.
+/// The bytes of a source that are left out for what is wrong at one of them; `None` where nothing can be.
 fn part_of(
     alloc: Global,
     text: &[u8],
@@ -57,7 +57,7 @@ fn part_of(
 }
 
 impl Rest {
-    /// All of the texts. Fails if allocation fails.
+    /// All of the texts.
     pub fn of(alloc: Global, texts: &PlantTexts<'_>) -> Result<Rest, AllocError> {
         let mut sources = Vec::new(alloc);
         for source in texts.sources {
@@ -67,7 +67,7 @@ impl Rest {
         Ok(Rest { sources, alarms })
     }
 
-    /// The sources that are left, each with its name. Fails if allocation fails.
+    /// The sources that are left, each with its name.
     pub fn pairs<'a>(
         &'a self,
         alloc: Global,
@@ -80,7 +80,7 @@ impl Rest {
         Ok(pairs)
     }
 
-    /// Leaves out the part of a source that is wrong at a byte; whether anything can be left out. Fails if allocation fails.
+    /// Leaves out the part of a source that is wrong at a byte; whether anything can be left out.
     fn leave_out_part(
         &mut self,
         alloc: Global,
@@ -98,7 +98,7 @@ impl Rest {
         Ok(true)
     }
 
-    /// Leaves out the row that is wrong at a byte: of a line without bytes no row is made. Whether anything can be left out. Fails if allocation fails.
+    /// Leaves out the row that is wrong at a byte: of a line without bytes no row is made. Whether anything can be left out.
     fn leave_out_row(&mut self, alloc: Global, at: usize) -> Result<bool, AllocError> {
         let Some(row) = row_at(self.alarms.as_slice(), at) else {
             return Ok(false);
@@ -107,7 +107,7 @@ impl Rest {
         Ok(true)
     }
 
-    /// Leaves out what is at fault, by the stage of the fault; whether anything can be left out. Fails if allocation fails.
+    /// Leaves out what is at fault, by the stage of the fault; whether anything can be left out.
     pub fn leave_out(
         &mut self,
         alloc: Global,

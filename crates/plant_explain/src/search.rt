@@ -37,7 +37,7 @@ pub fn is_searched(texts: &PlantTexts<'_>) -> bool {
     size_of(texts) <= MOST_BYTES
 }
 
-/// The first fault of what is left of a plant, where it is one of a stage. Fails if allocation fails.
+/// The first fault of what is left of a plant, where it is one of a stage.
 fn next_fault<H: Threads + Sync>(
     rt: &H,
     alloc: Global,
@@ -97,7 +97,7 @@ fn add_further<H: Threads + Sync>(
 }
 
 /// The fault of a refused plant, and further ones of the same stage, in the order in which they are found; 20 at most. Where memory is short further ones
-/// may be missing, but not the first. Fails if allocation fails.
+/// may be missing, but not the first.
 pub fn find_all<H: Threads + Sync>(
     rt: &H,
     alloc: Global,

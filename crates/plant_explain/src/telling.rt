@@ -12,7 +12,7 @@ use plant_folder::PlantTexts;
 use plant_places::{shown, shown_alone};
 use std::alloc::{AllocError, Global};
 
-/// A line with its line feed, and a text. Fails if allocation fails.
+/// A line with its line feed, and a text.
 pub fn under(alloc: Global, line: &str, text: &str) -> Result<String, AllocError>
     ensures { IfOk result (λ both. BeginsWith (line.now ++ codes "\n") (string_bytes both)) }
 {
@@ -23,7 +23,7 @@ pub fn under(alloc: Global, line: &str, text: &str) -> Result<String, AllocError
 }
 
 /// What a person is told when a plant is refused: first the line of the refusal, then the place, the line there with a mark, what is wrong, and
-/// where to read on. Fails if allocation fails.
+/// where to read on.
 pub fn explain(
     alloc: Global,
     refused: &PlantTexts<'_>,
@@ -39,7 +39,6 @@ pub fn explain(
 }
 
 /// What a person is told of a plant that is accepted: what is likely to be wrong in it, each with its place and the line there; nothing where nothing is.
-/// Fails if allocation fails.
 pub fn warn(alloc: Global, texts: &PlantTexts<'_>) -> Result<String, AllocError> {
     let mut told = String::new(alloc);
     let found = find_warnings(alloc, texts)?;

@@ -48,7 +48,7 @@ fn turns_at(tokens: &[Token], number: usize) -> Option<u64> {
     Some(way.checked_div(step)?.saturating_add(1))
 }
 
-/// The first FOR of a text with plain numbers and too many turns: its bytes to the second bound, and how many turns. Fails if allocation fails.
+/// The first FOR of a text with plain numbers and too many turns: its bytes to the second bound, and how many turns.
 fn long_loop(alloc: Global, text: &[u8]) -> Result<Option<((usize, usize), u64)>, AllocError> {
     let tokens = tokens_of(alloc, text)?;
     let tokens = tokens.as_slice();
@@ -63,7 +63,7 @@ fn long_loop(alloc: Global, text: &[u8]) -> Result<Option<((usize, usize), u64)>
     Ok(None)
 }
 
-/// The FOR that has too many turns, where plain numbers tell it; else what there is to say of this limit. Fails if allocation fails.
+/// The FOR that has too many turns, where plain numbers tell it; else what there is to say of this limit.
 pub fn too_many_turns(alloc: Global, refused: &PlantTexts<'_>) -> Result<Spot, AllocError> {
     for (number, source) in refused.sources.iter().enumerate() {
         if let Some((mark, turns)) = long_loop(alloc, source.1)? {

@@ -64,7 +64,7 @@ fn in_general(rule: Rule) -> (&'static str, &'static str) {
     }
 }
 
-/// The cause of a unit that doesn't keep a rule, where no token is certainly wrong: the unit. Fails if allocation fails.
+/// The cause of a unit that doesn't keep a rule, where no token is certainly wrong: the unit.
 fn whole_unit(alloc: Global, text: &[u8], unit: &str, rule: Rule) -> Result<Cause, AllocError> {
     let tokens = tokens_of(alloc, text)?;
     let tokens = tokens.as_slice();
@@ -76,8 +76,7 @@ fn whole_unit(alloc: Global, text: &[u8], unit: &str, rule: Rule) -> Result<Caus
     Ok(cause_at(mark, said, page))
 }
 
-/// The cause of a unit that doesn't keep a rule: the first token that is certainly wrong, else the unit. Its source is told by its number. Fails if
-/// allocation fails.
+/// The cause of a unit that doesn't keep a rule: the first token that is certainly wrong, else the unit. Its source is told by its number.
 pub fn cause_in(
     alloc: Global,
     refused: &PlantTexts<'_>,

@@ -44,7 +44,7 @@ impl<'a> Variables<'a> {
         }
     }
 
-    /// Adds a variable, with which nothing is done so far; not one of a name that is there. Fails if allocation fails.
+    /// Adds a variable, with which nothing is done so far; not one of a name that is there.
     pub fn add(&mut self, alloc: Global, entry: Entry<'a>) -> Result<(), AllocError> {
         if self.names.add(alloc, entry.word)? {
             self.entries.push(entry)?;

@@ -1,5 +1,6 @@
 //! What is likely to be wrong in a plant that is accepted.
 
+use crate::globals::ALARMS;
 use crate::uses::{Use, Variables, use_by};
 use plant_folder::PlantTexts;
 use plant_places::{FileOf, Spot, first_field, next_field, unquoted};
@@ -12,9 +13,6 @@ use unit_words::{Entry, Source, What, entries_of, sources_of};
 
 /// Where variables are described.
 const VARIABLES: &str = "docs/LANGUAGE.md, \"Variables\"";
-
-/// Where alarms are described.
-const ALARMS: &str = "docs/PLANT.md, \"alarms.csv\"";
 
 /// The most warnings that are told.
 const MOST_WARNINGS: usize = 20;
@@ -31,7 +29,7 @@ struct Plant<'s, 'a> {
     warnings: Vec<Spot>,
 }
 
-/// A warning at the token of a name. Fails if allocation fails.
+/// A warning at the token of a name.
 fn warning_at(
     alloc: Global,
     sources: &[Source<'_>],
@@ -78,7 +76,7 @@ fn unread(sources: &[Source<'_>], entry: &Entry<'_>, found: Use) -> &'static str
 }
 
 impl<'s, 'a> Plant<'s, 'a> {
-    /// Keeps a warning at a name, where there is something to say. Fails if allocation fails.
+    /// Keeps a warning at a name, where there is something to say.
     fn warn(&mut self, alloc: Global, entry: &Entry<'a>, said: &str) -> Result<(), AllocError> {
         if said.is_empty() || self.warnings.len() >= MOST_WARNINGS {
             return Ok(());
@@ -89,7 +87,7 @@ impl<'s, 'a> Plant<'s, 'a> {
         Ok(())
     }
 
-    /// Takes the declared word that comes next. Fails if allocation fails.
+    /// Takes the declared word that comes next.
     fn declare(&mut self, alloc: Global) -> Result<(), AllocError> {
         let Some(entry) = self.entries.get(self.next) else {
             return Ok(());
@@ -108,7 +106,7 @@ impl<'s, 'a> Plant<'s, 'a> {
         }
     }
 
-    /// Tells of the variables of the block or program that ends, and forgets them. Fails if allocation fails.
+    /// Tells of the variables of the block or program that ends, and forgets them.
     fn end_unit(&mut self, alloc: Global) -> Result<(), AllocError> {
         for number in 0..self.locals.len() {
             if let Some((entry, found)) = self.locals.at(number) {
@@ -120,7 +118,7 @@ impl<'s, 'a> Plant<'s, 'a> {
         Ok(())
     }
 
-    /// Takes a word by what it is there for. Fails if allocation fails.
+    /// Takes a word by what it is there for.
     fn take(&mut self, alloc: Global, word: &str, role: Role) -> Result<(), AllocError> {
         match role {
             Role::Title => {
@@ -139,7 +137,7 @@ impl<'s, 'a> Plant<'s, 'a> {
         }
     }
 
-    /// Goes through a source. Fails if allocation fails.
+    /// Goes through a source.
     fn go_through(&mut self, alloc: Global, source: &Source<'a>) -> Result<(), AllocError> {
         let tokens = source.tokens.as_slice();
         let mut section = None;
@@ -151,7 +149,7 @@ impl<'s, 'a> Plant<'s, 'a> {
         self.end_unit(alloc)
     }
 
-    /// Goes through the alarms: each condition and suppression is read. Of conditions that nothing assigns it tells. Fails if allocation fails.
+    /// Goes through the alarms: each condition and suppression is read. Of conditions that nothing assigns it tells.
     fn go_through_alarms(&mut self, alloc: Global, text: &[u8]) -> Result<(), AllocError> {
         let mut next = Some(first_field(text));
         for _ in 0..text.len() {
@@ -168,7 +166,7 @@ impl<'s, 'a> Plant<'s, 'a> {
         Ok(())
     }
 
-    /// Takes the condition of an alarm, or its suppression. Fails if allocation fails.
+    /// Takes the condition of an alarm, or its suppression.
     fn take_condition(
         &mut self,
         alloc: Global,
@@ -199,7 +197,7 @@ impl<'s, 'a> Plant<'s, 'a> {
         Ok(())
     }
 
-    /// Tells of globals that nothing reads. Fails if allocation fails.
+    /// Tells of globals that nothing reads.
     fn end_globals(&mut self, alloc: Global) -> Result<(), AllocError> {
         for number in 0..self.globals.len() {
             if let Some((entry, found)) = self.globals.at(number) {
@@ -210,7 +208,7 @@ impl<'s, 'a> Plant<'s, 'a> {
         Ok(())
     }
 
-    /// Tells of blocks that nothing declares an instance of. Fails if allocation fails.
+    /// Tells of blocks that nothing declares an instance of.
     fn end_blocks(&mut self, alloc: Global) -> Result<(), AllocError> {
         let mut kinds = word_index::Names::new(alloc);
         for entry in self.entries {
@@ -228,7 +226,7 @@ impl<'s, 'a> Plant<'s, 'a> {
 }
 
 /// What is likely to be wrong in an accepted plant, each with its place: conditions of alarms that nothing assigns, variables that hide a global or that
-/// nothing reads, and blocks that nothing uses; twenty at most. Fails if allocation fails.
+/// nothing reads, and blocks that nothing uses; twenty at most.
 pub fn find_warnings(alloc: Global, texts: &PlantTexts<'_>) -> Result<Vec<Spot>, AllocError> {
     let sources = sources_of(alloc, texts.sources)?;
     let entries = entries_of(alloc, sources.as_slice())?;

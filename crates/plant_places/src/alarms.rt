@@ -1,7 +1,9 @@
 //! What is wrong in the alarm database (C11 to C14).
 
 use crate::fields::{Field, field_at, first_field, first_uneven, next_field};
+use crate::keys::unblanked;
 use crate::place::place_at;
+use crate::texts::{WIDE, is_wide};
 use alarm_db::Column;
 use plant_folder::PlantTexts;
 use std::alloc::{AllocError, Global};
@@ -49,7 +51,7 @@ fn other_parts(header: &[u8]) -> &'static str {
     }
 }
 
-/// What is wrong with the header. Fails if allocation fails.
+/// What is wrong with the header.
 fn misheaded(alloc: Global, text: &[u8]) -> Result<Cause, AllocError> {
     let first = first_field(text);
     let parts = other_parts(part(text, first.from, first.until));
@@ -78,16 +80,22 @@ fn misheaded(alloc: Global, text: &[u8]) -> Result<Cause, AllocError> {
     Ok(cause_of(said, ALARMS))
 }
 
-/// Whether a text looks like UTF-16: it begins with a mark of that, or has a byte 0 among its first two.
-fn is_wide(text: &[u8]) -> bool {
-    matches!(
-        text,
-        [0xFF, 0xFE, ..] | [0xFE, 0xFF, ..] | [_, 0, ..] | [0, ..]
-    )
+/// What is said of a line that isn't meant as a row; empty of another.
+fn no_row(line: &[u8]) -> &'static str {
+    match unblanked(line) {
+        [] => "this line has blanks alone, and so it is a row: leave it empty, or leave it out",
+        [b'#', ..] => "the table has no remarks: each line is a row",
+        _ => "",
+    }
 }
 
-/// What is said of a row of another number of fields than eight. Fails if allocation fails.
-fn uneven_row(alloc: Global, count: usize) -> Result<String, AllocError> {
+/// What is said of a row of another number of fields than eight, by its last field.
+fn uneven_row(alloc: Global, text: &[u8], last: Field) -> Result<String, AllocError> {
+    let count = last.number.saturating_add(1);
+    let unmeant = no_row(part(text, last.from, last.until));
+    if count == 1 && !unmeant.is_empty() {
+        return String::from_str(alloc, unmeant);
+    }
     if count > 8 {
         return format!(in alloc;
             "this row has {count} fields, and 8 are wanted (a text with a comma stands in double quotes)"
@@ -98,18 +106,14 @@ fn uneven_row(alloc: Global, count: usize) -> Result<String, AllocError> {
     )
 }
 
-/// The cause of a header that isn't right, or of a row that hasn't eight fields. Fails if allocation fails.
+/// The cause of a header that isn't right, or of a row that hasn't eight fields.
 pub fn uneven(alloc: Global, text: &[u8]) -> Result<Cause, AllocError> {
     if is_wide(text) {
-        let said = String::from_str(
-            alloc,
-            "this file is no UTF-8, but looks like UTF-16: save it as UTF-8",
-        )?;
-        return Ok(cause_of(said, ALARMS));
+        return Ok(cause_of(String::from_str(alloc, WIDE)?, ALARMS));
     }
     match first_uneven(text, 8) {
         Some(field) if field.record > 0 => {
-            let said = uneven_row(alloc, field.number.saturating_add(1))?;
+            let said = uneven_row(alloc, text, field)?;
             Ok(cause_at(mark_of(field), said, ALARMS))
         }
         _ => misheaded(alloc, text),
@@ -130,7 +134,12 @@ fn form_of(column: Column) -> &'static str {
     }
 }
 
-/// The cause of a field without its column's form. Fails if allocation fails.
+/// The field of a row, from 1, and a column; `None` if there is none.
+pub fn field_of(text: &[u8], row: u32, column: Column) -> Option<Field> {
+    field_at(text, row as usize, number_of(column))
+}
+
+/// The cause of a field without its column's form.
 pub fn malformed(
     alloc: Global,
     text: &[u8],
@@ -139,7 +148,7 @@ pub fn malformed(
 ) -> Result<Cause, AllocError> {
     let (name, form) = (column.name(), form_of(column));
     let said = format!(in alloc; "{name} {form}")?;
-    match field_at(text, row as usize, number_of(column)) {
+    match field_of(text, row, column) {
         Some(field) => Ok(cause_at(mark_of(field), said, ALARMS)),
         None => Ok(cause_of(said, ALARMS)),
     }
@@ -171,7 +180,7 @@ fn first_same(text: &[u8], tag: Field) -> Option<Field> {
     None
 }
 
-/// The cause of a tag that an earlier row has. Fails if allocation fails.
+/// The cause of a tag that an earlier row has.
 pub fn doubled(alloc: Global, text: &[u8], row: u32) -> Result<Cause, AllocError> {
     let Some(tag) = field_at(text, row as usize, 0) else {
         let said = String::from_str(alloc, "a tag stands twice")?;
@@ -187,7 +196,7 @@ pub fn doubled(alloc: Global, text: &[u8], row: u32) -> Result<Cause, AllocError
     Ok(cause_at(mark_of(tag), said, ALARMS))
 }
 
-/// The plant's areas, each behind a blank. Fails if allocation fails.
+/// The plant's areas, each behind a blank.
 fn areas_of(alloc: Global, plant: &[u8]) -> Result<String, AllocError> {
     let mut list = String::new(alloc);
     let Ok(file) = plant_file::read(alloc, plant) else {
@@ -200,27 +209,11 @@ fn areas_of(alloc: Global, plant: &[u8]) -> Result<String, AllocError> {
     Ok(list)
 }
 
-/// The cause of an area that the plant hasn't, or of a name that is no BOOL global's. Fails if allocation fails.
-pub fn unknown(
-    alloc: Global,
-    refused: &PlantTexts<'_>,
-    row: u32,
-    column: Column,
-) -> Result<Cause, AllocError> {
-    let text = refused.alarms;
-    let Some(field) = field_at(text, row as usize, number_of(column)) else {
-        let said = String::from_str(alloc, "a name in this row is not the plant's")?;
-        return Ok(cause_of(said, ALARMS));
-    };
-    let name = shown(text, field);
-    let said = if column == Column::Area {
-        let areas = areas_of(alloc, refused.plant)?;
-        let areas = areas.as_str();
-        format!(in alloc; "the plant has no area '{name}'; its areas are:{areas}")?
-    } else {
-        format!(in alloc;
-            "no BOOL global is called '{name}': a DINT or a TIME doesn't serve, and a program's own variable isn't found"
-        )?
-    };
+/// The cause of an area that the plant hasn't.
+pub fn no_area(alloc: Global, refused: &PlantTexts<'_>, field: Field) -> Result<Cause, AllocError> {
+    let name = shown(refused.alarms, field);
+    let areas = areas_of(alloc, refused.plant)?;
+    let areas = areas.as_str();
+    let said = format!(in alloc; "the plant has no area '{name}'; its areas are:{areas}")?;
     Ok(cause_at(mark_of(field), said, ALARMS))
 }

@@ -16,7 +16,7 @@ mod place;
 mod render;
 mod texts;
 
-pub use alarms::{doubled, malformed, uneven, unknown, unquoted};
+pub use alarms::{doubled, field_of, malformed, no_area, uneven, unquoted};
 pub use document::{no_epoch, not_toml, wrong_keys};
 pub use fields::{Field, first_field, next_field};
 pub use limits::over_limit;

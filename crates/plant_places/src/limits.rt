@@ -55,7 +55,7 @@ fn key_of(limit: Limit) -> &'static str {
     }
 }
 
-/// The cause of a limit that isn't kept. Fails if allocation fails.
+/// The cause of a limit that isn't kept.
 fn cause(alloc: Global, plant: &[u8], limit: Limit) -> Result<Cause, AllocError> {
     let (told, page) = told(limit);
     let said = String::from_str(alloc, told)?;
@@ -65,7 +65,7 @@ fn cause(alloc: Global, plant: &[u8], limit: Limit) -> Result<Cause, AllocError>
     }
 }
 
-/// Where a limit isn't kept, and what is said of it. Fails if allocation fails.
+/// Where a limit isn't kept, and what is said of it.
 pub fn over_limit(
     alloc: Global,
     refused: &PlantTexts<'_>,

@@ -33,7 +33,7 @@ fn is_known(key: &str, is_consoles: bool) -> bool {
     }
 }
 
-/// The cause of a line that gives a key which isn't there. Fails if allocation fails.
+/// The cause of a line that gives a key which isn't there.
 pub fn strange_key(alloc: Global, bytes: &[u8]) -> Result<Option<Cause>, AllocError> {
     if is_involved(bytes) {
         return Ok(None);
@@ -63,7 +63,7 @@ pub fn strange_key(alloc: Global, bytes: &[u8]) -> Result<Option<Cause>, AllocEr
 }
 
 /// The first text in double quotes between two numbers of bytes: the numbers of its bytes, without the quotes.
-fn next_quoted(bytes: &[u8], from: usize, until: usize) -> Option<(usize, usize)> {
+pub fn next_quoted(bytes: &[u8], from: usize, until: usize) -> Option<(usize, usize)> {
     let rest = part(bytes, from, until);
     let open = rest.iter().position(|byte| *byte == b'"')?;
     let start = from.saturating_add(open).saturating_add(1);
@@ -170,7 +170,7 @@ fn first_strange(
     None
 }
 
-/// The cause of a console's area that the plant hasn't. Fails if allocation fails.
+/// The cause of a console's area that the plant hasn't.
 pub fn strange_area(alloc: Global, bytes: &[u8]) -> Result<Option<Cause>, AllocError> {
     let Some(mark) = key_mark(bytes, 0, "areas") else {
         return Ok(None);

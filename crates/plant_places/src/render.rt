@@ -24,7 +24,7 @@ pub fn place_of(texts: &PlantTexts<'_>, spot: &Spot) -> Option<Place>
     }
 }
 
-/// The name of the alarm database, as the plant file has it. Fails if allocation fails.
+/// The name of the alarm database, as the plant file has it.
 fn alarms_name(alloc: Global, plant: &[u8]) -> Result<Text, AllocError> {
     match Plant::files(alloc, plant) {
         Ok(files) => Ok(files.alarms),
@@ -32,7 +32,7 @@ fn alarms_name(alloc: Global, plant: &[u8]) -> Result<Text, AllocError> {
     }
 }
 
-/// The name of a file: the plant file's path as given, another's as the plant file has it. Fails if allocation fails.
+/// The name of a file: the plant file's path as given, another's as the plant file has it.
 fn name_of(alloc: Global, texts: &PlantTexts<'_>, file: FileOf) -> Result<Text, AllocError> {
     match file {
         FileOf::Plant => Text::from_str(alloc, texts.path),
@@ -49,7 +49,7 @@ fn width(bytes: &[u8]) -> usize {
     bytes.iter().filter(|byte| **byte & 0xC0 != 0x80).count()
 }
 
-/// Adds a text so many times. Fails if allocation fails.
+/// Adds a text so many times.
 fn push_times(text: &mut String, times: usize, what: &str) -> Result<(), AllocError> {
     for _ in 0..times {
         text.push_str(what)?;
@@ -57,7 +57,7 @@ fn push_times(text: &mut String, times: usize, what: &str) -> Result<(), AllocEr
     Ok(())
 }
 
-/// The line of a mark, with its number, and below it the mark; nothing for a line of more than 200 bytes. Fails if allocation fails.
+/// The line of a mark, with its number, and below it the mark; nothing for a line of more than 200 bytes.
 fn excerpt(
     alloc: Global,
     text: &[u8],
@@ -84,7 +84,7 @@ fn excerpt(
     Ok(shown)
 }
 
-/// The file, and the line and the column where there is a place, as editors read them. Fails if allocation fails.
+/// The file, and the line and the column where there is a place, as editors read them.
 fn headed(alloc: Global, name: &str, place: Option<Place>) -> Result<String, AllocError> {
     let mut head = String::from_str(alloc, name)?;
     if let Some(place) = place {
@@ -99,14 +99,14 @@ fn headed(alloc: Global, name: &str, place: Option<Place>) -> Result<String, All
     Ok(head)
 }
 
-/// A text without control characters but line feeds, each of which becomes a blank. Fails if allocation fails.
+/// A text without control characters but line feeds, each of which becomes a blank.
 fn printable(alloc: Global, text: &str) -> Result<String, AllocError> {
     text.chars()
         .map(|c| if c.is_control() && c != '\n' { ' ' } else { c })
         .collect(alloc)
 }
 
-/// A spot's file and place with what is said, and the line with the mark. Fails if allocation fails.
+/// A spot's file and place with what is said, and the line with the mark.
 fn marked(alloc: Global, texts: &PlantTexts<'_>, spot: &Spot) -> Result<String, AllocError> {
     let name = name_of(alloc, texts, spot.file)?;
     let place = place_of(texts, spot);
@@ -120,7 +120,7 @@ fn marked(alloc: Global, texts: &PlantTexts<'_>, spot: &Spot) -> Result<String, 
     Ok(text)
 }
 
-/// What is shown of a spot: its file and place with what is said, and the line with the mark. Fails if allocation fails.
+/// What is shown of a spot: its file and place with what is said, and the line with the mark.
 pub fn shown_alone(
     alloc: Global,
     texts: &PlantTexts<'_>,
@@ -130,7 +130,7 @@ pub fn shown_alone(
     printable(alloc, text.as_str())
 }
 
-/// The same, and where to read on. Fails if allocation fails.
+/// The same, and where to read on.
 pub fn shown(alloc: Global, texts: &PlantTexts<'_>, spot: &Spot) -> Result<String, AllocError> {
     let mut text = marked(alloc, texts, spot)?;
     text.push_str("read on: ")?;
