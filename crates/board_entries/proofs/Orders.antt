@@ -15,10 +15,11 @@ use Rattle.alarm_bank.specs.Banks.{PlainBank, after_event, reply_of, told}
 use Rattle.alarm_bank.specs.Moves.{change_from}
 use Rattle.plant_config.specs.declared.rows.AlarmRow.{AlarmRow}
 use Rattle.plant_config.specs.Plants.{PlainPlant}
+use Rattle.plant_config.specs.Orderers.{has_area}
 use Rattle.event_history.specs.declared.event.Order.{Order}
 use Rattle.plant_system.specs.declared.state.Effect.{Effect}
 use Rattle.plant_system.specs.declared.state.Effect.TheVariants as effect
-use Rattle.plant_system.specs.Orders.{has_area, is_console, alarm_effect, order_at, order_outcome, alarms_by, reply_by}
+use Rattle.plant_system.specs.Orders.{is_console, alarm_effect, order_at, order_outcome, alarms_by, reply_by}
 use Rattle.boards.specs.declared.entry.Answer.{Answer}
 use Rattle.boards.specs.Replies.{fault_number, same_change, same_reply, is_restart, is_outside, after_answer, may_answer}
 use Rattle.board_entries.specs.Entries.{board_reply}

@@ -1,5 +1,5 @@
 -- What an order of a console does, or why it is refused.
-use Rattle.std.specs.Prelude.{ℕ, ◌==◌, Bool, true, false, ◌&&◌, List, if◌then◌else◌, Option, Some, None, Result, Ok, Err, slice_get, slice_set}
+use Rattle.std.specs.Prelude.{ℕ, ◌==◌, Bool, true, false, List, if◌then◌else◌, Option, Some, None, Result, Ok, Err, slice_get, slice_set}
 use Rattle.std.specs.List.{list_any}
 use Rattle.std.specs.Option.{option_map}
 use Rattle.alarm_machine.specs.declared.states.Verb.{Verb}
@@ -11,6 +11,7 @@ use Rattle.alarm_machine.specs.Codes.{PlainChange}
 use Rattle.alarm_bank.specs.Moves.{change_from}
 use Rattle.plant_file.specs.declared.console.Console.{Console}
 use Rattle.plant_config.specs.Plants.{PlainPlant}
+use Rattle.plant_config.specs.Orderers.{has_area}
 use Rattle.event_history.specs.Orders.{order_with}
 use Rattle.event_history.specs.declared.event.Order.{Order}
 use Rattle.plant_system.specs.declared.event.Reply.{Reply}
@@ -21,10 +22,6 @@ use Rattle.plant_system.specs.declared.state.Effect.TheVariants as effect
 -- whether a console has this number
 abbrev pub is_console : ℕ → Console → Bool
 is_console number console = console.number == number
-
--- whether a console has this number and this area
-abbrev pub has_area : ℕ → ℕ → Console → Bool
-has_area number area console = (console.number == number) && list_any (λ a. a == area) console.areas
 
 -- the effect of an order on the alarm of a number, by what the table makes of that alarm
 abbrev pub alarm_effect : ℕ → Result PlainAlarm OrderFault → Result Effect OrderFault

@@ -1,10 +1,10 @@
 //! How an order is made ready: what it does, and its reply.
 
-ghost use Rattle.std.specs.Prelude.{◌≡◌, ◌==◌, ◌≤◌, length, Some};
+ghost use Rattle.std.specs.Prelude.{◌≡◌, ◌≤◌, length, Some};
 ghost use Rattle.std.specs.List.{list_any};
 ghost use Rattle.alarm_machine.specs.Alarms.{after_order};
 ghost use Rattle.alarm_machine.specs.declared.limits.TheConstants.{LAST_MOMENT};
-ghost use Rattle.plant_system.specs.Orders.{is_console, has_area, alarm_order, program_order, order_outcome, reply_by};
+ghost use Rattle.plant_system.specs.Orders.{is_console, alarm_order, program_order, order_outcome, reply_by};
 ghost use Rattle.alarm_bank.specs.Moves.{change_from};
 ghost use Rattle.plant_system.specs.Steps.{IsPreparedOrder};
 
@@ -35,29 +35,6 @@ impl Model for PreparedOrder {
     ghost Value = { PlainPreparedOrder };
 
     ghost view = { λ p. record { console = p.console; order = p.order; done = p.done; reply = p.reply } };
-}
-
-/// Whether an area is among these.
-fn is_among(areas: &[usize], area: usize) -> bool
-    ensures { result ≡ list_any (λ a. a == area) areas.now }
-{
-    areas.contains(&area)
-}
-
-/// Whether a console has this number and this area.
-fn has_area(console: &Console, number: u32, area: u32) -> bool
-    ensures { result ≡ has_area number area console.now }
-{
-    console.number == number && is_among(console.areas.as_slice(), area as usize)
-}
-
-/// Whether a console may order the alarms of an area.
-fn may_order(consoles: &[Console], number: u32, area: u32) -> bool
-    ensures { result ≡ list_any (has_area number area) consoles.now }
-{
-    consoles
-        .iter()
-        .any(|console| has_area(console, number, area))
 }
 
 /// Whether a console is listed.
@@ -96,7 +73,7 @@ fn alarm_order(
     if at >= rows.len() {
         return Err(OrderFault::UnknownTarget);
     }
-    if !may_order(plant.consoles(), console, rows[at].area) {
+    if !plant.may_order(console, rows[at].area) {
         return Err(OrderFault::NotYourArea);
     }
     let alarm = after_order(alarms[at], verb, last)?;
