@@ -12,8 +12,8 @@ ghost use Rattle.command_text.specs.Commands.{command_of};
 
 use alarm_machine::{Change, Verb};
 use command_text::{
-    AlarmFront, Command, Pool, push_alarm, push_done, push_fault, push_out, push_refused,
-    push_reply, put_alarm, read_command,
+    AlarmFront, Command, OutFront, Pool, push_alarm, push_done, push_fault, push_out, push_refused,
+    push_reply, put_alarm, put_out, read_command,
 };
 use engine::{
     Crew, Done, Engine, EngineFault, Job, Order, Reply, Report, Start, system_keeps_its_plant,
@@ -24,6 +24,9 @@ use plant_types::{Pair, Place, Trap, Value};
 use serve_faults::ServeFault;
 use std::alloc::{AllocError, Global};
 use std::str;
+
+/// How many OUT lines of a scan are worth what they begin with being made once for all of them, and room for many.
+const MANY_OUTS: usize = 4;
 
 /// Returns the tag of the alarm that an order is for; `""` for a restart, and for an order that names no alarm.
 fn tag_for(plant: &Plant, order: Order) -> &str
@@ -104,18 +107,45 @@ fn push_faults(
     Ok(())
 }
 
-/// Appends an OUT line for each output that changed. The moment is given by its digits.
+/// Appends an OUT line for each output that changed. What they begin with is made once, and they are written one after another into the text's room.
+/// The moment is given with its digits.
+fn put_outs(
+    text: &mut Vec<u8>,
+    plant: &Plant,
+    moment: u64,
+    digits: &str,
+    outs: &[(u32, Value)],
+) -> Result<(), AllocError>
+    requires digits { digits.now ≡ decimal moment }
+    requires outs { All (λ o. o.0 < length (globals_of plant.now)) outs.now }
+    ensures { OnOk result (text.new.items ≡ text.old.items ++ out_lines plant.now moment outs.now) }
+{
+    let front = OutFront::new(moment, digits);
+    let mut end = text.len();
+    for (output, value) in outs {
+        end = put_out(text, end, &front, plant.global(*output), *value)?;
+    }
+    text.truncate(end);
+    Ok(())
+}
+
+/// Appends an OUT line for each output that changed. The moment is given with its digits, in which a line stands that has few beside it.
 fn push_outs(
     text: &mut Vec<u8>,
     plant: &Plant,
-    moment: &str,
+    moment: u64,
+    digits: &str,
     outs: &[(u32, Value)],
 ) -> Result<(), AllocError>
-    requires { All (λ o. o.0 < length (globals_of plant.now)) outs.now }
-    ensures { (t : ℕ) → moment.now ≡ decimal t → OnOk result (text.new.items ≡ text.old.items ++ out_lines plant.now t outs.now) }
+    requires digits { digits.now ≡ decimal moment }
+    requires outs { All (λ o. o.0 < length (globals_of plant.now)) outs.now }
+    ensures { OnOk result (text.new.items ≡ text.old.items ++ out_lines plant.now moment outs.now) }
 {
+    if MANY_OUTS <= outs.len() {
+        return put_outs(text, plant, moment, digits, outs);
+    }
     for (output, value) in outs {
-        push_out(text, moment, plant.global(*output), *value)?;
+        push_out(text, digits, plant.global(*output), *value)?;
     }
     Ok(())
 }
@@ -141,7 +171,7 @@ fn push_report(
     let digits = digits.format(report.moment);
     push_faults(alloc, text, plant, digits, faults)?;
     push_alarms(text, plant, report.moment, digits, changes)?;
-    push_outs(text, plant, digits, outs)?;
+    push_outs(text, plant, report.moment, digits, outs)?;
     let lines = faults.len() as u64 + changes.len() as u64 + outs.len() as u64;
     push_done(text, digits, lines)
 }
