@@ -7,3 +7,9 @@ returns-clause-inputs c = grind (arith, common_steps)
 
 pub returns-in-None-clause-inputs : goal.returns-in-None-clause-inputs
 returns-in-None-clause-inputs c = grind (arith, common_steps)
+
+pub loop-pair-preserved : goal.loop-pair-preserved
+loop-pair-preserved c = grind (arith, common_steps)
+
+pub returns-in-None-clause-within : goal.returns-in-None-clause-within
+returns-in-None-clause-within c = grind (arith, common_steps)

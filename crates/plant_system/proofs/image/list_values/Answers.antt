@@ -7,3 +7,6 @@ returns c = grind (arith, common_steps)
 
 pub returns-in-None : goal.returns-in-None
 returns-in-None c = grind (arith, common_steps)
+
+pub loop-input-preserved : goal.loop-input-preserved
+loop-input-preserved c = grind (arith, common_steps)

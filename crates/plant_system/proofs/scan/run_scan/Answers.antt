@@ -1,4 +1,5 @@
-use Rattle.std.proofs.Common.{◌≡◌, ◌∙◌, ap, sym, subst, fold, map, rules}
+use Rattle.std.proofs.Common.{◌≡◌, ◌∙◌, ap, sym, subst, fold, map, rules, arith}
+use Rattle.std.proofs.lemmas.Grind.{common_steps}
 use Rattle.plant_cells.specs.Cells.{value_at}
 use Rattle.plant_system.specs.System.{outputs_from, outs_from}
 use Rattle.plant_system.specs.States.{PlainState}
@@ -52,3 +53,15 @@ run_programs-requires-clause-cells g c =
     let old = c.args.before.now.state.now in
     let set : c.set_inputs.new.cells ≡ fold with_cell old.cells c.args.image.now = search rules in
     rw c.logic-framed.ensures.source (subst (HasCells plant.source) (sym set) (inputs_have_cells plant.source old.cells c.args.image.now c.requires.ready.sound c.requires.image c.requires.ready.values))
+
+pub step_alarms-requires-clause-each : goal.step_alarms-requires-clause-each
+step_alarms-requires-clause-each g c = grind (arith, common_steps)
+
+pub run_programs-requires-clause-flags : goal.run_programs-requires-clause-flags
+run_programs-requires-clause-flags g c = grind (arith, common_steps)
+
+pub returns-clause-crew : goal.returns-clause-crew
+returns-clause-crew g c = grind (arith, common_steps)
+
+pub run_programs-requires-clause-levels : goal.run_programs-requires-clause-levels
+run_programs-requires-clause-levels g c = grind (arith, common_steps)

@@ -14,3 +14,9 @@ new-requires-clause-each c = grind (arith, common_steps)
 
 pub new-requires-clause-few : goal.new-requires-clause-few
 new-requires-clause-few c = grind (arith, common_steps)
+
+pub opening_alarms-requires : goal.opening_alarms-requires
+opening_alarms-requires c = grind (arith, common_steps)
+
+pub returns : goal.returns
+returns c = grind (arith, common_steps)

@@ -1,4 +1,5 @@
-use Rattle.std.proofs.Common.{◌∙◌, ap, subst, refl}
+use Rattle.std.proofs.Common.{◌∙◌, ap, subst, refl, arith}
+use Rattle.std.proofs.lemmas.Grind.{common_steps}
 use Rattle.alarm_bank.specs.Banks.{PlainBank}
 use Rattle.plant_logic.specs.Source.{Source}
 use Rattle.plant_logic.specs.Worlds.{opening}
@@ -29,3 +30,6 @@ outputs-requires-clause-ranges c =
     let globals = c.globals.ensures.globals ∙ ap (λ s. s.globals) c.logic-logic.ensures.source in
     let stands = subst (λ (s : Source). StandFor s c.in_ok-cells.cells (opening s)) c.logic-logic.ensures.source c.in_ok-cells.ensures in
     rw globals (cells_showable c.args.plant.now.source c.in_ok-cells.cells (opening_stands c.args.plant.now.source c.in_ok-cells.cells c.logic-logic.ensures.plant.sound stands))
+
+pub outputs-requires-clause-few : goal.outputs-requires-clause-few
+outputs-requires-clause-few c = grind (arith, common_steps)

@@ -4,3 +4,6 @@ use Rattle.plant_system.proofs.steps.list_changed.Goals as goal
 
 pub returns : goal.returns
 returns c = grind (arith, common_steps)
+
+pub loop-global-preserved : goal.loop-global-preserved
+loop-global-preserved c = grind (arith, common_steps)

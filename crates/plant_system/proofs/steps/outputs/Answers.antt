@@ -12,3 +12,6 @@ of_kind-value-requires c =
 
 pub returns : goal.returns
 returns c = grind (arith, common_steps)
+
+pub loop-i-preserved : goal.loop-i-preserved
+loop-i-preserved c = grind (arith, common_steps)

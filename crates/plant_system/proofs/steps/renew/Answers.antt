@@ -4,3 +4,9 @@ use Rattle.plant_system.proofs.steps.renew.Goals as goal
 
 pub returns : goal.returns
 returns c = grind (arith, common_steps)
+
+pub loop-global-preserved : goal.loop-global-preserved
+loop-global-preserved c = grind (arith, common_steps)
+
+pub of_kind-value-requires : goal.of_kind-value-requires
+of_kind-value-requires c = grind (arith, common_steps)
