@@ -16,7 +16,7 @@ pub struct Copies {
     alarms: Vec<u8>,
 }
 
-/// Copies of the names and texts of sources. Fails if allocation fails.
+/// Copies of the names and texts of sources.
 fn copied(alloc: Global, sources: &[(&str, &[u8])]) -> Result<Vec<(String, Vec<u8>)>, AllocError> {
     let mut copies = Vec::new(alloc);
     for source in sources {
@@ -27,7 +27,7 @@ fn copied(alloc: Global, sources: &[(&str, &[u8])]) -> Result<Vec<(String, Vec<u
     Ok(copies)
 }
 
-/// The names and texts of copies, lent. Fails if allocation fails.
+/// The names and texts of copies, lent.
 fn lent(alloc: Global, copies: &[(String, Vec<u8>)]) -> Result<Vec<(&str, &[u8])>, AllocError> {
     let mut sources = Vec::new(alloc);
     for copy in copies {
@@ -36,7 +36,7 @@ fn lent(alloc: Global, copies: &[(String, Vec<u8>)]) -> Result<Vec<(&str, &[u8])
     Ok(sources)
 }
 
-/// What a person is told of texts that are refused; nothing where they are accepted. Fails if allocation fails.
+/// What a person is told of texts that are refused; nothing where they are accepted.
 fn told<H: Threads + Sync>(
     rt: &H,
     alloc: Global,
@@ -50,7 +50,7 @@ fn told<H: Threads + Sync>(
 }
 
 impl Copies {
-    /// Copies of texts. Fails if allocation fails.
+    /// Copies of texts.
     pub fn of(alloc: Global, texts: &PlantTexts<'_>) -> Result<Copies, AllocError> {
         let path = String::from_str(alloc, texts.path)?;
         let plant = Vec::from_slice(alloc, texts.plant)?;
@@ -64,7 +64,7 @@ impl Copies {
         })
     }
 
-    /// What a person is told of the refused plant: its first fault and further ones. Fails if allocation fails.
+    /// What a person is told of the refused plant: its first fault and further ones.
     pub fn explained<H: Threads + Sync>(
         &self,
         rt: &H,

@@ -10,7 +10,7 @@ const UNREAD: &str = "it can't be read to its end";
 /// The most bytes that a file may have.
 const MOST_BYTES: u64 = 16_777_217;
 
-/// What the system says when a file is opened. Fails if allocation fails.
+/// What the system says when a file is opened.
 fn open_reason<R: Files>(rt: &R, alloc: Global, path: &str) -> Result<String, AllocError> {
     match fs::open(rt, path) {
         Ok(_) => String::from_str(alloc, UNREAD),
@@ -18,7 +18,7 @@ fn open_reason<R: Files>(rt: &R, alloc: Global, path: &str) -> Result<String, Al
     }
 }
 
-/// What the system says of a path. Fails if allocation fails.
+/// What the system says of a path.
 fn reason<R: Files>(rt: &R, alloc: Global, path: &str) -> Result<String, AllocError> {
     let found = match fs::metadata(rt, path) {
         Ok(found) => found,
@@ -37,7 +37,7 @@ fn reason<R: Files>(rt: &R, alloc: Global, path: &str) -> Result<String, AllocEr
 }
 
 /// What a person is told of a file that can't be read: its name as the refusal has it, the path under which it is sought, and the system's reason. The file
-/// isn't read for this. Fails if allocation fails.
+/// isn't read for this.
 pub fn why_missing<R: Files>(
     rt: &R,
     alloc: Global,

@@ -72,20 +72,22 @@ pub fn check<R: Files + Print + Eprint + Threads + AllocGlobal + Sync>(
 }
 
 /// Serves the plant of a plant file's path over standard input and output, its programs run by the crew. A person is told why it is refused, and at a
-/// terminal how to begin.
+/// terminal, once it is accepted, how to begin.
 fn serve_by<
     R: Files + Input + Print + Eprint + Threads + Wait + AllocGlobal + Sync,
     C: Crew<Job, Start, Done, R>,
 >(rt: &R, crew: &mut C, path: &str, is_terminal: bool) -> Ended
     requires { C.asks }
 {
-    if is_terminal {
-        greet(rt, "scan 0");
-    }
+    let of_accepted = if is_terminal {
+        OfAccepted::Greeting
+    } else {
+        OfAccepted::Nothing
+    };
     let mut ends = Ends {
         feed: Reading::new(rt.reader()),
         sink: Watching::new(rt, Writing::new(io::writer(rt)), is_terminal),
-        listener: Telling::new(rt, OfAccepted::Nothing),
+        listener: Telling::new(rt, of_accepted),
     };
     let files = PlantFiles {
         folder: &Disk { files: rt },

@@ -1,6 +1,7 @@
 //! What a person is told of a plant on standard error.
 
 use crate::copies::Copies;
+use crate::greeting::greet;
 use crate::missing::why_missing;
 use plant_config::{ConfigFault, Plant};
 use plant_explain::{explain, is_searched, warn};
@@ -14,6 +15,8 @@ use std::thread::Threads;
 pub enum OfAccepted {
     /// Nothing.
     Nothing,
+    /// How to begin, as soon as it is accepted.
+    Greeting,
     /// What is likely to be wrong in it.
     Warnings,
     /// What there is in it, and what is likely to be wrong.
@@ -28,7 +31,7 @@ fn tell_text(rt: &impl Eprint, text: &Option<String>) {
 }
 
 /// A listener that keeps what a person is to be told of a plant, until the plant's line has been written: why it is refused, or where that is asked for,
-/// what there is in an accepted one, and what is likely to be wrong in it.
+/// what there is in an accepted one, and what is likely to be wrong in it. How to begin it tells at once, since no line is written for a plant that is served.
 #[derive(Drop)]
 pub struct Telling<'a, R: Files> {
     rt: &'a R,
@@ -63,10 +66,11 @@ impl<'a, R: Files> Telling<'a, R> {
     }
 }
 
-impl<'a, R: Files> Listener for Telling<'a, R> {
+impl<'a, R: Files + Eprint> Listener for Telling<'a, R> {
     fn accepted(&mut self, alloc: Global, texts: &PlantTexts<'_>, plant: &Plant) {
         match self.of_accepted {
             OfAccepted::Nothing => {}
+            OfAccepted::Greeting => greet(self.rt, "scan 0"),
             OfAccepted::Warnings => self.text = warn(alloc, texts).ok(),
             OfAccepted::Listing => {
                 self.listing = listing(alloc, plant).ok();

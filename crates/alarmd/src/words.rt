@@ -35,7 +35,7 @@ fn words(rt: &(impl Env + AllocGlobal)) -> Result<Vec<String>, UsageFault> {
     Ok(words)
 }
 
-/// The same words, borrowed. Fails if allocation fails.
+/// The same words, borrowed.
 fn borrowed(alloc: Global, words: &[String]) -> Result<Vec<&str>, AllocError> {
     let mut texts = Vec::new(alloc);
     for word in words {
