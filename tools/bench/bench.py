@@ -9,7 +9,7 @@ PROGRAM is the built server (crates/alarmd/out/alarmd). KIND is one of these, `l
 |---|---|
 | lines | 1,000,000 scans with one change each, of the built-in plant; beside it the yardstick, a program that only reads such lines (needs rustc) |
 | turns | a scan of 10,000 turns of a FOR; beside it the yardstick's own loop |
-| logic | 64 programs with nested loops, a CASE, blocks and timers |
+| logic | 64 programs with nested loops, a CASE, blocks and timers; beside it the yardstick, which runs them as trees of closures |
 | alarms | scans that change 200 of 20,000 alarms, with 100 orders each |
 | changes | scans that change all of 20,000 alarms |
 | orders | 300,000 orders for 20,000 alarms |
@@ -97,9 +97,11 @@ class Bench:
         with open(given, "rb") as file:
             lines = sum(1 for _ in file)
         it = self.best([self.program, "run", f"{path}/plant.toml"], given)
-        yardstick = self.yardstick() if kind == "turns" else None
-        if yardstick:
+        yardstick = self.yardstick() if kind in ("turns", "logic") else None
+        if yardstick and kind == "turns":
             subprocess.run([yardstick, "turns", "2000"], check=True)
+        elif yardstick:
+            self.told("logic: yardstick", self.best([yardstick, "logic"], given))
         self.told(kind, it, f"  {lines / it.processor:11.0f} lines a second")
 
     def check(self):
