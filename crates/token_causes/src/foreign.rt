@@ -132,6 +132,9 @@ fn foreign_symbol(before: TokenKind, symbol: Symbol, after: Option<TokenKind>) -
             Symbol::Plus | Symbol::Minus,
             Some(TokenKind::Symbol(Symbol::Plus | Symbol::Minus | Symbol::Equal)),
         ) => "': an assignment is written out, as n := n + 1",
+        (TokenKind::Address(_), Symbol::Comma, Some(TokenKind::Integer(_))) => {
+            "': the numbers of an address have points between them, as in %QX0.0"
+        }
         (TokenKind::Integer(_), Symbol::Point, _) => {
             "': only the numbers of a duration may have a point"
         }

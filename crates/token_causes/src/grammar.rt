@@ -2,8 +2,9 @@
 
 use crate::cause::{Cause, cause_at};
 use crate::foreign::{foreign, foreign_word, may_be_first};
-use crate::lacking::lacking;
-use crate::roles::{kind_at, kind_before, span_of, word_at};
+use crate::lacking::{is_behind_label, lacking};
+use crate::misplaced::{misplaced, open_parenthesis};
+use crate::roles::{Role, kind_at, kind_before, role_of, span_of, word_at};
 use plant_types::same_word;
 use st_lexer::{Keyword, LexFault, Symbol, Token, TokenKind, lex, place_of};
 use std::alloc::{AllocError, Global};
@@ -40,6 +41,14 @@ fn closing_word(kind: TokenKind) -> &'static str {
         ) => "END_VAR",
         _ => "",
     }
+}
+
+/// Whether a token is a kind that has a keyword.
+fn is_kind(kind: Option<TokenKind>) -> bool {
+    matches!(
+        kind,
+        Some(TokenKind::Keyword(Keyword::Bool | Keyword::Dint | Keyword::Time))
+    )
 }
 
 /// Whether a keyword closes something.
@@ -157,6 +166,38 @@ fn may_begin(kind: TokenKind) -> bool {
     }
 }
 
+/// What opens the declarations among which the token of a number stands; `None` where it stands elsewhere.
+fn section_of(tokens: &[Token], number: usize) -> Option<usize> {
+    let opened = last_open(tokens, number)?;
+    if closing_word(kind_at(tokens, opened)?) == "END_VAR" {
+        Some(opened)
+    } else {
+        None
+    }
+}
+
+/// What is said of a `=` or `:=` behind the name that a declaration begins with, and of a `=` behind its kind; empty where there is none.
+fn misdeclared(tokens: &[Token], number: usize) -> &'static str {
+    let (Some(kind), Some(last)) = (kind_at(tokens, number), number.checked_sub(1)) else {
+        return "";
+    };
+    let after = kind_at(tokens, number.saturating_add(1));
+    match (kind, after) {
+        (TokenKind::Symbol(Symbol::Equal), _) if is_kind(kind_at(tokens, last)) => {
+            "': an initial value is written :="
+        }
+        (TokenKind::Symbol(Symbol::Equal | Symbol::Becomes), after) if is_kind(after) => {
+            let is_declared = matches!(role_of(tokens, last, true), Role::Declared);
+            if is_declared && section_of(tokens, number).is_some() {
+                "': a : stands before the kind, as in n : DINT"
+            } else {
+                ""
+            }
+        }
+        _ => "",
+    }
+}
+
 /// What is said of the token of a number by itself, or by those beside it; empty where that says nothing.
 fn told(tokens: &[Token], number: usize) -> &'static str {
     let (Some(kind), Some(before)) = (kind_at(tokens, number), kind_before(tokens, number, 1))
@@ -189,6 +230,19 @@ fn told(tokens: &[Token], number: usize) -> &'static str {
     }
 }
 
+/// What is said behind the token of a number; empty where nothing is.
+fn said_behind(tokens: &[Token], number: usize) -> &'static str {
+    let misplaced = misplaced(tokens, number);
+    if !misplaced.is_empty() {
+        return misplaced;
+    }
+    let misdeclared = misdeclared(tokens, number);
+    if !misdeclared.is_empty() {
+        return misdeclared;
+    }
+    told(tokens, number)
+}
+
 /// Whether something seems to be missing before the token of a number: a statement, or the head of one, may end before it, and it may begin what follows; the
 /// first label of a CASE too, where its head has no OF.
 fn lacks_end(tokens: &[Token], number: usize) -> bool {
@@ -196,6 +250,7 @@ fn lacks_end(tokens: &[Token], number: usize) -> bool {
         (Some(before), Some(TokenKind::Integer(_))) => {
             may_end(before) && lacking(tokens, number) == "OF"
         }
+        (_, Some(TokenKind::Symbol(Symbol::Semicolon))) => is_behind_label(tokens, number),
         (Some(before), Some(kind)) => may_end(before) && may_begin(kind),
         _ => false,
     }
@@ -214,9 +269,8 @@ fn begins_body(tokens: &[Token], number: usize) -> bool {
 
 /// What opens the declarations in which a statement begins with the token of a number; `None` where none does.
 fn open_section(tokens: &[Token], number: usize) -> Option<usize> {
-    let opened = last_open(tokens, number)?;
-    if closing_word(kind_at(tokens, opened)?) == "END_VAR" && begins_body(tokens, number) {
-        Some(opened)
+    if begins_body(tokens, number) {
+        section_of(tokens, number)
     } else {
         None
     }
@@ -233,6 +287,28 @@ fn left_open(text: &[u8], tokens: &[Token], number: usize) -> Option<usize> {
     }
 }
 
+/// The `(` that has no `)` before the token of a number, at which an expression certainly ends; `None` where there is none.
+fn unclosed_parenthesis(tokens: &[Token], number: usize) -> Option<usize> {
+    let (before, kind) = (kind_before(tokens, number, 1)?, kind_at(tokens, number)?);
+    let ends = match kind {
+        TokenKind::Symbol(symbol) => symbol == Symbol::Semicolon,
+        TokenKind::Keyword(keyword) => {
+            may_end(before)
+                && (may_begin(kind)
+                    || matches!(
+                        keyword,
+                        Keyword::Then | Keyword::Of | Keyword::To | Keyword::By | Keyword::Do
+                    ))
+        }
+        _ => false,
+    };
+    if ends {
+        open_parenthesis(tokens, number)
+    } else {
+        None
+    }
+}
+
 /// The cause at the token of a number, where no word of another dialect tells it. Fails if allocation fails.
 fn cause_of_token(
     alloc: Global,
@@ -244,9 +320,14 @@ fn cause_of_token(
         return unclosed(alloc, text, tokens, opened, number);
     }
     let word = word_at(text, tokens, number);
-    let told = told(tokens, number);
+    let told = said_behind(tokens, number);
     let said = if !told.is_empty() {
         format!(in alloc; "found '{word}{told}")?
+    } else if let Some(open) = unclosed_parenthesis(tokens, number) {
+        let (line, column) = place_of(text, tokens, open);
+        format!(in alloc;
+            "found '{word}': the '(' of line {line}, column {column} has no ')' before it"
+        )?
     } else if lacks_end(tokens, number) {
         let line = place_of(text, tokens, number.saturating_sub(1)).0;
         let lacks = lacking(tokens, number);

@@ -27,17 +27,26 @@ fn ends_before(kind: TokenKind) -> bool {
     }
 }
 
-/// Whether the token before that of a number is a label of a CASE.
-fn is_behind_label(tokens: &[Token], number: usize) -> bool {
-    let is_integer = matches!(kind_before(tokens, number, 1), Some(TokenKind::Integer(_)));
-    is_integer
-        && matches!(
-            kind_before(tokens, number, 2),
-            Some(
-                TokenKind::Keyword(Keyword::Of)
-                    | TokenKind::Symbol(Symbol::Semicolon | Symbol::Range)
-            )
+/// Whether a label of a CASE begins or goes on behind a token, where an integer stands behind it.
+fn is_before_label(kind: Option<TokenKind>) -> bool {
+    matches!(
+        kind,
+        Some(
+            TokenKind::Keyword(Keyword::Of)
+                | TokenKind::Symbol(
+                    Symbol::Semicolon | Symbol::Colon | Symbol::Comma | Symbol::Range
+                )
         )
+    )
+}
+
+/// Whether the token before that of a number is a label of a CASE.
+pub fn is_behind_label(tokens: &[Token], number: usize) -> bool {
+    let is_integer = matches!(kind_before(tokens, number, 1), Some(TokenKind::Integer(_)));
+    let before = kind_before(tokens, number, 2);
+    let is_negative = before == Some(TokenKind::Symbol(Symbol::Minus))
+        && is_before_label(kind_before(tokens, number, 3));
+    is_integer && (is_negative || is_before_label(before))
 }
 
 /// What seems to be missing before the token of a number, behind an operand: what ends a label, or parts what stands in parentheses, or ends the head of an

@@ -7,6 +7,7 @@ mod cause;
 mod foreign;
 mod grammar;
 mod lacking;
+mod misplaced;
 mod roles;
 mod spelling;
 
