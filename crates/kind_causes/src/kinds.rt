@@ -1,7 +1,8 @@
 //! What isn't of the kind that it has to be (C7).
 
 use crate::operands::{
-    is_bit, kind_alone, kind_beginning, kind_ending, loose_left, loose_right, variable_kind,
+    counting, is_bit, is_chained, kind_alone, kind_beginning, kind_ending, loose_left, loose_right,
+    variable_kind,
 };
 use plant_types::Kind;
 use st_lexer::{Keyword, Symbol, TokenKind};
@@ -77,6 +78,15 @@ fn is_of_two(kind: TokenKind) -> bool {
                 | Symbol::AtLeast
         )
     )
+}
+
+/// A comparison of what another one makes, at the number of its operator. Fails if allocation fails.
+fn chained(alloc: Global, unit: &Unit<'_, '_>, number: usize) -> Result<Option<Cause>, AllocError> {
+    let operator = unit.word(number);
+    let said = format!(in alloc;
+        "'{operator}' has a comparison before it, which is a BOOL; a < b < c is written a < b AND b < c"
+    )?;
+    Ok(unit.cause(number, said, KINDS))
 }
 
 /// Two operands that don't fit, at the number of their operator. Fails if allocation fails.
@@ -165,6 +175,9 @@ fn misfit_at(
     }
     if is_logical(kind) {
         return illogical(alloc, unit, number);
+    }
+    if is_chained(unit, number) {
+        return chained(alloc, unit, number);
     }
     let after = number.saturating_add(1);
     let left = match number.checked_sub(1) {
@@ -342,7 +355,27 @@ fn misbegun(alloc: Global, unit: &Unit<'_, '_>, spot: &Spot) -> Result<Option<Ca
     wrong_value(alloc, unit, becomes.saturating_add(1), wanted)
 }
 
-/// An assignment: its variable, and its right side where that is one operand. Fails if allocation fails.
+/// The right side of an assignment: one operand of another kind, or what counts, to a BOOL. Fails if allocation fails.
+fn misvalued(
+    alloc: Global,
+    unit: &Unit<'_, '_>,
+    number: usize,
+) -> Result<Option<Cause>, AllocError> {
+    let value = number.saturating_add(2);
+    let kind = variable_kind(unit, number);
+    match (kind, counting(unit, value)) {
+        (Some(Kind::Bool), Some(at)) => {
+            let (word, operator) = (unit.word(number), unit.word(at));
+            let said = format!(in alloc;
+                "'{word}' is a BOOL, and '{operator}' makes none; a comparison does, as in n > 0"
+            )?;
+            Ok(unit.cause(at, said, KINDS))
+        }
+        _ => wrong_value(alloc, unit, value, kind),
+    }
+}
+
+/// An assignment: its variable, and its right side. Fails if allocation fails.
 fn misassigned(
     alloc: Global,
     unit: &Unit<'_, '_>,
@@ -350,10 +383,7 @@ fn misassigned(
 ) -> Result<Option<Cause>, AllocError> {
     match unassignable(alloc, unit, number)? {
         Some(cause) => Ok(Some(cause)),
-        None => {
-            let value = number.saturating_add(2);
-            wrong_value(alloc, unit, value, variable_kind(unit, number))
-        }
+        None => misvalued(alloc, unit, number),
     }
 }
 

@@ -147,3 +147,56 @@ pub fn loose_right(unit: &Unit<'_, '_>, operator: usize) -> Option<Kind> {
 pub fn is_bit(unit: &Unit<'_, '_>, number: usize) -> bool {
     matches!(unit.kind(number), Some(TokenKind::Integer(0 | 1)))
 }
+
+/// Whether an operator orders two values.
+fn is_order(kind: Option<TokenKind>) -> bool {
+    matches!(
+        kind,
+        Some(TokenKind::Symbol(Symbol::Less | Symbol::Greater | Symbol::AtMost | Symbol::AtLeast))
+    )
+}
+
+/// Whether the operator of a number orders what another such operator makes, as the second one of `a < b < c`.
+pub fn is_chained(unit: &Unit<'_, '_>, operator: usize) -> bool {
+    let back = if is_point(unit.kind_before(operator, 2)) {
+        4
+    } else {
+        2
+    };
+    is_order(unit.kind(operator)) && is_order(unit.kind_before(operator, back))
+}
+
+/// Whether an operand ends with a token.
+fn is_operand_end(kind: Option<TokenKind>) -> bool {
+    matches!(
+        kind,
+        Some(
+            TokenKind::Word
+                | TokenKind::Integer(_)
+                | TokenKind::Dint(_)
+                | TokenKind::Duration(_)
+                | TokenKind::Symbol(Symbol::Close)
+        )
+    )
+}
+
+/// The number of the first operator that counts with two operands in the value that begins with the token of a number and ends before a semicolon; `None`
+/// where it has none, or an operator that makes a BOOL.
+pub fn counting(unit: &Unit<'_, '_>, number: usize) -> Option<usize> {
+    let mut found = None;
+    for i in number..unit.tokens.len() {
+        let counts = match unit.kind(i)? {
+            TokenKind::Symbol(Symbol::Semicolon) => return found,
+            TokenKind::Symbol(Symbol::Plus | Symbol::Times | Symbol::Divide) => true,
+            TokenKind::Keyword(Keyword::Mod) => true,
+            TokenKind::Symbol(Symbol::Minus) => is_operand_end(unit.kind_before(i, 1)),
+            TokenKind::Symbol(Symbol::Open | Symbol::Close | Symbol::Point) => false,
+            TokenKind::Symbol(_) | TokenKind::Keyword(_) => return None,
+            _ => false,
+        };
+        if counts && found.is_none() {
+            found = Some(i);
+        }
+    }
+    None
+}
