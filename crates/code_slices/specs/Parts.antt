@@ -1,9 +1,6 @@
 -- A program's part of the cells: the slots and clocks that its code names, and the code by their numbers in the part.
-use Rattle.std.specs.Prelude.{◌≡◌, ◌<◌, ◌≤◌, ℕ, List, [], map, length, get_or, Some, slice_get}
-use Rattle.plant_cells.specs.declared.clock.Clock.{Clock}
-use Rattle.plant_cells.specs.declared.clock.Standard.TheVariants as standard
-use Rattle.plant_cells.specs.Clocks.{clock_of}
-use Rattle.plant_cells.specs.Cells.{PlainCells, value_at}
+use Rattle.std.specs.Prelude.{◌≡◌, ◌<◌, ◌≤◌, ℕ, List, length, get_or, Some, slice_get}
+use Rattle.plant_cells.specs.Cells.{PlainCells, picked}
 use Rattle.acc_vm.specs.declared.instr.Instr.{Instr}
 use Rattle.acc_vm.specs.Codes.{PlainCode, SameShape}
 use Rattle.code_slices.specs.Alike.{IsKept}
@@ -51,13 +48,9 @@ pub record AreClocks (instrs : List Instr) (places clocks : List ℕ) : Type 0 w
   pub named : (k : ℕ) → NamesClock instrs k → slice_get clocks (get_or places k 0) ≡ Some k
   pub only : (i k : ℕ) → slice_get clocks i ≡ Some k → NamesClock instrs k × (get_or places k 0 ≡ i)
 
--- a clock of a number; one before its first call where there is none
-abbrev pub clock_at : PlainCells → ℕ → Clock
-clock_at cells k = get_or cells.clocks k (clock_of standard.Ton [])
-
 -- a part's cells, with the values and clocks that they have in all cells
 abbrev pub loaded : PlainPart → PlainCells → PlainCells
-loaded part cells = record { values = map (value_at cells) part.slots; clocks = map (clock_at cells) part.clocks }
+loaded part cells = picked part.slots part.clocks cells
 
 -- cells have all slots and clocks of a part
 pub record HasPart (part : PlainPart) (cells : PlainCells) : Type 0 where

@@ -1,8 +1,6 @@
 //! A program's part of the cells: its code by numbers of its own.
 
-ghost use Rattle.std.specs.Prelude.{◌≡◌, ◌≤◌, ◌<◌, ◌^◌, ℕ, pos, [], Some, map, length, take, slice_get, slice_index_or, IfOk, IsTrue, ◌↔◌};
-ghost use Rattle.plant_cells.specs.declared.clock.Standard.{Standard};
-ghost use Rattle.plant_cells.specs.Clocks.{clock_of};
+ghost use Rattle.std.specs.Prelude.{◌≡◌, ◌≤◌, ◌^◌, ℕ, Some, length, take, slice_get, IfOk, OnOk, IsTrue, ◌↔◌};
 ghost use Rattle.acc_vm.specs.declared.instr.Instr.{Instr};
 ghost use Rattle.acc_vm.specs.Codes.{values_past, clocks_past};
 ghost use Rattle.code_slices.specs.Parts.{IsPart, IsPartOf, HasPart, AreSlots, AreClocks, loaded};
@@ -11,7 +9,7 @@ use crate::noting::{note_clocks, note_read, note_written};
 use crate::printed_code::PrintedCode;
 use crate::renaming::renamed_all;
 use acc_vm::{Code, Instr};
-use plant_cells::{Cells, Clock, Standard};
+use plant_cells::{Cells, Clock};
 use std::alloc::{AllocError, Global};
 use std::marker::Model;
 
@@ -109,53 +107,6 @@ pub fn relocate(
     })
 }
 
-/// The values of slots in a row of them, written into the room of other values. Fails if memory was refused.
-#[tactic(auto, using(crate::proofs::Items::picked_more))]
-fn picked_values(slots: &[u32], values: &[i64], room: Vec<i64>) -> Result<Vec<i64>, AllocError>
-    requires { (i s : ℕ) → slice_get slots.now i ≡ Some s → s < length values.now }
-    ensures { IfOk result (λ v. v.items ≡ map (λ s. slice_index_or values.now s (pos 0)) slots.now) }
-{
-    let mut picked = room;
-    if picked.len() != slots.len() {
-        picked.clear();
-        picked.resize(slots.len(), 0)?;
-    }
-    for (i, slot) in slots.iter().enumerate() {
-        picked[i] = values[*slot as usize];
-    }
-    Ok(picked)
-}
-
-/// The clock of a number in a row of them.
-#[tactic(auto, using(crate::proofs::Items::any_default))]
-fn picked_clock(clocks: &[Clock], number: u32) -> Clock
-    requires { number < length clocks.now }
-    ensures { result ≡ slice_index_or clocks.now number (clock_of Standard.Ton []) }
-{
-    clocks[number as usize]
-}
-
-/// The clocks of numbers in a row of them, written into the room of other clocks. Fails if memory was refused.
-#[tactic(auto, using(crate::proofs::Items::picked_more))]
-fn picked_clocks(
-    numbers: &[u32],
-    clocks: &[Clock],
-    room: Vec<Clock>,
-) -> Result<Vec<Clock>, AllocError>
-    requires { (i k : ℕ) → slice_get numbers.now i ≡ Some k → k < length clocks.now }
-    ensures { IfOk result (λ v. v.items ≡ map (λ k. slice_index_or clocks.now k (clock_of Standard.Ton [])) numbers.now) }
-{
-    let mut picked = room;
-    if picked.len() != numbers.len() {
-        picked.clear();
-        picked.resize(numbers.len(), Clock::new(Standard::Ton))?;
-    }
-    for (i, number) in numbers.iter().enumerate() {
-        picked[i] = picked_clock(clocks, *number);
-    }
-    Ok(picked)
-}
-
 impl Part {
     /// The code by the part's numbers.
     pub fn code(&self) -> &Code
@@ -186,16 +137,18 @@ impl Part {
         self.clocks.as_slice()
     }
 
-    /// The part's cells, with the values and clocks that they have among all of them, in the room of other cells. It allocates nothing where that
-    /// is large enough. Fails if memory was refused.
-    pub fn load(&self, values: &[i64], clocks: &[Clock], room: Cells) -> Result<Cells, AllocError>
+    /// Gives cells the values and clocks that the part's have among all cells. It allocates nothing where they are as many. Fails if memory was
+    /// refused.
+    pub fn load(
+        &self,
+        values: &[i64],
+        clocks: &[Clock],
+        cells: &mut Cells,
+    ) -> Result<(), AllocError>
         requires { HasPart self.now (record { values = values.now; clocks = clocks.now }) }
-        ensures { IfOk result (λ cells. cells ≡ loaded self.now (record { values = values.now; clocks = clocks.now })) }
+        ensures { OnOk result (cells.new ≡ loaded self.now (record { values = values.now; clocks = clocks.now })) }
     {
-        let (values_room, clocks_room) = room.into_parts();
-        let values = picked_values(self.slots(), values, values_room)?;
-        let clocks = picked_clocks(self.clocks(), clocks, clocks_room)?;
-        Ok(Cells::new(values, clocks))
+        cells.pick(self.slots(), self.clocks(), values, clocks)
     }
 
     /// Whether another part is the same.

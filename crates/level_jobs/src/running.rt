@@ -75,7 +75,7 @@ fn run_level<C: Crew<Job, Start, Done, H>, H>(
     ensures gathered { OnOk result (store.new.out ≡ []) }
     ensures counted { C.faulted crew.new ≡ faults_after (C.faulted crew.old) result }
 {
-    let Ok(jobs) = store.split(alloc, parts, levels, level) else {
+    let Ok(jobs) = store.begin(alloc, parts, levels, level) else {
         return Err(CrewFault::Memory);
     };
     let runs = run_jobs(rt, alloc, crew, jobs)?;

@@ -2,6 +2,7 @@
 use Rattle.std.specs.Prelude.{ℕ, ℤ, pos, List, [], Option, Some, None, map, slice_get, slice_set, slice_index_or, replicate}
 use Rattle.std_blocks.specs.Calls.{Call}
 use Rattle.plant_cells.specs.declared.clock.Standard.{Standard}
+use Rattle.plant_cells.specs.declared.clock.Standard.TheVariants as standard
 use Rattle.plant_cells.specs.declared.clock.Clock.{Clock}
 use Rattle.plant_cells.specs.Clocks.{clock_of, clock_step}
 
@@ -16,6 +17,14 @@ zero_cells many standards = record { values = replicate many (pos 0); clocks = m
 -- the value of a number; 0 if there is none
 abbrev pub value_at : PlainCells → ℕ → ℤ
 value_at cells slot = slice_index_or cells.values slot (pos 0)
+
+-- the clock of a number; one before its first call if there is none
+abbrev pub clock_at : PlainCells → ℕ → Clock
+clock_at cells number = slice_index_or cells.clocks number (clock_of standard.Ton [])
+
+-- the values of slots among all cells, and the clocks of numbers
+abbrev pub picked : List ℕ → List ℕ → PlainCells → PlainCells
+picked slots numbers cells = record { values = map (value_at cells) slots; clocks = map (clock_at cells) numbers }
 
 -- the cells after the value of a number was assigned, if there is one
 abbrev pub assigned : PlainCells → ℕ → ℤ → PlainCells

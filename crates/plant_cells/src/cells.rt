@@ -1,10 +1,11 @@
 //! The values of variables, and the clocks of standard blocks' instances.
 
-ghost use Rattle.std.specs.Prelude.{◌≡◌, ◌<◌, ◌==◌, pos, length, slice_index_or, slice_get, slice_set, IfOk};
+ghost use Rattle.std.specs.Prelude.{◌≡◌, ◌<◌, ◌==◌, ℕ, Some, pos, length, slice_index_or, slice_get, slice_set, IfOk, OnOk};
 ghost use Rattle.std_blocks.specs.Calls.{call};
-ghost use Rattle.plant_cells.specs.Cells.{zero_cells, value_at, assigned, clocked};
+ghost use Rattle.plant_cells.specs.Cells.{zero_cells, value_at, assigned, clocked, picked};
 
 use crate::clock::{Clock, Standard, new_clocks};
+use crate::picking::{pick_clocks, pick_values};
 use std::alloc::{AllocError, Global};
 use std::marker::Model;
 
@@ -144,5 +145,21 @@ impl Cells {
     {
         self.values.copy_from_slice(other.values.as_slice());
         self.clocks.copy_from_slice(other.clocks.as_slice());
+    }
+
+    /// Becomes the values of slots among all cells, and the clocks of numbers. It allocates nothing where it has as many. Fails if memory was refused.
+    pub fn pick(
+        &mut self,
+        slots: &[u32],
+        numbers: &[u32],
+        values: &[i64],
+        clocks: &[Clock],
+    ) -> Result<(), AllocError>
+        requires slots { (i s : ℕ) → slice_get slots.now i ≡ Some s → s < length values.now }
+        requires clocks { (i k : ℕ) → slice_get numbers.now i ≡ Some k → k < length clocks.now }
+        ensures { OnOk result (self.new ≡ picked slots.now numbers.now (record { values = values.now; clocks = clocks.now })) }
+    {
+        pick_values(&mut self.values, slots, values)?;
+        pick_clocks(&mut self.clocks, numbers, clocks)
     }
 }

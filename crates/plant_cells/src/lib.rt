@@ -7,6 +7,7 @@
 mod cells;
 mod clock;
 mod laws;
+mod picking;
 mod stop;
 
 pub use cells::Cells;

@@ -1,6 +1,6 @@
 -- What a gathered level is.
 use Rattle.std.specs.Prelude.{◌≡◌, ℕ, suc, ◌<◌, ◌≤◌, List, length, take, slice_index_or, slice_get, Contains, Bool, true, false, Some, Result, Ok, Err}
-use Rattle.crew.specs.Runs.{IsDistinct}
+use Rattle.crew.specs.Runs.{IsDistinct, IsEachOnce}
 use Rattle.plant_cells.specs.declared.stop.Stop.{Stop}
 use Rattle.plant_cells.specs.Cells.{PlainCells}
 use Rattle.acc_vm.specs.Codes.{SameShape}
@@ -76,6 +76,12 @@ pub record AreJobsOf (cells : PlainCells) (programs moment : ℕ) (jobs : List B
   pub one_program : (s t : Begun) → Contains jobs s → Contains jobs t → s.number ≡ t.number → s ≡ t
   pub apart : (s t : Begun) → Contains jobs s → Contains jobs t → (slot : ℕ) → WritesSlot s.part slot → NamesSlot t.part slot → s ≡ t
   pub clocks_apart : (s t : Begun) → Contains jobs s → Contains jobs t → (k : ℕ) → HasClock s.part k → HasClock t.part k → s ≡ t
+
+-- runs are one for each of some jobs that begin from a store's cells, at its moment
+pub record AreRunsFrom (store : Stored) (runs : List Begun) : Type 0 where
+  pub jobs : List Begun
+  pub begin : AreJobsOf store.cells (length store.faulted) store.moment jobs
+  pub each_once : IsEachOnce jobs runs
 
 abbrev pub HasStranger : List Begun → List Begun → Type 0
 HasStranger out runs = (s : Begun) × Contains runs s × (Contains out s → ⊥)

@@ -19,13 +19,14 @@ use plant_cells::{Cells, Clock, Stop};
 use std::marker::Model;
 use std::sync::Arc;
 
-/// What a job has: where it starts, room for cells and a stack of its own, and room for how its run ends. It lies in a place of its own, so that
+/// What a job has: where it starts, room for cells and a stack of its own, what it costs, and room for how its run ends. It lies in a place of its own, so that
 /// it isn't copied where the job, its run or their memory is handed on.
 #[derive(Drop)]
 pub(crate) struct Run {
     pub(crate) start: Arc<Start>,
     pub(crate) cells: Cells,
     pub(crate) stack: Vec<i64>,
+    pub(crate) cost: u64,
     pub(crate) result: Result<(), Stop>,
 }
 
@@ -138,7 +139,7 @@ impl Work<Start, Done> for Job {
     }
 
     fn cost(&self) -> u64 {
-        self.run.start.part().code().cost()
+        self.run.cost
     }
 
     fn start(&self) -> &Arc<Start> {
@@ -152,6 +153,7 @@ impl Work<Start, Done> for Job {
             start,
             cells,
             stack,
+            cost: _,
             result,
         } = &mut *run;
         cells.copy_from(start.cells());
@@ -196,6 +198,7 @@ impl Done {
             start,
             cells,
             stack: _,
+            cost: _,
             result,
         } = &*self.run;
         put_part(start.part(), cells, values, clocks);

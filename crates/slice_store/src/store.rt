@@ -2,7 +2,7 @@
 
 ghost use Rattle.std.specs.Prelude.{◌≡◌, ◌+◌, ◌<◌, ◌^◌, ℕ, [], length, replicate, false, slice_index, slice_index_or, IsTrue, OnOk, IfOk, IfErr};
 ghost use Rattle.std.specs.Arc.{arc_value};
-ghost use Rattle.slice_store.specs.Level.{TakesRuns, AreJobsOf};
+ghost use Rattle.slice_store.specs.Level.{TakesRuns, AreJobsOf, AreRunsFrom};
 ghost use Rattle.crew.specs.Runs.{AreNumbered, IsEachOnce};
 ghost use Rattle.code_slices.specs.Parts.{HasPart};
 ghost use Rattle.slice_store.specs.Splits.{CanSplit, AreJobsBefore, SameStore, begun};
@@ -147,8 +147,8 @@ fn put_start(
     Ok(())
 }
 
-/// Gives a run as many cells as its start has, and the words of stack that its code needs, in its own room where that serves. Fails if memory was
-/// refused.
+/// Gives a run as many cells as its start has, the words of stack that its code needs, in its own room where that serves, and what it costs. Fails if
+/// memory was refused.
 fn make_ready(alloc: Global, run: &mut Run) -> Result<(), AllocError>
     ensures ready { OnOk result (IsReadyJob (arc_value run.new.start) run.new.cells run.new.stack.items) }
     ensures start { arc_value run.new.start ≡ arc_value run.old.start }
@@ -157,13 +157,16 @@ fn make_ready(alloc: Global, run: &mut Run) -> Result<(), AllocError>
         start,
         cells,
         stack,
+        cost,
         result: _,
     } = run;
     let begun = start.cells();
     if cells.len() != begun.len() || cells.clock_count() != begun.clock_count() {
         *cells = begun.copy(alloc)?;
     }
-    let words = start.part().code().stack();
+    let code = start.part().code();
+    *cost = code.cost();
+    let words = code.stack();
     if stack.len() < words {
         stack.resize(words, 0)?;
     }
@@ -307,13 +310,15 @@ impl Store {
         ensures { IfOk result (λ job. job ≡ begun number (part_of (arc_value parts.now) number) self.now.moment self.now.cells) }
     {
         let part = parts.numbered(number);
-        let cells = part.load(self.values(), self.clocks(), no_cells(alloc))?;
+        let mut cells = no_cells(alloc);
+        part.load(self.values(), self.clocks(), &mut cells)?;
         let start = start_of(number, parts, self.moment(), cells)?;
         let start = shared_start(alloc, start)?;
         let run = Run {
             start,
             cells: no_cells(alloc),
             stack: Vec::new(alloc),
+            cost: 0,
             result: Ok(()),
         };
         let mut run = Box::new(alloc, run)?;
@@ -339,10 +344,10 @@ impl Store {
             start,
             cells,
             stack: _,
+            cost: _,
             result: _,
         } = &mut *run;
-        let room = replace(cells, no_cells(alloc));
-        *cells = part.load(self.values(), self.clocks(), room)?;
+        part.load(self.values(), self.clocks(), cells)?;
         put_start(alloc, start, number, parts, self.moment(), cells)?;
         make_ready(alloc, &mut run)?;
         Ok(Job::new(run))
@@ -390,48 +395,29 @@ impl Store {
         Ok(jobs)
     }
 
-    /// Begins a level: the jobs, their starts, and a tick for each, all off. Fails if memory was refused.
-    fn begin_all(
-        &self,
-        alloc: Global,
-        reserve: &mut Reserve,
-        parts: &Arc<Parts>,
-        levels: &Levels,
-        level: u32,
-    ) -> Result<(Vec<Job>, Vec<Out>, Vec<bool>), AllocError>
-        requires { CanSplit (arc_value parts.now) levels.now level self.now.cells (length self.now.faulted) }
-        ensures jobs { IfOk result (λ r. AreJobsBefore (arc_value parts.now) levels.now level self.now (length (arc_value parts.now)) r.0.items) }
-        ensures out { IfOk result (λ r. r.1.items ≡ r.0.items) }
-        ensures ticks { IfOk result (λ r. r.2.items ≡ replicate (length r.0.items) false) }
-    {
-        let jobs = self.begin_level(alloc, reserve, parts, levels, level)?;
-        let out = starts_of(jobs.as_slice(), reserve.take_out(alloc))?;
-        let ticks = no_ticks(jobs.len(), reserve.take_ticks(alloc))?;
-        Ok((jobs, out, ticks))
-    }
-
-    /// Begins a level in the memory of the store's reserve. Fails if memory was refused.
-    fn begin_lent(
+    /// Begins a level: a job for each program of it that isn't faulted, in program order, from the cells and at the moment of the store, in the
+    /// memory of earlier jobs. No list of what is out is kept, so who begins knows what `take_in` wants to know. Fails if memory was refused.
+    pub fn begin(
         &mut self,
         alloc: Global,
         parts: &Arc<Parts>,
         levels: &Levels,
         level: u32,
-    ) -> Result<(Vec<Job>, Vec<Out>, Vec<bool>), AllocError>
+    ) -> Result<Vec<Job>, AllocError>
         requires { CanSplit (arc_value parts.now) levels.now level self.old.cells (length self.old.faulted) }
-        ensures jobs { IfOk result (λ r. AreJobsBefore (arc_value parts.now) levels.now level self.old (length (arc_value parts.now)) r.0.items) }
-        ensures out { IfOk result (λ r. r.1.items ≡ r.0.items) }
-        ensures ticks { IfOk result (λ r. r.2.items ≡ replicate (length r.0.items) false) }
+        ensures jobs { IfOk result (λ jobs. AreJobsBefore (arc_value parts.now) levels.now level self.old (length (arc_value parts.now)) jobs.items) }
+        ensures of_cells { IfOk result (λ jobs. AreJobsOf self.old.cells (length self.old.faulted) self.old.moment jobs.items) }
+        ensures numbered { IfOk result (λ jobs. AreNumbered (λ s. s.number) jobs.items) }
         ensures same { self.new ≡ self.old }
     {
         let mut reserve = self.take_back(alloc);
-        let begun = self.begin_all(alloc, &mut reserve, parts, levels, level);
+        let begun = self.begin_level(alloc, &mut reserve, parts, levels, level);
         self.lend(reserve);
         begun
     }
 
-    /// Splits a level: a job for each program of it that isn't faulted, in program order, from the cells and at the moment of the store, in the
-    /// memory of earlier jobs. All jobs that were out have been gathered. Fails if memory was refused; then none is out.
+    /// Splits a level: begins it, and keeps a list of the jobs that are out, in memory of earlier lists. All jobs that were out have been gathered.
+    /// Fails if memory was refused; then none is out.
     pub fn split(
         &mut self,
         alloc: Global,
@@ -447,15 +433,19 @@ impl Store {
         ensures refused { IfErr result (λ e. self.new.out ≡ []) }
         ensures same { SameStore self.new self.old }
     {
-        let (jobs, out, ticks) = self.begin_lent(alloc, parts, levels, level)?;
+        let jobs = self.begin(alloc, parts, levels, level)?;
+        let out = starts_of(jobs.as_slice(), self.reserve.take_out(alloc))?;
+        let ticks = no_ticks(jobs.len(), self.reserve.take_ticks(alloc))?;
         self.out = out;
         self.ticks = ticks;
         Ok(jobs)
     }
 
-    /// Takes in runs of which the caller knows that they are one for each job that is out, in any order. It compares none, and allocates nothing.
+    /// Takes in runs of which the caller knows that they are one for each job of some that begin from this store. It compares none, and allocates
+    /// nothing.
     pub fn take_in(&mut self, runs: Vec<Done>)
-        requires { IsEachOnce self.old.out runs.items }
+        requires gathered { self.old.out ≡ [] }
+        requires runs { AreRunsFrom self.old runs.items }
         ensures taken { TakesRuns self.old.cells self.old.faulted runs.items self.new.cells self.new.faulted }
         ensures gathered { self.new.out ≡ [] }
         ensures moment { self.new.moment ≡ self.old.moment }
@@ -466,7 +456,6 @@ impl Store {
             self.faulted.as_mut_slice(),
             &runs,
         );
-        self.reserve.keep_lists(&mut self.out, &mut self.ticks);
         self.reserve.keep_all(runs);
     }
 

@@ -37,18 +37,19 @@ pub(crate) fn own_of(whole: u64, hands: u32) -> u64 {
     whole / (2 * u64::from(hands.max(2)))
 }
 
-/// How many of the first jobs cost no more than a share, but for the first one.
-pub(crate) fn kept<J: Work<S, D>, S, D>(jobs: &[J], share: u64) -> usize
-    ensures { result ≤ length jobs.now }
+/// How many of the first jobs cost no more than a share, but for the first one; and what they cost.
+pub(crate) fn kept<J: Work<S, D>, S, D>(jobs: &[J], share: u64) -> (usize, u64)
+    ensures { result.0 ≤ length jobs.now }
 {
     let mut cost = 0u64;
     for (at, job) in jobs.iter().enumerate() {
-        cost = cost.saturating_add(job.cost().max(1));
-        if at > 0 && cost > share {
-            return at;
+        let more = cost.saturating_add(job.cost().max(1));
+        if at > 0 && more > share {
+            return (at, cost);
         }
+        cost = more;
     }
-    jobs.len()
+    (jobs.len(), cost)
 }
 
 /// The place from which the last jobs cost no more than a share, but for the last one; and what they cost.

@@ -69,6 +69,13 @@ impl<J, S, D, G> Model for Standing<J, S, D, G> {
     ghost view = { λ s. record { lost = s.lost; faults = s.faults } };
 }
 
+/// The jobs of a round that are to be handed out, and what they cost.
+#[derive(Drop)]
+struct Others<J> {
+    jobs: Vec<J>,
+    cost: u64,
+}
+
 /// How many messages of a round went out, and the fault that ended the handing out.
 struct HandedOut {
     messages: u64,
@@ -293,11 +300,12 @@ impl<J: Work<S, D>, S: Drop, D: Drop, G: Gate> Standing<J, S, D, G> {
         }
         self.round += 1;
         let mut own = jobs;
-        let many = kept::<J, S, D>(own.as_slice(), own_of(whole, self.hands));
-        let Ok(others) = own.split_off(many) else {
+        let (many, cost) = kept::<J, S, D>(own.as_slice(), own_of(whole, self.hands));
+        let Ok(jobs) = own.split_off(many) else {
             return Err(CrewFault::Memory);
         };
-        self.run_shared(rt, alloc, own, others)
+        let cost = whole.saturating_sub(cost);
+        self.run_shared(rt, alloc, own, Others { jobs, cost })
     }
 
     /// What a round needs before any job is handed out: what the jobs start from, and a tick for each, all off. Fails if memory was refused.
@@ -349,13 +357,13 @@ impl<J: Work<S, D>, S: Drop, D: Drop, G: Gate> Standing<J, S, D, G> {
         rt: &H,
         alloc: Global,
         own: Vec<J>,
-        others: Vec<J>,
+        others: Others<J>,
     ) -> Result<Vec<D>, CrewFault>
-        requires { IsDistinct (map J.start_of own.items ++ map J.start_of others.items) }
-        ensures each { IfOk result (λ runs. IsEachOnce (map J.start_of own.items ++ map J.start_of others.items) (map J.ended_from runs.items)) }
+        requires { IsDistinct (map J.start_of own.items ++ map J.start_of others.jobs.items) }
+        ensures each { IfOk result (λ runs. IsEachOnce (map J.start_of own.items ++ map J.start_of others.jobs.items) (map J.ended_from runs.items)) }
         ensures same { self.new ≡ self.old }
     {
-        let Ok((starts, mut gathered)) = self.begin_round(alloc, others.as_slice()) else {
+        let Ok((starts, mut gathered)) = self.begin_round(alloc, others.jobs.as_slice()) else {
             return Err(CrewFault::Memory);
         };
         let Ok(mut runs) = Vec::with_capacity(alloc, starts.len().saturating_add(own.len())) else {
@@ -380,11 +388,13 @@ impl<J: Work<S, D>, S: Drop, D: Drop, G: Gate> Standing<J, S, D, G> {
         &self,
         rt: &H,
         alloc: Global,
-        jobs: Vec<J>,
+        others: Others<J>,
         spare: &mut Vec<Lists<J, D>>,
     ) -> HandedOut {
-        let mut cost = cost_of::<J, S, D>(jobs.as_slice());
-        let mut left = jobs;
+        let Others {
+            jobs: mut left,
+            mut cost,
+        } = others;
         let mut messages = 0u64;
         while !left.is_empty() {
             let share = share_of(cost, self.hands);

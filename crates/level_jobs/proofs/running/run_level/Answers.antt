@@ -18,3 +18,6 @@ returns-clause-paths g c = λ codes are.
     let tell : Tell c.in_ok-runs.runs.items c.in-Ok-faults_of.faults.items = subst (λ xs. Tell xs c.in-Ok-faults_of.faults.items) c.as_slice.ensures.value c.in-Ok-faults_of.ensures in
     their_paths codes (arc_value c.args.parts.now) c.args.levels.now c.args.level c.args.store.now (length (arc_value c.args.parts.now)) c.in-Ok.jobs.items c.in_ok-runs.runs.items are c.in-Ok.ensures.jobs c.in_ok-runs.ensures.each
     c.in-Ok-faults_of.faults.items tell.of_runs
+
+pub take_in-requires-clause-runs : goal.take_in-requires-clause-runs
+take_in-requires-clause-runs g c = rw c.begin.ensures.same (record { jobs = c.in-Ok.jobs.items; begin = c.in-Ok.ensures.of_cells; each_once = c.in_ok-runs.ensures.each })

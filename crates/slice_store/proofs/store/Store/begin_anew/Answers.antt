@@ -10,9 +10,9 @@ pub returns : goal.returns
 returns c =
     let part = part_of (arc_value c.args.parts.now) c.args.number in
     let same : c.numbered-part.result.now ≡ part = c.numbered-part.ensures ∙ ap (λ parts. part_of parts c.args.number) c.deref.ensures in
-    let from : c.in_ok-cells.cells ≡ loaded part c.args.self.now.cells
-    = loaded_by part c.numbered-part.result.now c.args.self.now.cells c.values.result.now c.clocks.result.now same c.values.ensures c.clocks.ensures c.in_ok-cells.cells c.in_ok-cells.ensures in
-    starts_by c.args.number part c.moment.result c.args.self.now.moment c.in_ok-cells.cells c.args.self.now.cells c.moment.ensures from c.new-3.result (search rules)
+    let from : c.load.new.cells ≡ loaded part c.args.self.now.cells
+    = loaded_by part c.numbered-part.result.now c.args.self.now.cells c.values.result.now c.clocks.result.now same c.values.ensures c.clocks.ensures c.load.new.cells c.in_ok-load.ensures in
+    starts_by c.args.number part c.moment.result c.args.self.now.moment c.load.new.cells c.args.self.now.cells c.moment.ensures from c.new-3.result (search rules)
 
 pub start_of-requires-clause-clocks : goal.start_of-requires-clause-clocks
 start_of-requires-clause-clocks c = grind (arith, common_steps)

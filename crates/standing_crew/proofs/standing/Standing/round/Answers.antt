@@ -7,12 +7,12 @@ use Rattle.standing_crew.proofs.standing.Standing.round.Goals as goal
 
 pub run_shared-requires : goal.run_shared-requires
 run_shared-requires g c =
-    let all = parted g.J.Work.start_of c.args.jobs.items c.split_off.new.self.items c.in-Ok.others.items c.kept-many.result c.in-Ok.ensures.items c.in-Ok.ensures.tail in
+    let all = parted g.J.Work.start_of c.args.jobs.items c.split_off.new.self.items c.in-Ok.jobs.items c.kept-many.result.0 c.in-Ok.ensures.items c.in-Ok.ensures.tail in
     subst (λ xs. IsDistinct xs) (sym all) (distinct g.J.Work.number_of (map g.J.Work.start_of c.args.jobs.items) c.requires)
 
 pub returns-clause-each : goal.returns-clause-each
 returns-clause-each g c =
-    let all = parted g.J.Work.start_of c.args.jobs.items c.split_off.new.self.items c.in-Ok.others.items c.kept-many.result c.in-Ok.ensures.items c.in-Ok.ensures.tail in
+    let all = parted g.J.Work.start_of c.args.jobs.items c.split_off.new.self.items c.in-Ok.jobs.items c.kept-many.result.0 c.in-Ok.ensures.items c.in-Ok.ensures.tail in
     subst (λ xs. IfOk c.run_shared.result (λ runs. IsEachOnce xs (map g.J.Work.ended_from runs.items))) all c.run_shared.ensures.each
 
 pub returns-in_default-clause-faults : goal.returns-in_default-clause-faults

@@ -6,7 +6,7 @@ use Rattle.standing_crew.proofs.standing.Standing.run_shared.Goals as goal
 
 pub gather-requires-clause-distinct : goal.gather-requires-clause-distinct
 gather-requires-clause-distinct g c =
-    let others = map g.J.Work.start_of c.args.others.items in
+    let others = map g.J.Work.start_of c.args.others.jobs.items in
     let starts : c.as_slice-2.result.now ≡ others = c.as_slice-2.ensures.value ∙ c.in-Ok.ensures.starts ∙ ap (λ xs. map g.J.Work.start_of xs) c.as_slice.ensures.value in
     subst (λ xs. IsDistinct xs) (sym starts) (second_distinct (map g.J.Work.start_of c.args.own.items) others c.requires)
 
@@ -14,7 +14,7 @@ pub returns-clause-each : goal.returns-clause-each
 returns-clause-each g c =
     let f = g.J.Work.ended_from in
     let own = map g.J.Work.start_of c.args.own.items in
-    let others = map g.J.Work.start_of c.args.others.items in
+    let others = map g.J.Work.start_of c.args.others.jobs.items in
     let whole : c.run_all-whole.result ≡ true = search rules in
     let mine : map f c.run_all-whole.new.runs.items ≡ own = c.run_all-whole.ensures whole ∙ ap (λ xs. map f xs ++ own) c.in-Ok-with_capacity.ensures.items in
     let starts : c.as_slice-3.result.now ≡ others = c.as_slice-3.ensures.value ∙ c.in-Ok.ensures.starts ∙ ap (λ xs. map g.J.Work.start_of xs) c.as_slice.ensures.value in
