@@ -1,5 +1,6 @@
 -- Prints tell instructions apart: they are read back.
-use Rattle.std.proofs.Common.{◌≡◌, ℕ, ℤ, pos, List, [], ◌∷◌, ◌++◌, length, get_or, drop, arith, refl, ap, sym, ◌∙◌, nat_eq, if◌then◌else◌}
+use Rattle.std.proofs.Common.{◌≡◌, ◌≢◌, ℕ, ◌+◌, ◌<◌, ℤ, pos, List, [], ◌∷◌, ◌++◌, length, get_or, drop, arith, refl, ap, sym, ◌∙◌, subst, nat_eq, if◌then◌else◌, ◌⊎◌, inl, inr, ne_eqb}
+use Rattle.std.proofs.lemmas.Bool.Decides.{nat_tests}
 use Rattle.std.specs.List.{flat_map}
 use Rattle.plant_types.specs.declared.values.Place.{Place}
 use Rattle.st_tree.specs.declared.tree.Unary.{Unary}
@@ -9,7 +10,8 @@ use Rattle.st_tree.specs.declared.tree.Binary.TheVariants as binary
 use Rattle.acc_vm.specs.declared.instr.Instr.{Instr}
 use Rattle.acc_vm.specs.declared.instr.Instr.TheVariants as instr
 use Rattle.acc_vm.specs.Codes.{PlainCode}
-use Rattle.code_slices.specs.Prints.{ArePrintsOf, kinds_of, numbers_of, literals_of, numbers_of_place, counts_of, unary_number, binary_number}
+use Rattle.code_slices.specs.declared.prints.Prints.{Prints}
+use Rattle.code_slices.specs.Prints.{ArePrintsOf, HaveSameItems, kinds_of, numbers_of, literals_of, step_of, told_of, steps_of, told_places, opening, counts_of, unary_number, binary_number}
 
 -- the operator of a number
 abbrev unary_of : ℕ → Unary
@@ -119,34 +121,61 @@ same_instrs (x ∷ xs) (y ∷ ys) k n l =
     let left : xs ≡ ys = same_instrs xs ys (ap (λ (r : Read). r.kinds) both) (ap (λ (r : Read). r.numbers) both) (ap (λ (r : Read). r.literals) both) in
     λ i. (both i).instr ∷ left i
 
--- places of one list of numbers are the same
-same_places : (xs ys : List Place) → flat_map numbers_of_place xs ≡ flat_map numbers_of_place ys → xs ≡ ys
-same_places [] [] e = refl
-same_places [] (y ∷ ys) e = let n = ap length e in absurd (omega (arith, n))
-same_places (x ∷ xs) [] e = let n = ap length e in absurd (omega (arith, n))
-same_places (x ∷ xs) (y ∷ ys) e =
-    let path : x.path ≡ y.path = ap (λ (l : List ℕ). get_or l 0 0) e in
-    let statement : x.statement ≡ y.statement = ap (λ (l : List ℕ). get_or l 1 0) e in
-    let left : xs ≡ ys = same_places xs ys (ap (drop 2) e) in
-    λ i. record { path = path i; statement = statement i } ∷ left i
+-- a place that was read, and what is left of the numbers that are told
+record ReadPlace : Type 0 where
+  place : Place
+  left : List ℕ
+
+abbrev given : Place → List ℕ → ReadPlace
+given place left = record { place = place; left = left }
+
+-- the place behind another at a step
+abbrev place_at : Place → ℕ → List ℕ → ReadPlace
+place_at last step told = if nat_eq step 255 then given (record { path = get_or told 0 0; statement = get_or told 1 0 }) (drop 2 told) else given (record { path = last.path; statement = last.statement + step }) told
+
+-- what a step tells of the place behind another: all, or nothing
+abbrev Tells : Place → Place → ℕ → Type 0
+Tells last p step = (step ≡ 255) ⊎ ((last.path ≡ p.path) × (last.statement + step ≡ p.statement) × (step < 255))
+
+step_tells : (last p : Place) → Tells last p (step_of last p)
+step_tells last p = grind (arith, nat_tests)
+
+-- what is read at a place's step is that place, and the rest
+place_back : (last p : Place) (left : List ℕ) (step : ℕ) → Tells last p step → place_at last step (told_of step p ++ left) ≡ given p left
+place_back last p left step (inl e) = subst (λ (n : ℕ). place_at last n (told_of n p ++ left) ≡ given p left) (sym e) refl
+place_back last p left step (inr near) =
+    let other : step ≢ 255 = omega arith in
+    rw (ne_eqb step 255 other) (λ i. given (record { path = near.0 i; statement = near.1 i }) left)
+
+-- places of the same steps, and of the same numbers that are told, are the same
+same_places : (last : Place) (xs ys : List Place) → steps_of last xs ≡ steps_of last ys → told_places last xs ≡ told_places last ys → xs ≡ ys
+same_places last [] [] s t = refl
+same_places last [] (y ∷ ys) s t = let n = ap length s in absurd (omega (arith, n))
+same_places last (x ∷ xs) [] s t = let n = ap length s in absurd (omega (arith, n))
+same_places last (x ∷ xs) (y ∷ ys) s t =
+    let both : given x (told_places x xs) ≡ given y (told_places y ys) = sym (place_back last x (told_places x xs) (step_of last x) (step_tells last x)) ∙ (λ i. place_at last (get_or (s i) 0 0) (t i)) ∙ place_back last y (told_places y ys) (step_of last y) (step_tells last y) in
+    let here : x ≡ y = ap (λ (r : ReadPlace). r.place) both in
+    let steps : steps_of x xs ≡ steps_of x ys = ap (drop 1) s ∙ ap (λ (p : Place). steps_of p ys) (sym here) in
+    let told : told_places x xs ≡ told_places x ys = ap (λ (r : ReadPlace). r.left) both ∙ ap (λ (p : Place). told_places p ys) (sym here) in
+    let left : xs ≡ ys = same_places x xs ys steps told in
+    λ i. here i ∷ left i
 
 -- codes of one kind in all parts are the same
 pub same_parts : (a b : PlainCode) → counts_of a ≡ counts_of b → a.places ≡ b.places → a.instrs ≡ b.instrs → a ≡ b
 same_parts a b c p q = λ i. record { instrs = q i; places = p i; paths = (c i).paths; values = (c i).values; clocks = (c i).clocks; stack = (c i).stack; cost = (c i).cost }
 
--- codes whose lists have the same numbers have the same places and instructions, and the other way round
-pub same_printed : (xs ys : List Instr) (ps qs : List Place) (ka na kb nb pa pb : List ℕ) (la lb : List ℤ) → ArePrintsOf xs ps ka na la pa → ArePrintsOf ys qs kb nb lb pb
-    → (ka ≡ kb) × (na ≡ nb) × (la ≡ lb) × (pa ≡ pb) → (ps ≡ qs) × (xs ≡ ys)
-same_printed xs ys ps qs ka na kb nb pa pb la lb a b (k, n, l, p) = (
-  same_places ps qs (sym a.places_are ∙ p ∙ b.places_are),
-  same_instrs xs ys (sym a.kinds_are ∙ k ∙ b.kinds_are) (sym a.numbers_are ∙ n ∙ b.numbers_are) (sym a.literals_are ∙ l ∙ b.literals_are),
+-- codes whose prints have the same items have the same places and instructions, and the other way round
+pub same_printed : (xs ys : List Instr) (ps qs : List Place) (f g : Prints) → ArePrintsOf xs ps f → ArePrintsOf ys qs g → HaveSameItems f g → (ps ≡ qs) × (xs ≡ ys)
+same_printed xs ys ps qs f g a b e = (
+  same_places opening ps qs (sym a.places_are.steps_are ∙ e.steps ∙ b.places_are.steps_are) (sym a.places_are.told_are ∙ e.told ∙ b.places_are.told_are),
+  same_instrs xs ys (sym a.kinds_are ∙ e.kinds ∙ b.kinds_are) (sym a.numbers_are ∙ e.numbers ∙ b.numbers_are) (sym a.literals_are ∙ e.literals ∙ b.literals_are),
 )
 
-pub printed_same : (xs ys : List Instr) (ps qs : List Place) (ka na kb nb pa pb : List ℕ) (la lb : List ℤ) → ArePrintsOf xs ps ka na la pa → ArePrintsOf ys qs kb nb lb pb
-    → (ps ≡ qs) × (xs ≡ ys) → (ka ≡ kb) × (na ≡ nb) × (la ≡ lb) × (pa ≡ pb)
-printed_same xs ys ps qs ka na kb nb pa pb la lb a b (p, e) = (
-  a.kinds_are ∙ ap (flat_map kinds_of) e ∙ sym b.kinds_are,
-  a.numbers_are ∙ ap (flat_map numbers_of) e ∙ sym b.numbers_are,
-  a.literals_are ∙ ap (flat_map literals_of) e ∙ sym b.literals_are,
-  a.places_are ∙ ap (flat_map numbers_of_place) p ∙ sym b.places_are,
-)
+pub printed_same : (xs ys : List Instr) (ps qs : List Place) (f g : Prints) → ArePrintsOf xs ps f → ArePrintsOf ys qs g → (ps ≡ qs) × (xs ≡ ys) → HaveSameItems f g
+printed_same xs ys ps qs f g a b (p, e) = record {
+  kinds = a.kinds_are ∙ ap (flat_map kinds_of) e ∙ sym b.kinds_are;
+  numbers = a.numbers_are ∙ ap (flat_map numbers_of) e ∙ sym b.numbers_are;
+  literals = a.literals_are ∙ ap (flat_map literals_of) e ∙ sym b.literals_are;
+  steps = a.places_are.steps_are ∙ ap (steps_of opening) p ∙ sym b.places_are.steps_are;
+  told = a.places_are.told_are ∙ ap (told_places opening) p ∙ sym b.places_are.told_are;
+}

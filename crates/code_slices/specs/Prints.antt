@@ -1,5 +1,5 @@
 -- Instructions and places as numbers.
-use Rattle.std.specs.Prelude.{◌≡◌, ℕ, ℤ, List, [], ◌∷◌}
+use Rattle.std.specs.Prelude.{◌≡◌, ℕ, ◌-◌, ℤ, List, [], ◌∷◌, ◌++◌, ◌&&◌, not, min, nat_eq, nat_lt, if◌then◌else◌}
 use Rattle.std.specs.List.{flat_map}
 use Rattle.plant_types.specs.declared.values.Place.{Place}
 use Rattle.st_tree.specs.declared.tree.Unary.{Unary}
@@ -10,6 +10,8 @@ use Rattle.acc_vm.specs.declared.instr.Instr.{Instr}
 use Rattle.acc_vm.specs.declared.instr.Instr.TheVariants as instr
 use Rattle.acc_vm.specs.Codes.{PlainCode}
 use Rattle.code_slices.specs.declared.prints.Counts.{Counts}
+use Rattle.code_slices.specs.declared.prints.Prints.{Prints}
+use Rattle.code_slices.specs.declared.prints.PlacePrints.{PlacePrints}
 
 -- a number for each operator with one operand
 abbrev pub unary_number : Unary → ℕ
@@ -78,7 +80,7 @@ print_of (instr.LoadBinaryLiteralStore op one x two) = record { number = 29; ope
 print_of (instr.LoadBinarySlotJump op one two three) = record { number = 30; operators = binary_number op ∷ []; numbers = one ∷ two ∷ three ∷ []; literals = [] }
 print_of (instr.LoadBinaryLiteralJump op one x two) = record { number = 31; operators = binary_number op ∷ []; numbers = one ∷ two ∷ []; literals = x ∷ [] }
 
--- the numbers of an instruction's print, by their sizes, and those of a place
+-- the numbers of an instruction's print, by their sizes
 abbrev pub kinds_of : Instr → List ℕ
 kinds_of i = (print_of i).number ∷ (print_of i).operators
 
@@ -88,15 +90,46 @@ numbers_of i = (print_of i).numbers
 abbrev pub literals_of : Instr → List ℤ
 literals_of i = (print_of i).literals
 
-abbrev pub numbers_of_place : Place → List ℕ
-numbers_of_place place = place.path ∷ place.statement ∷ []
+-- the step from a place to the next one: how many statements of the same body that lies further on, or 255 where it lies elsewhere or far
+abbrev pub step_of : Place → Place → ℕ
+step_of last place = if nat_eq last.path place.path && not (nat_lt place.statement last.statement) then min (place.statement - last.statement) 255 else 255
+
+-- the numbers of a place that are told: both, where its step doesn't tell it
+abbrev pub told_of : ℕ → Place → List ℕ
+told_of step place = if nat_eq step 255 then place.path ∷ place.statement ∷ [] else []
+
+-- the steps through places behind a place, and the numbers of places that are told
+abbrev pub steps_of : Place → List Place → List ℕ
+steps_of last [] = []
+steps_of last (place ∷ places) = step_of last place ∷ steps_of place places
+
+abbrev pub told_places : Place → List Place → List ℕ
+told_places last [] = []
+told_places last (place ∷ places) = told_of (step_of last place) place ++ told_places place places
+
+-- the place at which steps begin
+abbrev pub opening : Place
+opening = record { path = 0; statement = 0 }
+
+-- lists of numbers are those of a code's places
+pub record ArePlacesOf (places : List Place) (prints : PlacePrints) : Type 0 where
+  pub steps_are : prints.steps.items ≡ steps_of opening places
+  pub told_are : prints.told.items ≡ told_places opening places
 
 -- lists of numbers are those of a code's instructions, one behind another, and those of its places
-pub record ArePrintsOf (instrs : List Instr) (places : List Place) (kinds numbers : List ℕ) (literals : List ℤ) (place_numbers : List ℕ) : Type 0 where
-  pub kinds_are : kinds ≡ flat_map kinds_of instrs
-  pub numbers_are : numbers ≡ flat_map numbers_of instrs
-  pub literals_are : literals ≡ flat_map literals_of instrs
-  pub places_are : place_numbers ≡ flat_map numbers_of_place places
+pub record ArePrintsOf (instrs : List Instr) (places : List Place) (prints : Prints) : Type 0 where
+  pub kinds_are : prints.kinds.items ≡ flat_map kinds_of instrs
+  pub numbers_are : prints.numbers.items ≡ flat_map numbers_of instrs
+  pub literals_are : prints.literals.items ≡ flat_map literals_of instrs
+  pub places_are : ArePlacesOf places prints.places
+
+-- lists of numbers are the same
+pub record HaveSameItems (a b : Prints) : Type 0 where
+  pub kinds : a.kinds.items ≡ b.kinds.items
+  pub numbers : a.numbers.items ≡ b.numbers.items
+  pub literals : a.literals.items ≡ b.literals.items
+  pub steps : a.places.steps.items ≡ b.places.steps.items
+  pub told : a.places.told.items ≡ b.places.told.items
 
 -- the numbers of a code
 abbrev pub counts_of : PlainCode → Counts

@@ -2,7 +2,7 @@
 
 ghost use Rattle.std.specs.Prelude.{◌≡◌, ◌↔◌, ◌++◌, ◌∷◌, [], pos, IfOk, IsTrue};
 ghost use Rattle.std.specs.List.{flat_map};
-ghost use Rattle.code_slices.specs.Prints.{ArePrintsOf, unary_number, binary_number, kinds_of, numbers_of, literals_of, numbers_of_place, counts_of};
+ghost use Rattle.code_slices.specs.Prints.{ArePlacesOf, ArePrintsOf, HaveSameItems, unary_number, binary_number, kinds_of, numbers_of, literals_of, step_of, told_of, counts_of};
 
 use acc_vm::{Code, Instr};
 use plant_types::Place;
@@ -44,6 +44,13 @@ fn binary_print(op: Binary) -> u8
     }
 }
 
+/// The places of a code, one behind another: for each the step from the one before it, and the numbers of those that no step tells.
+#[derive(Drop)]
+struct PlacePrints {
+    steps: Vec<u8>,
+    told: Vec<u32>,
+}
+
 /// The prints of a code's instructions and its places, one behind another. Each instruction has its own number, and then those that it has: the numbers of
 /// its operators stand behind its own, those of slots, clocks and targets in a list, and literals in another. Lists of numbers are compared several at once.
 #[derive(Drop)]
@@ -51,7 +58,7 @@ pub(crate) struct Prints {
     kinds: Vec<u8>,
     numbers: Vec<u32>,
     literals: Vec<i64>,
-    places: Vec<u32>,
+    places: PlacePrints,
 }
 
 /// Writes the numbers of an instruction behind others. Fails if memory was refused.
@@ -165,16 +172,47 @@ fn add_print(prints: &mut Prints, i: &Instr) -> Result<(), AllocError>
     }
 }
 
-/// The numbers of places, one behind another. Fails if memory was refused.
-fn place_numbers(alloc: Global, places: &[Place]) -> Result<Vec<u32>, AllocError>
-    ensures { IfOk result (λ numbers. numbers.items ≡ flat_map numbers_of_place places.now) }
+/// The step from a place to the next one: how many statements of the same body that lies further on, or 255 where it lies elsewhere or far.
+fn step(last: Place, place: Place) -> u8
+    ensures { result ≡ step_of last place }
 {
-    let mut numbers = Vec::new(alloc);
-    for place in places {
-        numbers.push(place.path)?;
-        numbers.push(place.statement)?;
+    if last.path != place.path || place.statement < last.statement {
+        return 255;
     }
-    Ok(numbers)
+    (place.statement - last.statement).min(255) as u8
+}
+
+/// Writes a place behind others, of which one is the last. Fails if memory was refused.
+fn add_place(prints: &mut PlacePrints, last: Place, place: Place) -> Result<(), AllocError>
+    ensures steps { IfOk result (λ _. prints.new.steps.items ≡ prints.old.steps.items ++ (step_of last place ∷ [])) }
+    ensures told { IfOk result (λ _. prints.new.told.items ≡ prints.old.told.items ++ told_of (step_of last place) place) }
+{
+    let step = step(last, place);
+    prints.steps.push(step)?;
+    if step == 255 {
+        prints.told.push(place.path)?;
+        prints.told.push(place.statement)?;
+    }
+    Ok(())
+}
+
+/// The prints of places. Fails if memory was refused.
+fn place_prints(alloc: Global, places: &[Place]) -> Result<PlacePrints, AllocError>
+    ensures { IfOk result (ArePlacesOf places.now) }
+{
+    let mut prints = PlacePrints {
+        steps: Vec::new(alloc),
+        told: Vec::new(alloc),
+    };
+    let mut last = Place {
+        path: 0,
+        statement: 0,
+    };
+    for place in places {
+        add_place(&mut prints, last, *place)?;
+        last = *place;
+    }
+    Ok(prints)
 }
 
 /// The prints of instructions, and places. Fails if memory was refused.
@@ -183,13 +221,13 @@ pub(crate) fn prints_of(
     instrs: &[Instr],
     places: &[Place],
 ) -> Result<Prints, AllocError>
-    ensures { IfOk result (λ prints. ArePrintsOf instrs.now places.now prints.kinds.items prints.numbers.items prints.literals.items prints.places.items) }
+    ensures { IfOk result (ArePrintsOf instrs.now places.now) }
 {
     let mut prints = Prints {
         kinds: Vec::new(alloc),
         numbers: Vec::new(alloc),
         literals: Vec::new(alloc),
-        places: place_numbers(alloc, places)?,
+        places: place_prints(alloc, places)?,
     };
     for instr in instrs {
         add_print(&mut prints, instr)?;
@@ -213,14 +251,15 @@ pub(crate) fn same_values(a: &[i64], b: &[i64]) -> bool
     same
 }
 
-/// Whether two lists of prints are the same.
+/// Whether two prints are the same.
 pub(crate) fn same_prints(a: &Prints, b: &Prints) -> bool
-    ensures { IsTrue result ↔ ((a.now.kinds.items ≡ b.now.kinds.items) × (a.now.numbers.items ≡ b.now.numbers.items) × (a.now.literals.items ≡ b.now.literals.items) × (a.now.places.items ≡ b.now.places.items)) }
+    ensures { IsTrue result ↔ HaveSameItems a.now b.now }
 {
     a.kinds.as_slice() == b.kinds.as_slice()
         && a.numbers.as_slice() == b.numbers.as_slice()
         && same_values(a.literals.as_slice(), b.literals.as_slice())
-        && a.places.as_slice() == b.places.as_slice()
+        && a.places.steps.as_slice() == b.places.steps.as_slice()
+        && a.places.told.as_slice() == b.places.told.as_slice()
 }
 
 /// The numbers that are kept of a code.
