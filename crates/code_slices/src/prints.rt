@@ -235,7 +235,7 @@ pub(crate) fn prints_of(
     Ok(prints)
 }
 
-/// Whether two lists of numbers are the same. It has no early exit, so that several are compared at once.
+/// Whether two lists of numbers are the same. It has neither an early exit nor a branch, so that several are compared at once.
 pub(crate) fn same_values(a: &[i64], b: &[i64]) -> bool
     ensures { IsTrue result ↔ (a.now ≡ b.now) }
 {
@@ -244,9 +244,7 @@ pub(crate) fn same_values(a: &[i64], b: &[i64]) -> bool
     }
     let mut same = true;
     for (i, value) in a.iter().enumerate() {
-        if *value != b[i] {
-            same = false;
-        }
+        same &= *value == b[i];
     }
     same
 }
