@@ -22,7 +22,7 @@ impl Model for PrintedCode {
 
     ghost view = { λ p. p.code };
 
-    ghost invariant = { λ p. ArePrintsOf p.code.instrs p.code.places p.prints.kinds.items p.prints.numbers.items p.prints.literals.items p.prints.places.items };
+    ghost invariant = { λ p. ArePrintsOf p.code.instrs p.code.places p.prints };
 }
 
 impl PrintedCode {

@@ -2,25 +2,12 @@
 
 ghost use Rattle.std.specs.Prelude.{◌≡◌, ◌↔◌, ◌++◌, ◌∷◌, [], pos, IfOk, IsTrue};
 ghost use Rattle.std.specs.List.{flat_map};
-ghost use Rattle.code_slices.specs.Prints.{ArePrintsOf, unary_number, binary_number, print_of, numbers_of_place, counts_of};
+ghost use Rattle.code_slices.specs.Prints.{ArePlacesOf, ArePrintsOf, HaveSameItems, unary_number, binary_number, kinds_of, numbers_of, literals_of, step_of, told_of, counts_of};
 
 use acc_vm::{Code, Instr};
 use plant_types::Place;
 use st_tree::{Binary, Unary};
 use std::alloc::{AllocError, Global};
-
-/// An instruction as numbers in fixed places: its own number, those of its operators, of slots, clocks and targets, and literals.
-#[derive(Clone, Copy, Drop)]
-struct Print {
-    number: u8,
-    op: u8,
-    other: u8,
-    one: u32,
-    two: u32,
-    three: u32,
-    x: i64,
-    y: i64,
-}
 
 /// The number of an operator with one operand.
 fn unary_print(op: Unary) -> u8
@@ -57,189 +44,175 @@ fn binary_print(op: Binary) -> u8
     }
 }
 
-/// A print of slots, clocks and targets.
-fn of_numbers(number: u8, one: u32, two: u32) -> Print
-    ensures { result ≡ record { number = number; op = 0; other = 0; one = one; two = two; three = 0; x = pos 0; y = pos 0 } }
-{
-    Print {
-        number,
-        op: 0,
-        other: 0,
-        one,
-        two,
-        three: 0,
-        x: 0,
-        y: 0,
-    }
+/// The places of a code, one behind another: for each the step from the one before it, and the numbers of those that no step tells.
+#[derive(Drop)]
+struct PlacePrints {
+    steps: Vec<u8>,
+    told: Vec<u32>,
 }
 
-/// A print of an operator, slots and targets, and a literal.
-fn of_binary(number: u8, op: Binary, at: (u32, u32, u32), x: i64) -> Print
-    ensures { result ≡ record { number = number; op = binary_number op; other = 0; one = at.0; two = at.1; three = at.2; x = x; y = pos 0 } }
-{
-    let (one, two, three) = at;
-    Print {
-        number,
-        op: binary_print(op),
-        other: 0,
-        one,
-        two,
-        three,
-        x,
-        y: 0,
-    }
-}
-
-/// The print of an instruction.
-fn printed(i: &Instr) -> Print
-    ensures { result ≡ print_of i.now }
-{
-    match *i {
-        Instr::End => of_numbers(0, 0, 0),
-        Instr::Literal(x) => Print {
-            number: 1,
-            op: 0,
-            other: 0,
-            one: 0,
-            two: 0,
-            three: 0,
-            x: x,
-            y: 0,
-        },
-        Instr::Load(one) => of_numbers(2, one, 0),
-        Instr::Store(one) => of_numbers(3, one, 0),
-        Instr::Push => of_numbers(4, 0, 0),
-        Instr::Unary(op) => Print {
-            number: 5,
-            op: unary_print(op),
-            other: 0,
-            one: 0,
-            two: 0,
-            three: 0,
-            x: 0,
-            y: 0,
-        },
-        Instr::Binary(op) => of_binary(6, op, (0, 0, 0), 0),
-        Instr::BinaryLiteral(op, x) => of_binary(7, op, (0, 0, 0), x),
-        Instr::BinarySlot(op, one) => of_binary(8, op, (one, 0, 0), 0),
-        Instr::Jump(one) => of_numbers(9, one, 0),
-        Instr::JumpUnless(one) => of_numbers(10, one, 0),
-        Instr::JumpWithin(one, label) => Print {
-            number: 11,
-            op: 0,
-            other: 0,
-            one: one,
-            two: 0,
-            three: 0,
-            x: label.low,
-            y: label.high,
-        },
-        Instr::Begin { slot, first, left } => Print {
-            number: 12,
-            op: 0,
-            other: 0,
-            one: slot,
-            two: 0,
-            three: 0,
-            x: first,
-            y: left,
-        },
-        Instr::Turn { slot, step, to } => Print {
-            number: 13,
-            op: 0,
-            other: 0,
-            one: slot,
-            two: to,
-            three: 0,
-            x: step,
-            y: 0,
-        },
-        Instr::ClockQ(one) => of_numbers(14, one, 0),
-        Instr::ClockEt(one) => of_numbers(15, one, 0),
-        Instr::Enter { clock, input } => of_numbers(16, clock, input),
-        Instr::LoadBinarySlot(op, one, two) => of_binary(17, op, (one, two, 0), 0),
-        Instr::LoadBinaryLiteral(op, one, x) => of_binary(18, op, (one, 0, 0), x),
-        Instr::PushLoad(one) => of_numbers(19, one, 0),
-        Instr::BinarySlotStore(op, one, two) => of_binary(20, op, (one, two, 0), 0),
-        Instr::BinaryLiteralStore(op, x, one) => of_binary(21, op, (one, 0, 0), x),
-        Instr::BinaryJump(op, one) => of_binary(22, op, (one, 0, 0), 0),
-        Instr::BinarySlotJump(op, one, two) => of_binary(23, op, (one, two, 0), 0),
-        Instr::BinaryLiteralJump(op, x, one) => of_binary(24, op, (one, 0, 0), x),
-        Instr::BinaryLiteralTwice(op, other, x, y) => Print {
-            number: 25,
-            op: binary_print(op),
-            other: binary_print(other),
-            one: 0,
-            two: 0,
-            three: 0,
-            x: x,
-            y: y,
-        },
-        Instr::LoadUnary(op, one) => Print {
-            number: 26,
-            op: unary_print(op),
-            other: 0,
-            one: one,
-            two: 0,
-            three: 0,
-            x: 0,
-            y: 0,
-        },
-        Instr::PushLoadUnary(op, one) => Print {
-            number: 27,
-            op: unary_print(op),
-            other: 0,
-            one: one,
-            two: 0,
-            three: 0,
-            x: 0,
-            y: 0,
-        },
-        Instr::LoadBinarySlotStore(op, one, two, three) => of_binary(28, op, (one, two, three), 0),
-        Instr::LoadBinaryLiteralStore(op, one, x, two) => of_binary(29, op, (one, two, 0), x),
-        Instr::LoadBinarySlotJump(op, one, two, three) => of_binary(30, op, (one, two, three), 0),
-        Instr::LoadBinaryLiteralJump(op, one, x, two) => of_binary(31, op, (one, two, 0), x),
-    }
-}
-
-/// The prints of a code's instructions and its places, one behind another: of each print the numbers of one size stand in one list. Lists of
-/// numbers are compared several at once.
+/// The prints of a code's instructions and its places, one behind another. Each instruction has its own number, and then those that it has: the numbers of
+/// its operators stand behind its own, those of slots, clocks and targets in a list, and literals in another. Lists of numbers are compared several at once.
 #[derive(Drop)]
 pub(crate) struct Prints {
     kinds: Vec<u8>,
     numbers: Vec<u32>,
     literals: Vec<i64>,
-    places: Vec<u32>,
+    places: PlacePrints,
 }
 
-/// Writes a print behind others. Fails if memory was refused.
-fn add_print(prints: &mut Prints, print: Print) -> Result<(), AllocError>
-    ensures kinds { IfOk result (λ _. prints.new.kinds.items ≡ prints.old.kinds.items ++ (print.number ∷ print.op ∷ print.other ∷ [])) }
-    ensures numbers { IfOk result (λ _. prints.new.numbers.items ≡ prints.old.numbers.items ++ (print.one ∷ print.two ∷ print.three ∷ [])) }
-    ensures literals { IfOk result (λ _. prints.new.literals.items ≡ prints.old.literals.items ++ (print.x ∷ print.y ∷ [])) }
+/// Writes the numbers of an instruction behind others. Fails if memory was refused.
+fn add(
+    prints: &mut Prints,
+    number: u8,
+    operators: &[u8],
+    numbers: &[u32],
+    literals: &[i64],
+) -> Result<(), AllocError>
+    ensures kinds { IfOk result (λ _. prints.new.kinds.items ≡ prints.old.kinds.items ++ (number ∷ operators.now)) }
+    ensures numbers { IfOk result (λ _. prints.new.numbers.items ≡ prints.old.numbers.items ++ numbers.now) }
+    ensures literals { IfOk result (λ _. prints.new.literals.items ≡ prints.old.literals.items ++ literals.now) }
     ensures places { prints.new.places ≡ prints.old.places }
 {
-    prints.kinds.push(print.number)?;
-    prints.kinds.push(print.op)?;
-    prints.kinds.push(print.other)?;
-    prints.numbers.push(print.one)?;
-    prints.numbers.push(print.two)?;
-    prints.numbers.push(print.three)?;
-    prints.literals.push(print.x)?;
-    prints.literals.push(print.y)?;
+    prints.kinds.push(number)?;
+    prints.kinds.extend_from_slice(operators)?;
+    prints.numbers.extend_from_slice(numbers)?;
+    prints.literals.extend_from_slice(literals)?;
     Ok(())
 }
 
-/// The numbers of places, one behind another. Fails if memory was refused.
-fn place_numbers(alloc: Global, places: &[Place]) -> Result<Vec<u32>, AllocError>
-    ensures { IfOk result (λ numbers. numbers.items ≡ flat_map numbers_of_place places.now) }
+/// Writes the print of an instruction behind others. Fails if memory was refused.
+fn add_print(prints: &mut Prints, i: &Instr) -> Result<(), AllocError>
+    ensures kinds { IfOk result (λ _. prints.new.kinds.items ≡ prints.old.kinds.items ++ kinds_of i.now) }
+    ensures numbers { IfOk result (λ _. prints.new.numbers.items ≡ prints.old.numbers.items ++ numbers_of i.now) }
+    ensures literals { IfOk result (λ _. prints.new.literals.items ≡ prints.old.literals.items ++ literals_of i.now) }
+    ensures places { prints.new.places ≡ prints.old.places }
 {
-    let mut numbers = Vec::new(alloc);
-    for place in places {
-        numbers.push(place.path)?;
-        numbers.push(place.statement)?;
+    match *i {
+        Instr::End => add(prints, 0, &[], &[], &[]),
+        Instr::Literal(x) => add(prints, 1, &[], &[], &[x]),
+        Instr::Load(one) => add(prints, 2, &[], &[one], &[]),
+        Instr::Store(one) => add(prints, 3, &[], &[one], &[]),
+        Instr::Push => add(prints, 4, &[], &[], &[]),
+        Instr::Unary(op) => add(prints, 5, &[unary_print(op)], &[], &[]),
+        Instr::Binary(op) => add(prints, 6, &[binary_print(op)], &[], &[]),
+        Instr::BinaryLiteral(op, x) => add(prints, 7, &[binary_print(op)], &[], &[x]),
+        Instr::BinarySlot(op, one) => add(prints, 8, &[binary_print(op)], &[one], &[]),
+        Instr::Jump(one) => add(prints, 9, &[], &[one], &[]),
+        Instr::JumpUnless(one) => add(prints, 10, &[], &[one], &[]),
+        Instr::JumpWithin(one, label) => add(prints, 11, &[], &[one], &[label.low, label.high]),
+        Instr::Begin { slot, first, left } => add(prints, 12, &[], &[slot], &[first, left]),
+        Instr::Turn { slot, step, to } => add(prints, 13, &[], &[slot, to], &[step]),
+        Instr::ClockQ(one) => add(prints, 14, &[], &[one], &[]),
+        Instr::ClockEt(one) => add(prints, 15, &[], &[one], &[]),
+        Instr::Enter { clock, input } => add(prints, 16, &[], &[clock, input], &[]),
+        Instr::LoadBinarySlot(op, one, two) => add(
+            prints,
+            17,
+            &[binary_print(op)],
+            &[one, two],
+            &[],
+        ),
+        Instr::LoadBinaryLiteral(op, one, x) => add(prints, 18, &[binary_print(op)], &[one], &[x]),
+        Instr::PushLoad(one) => add(prints, 19, &[], &[one], &[]),
+        Instr::BinarySlotStore(op, one, two) => add(
+            prints,
+            20,
+            &[binary_print(op)],
+            &[one, two],
+            &[],
+        ),
+        Instr::BinaryLiteralStore(op, x, one) => add(prints, 21, &[binary_print(op)], &[one], &[x]),
+        Instr::BinaryJump(op, one) => add(prints, 22, &[binary_print(op)], &[one], &[]),
+        Instr::BinarySlotJump(op, one, two) => add(
+            prints,
+            23,
+            &[binary_print(op)],
+            &[one, two],
+            &[],
+        ),
+        Instr::BinaryLiteralJump(op, x, one) => add(prints, 24, &[binary_print(op)], &[one], &[x]),
+        Instr::BinaryLiteralTwice(op, other, x, y) => add(
+            prints,
+            25,
+            &[binary_print(op), binary_print(other)],
+            &[],
+            &[x, y],
+        ),
+        Instr::LoadUnary(op, one) => add(prints, 26, &[unary_print(op)], &[one], &[]),
+        Instr::PushLoadUnary(op, one) => add(prints, 27, &[unary_print(op)], &[one], &[]),
+        Instr::LoadBinarySlotStore(op, one, two, three) => add(
+            prints,
+            28,
+            &[binary_print(op)],
+            &[one, two, three],
+            &[],
+        ),
+        Instr::LoadBinaryLiteralStore(op, one, x, two) => add(
+            prints,
+            29,
+            &[binary_print(op)],
+            &[one, two],
+            &[x],
+        ),
+        Instr::LoadBinarySlotJump(op, one, two, three) => add(
+            prints,
+            30,
+            &[binary_print(op)],
+            &[one, two, three],
+            &[],
+        ),
+        Instr::LoadBinaryLiteralJump(op, one, x, two) => add(
+            prints,
+            31,
+            &[binary_print(op)],
+            &[one, two],
+            &[x],
+        ),
     }
-    Ok(numbers)
+}
+
+/// The step from a place to the next one: how many statements of the same body that lies further on, or 255 where it lies elsewhere or far.
+fn step(last: Place, place: Place) -> u8
+    ensures { result ≡ step_of last place }
+{
+    if last.path != place.path || place.statement < last.statement {
+        return 255;
+    }
+    (place.statement - last.statement).min(255) as u8
+}
+
+/// Writes a place behind others, of which one is the last. Fails if memory was refused.
+fn add_place(prints: &mut PlacePrints, last: Place, place: Place) -> Result<(), AllocError>
+    ensures steps { IfOk result (λ _. prints.new.steps.items ≡ prints.old.steps.items ++ (step_of last place ∷ [])) }
+    ensures told { IfOk result (λ _. prints.new.told.items ≡ prints.old.told.items ++ told_of (step_of last place) place) }
+{
+    let step = step(last, place);
+    prints.steps.push(step)?;
+    if step == 255 {
+        prints.told.push(place.path)?;
+        prints.told.push(place.statement)?;
+    }
+    Ok(())
+}
+
+/// The prints of places. Fails if memory was refused.
+fn place_prints(alloc: Global, places: &[Place]) -> Result<PlacePrints, AllocError>
+    ensures { IfOk result (ArePlacesOf places.now) }
+{
+    let mut prints = PlacePrints {
+        steps: Vec::new(alloc),
+        told: Vec::new(alloc),
+    };
+    let mut last = Place {
+        path: 0,
+        statement: 0,
+    };
+    for place in places {
+        add_place(&mut prints, last, *place)?;
+        last = *place;
+    }
+    Ok(prints)
 }
 
 /// The prints of instructions, and places. Fails if memory was refused.
@@ -248,21 +221,21 @@ pub(crate) fn prints_of(
     instrs: &[Instr],
     places: &[Place],
 ) -> Result<Prints, AllocError>
-    ensures { IfOk result (λ prints. ArePrintsOf instrs.now places.now prints.kinds.items prints.numbers.items prints.literals.items prints.places.items) }
+    ensures { IfOk result (ArePrintsOf instrs.now places.now) }
 {
     let mut prints = Prints {
         kinds: Vec::new(alloc),
         numbers: Vec::new(alloc),
         literals: Vec::new(alloc),
-        places: place_numbers(alloc, places)?,
+        places: place_prints(alloc, places)?,
     };
     for instr in instrs {
-        add_print(&mut prints, printed(instr))?;
+        add_print(&mut prints, instr)?;
     }
     Ok(prints)
 }
 
-/// Whether two lists of numbers are the same. It has no early exit, so that several are compared at once.
+/// Whether two lists of numbers are the same. It has neither an early exit nor a branch, so that several are compared at once.
 pub(crate) fn same_values(a: &[i64], b: &[i64]) -> bool
     ensures { IsTrue result ↔ (a.now ≡ b.now) }
 {
@@ -271,21 +244,20 @@ pub(crate) fn same_values(a: &[i64], b: &[i64]) -> bool
     }
     let mut same = true;
     for (i, value) in a.iter().enumerate() {
-        if *value != b[i] {
-            same = false;
-        }
+        same &= *value == b[i];
     }
     same
 }
 
-/// Whether two lists of prints are the same.
+/// Whether two prints are the same.
 pub(crate) fn same_prints(a: &Prints, b: &Prints) -> bool
-    ensures { IsTrue result ↔ ((a.now.kinds.items ≡ b.now.kinds.items) × (a.now.numbers.items ≡ b.now.numbers.items) × (a.now.literals.items ≡ b.now.literals.items) × (a.now.places.items ≡ b.now.places.items)) }
+    ensures { IsTrue result ↔ HaveSameItems a.now b.now }
 {
     a.kinds.as_slice() == b.kinds.as_slice()
         && a.numbers.as_slice() == b.numbers.as_slice()
         && same_values(a.literals.as_slice(), b.literals.as_slice())
-        && a.places.as_slice() == b.places.as_slice()
+        && a.places.steps.as_slice() == b.places.steps.as_slice()
+        && a.places.told.as_slice() == b.places.told.as_slice()
 }
 
 /// The numbers that are kept of a code.

@@ -1,4 +1,4 @@
-use Rattle.std.proofs.Common.{◌≡◌, sym, subst}
+use Rattle.std.proofs.Common.{subst}
 use Rattle.acc_vm.specs.Codes.{PlainCode}
 use Rattle.code_slices.specs.Prints.{ArePrintsOf}
 use Rattle.code_slices.proofs.Printed.{same_printed, printed_same}
@@ -6,8 +6,8 @@ use Rattle.code_slices.proofs.printed_code.PrintedCode.has_same_lists.Goals as g
 
 pub returns : goal.returns
 returns c =
-    let a = subst (λ (x : PlainCode). ArePrintsOf x.instrs x.places c.self.inside.prints.kinds.items c.self.inside.prints.numbers.items c.self.inside.prints.literals.items c.self.inside.prints.places.items) c.self.view_is c.self.invariant in
-    let b = subst (λ (x : PlainCode). ArePrintsOf x.instrs x.places c.other.inside.prints.kinds.items c.other.inside.prints.numbers.items c.other.inside.prints.literals.items c.other.inside.prints.places.items) c.other.view_is c.other.invariant in (
-      λ t. same_printed _ _ _ _ _ _ _ _ _ _ _ _ a b (c.same_prints.ensures.0 t),
-      λ e. c.same_prints.ensures.1 (printed_same _ _ _ _ _ _ _ _ _ _ _ _ a b e),
+    let a = subst (λ (x : PlainCode). ArePrintsOf x.instrs x.places c.self.inside.prints) c.self.view_is c.self.invariant in
+    let b = subst (λ (x : PlainCode). ArePrintsOf x.instrs x.places c.other.inside.prints) c.other.view_is c.other.invariant in (
+      λ t. same_printed _ _ _ _ _ _ a b (c.same_prints.ensures.0 t),
+      λ e. c.same_prints.ensures.1 (printed_same _ _ _ _ _ _ a b e),
     )
