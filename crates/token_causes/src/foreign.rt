@@ -156,8 +156,10 @@ pub fn foreign(before: TokenKind, kind: TokenKind, after: Option<TokenKind>) -> 
         (TokenKind::Keyword(Keyword::At), TokenKind::Word) => {
             "': an address begins with %, as in %IX0.0"
         }
-        (TokenKind::Word, TokenKind::Keyword(Keyword::Bool | Keyword::Dint | Keyword::Time)) =>
-            "': a : is missing before the kind",
+        (
+            TokenKind::Word | TokenKind::Address(_),
+            TokenKind::Keyword(Keyword::Bool | Keyword::Dint | Keyword::Time),
+        ) => "': a : is missing before the kind",
         _ => "",
     }
 }

@@ -198,6 +198,32 @@ fn misdeclared(tokens: &[Token], number: usize) -> &'static str {
     }
 }
 
+/// Whether a kind should stand before the token of a number: a declaration goes on with it behind its name, its address or its `:`.
+fn lacks_kind(tokens: &[Token], number: usize) -> bool {
+    let Some(last) = number.checked_sub(1) else {
+        return false;
+    };
+    let is_behind = match kind_at(tokens, last) {
+        Some(TokenKind::Symbol(Symbol::Colon) | TokenKind::Address(_)) => true,
+        _ => matches!(role_of(tokens, last, true), Role::Declared),
+    };
+    is_behind && section_of(tokens, number).is_some()
+}
+
+/// What is said of what follows a kind, where that is missing before the token of a number; empty where none is.
+fn unkinded(tokens: &[Token], number: usize) -> &'static str {
+    let said = match kind_at(tokens, number) {
+        Some(TokenKind::Symbol(Symbol::Becomes | Symbol::Equal)) => {
+            "': a kind is missing before it, as in n : DINT := 5"
+        }
+        Some(TokenKind::Symbol(Symbol::Semicolon)) => {
+            "': a kind is missing before it, as in n : DINT"
+        }
+        _ => return "",
+    };
+    if lacks_kind(tokens, number) { said } else { "" }
+}
+
 /// What is said of the token of a number by itself, or by those beside it; empty where that says nothing.
 fn told(tokens: &[Token], number: usize) -> &'static str {
     let (Some(kind), Some(before)) = (kind_at(tokens, number), kind_before(tokens, number, 1))
@@ -239,6 +265,10 @@ fn said_behind(tokens: &[Token], number: usize) -> &'static str {
     let misdeclared = misdeclared(tokens, number);
     if !misdeclared.is_empty() {
         return misdeclared;
+    }
+    let unkinded = unkinded(tokens, number);
+    if !unkinded.is_empty() {
+        return unkinded;
     }
     told(tokens, number)
 }
@@ -287,10 +317,35 @@ fn left_open(text: &[u8], tokens: &[Token], number: usize) -> Option<usize> {
     }
 }
 
+/// Whether an assignment, or a call with an argument, begins with the word of a number.
+fn begins_simple(tokens: &[Token], number: usize) -> bool {
+    match kind_at(tokens, number.saturating_add(1)) {
+        Some(TokenKind::Symbol(Symbol::Becomes)) => true,
+        Some(TokenKind::Symbol(Symbol::Open)) => matches!(
+            role_of(tokens, number.saturating_add(2), false),
+            Role::Input | Role::Output
+        ),
+        _ => false,
+    }
+}
+
+/// The `(` before the word of a number, where a statement begins with that; `None` where it may be an argument of a call.
+fn unclosed_before_word(tokens: &[Token], number: usize) -> Option<usize> {
+    let open = open_parenthesis(tokens, number)?;
+    let is_call = kind_before(tokens, open, 1) == Some(TokenKind::Word);
+    let may = may_end(kind_before(tokens, number, 1)?);
+    if may && !is_call && begins_simple(tokens, number) {
+        Some(open)
+    } else {
+        None
+    }
+}
+
 /// The `(` that has no `)` before the token of a number, at which an expression certainly ends; `None` where there is none.
 fn unclosed_parenthesis(tokens: &[Token], number: usize) -> Option<usize> {
     let (before, kind) = (kind_before(tokens, number, 1)?, kind_at(tokens, number)?);
     let ends = match kind {
+        TokenKind::Word => return unclosed_before_word(tokens, number),
         TokenKind::Symbol(symbol) => symbol == Symbol::Semicolon,
         TokenKind::Keyword(keyword) => {
             may_end(before)
