@@ -3,7 +3,7 @@
 use crate::cause::{Cause, cause_at};
 use crate::foreign::{foreign, foreign_word, may_be_first};
 use crate::lacking::{is_behind_label, lacking};
-use crate::misplaced::{misplaced, open_parenthesis};
+use crate::misplaced::{misplaced, open_parenthesis, valueless};
 use crate::roles::{Role, kind_at, kind_before, role_of, span_of, word_at};
 use plant_types::same_word;
 use st_lexer::{Keyword, LexFault, Symbol, Token, TokenKind, lex, place_of};
@@ -212,11 +212,15 @@ fn lacks_kind(tokens: &[Token], number: usize) -> bool {
 
 /// What is said of what follows a kind, where that is missing before the token of a number; empty where none is.
 fn unkinded(tokens: &[Token], number: usize) -> &'static str {
-    let said = match kind_at(tokens, number) {
-        Some(TokenKind::Symbol(Symbol::Becomes | Symbol::Equal)) => {
+    let before = kind_before(tokens, number, 1);
+    let said = match (before, kind_at(tokens, number)) {
+        (Some(TokenKind::Word), Some(TokenKind::Symbol(Symbol::Becomes))) => {
+            "': a kind is missing before it, as in n : DINT := 5 (or is END_VAR missing above?)"
+        }
+        (_, Some(TokenKind::Symbol(Symbol::Becomes | Symbol::Equal))) => {
             "': a kind is missing before it, as in n : DINT := 5"
         }
-        Some(TokenKind::Symbol(Symbol::Semicolon)) => {
+        (_, Some(TokenKind::Symbol(Symbol::Semicolon))) => {
             "': a kind is missing before it, as in n : DINT"
         }
         _ => return "",
@@ -270,7 +274,11 @@ fn said_behind(tokens: &[Token], number: usize) -> &'static str {
     if !unkinded.is_empty() {
         return unkinded;
     }
-    told(tokens, number)
+    let told = told(tokens, number);
+    if !told.is_empty() {
+        return told;
+    }
+    valueless(tokens, number)
 }
 
 /// Whether something seems to be missing before the token of a number: a statement, or the head of one, may end before it, and it may begin what follows; the

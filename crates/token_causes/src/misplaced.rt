@@ -114,6 +114,65 @@ fn is_no_label(tokens: &[Token], number: usize) -> bool {
     }
 }
 
+/// Whether a value has to stand behind a token: an operator, or what an expression stands behind.
+fn wants_value(kind: TokenKind) -> bool {
+    match kind {
+        TokenKind::Symbol(symbol) => matches!(
+            symbol,
+            Symbol::Becomes
+                | Symbol::Open
+                | Symbol::Plus
+                | Symbol::Minus
+                | Symbol::Times
+                | Symbol::Divide
+                | Symbol::Equal
+                | Symbol::Unequal
+                | Symbol::Less
+                | Symbol::Greater
+                | Symbol::AtMost
+                | Symbol::AtLeast
+                | Symbol::Ampersand
+        ),
+        TokenKind::Keyword(keyword) => matches!(
+            keyword,
+            Keyword::If
+                | Keyword::Elsif
+                | Keyword::Case
+                | Keyword::To
+                | Keyword::By
+                | Keyword::Not
+                | Keyword::And
+                | Keyword::Or
+                | Keyword::Xor
+                | Keyword::Mod
+        ),
+        _ => false,
+    }
+}
+
+/// What is said behind the token of a number, before which a value is missing, or which is a keyword in its place; empty where neither is so.
+pub fn valueless(tokens: &[Token], number: usize) -> &'static str {
+    let is_wanted = match kind_before(tokens, number, 1) {
+        Some(before) => wants_value(before),
+        None => false,
+    };
+    if !is_wanted {
+        return "";
+    }
+    match kind_at(tokens, number) {
+        Some(TokenKind::Symbol(Symbol::Semicolon | Symbol::Close | Symbol::Comma)) => {
+            "': a value is missing before it"
+        }
+        Some(
+            TokenKind::Keyword(Keyword::Then | Keyword::EndIf | Keyword::EndCase | Keyword::EndFor),
+        ) => { "': a value is missing before it" }
+        Some(
+            TokenKind::Keyword(Keyword::To | Keyword::By | Keyword::Of | Keyword::Do | Keyword::At),
+        ) => { "': it is a keyword, and a value is wanted here" }
+        _ => "",
+    }
+}
+
 /// What is said behind the token of a number that stands in the place of something else; empty where it doesn't.
 pub fn misplaced(tokens: &[Token], number: usize) -> &'static str {
     if is_unnamed(tokens, number) {
