@@ -2,7 +2,7 @@
 
 use crate::operands::variable_kind;
 use plant_types::Kind;
-use st_lexer::{Keyword, TokenKind};
+use st_lexer::{Keyword, Symbol, TokenKind};
 use std::alloc::{AllocError, Global};
 use token_causes::{Cause, Role};
 use unit_words::{Spot, Unit, What, is_same, variable_named};
@@ -12,6 +12,9 @@ const STATEMENTS: &str = "docs/LANGUAGE.md, \"Statements\"";
 
 /// Where initial values stand.
 const VARIABLES: &str = "docs/LANGUAGE.md, \"Variables\"";
+
+/// Why a constant can't have a value.
+const NO_DIVISOR: &str = "has a 0 behind it, and nothing is divided by 0";
 
 /// Why the variable of a name may not control a FOR; empty where it may.
 fn uncontrolling(unit: &Unit<'_, '_>, number: usize) -> &'static str {
@@ -58,6 +61,27 @@ fn is_no_step(unit: &Unit<'_, '_>, number: usize) -> bool {
         )
 }
 
+/// Whether a token divides by a 0 that stands behind it.
+fn divides_by_zero(unit: &Unit<'_, '_>, number: usize) -> bool {
+    let divides = matches!(
+        unit.kind(number),
+        Some(TokenKind::Symbol(Symbol::Divide) | TokenKind::Keyword(Keyword::Mod))
+    );
+    let divisor = unit.kind(number.saturating_add(1));
+    divides && matches!(divisor, Some(TokenKind::Integer(0) | TokenKind::Dint(0)))
+}
+
+/// What is certainly wrong with a token of a bound or a step, which is no variable; empty where nothing is.
+fn wrong_part(unit: &Unit<'_, '_>, number: usize) -> &'static str {
+    if is_no_step(unit, number) {
+        "is no step of a FOR"
+    } else if divides_by_zero(unit, number) {
+        NO_DIVISOR
+    } else {
+        ""
+    }
+}
+
 /// What is certainly wrong with the bounds and the step of a FOR, from its variable on. Fails if allocation fails.
 fn bounds(alloc: Global, unit: &Unit<'_, '_>, control: usize) -> Result<Option<Cause>, AllocError> {
     let from = control.saturating_add(1);
@@ -69,8 +93,9 @@ fn bounds(alloc: Global, unit: &Unit<'_, '_>, control: usize) -> Result<Option<C
             }
             Some(TokenKind::Keyword(Keyword::Do)) => return Ok(None),
             _ => {
-                if is_no_step(unit, number) {
-                    return told(alloc, unit, number, "is no step of a FOR", STATEMENTS);
+                let why = wrong_part(unit, number);
+                if !why.is_empty() {
+                    return told(alloc, unit, number, why, STATEMENTS);
                 }
             }
         }
@@ -143,6 +168,9 @@ pub fn inconstant(
         (Role::Read, Some(_)) => {
             let why = "is a variable, and an initial value is constant";
             told(alloc, unit, spot.number, why, VARIABLES)
+        }
+        (Role::Other, Some(_)) if divides_by_zero(unit, spot.number) => {
+            told(alloc, unit, spot.number, NO_DIVISOR, VARIABLES)
         }
         _ => Ok(None),
     }
