@@ -4,6 +4,7 @@
 #![tactic(auto)]
 
 mod command;
+mod faults;
 mod given;
 mod laws;
 mod lines;

@@ -1,6 +1,7 @@
 ghost use Rattle.std.specs.Prelude.{◌≡◌, ◌≤◌, ◌++◌, ℕ, OnOk, OnErr, length, map, take, ◌∷◌, [], codes, decimal};
 ghost use Rattle.command_text.specs.Lines.{line_of, fault_line, alarm_line, out_line, done_line, reply_line, refused_line, state_line, count_line, row_line, end_line};
 
+use crate::faults::{place_path, place_stop};
 use crate::outputs::place_out;
 use crate::placing::{is_short, open_line, place_change, place_done};
 use alarm_machine::{Change, Code, OrderFault};
@@ -77,6 +78,23 @@ fn push_four<'a>(
     push_line(out, name, &[first, second, third, fourth])
 }
 
+/// Appends a FAULT line field by field. Where memory is refused the text is unchanged.
+#[tactic(auto, unfolding(crate::specs::Lines::fault_line))]
+fn push_long_fault(
+    out: &mut Vec<u8>,
+    moment: &str,
+    path: &str,
+    statement: u32,
+    trap: Trap,
+) -> Result<(), AllocError>
+    ensures ok { (t : ℕ) → moment.now ≡ decimal t → OnOk result (out.new.items ≡ out.old.items ++ fault_line t path.now statement trap) }
+    ensures err { OnErr result (out.new.items ≡ out.old.items) }
+{
+    let mut number = Buffer::new();
+    let statement = number.format(statement);
+    push_four(out, "FAULT", moment, path, statement, trap.text())
+}
+
 /// Appends `FAULT MOMENT PATH STATEMENT KIND`: a program stopped at this statement of the body with this path. The moment is given by its
 /// digits. Where memory is refused the text is unchanged.
 #[tactic(auto, unfolding(crate::specs::Lines::fault_line))]
@@ -90,9 +108,16 @@ pub fn push_fault(
     ensures ok { (t : ℕ) → moment.now ≡ decimal t → OnOk result (out.new.items ≡ out.old.items ++ fault_line t path.now statement trap) }
     ensures err { OnErr result (out.new.items ≡ out.old.items) }
 {
-    let mut number = Buffer::new();
-    let statement = number.format(statement);
-    push_four(out, "FAULT", moment, path, statement, trap.text())
+    let (digits, letters) = (moment.as_bytes(), path.as_bytes());
+    if !is_short(digits, letters) {
+        return push_long_fault(out, moment, path, statement, trap);
+    }
+    let start = out.len();
+    open_line(out)?;
+    let named = place_path(out.as_mut_slice(), start, digits, letters);
+    let end = place_stop(out.as_mut_slice(), named, statement, trap);
+    out.truncate(end);
+    Ok(())
 }
 
 /// Appends `ALARM MOMENT TAG FROM TO`: this alarm's code changed. The moment is given by its digits. Where memory is refused the text is
