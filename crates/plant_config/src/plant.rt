@@ -473,14 +473,22 @@ impl Plant {
         self.logic.cost(program as usize)
     }
 
-    /// The path of the body in which a trap occurred, as a fault prints it: the names of the program and of the instances below it, as
-    /// declared, with points between them. Fails if allocation fails.
+    /// Appends the path of the body in which a trap occurred, as a fault prints it: the names of the program and of the instances below it, as
+    /// declared, with points between them. Fails if allocation fails; what was appended then is of no use.
+    pub fn push_body_path(&self, path: u32, text: &mut String) -> Result<(), AllocError>
+        requires { path < length (body_paths self.now) }
+        ensures { IfOk result (λ _. string_bytes text.new ≡ string_bytes text.old ++ body_path self.now path) }
+    {
+        self.logic.push_path(path, text)
+    }
+
+    /// The path of the body in which a trap occurred, as a fault prints it: a text of its own. Fails if allocation fails.
     pub fn body_path(&self, alloc: Global, path: u32) -> Result<String, AllocError>
         requires { path < length (body_paths self.now) }
         ensures { IfOk result (λ text. string_bytes text ≡ body_path self.now path) }
     {
         let mut text = String::new(alloc);
-        self.logic.push_path(path, &mut text)?;
+        self.push_body_path(path, &mut text)?;
         Ok(text)
     }
 }
