@@ -36,6 +36,9 @@ pub trait Work<S, D>: Drop {
     /// Whether an ended run is one of the job that starts so.
     fn is_run_of(ended: &D, start: &S) -> bool
         ensures { IsTrue result ↔ (ended_from ended.now ≡ start.now) };
+
+    /// Reads what an ended run left, so that whoever takes that in needn't wait for the cache of the thread that ran it. It changes nothing.
+    fn fetch(ended: &D);
 }
 
 /// Whether the numbers of jobs rise, so that no two jobs have one number.

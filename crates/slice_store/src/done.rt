@@ -18,9 +18,10 @@ use crew::Work;
 use plant_cells::{Cells, Clock, Stop};
 use std::marker::Model;
 use std::sync::Arc;
+use std::sync::atomic::{AtomicI64, Ordering};
 
-/// What a job has: where it starts, room for cells and a stack of its own, what it costs, and room for how its run ends. It lies in a place of its own, so that
-/// it isn't copied where the job, its run or their memory is handed on.
+/// What a job has: where it starts, room for cells and a stack of its own, what it costs, and room for how its run ends; and
+/// what was read of the run. It lies in a place of its own, so that it isn't copied where the job, its run or their memory is handed on.
 #[derive(Drop)]
 pub(crate) struct Run {
     pub(crate) start: Arc<Start>,
@@ -28,6 +29,7 @@ pub(crate) struct Run {
     pub(crate) stack: Vec<i64>,
     pub(crate) cost: u64,
     pub(crate) result: Result<(), Stop>,
+    pub(crate) read: AtomicI64,
 }
 
 /// A job, which contracts see as its start. It owns the stack of its run, and room for cells: who runs it copies those of its start into that.
@@ -155,6 +157,7 @@ impl Work<Start, Done> for Job {
             stack,
             cost: _,
             result,
+            read: _,
         } = &mut *run;
         cells.copy_from(start.cells());
         *result = run_from(start, stack.as_mut_slice(), cells);
@@ -163,6 +166,11 @@ impl Work<Start, Done> for Job {
 
     fn is_run_of(ended: &Done, start: &Start) -> bool {
         ended.run.start.same(start)
+    }
+
+    /// It keeps what it read, since a compiler leaves out what is read for nothing.
+    fn fetch(ended: &Done) {
+        ended.run.read.store(ended.read(), Ordering::SeqCst);
     }
 }
 
@@ -200,10 +208,23 @@ impl Done {
             stack: _,
             cost: _,
             result,
+            read: _,
         } = &*self.run;
         put_part(start.part(), cells, values, clocks);
         let program = start.number() as usize - 1;
         faulted[program] = result.is_err();
+    }
+
+    /// One number of all that the run left.
+    fn read(&self) -> i64 {
+        let mut all = i64::from(self.run.result.is_err());
+        for value in self.run.cells.as_slice() {
+            all ^= *value;
+        }
+        for clock in self.run.cells.clocks() {
+            all ^= clock.et;
+        }
+        all
     }
 
     /// The memory of the run, for a later job.

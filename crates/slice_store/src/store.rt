@@ -23,6 +23,7 @@ use std::alloc::{AllocError, Global};
 use std::marker::Model;
 use std::mem::replace;
 use std::sync::Arc;
+use std::sync::atomic::AtomicI64;
 
 /// The values and clocks of all programs, which programs are faulted, and a scan's moment, in milliseconds; and the starts of the jobs that
 /// are out. Contracts see these. Jobs take the memory of earlier ones from a reserve.
@@ -159,6 +160,7 @@ fn make_ready(alloc: Global, run: &mut Run) -> Result<(), AllocError>
         stack,
         cost,
         result: _,
+        read: _,
     } = run;
     let begun = start.cells();
     if cells.len() != begun.len() || cells.clock_count() != begun.clock_count() {
@@ -320,6 +322,7 @@ impl Store {
             stack: Vec::new(alloc),
             cost: 0,
             result: Ok(()),
+            read: AtomicI64::new(0),
         };
         let mut run = Box::new(alloc, run)?;
         make_ready(alloc, &mut run)?;
@@ -346,6 +349,7 @@ impl Store {
             stack: _,
             cost: _,
             result: _,
+            read: _,
         } = &mut *run;
         part.load(self.values(), self.clocks(), cells)?;
         put_start(alloc, start, number, parts, self.moment(), cells)?;

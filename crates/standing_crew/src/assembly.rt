@@ -40,7 +40,7 @@ pub(crate) fn begin_ticks<S>(starts: &[Begun<S>], ticks: &mut Vec<bool>) -> Resu
 }
 
 /// Ticks off the runs from a place on, where those before it are ticked off, and tells whether all are known and none comes twice. The first
-/// is sought near the start of a place.
+/// is sought near the start of a place. What is ticked off is fetched.
 #[tactic(auto, using(crate::proofs::Ticks::tick_next, crate::proofs::Ticks::stranger_next, crate::proofs::Ticks::double_next))]
 pub(crate) fn tick_off<J: Work<S, D>, S: Drop, D>(
     starts: &[Begun<S>],
@@ -66,6 +66,7 @@ pub(crate) fn tick_off<J: Work<S, D>, S: Drop, D>(
         }
         ticks[place] = true;
         starts[place].fetch();
+        J::fetch(ended);
         next = place.saturating_add(1);
     }
     true

@@ -76,6 +76,8 @@ impl Work<Start, Done> for Job {
     fn is_run_of(ended: &Done, start: &Start) -> bool {
         ended.start.number == start.number && ended.start.first == start.first
     }
+
+    fn fetch(_ended: &Done) {}
 }
 
 /// The sum of a hundred numbers, modulo 2 ^ 64.

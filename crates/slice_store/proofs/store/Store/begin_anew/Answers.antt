@@ -12,7 +12,7 @@ returns c =
     let same : c.numbered-part.result.now ≡ part = c.numbered-part.ensures ∙ ap (λ parts. part_of parts c.args.number) c.deref.ensures in
     let from : c.load.new.cells ≡ loaded part c.args.self.now.cells
     = loaded_by part c.numbered-part.result.now c.args.self.now.cells c.values.result.now c.clocks.result.now same c.values.ensures c.clocks.ensures c.load.new.cells c.in_ok-load.ensures in
-    starts_by c.args.number part c.moment.result c.args.self.now.moment c.load.new.cells c.args.self.now.cells c.moment.ensures from c.new-3.result (search rules)
+    starts_by c.args.number part c.moment.result c.args.self.now.moment c.load.new.cells c.args.self.now.cells c.moment.ensures from c.new-4.result (search rules)
 
 pub start_of-requires-clause-clocks : goal.start_of-requires-clause-clocks
 start_of-requires-clause-clocks c = grind (arith, common_steps)
