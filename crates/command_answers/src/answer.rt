@@ -28,6 +28,9 @@ use std::str;
 /// How many OUT lines of a scan are worth what they begin with being made once for all of them, and room for many.
 const MANY_OUTS: usize = 4;
 
+/// How many bytes a path has room for before the text of the paths of FAULT lines grows.
+const PATH: usize = 64;
+
 /// Returns the tag of the alarm that an order is for; `""` for a restart, and for an order that names no alarm.
 fn tag_for(plant: &Plant, order: Order) -> &str
     requires { is_restart order.verb ≡ false → IfSome order.target (λ alarm. alarm < length plant.now.alarms) }
@@ -80,16 +83,17 @@ fn push_alarms(
     put_alarms(text, plant, moment, changes)
 }
 
-/// The path of a place: the names that lead to it, with points between them. Fails if allocation fails.
+/// Writes the path of a place over a text: the names that lead to it, with points between them. Fails if allocation fails.
 #[tactic(auto, using(crate::proofs::AnswerLaws::path_is))]
-fn path_text(alloc: Global, plant: &Plant, place: &Place) -> Result<String, AllocError>
+fn write_path(path: &mut String, plant: &Plant, place: &Place) -> Result<(), AllocError>
     requires { place.now.path < length (body_paths plant.now) }
-    ensures { IfOk result (λ path. string_bytes path ≡ path_text (place_spot plant.now.source place.now).path) }
+    ensures { IfOk result (λ _. string_bytes path.new ≡ path_text (place_spot plant.now.source place.now).path) }
 {
-    plant.body_path(alloc, place.path)
+    path.clear();
+    plant.push_body_path(place.path, path)
 }
 
-/// Appends a FAULT line for each program that stopped. The moment is given by its digits.
+/// Appends a FAULT line for each program that stopped. Their paths are written into one text, one after another. The moment is given by its digits.
 fn push_faults(
     alloc: Global,
     text: &mut Vec<u8>,
@@ -100,8 +104,12 @@ fn push_faults(
     requires { All (λ f. f.0.path < length (body_paths plant.now)) faults.now }
     ensures { (t : ℕ) → moment.now ≡ decimal t → OnOk result (text.new.items ≡ text.old.items ++ fault_lines t (spots_of plant.now.source faults.now)) }
 {
+    if faults.is_empty() {
+        return Ok(());
+    }
+    let mut path = String::with_capacity(alloc, PATH)?;
     for (place, trap) in faults {
-        let path = path_text(alloc, plant, place)?;
+        write_path(&mut path, plant, place)?;
         push_fault(text, moment, path.as_str(), place.statement, *trap)?;
     }
     Ok(())
