@@ -9,7 +9,7 @@ use std::str;
 use token_causes::{Cause, cause_at, part};
 
 /// The most consoles that a plant may have.
-const MOST_CONSOLES: usize = 32;
+pub const MOST_CONSOLES: usize = 32;
 
 /// Whether a line that begins with a bracket begins a console.
 fn begins_console(line: &[u8]) -> bool {
@@ -48,7 +48,7 @@ fn strange_header(alloc: Global, bytes: &[u8]) -> Result<Option<Cause>, AllocErr
 }
 
 /// The header of a console, which is told by its number in order of text, from 1.
-fn header_of(bytes: &[u8], console: usize) -> Option<(usize, usize)> {
+pub fn header_of(bytes: &[u8], console: usize) -> Option<(usize, usize)> {
     let mut at = mark_len(bytes);
     let mut consoles = 0usize;
     for line in part(bytes, at, bytes.len()).split(|byte| *byte == b'\n') {

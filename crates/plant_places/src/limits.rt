@@ -1,5 +1,7 @@
 //! The limit that isn't kept (C10).
 
+use crate::consoles::{MOST_CONSOLES, header_of};
+use crate::fields::field_at;
 use crate::keys::key_mark;
 use crate::place::FileOf;
 use crate::texts::Spot;
@@ -10,6 +12,15 @@ use token_causes::{Cause, cause_at, cause_of};
 
 /// Where limits stand.
 const LIMITS: &str = "docs/PLANT.md, \"Limits (this profile)\"";
+
+/// The most alarms of a plant.
+const MOST_ALARMS: usize = 20_000;
+
+/// The most bytes of all sources together.
+const MOST_SOURCE_BYTES: usize = 4_194_304;
+
+/// The most bytes of a plant file.
+const MOST_PLANT_BYTES: usize = 1_048_576;
 
 /// What is said of a limit, and where to read on.
 fn told(limit: Limit) -> (&'static str, &'static str) {
@@ -55,13 +66,41 @@ fn key_of(limit: Limit) -> &'static str {
     }
 }
 
+/// The bytes of what is one too many: a header of a console, or the first field of a row of alarms; else of the line that has too much of something.
+fn mark_of(refused: &PlantTexts<'_>, limit: Limit) -> Option<(usize, usize)> {
+    match limit {
+        Limit::Consoles => header_of(refused.plant, MOST_CONSOLES.saturating_add(1)),
+        Limit::Alarms => {
+            let field = field_at(refused.alarms, MOST_ALARMS.saturating_add(1), 0)?;
+            Some((field.from, field.until))
+        }
+        _ => key_mark(refused.plant, 0, key_of(limit)),
+    }
+}
+
 /// The cause of a limit that isn't kept.
-fn cause(alloc: Global, plant: &[u8], limit: Limit) -> Result<Cause, AllocError> {
+fn cause(alloc: Global, refused: &PlantTexts<'_>, limit: Limit) -> Result<Cause, AllocError> {
     let (told, page) = told(limit);
     let said = String::from_str(alloc, told)?;
-    match key_mark(plant, 0, key_of(limit)) {
+    match mark_of(refused, limit) {
         Some(mark) => Ok(cause_at(mark, said, page)),
         None => Ok(cause_of(said, page)),
+    }
+}
+
+/// The text that is too long: the source with which all sources together are, else the plant file, or the alarm database.
+fn long_file(refused: &PlantTexts<'_>) -> FileOf {
+    let mut size = 0usize;
+    for (number, source) in refused.sources.iter().enumerate() {
+        size = size.saturating_add(source.1.len());
+        if size > MOST_SOURCE_BYTES {
+            return FileOf::Source(number);
+        }
+    }
+    if refused.plant.len() > MOST_PLANT_BYTES {
+        FileOf::Plant
+    } else {
+        FileOf::Alarms
     }
 }
 
@@ -73,8 +112,9 @@ pub fn over_limit(
 ) -> Result<Spot, AllocError> {
     let file = match limit {
         Limit::Alarms => FileOf::Alarms,
+        Limit::Text => long_file(refused),
         _ => FileOf::Plant,
     };
-    let cause = cause(alloc, refused.plant, limit)?;
+    let cause = cause(alloc, refused, limit)?;
     Ok(Spot { file, cause })
 }
