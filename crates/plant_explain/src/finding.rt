@@ -1,6 +1,9 @@
 //! The cause of a refusal is looked for.
 
+use crate::deep::too_deep;
 use crate::globals::unknown;
+use crate::numbered::one_too_many;
+use crate::past::too_costly;
 use crate::turns::too_many_turns;
 use crate::units::cause_in;
 use plant_config::{ConfigFault, Limit};
@@ -80,6 +83,21 @@ fn in_table(
     }
 }
 
+/// Where a limit isn't kept: at a word of a source, where one tells it.
+fn over(alloc: Global, refused: &PlantTexts<'_>, limit: Limit) -> Result<Spot, AllocError> {
+    let found = match limit {
+        Limit::Turns => too_many_turns(alloc, refused)?,
+        Limit::Cost => too_costly(alloc, refused)?,
+        Limit::BlockDepth => too_deep(alloc, refused)?,
+        Limit::Programs | Limit::Slots => one_too_many(alloc, refused, limit)?,
+        _ => None,
+    };
+    match found {
+        Some(spot) => Ok(spot),
+        None => over_limit(alloc, refused, limit),
+    }
+}
+
 /// The file in which a refused plant has a fault, and its cause there.
 pub fn find(
     alloc: Global,
@@ -87,8 +105,7 @@ pub fn find(
     fault: &ConfigFault,
 ) -> Result<Spot, AllocError> {
     match fault {
-        ConfigFault::Limit(Limit::Turns) => too_many_turns(alloc, refused),
-        ConfigFault::Limit(limit) => over_limit(alloc, refused, *limit),
+        ConfigFault::Limit(limit) => over(alloc, refused, *limit),
         ConfigFault::Spelling { file, line, column } => {
             in_text(alloc, refused, file, (*line, *column), true)
         }

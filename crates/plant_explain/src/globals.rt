@@ -2,72 +2,25 @@
 
 use plant_folder::PlantTexts;
 use plant_places::{Field, no_area, unquoted};
-use plant_types::same_word;
 use std::alloc::{AllocError, Global};
 use std::str;
 use token_causes::{Cause, cause_at, cause_of};
+use unit_causes::Nearest;
 use unit_words::{Entry, What, entries_of, global_named, is_same, sources_of};
 
 /// Where alarms are described.
 pub const ALARMS: &str = "docs/PLANT.md, \"alarms.csv\"";
 
-/// How many letters each of two names may have of its own, where one is written for the other: the first three in names of any length.
-const CHANGES: [(usize, usize); 8] = [
-    (1, 1),
-    (0, 1),
-    (1, 0),
-    (2, 2),
-    (0, 2),
-    (2, 0),
-    (1, 2),
-    (2, 1),
-];
-
-/// How many bytes two names begin with alike, in any letter case.
-fn begun_alike(a: &[u8], b: &[u8]) -> usize {
-    let mut count = 0usize;
-    for (x, y) in a.iter().zip(b.iter()) {
-        if !x.eq_ignore_ascii_case(y) {
-            break;
-        }
-        count = count.saturating_add(1);
-    }
-    count
-}
-
-/// Whether a name may be written for another one: they differ in one place, by a letter, or in names of six letters or more by two. Names of one letter or
-/// two are near no other.
-fn is_near(written: &[u8], meant: &[u8]) -> bool {
-    let begun = begun_alike(written, meant);
-    let allowed = match written.len() {
-        0..3 => 0,
-        3..6 => 3,
-        _ => CHANGES.len(),
-    };
-    for (own, other) in CHANGES.get(..allowed).unwrap_or(&[]) {
-        let rest = written.get(begun.saturating_add(*own)..);
-        let meant_rest = meant.get(begun.saturating_add(*other)..);
-        if let (Some(rest), Some(meant_rest)) = (rest, meant_rest) {
-            if same_word(rest, meant_rest) {
-                return true;
-            }
-        }
-    }
-    false
-}
-
-/// The first BOOL global that may be meant by a name; empty if there is none.
-fn near_global<'a>(entries: &[Entry<'a>], name: &str) -> &'a str {
+/// The nearest name of a BOOL global.
+fn nearest_global<'a>(entries: &[Entry<'a>], name: &'a str) -> Nearest<'a> {
+    let mut nearest = Nearest::to(name);
     for entry in entries {
         let is_global = matches!(entry.what, What::Global | What::Input);
-        if is_global
-            && is_same(entry.kind, "BOOL")
-            && is_near(name.as_bytes(), entry.word.as_bytes())
-        {
-            return entry.word;
+        if is_global && is_same(entry.kind, "BOOL") {
+            nearest.offer(entry.word);
         }
     }
-    ""
+    nearest
 }
 
 /// The block or program that declares a variable of a name; empty if none does.
@@ -84,27 +37,33 @@ fn owner_of<'a>(entries: &[Entry<'a>], name: &str) -> &'a str {
 }
 
 /// What is said of a name that isn't declared as a global.
-fn undeclared(alloc: Global, entries: &[Entry<'_>], name: &str) -> Result<String, AllocError> {
+fn undeclared<'a>(
+    alloc: Global,
+    entries: &[Entry<'a>],
+    name: &'a str,
+) -> Result<String, AllocError> {
     let owner = owner_of(entries, name);
     if !owner.is_empty() {
         return format!(in alloc;
             "'{name}' is a variable of {owner} alone, and an alarm watches BOOL globals (VAR_GLOBAL)"
         );
     }
-    let near = near_global(entries, name);
-    if !near.is_empty() {
-        return format!(in alloc; "no BOOL global is called '{name}'; did you mean '{near}'?");
-    }
     if is_same(name, "FALSE") {
         return format!(in alloc;
             "no BOOL global is called '{name}'; where nothing suppresses the alarm the field is empty"
         );
     }
-    format!(in alloc; "no BOOL global is called '{name}'")
+    let hint = nearest_global(entries, name).hint(alloc)?;
+    let hint = hint.as_str();
+    format!(in alloc; "no BOOL global is called '{name}'{hint}")
 }
 
 /// Why a name is no BOOL global's.
-fn why_none(alloc: Global, refused: &PlantTexts<'_>, name: &str) -> Result<String, AllocError> {
+fn why_none<'a>(
+    alloc: Global,
+    refused: &PlantTexts<'a>,
+    name: &'a str,
+) -> Result<String, AllocError> {
     let sources = sources_of(alloc, refused.sources)?;
     let entries = entries_of(alloc, sources.as_slice())?;
     match global_named(entries.as_slice(), name) {
@@ -116,10 +75,19 @@ fn why_none(alloc: Global, refused: &PlantTexts<'_>, name: &str) -> Result<Strin
     }
 }
 
+/// The name that stands in a field; empty where it isn't UTF-8.
+fn name_in(alarms: &[u8], field: Field) -> &str {
+    let bytes = unquoted(alarms, field);
+    match str::from_utf8(bytes) {
+        Ok(name) => name,
+        Err(_) => "",
+    }
+}
+
 /// The cause of a field that names what the plant hasn't.
-pub fn unknown(
+pub fn unknown<'a>(
     alloc: Global,
-    refused: &PlantTexts<'_>,
+    refused: &PlantTexts<'a>,
     field: Option<Field>,
 ) -> Result<Cause, AllocError> {
     let Some(field) = field else {
@@ -129,7 +97,7 @@ pub fn unknown(
     if field.number == 1 {
         return no_area(alloc, refused, field);
     }
-    let name = str::from_utf8(unquoted(refused.alarms, field)).unwrap_or("");
+    let name = name_in(refused.alarms, field);
     let said = why_none(alloc, refused, name)?;
     Ok(cause_at((field.from, field.until), said, ALARMS))
 }

@@ -5,6 +5,9 @@
 //! refusal, and that a place is that of the byte at which its cause begins; what else is said is tried on examples. Of a plant that is accepted `warn`
 //! tells what is likely to be wrong in it.
 //!
+//! Of a limit that the sources don't keep, the line of the refusal names no unit: where no word tells it, the program or the FOR with which they are past it is
+//! found by reading the plant again without some of these.
+//!
 //! For further faults the plant is read again without what was at fault: in a copy of its texts blanks stand in place of that, and all else stands where it
 //! stood. Why this copy is refused is by `Plant::read` too, and so on. A fault of another stage ends the search, since it may come of what was left out. So
 //! what is told is a fault of the plant itself:
@@ -20,12 +23,17 @@
 #![tactic(auto)]
 
 mod all_told;
+mod deep;
 mod finding;
 mod globals;
 mod narrow;
+mod numbered;
+mod parting;
+mod past;
 mod refusal;
 mod rest;
 mod search;
+mod spots;
 mod stage;
 mod telling;
 mod turns;

@@ -4,7 +4,9 @@
 ghost use Rattle.std.specs.Prelude.{◌≢◌};
 ghost use Rattle.plant_config.specs.declared.fault.ConfigFault.TheVariants as config_fault;
 
-use crate::refusal::refusal;
+use crate::parting::{NO_PARTS, first_wrong};
+use crate::past::past_limit;
+use crate::rest::{Part, push_parts};
 use crate::search::size_of;
 use plant_config::ConfigFault;
 use plant_folder::PlantTexts;
@@ -15,7 +17,7 @@ use text_blanks::{compound_statements, simple_statements};
 use token_causes::{Cause, Role, role_of, tokens_of};
 
 /// In a plant with more bytes no statement is looked for.
-const MOST_BYTES: usize = 65_536;
+pub const MOST_BYTES: usize = 65_536;
 
 /// The number of a source, and the line by which the texts are refused.
 #[derive(Clone, Copy, Drop)]
@@ -24,89 +26,21 @@ struct Wrong<'l> {
     line: &'l str,
 }
 
-/// Puts blanks in place of a part of a text, but for its line feeds.
-fn blank_out(text: &mut [u8], part: (usize, usize)) {
-    for number in part.0..part.1 {
-        if let Some(byte) = text.get_mut(number) {
-            if *byte != b'\n' {
-                *byte = b' ';
-            }
-        }
-    }
-}
-
-/// A text with blanks in place of its parts from a number on.
-fn without(
-    alloc: Global,
-    text: &[u8],
-    parts: &[(usize, usize)],
-    first: usize,
-) -> Result<Vec<u8>, AllocError> {
-    let mut left = Vec::from_slice(alloc, text)?;
-    for part in parts.iter().skip(first) {
-        blank_out(left.as_mut_slice(), *part);
-    }
-    Ok(left)
-}
-
-/// Whether texts with another text in place of a source are refused by the same line.
-fn is_refused_so<H: Threads + Sync>(
+/// The bytes of the first of some parts with which texts without others are refused by a line; `None` where there is none.
+fn wrong_bytes<H: Threads + Sync>(
     rt: &H,
     alloc: Global,
     texts: &PlantTexts<'_>,
-    wrong: Wrong<'_>,
-    text: &[u8],
-) -> Result<bool, AllocError> {
-    let mut sources = Vec::new(alloc);
-    for (number, source) in texts.sources.iter().enumerate() {
-        let left = if number == wrong.source {
-            text
-        } else {
-            source.1
-        };
-        sources.push((source.0, left))?;
-    }
-    let left = PlantTexts {
-        path: texts.path,
-        plant: texts.plant,
-        sources: sources.as_slice(),
-        alarms: texts.alarms,
-    };
-    match refusal(rt, alloc, &left)? {
-        Some(fault) => Ok(fault.line(alloc)?.as_str() == wrong.line),
-        None => Ok(false),
-    }
-}
-
-/// The first of the parts of a text in which what is wrong is: with those behind it left out the refusal stays, and with it left out too it doesn't. `None`
-/// where it is in none.
-fn first_wrong<H: Threads + Sync>(
-    rt: &H,
-    alloc: Global,
-    texts: &PlantTexts<'_>,
-    wrong: Wrong<'_>,
-    (text, parts): (&[u8], &[(usize, usize)]),
+    line: &str,
+    (others, parts): (&[Part], &[Part]),
 ) -> Result<Option<(usize, usize)>, AllocError> {
-    let bare = without(alloc, text, parts, 0)?;
-    if is_refused_so(rt, alloc, texts, wrong, bare.as_slice())? {
+    let Some(number) = first_wrong(rt, alloc, texts, line, (others, parts))? else {
         return Ok(None);
+    };
+    match parts.get(number) {
+        Some(part) => Ok(Some(part.bytes)),
+        None => Ok(None),
     }
-    let mut right = 0usize;
-    let mut bad = parts.len();
-    for _ in 0..64 {
-        let way = bad.saturating_sub(right);
-        if way <= 1 {
-            break;
-        }
-        let middle = right.saturating_add(way / 2);
-        let left = without(alloc, text, parts, middle)?;
-        if is_refused_so(rt, alloc, texts, wrong, left.as_slice())? {
-            bad = middle;
-        } else {
-            right = middle;
-        }
-    }
-    Ok(parts.get(right).copied())
 }
 
 /// The bytes of the statement in which something is wrong, by a byte of the name of its block or program; of an IF, a CASE or a FOR by what it asks. `None`
@@ -116,9 +50,9 @@ fn wrong_statement<H: Threads + Sync>(
     alloc: Global,
     texts: &PlantTexts<'_>,
     wrong: Wrong<'_>,
-    (text, at): (&[u8], usize),
+    at: usize,
 ) -> Result<Option<(usize, usize)>, AllocError> {
-    let tokens = tokens_of(alloc, text)?;
+    let tokens = tokens_of(alloc, text_of(texts, FileOf::Source(wrong.source)))?;
     let tokens = tokens.as_slice();
     let is_title = match tokens.iter().position(|token| token.from == at) {
         Some(number) => matches!(role_of(tokens, number, false), Role::Title),
@@ -127,49 +61,35 @@ fn wrong_statement<H: Threads + Sync>(
     if !is_title {
         return Ok(None);
     }
-    let simple = simple_statements(alloc, tokens, at)?;
+    let mut simple = Vec::new(alloc);
+    let found = simple_statements(alloc, tokens, at)?;
+    push_parts(&mut simple, wrong.source, found.as_slice())?;
     let simple = simple.as_slice();
-    if let Some(found) = first_wrong(rt, alloc, texts, wrong, (text, simple))? {
-        return Ok(Some(found));
+    if let Some(bytes) = wrong_bytes(rt, alloc, texts, wrong.line, (NO_PARTS, simple))? {
+        return Ok(Some(bytes));
     }
-    let heads = without(alloc, text, simple, 0)?;
-    let compound = compound_statements(alloc, tokens, at)?;
-    first_wrong(
-        rt,
-        alloc,
-        texts,
-        wrong,
-        (heads.as_slice(), compound.as_slice()),
-    )
+    let mut compound = Vec::new(alloc);
+    let found = compound_statements(alloc, tokens, at)?;
+    push_parts(&mut compound, wrong.source, found.as_slice())?;
+    wrong_bytes(rt, alloc, texts, wrong.line, (simple, compound.as_slice()))
 }
 
 /// What is wrong in texts, at its statement where only its block or program was told.
-pub fn narrowed<H: Threads + Sync>(
+fn at_statement<H: Threads + Sync>(
     rt: &H,
     alloc: Global,
     texts: &PlantTexts<'_>,
-    fault: &ConfigFault,
+    line: &str,
     spot: Spot,
-) -> Result<Spot, AllocError>
-    requires { fault.now ≢ config_fault.Memory }
-{
-    let is_asked = matches!(
-        fault,
-        ConfigFault::Kind { .. } | ConfigFault::Constant { .. }
-    );
-    let text = text_of(texts, spot.file);
+) -> Result<Spot, AllocError> {
     let (FileOf::Source(source), Some(mark)) = (spot.file, spot.cause.mark) else {
         return Ok(spot);
     };
-    if !is_asked || size_of(texts) > MOST_BYTES {
+    if size_of(texts) > MOST_BYTES {
         return Ok(spot);
     }
-    let line = fault.line(alloc)?;
-    let wrong = Wrong {
-        source,
-        line: line.as_str(),
-    };
-    match wrong_statement(rt, alloc, texts, wrong, (text, mark.0))? {
+    let wrong = Wrong { source, line };
+    match wrong_statement(rt, alloc, texts, wrong, mark.0)? {
         Some(found) => Ok(Spot {
             file: spot.file,
             cause: Cause {
@@ -179,5 +99,26 @@ pub fn narrowed<H: Threads + Sync>(
             },
         }),
         None => Ok(spot),
+    }
+}
+
+/// What is wrong in texts, at its statement where only its block or program was told; or of a limit that the sources don't keep, at the program or the FOR
+/// with which they are past it.
+pub fn narrowed<H: Threads + Sync>(
+    rt: &H,
+    alloc: Global,
+    texts: &PlantTexts<'_>,
+    fault: &ConfigFault,
+    spot: Spot,
+) -> Result<Spot, AllocError>
+    requires { fault.now ≢ config_fault.Memory }
+{
+    let line = fault.line(alloc)?;
+    match fault {
+        ConfigFault::Kind { .. } | ConfigFault::Constant { .. } => {
+            at_statement(rt, alloc, texts, line.as_str(), spot)
+        }
+        ConfigFault::Limit(limit) => { past_limit(rt, alloc, texts, (*limit, line.as_str()), spot) }
+        _ => Ok(spot),
     }
 }

@@ -14,6 +14,39 @@ pub struct Rest {
     pub alarms: Vec<u8>,
 }
 
+/// A part of a source: the source's number, and the part's bytes, from one number to before another.
+#[derive(Clone, Copy, Drop)]
+pub struct Part {
+    pub source: usize,
+    pub bytes: (usize, usize),
+}
+
+/// Adds parts of a source, by their bytes. Fails if allocation fails.
+pub fn push_parts(
+    parts: &mut Vec<Part>,
+    source: usize,
+    found: &[(usize, usize)],
+) -> Result<(), AllocError> {
+    for bytes in found {
+        parts.push(Part {
+            source,
+            bytes: *bytes,
+        })?;
+    }
+    Ok(())
+}
+
+/// Puts blanks in place of a part of a text, but for its line feeds.
+fn blank_out(text: &mut [u8], part: (usize, usize)) {
+    for number in part.0..part.1 {
+        if let Some(byte) = text.get_mut(number) {
+            if *byte != b'\n' {
+                *byte = b' ';
+            }
+        }
+    }
+}
+
 /// The bytes of the row of a table that has a byte; `None` for its header.
 fn row_at(text: &[u8], at: usize) -> Option<(usize, usize)> {
     let mut field = first_field(text);
@@ -78,6 +111,15 @@ impl Rest {
             pairs.push((source.0, text.as_slice()))?;
         }
         Ok(pairs)
+    }
+
+    /// Leaves out parts of the sources.
+    pub fn leave_out_parts(&mut self, parts: &[Part]) {
+        for part in parts {
+            if let Some(text) = self.sources.get_mut(part.source) {
+                blank_out(text.as_mut_slice(), part.bytes);
+            }
+        }
     }
 
     /// Leaves out the part of a source that is wrong at a byte; whether anything can be left out.

@@ -1,11 +1,13 @@
-//! A FOR of too many turns (C10 TURNS).
+//! A FOR of too many turns (C10 TURNS), and how often the body of a FOR runs.
 
-use plant_config::Limit;
 use plant_folder::PlantTexts;
-use plant_places::{FileOf, Spot, over_limit};
+use plant_places::{FileOf, Spot};
 use st_lexer::{Keyword, Token, TokenKind};
 use std::alloc::{AllocError, Global};
 use token_causes::{cause_at, kind_at, span_of, tokens_of};
+
+/// Where the limits of the language stand.
+pub const LIMITS: &str = "docs/LANGUAGE.md, \"Limits (this profile)\"";
 
 /// The most turns that a FOR may have.
 const MOST_TURNS: u64 = 10_000;
@@ -63,19 +65,49 @@ fn long_loop(alloc: Global, text: &[u8]) -> Result<Option<((usize, usize), u64)>
     Ok(None)
 }
 
-/// The FOR that has too many turns, where plain numbers tell it; else what there is to say of this limit.
-pub fn too_many_turns(alloc: Global, refused: &PlantTexts<'_>) -> Result<Spot, AllocError> {
+/// The FOR that has too many turns, where plain numbers tell it; else `None`.
+pub fn too_many_turns(alloc: Global, refused: &PlantTexts<'_>) -> Result<Option<Spot>, AllocError> {
     for (number, source) in refused.sources.iter().enumerate() {
         if let Some((mark, turns)) = long_loop(alloc, source.1)? {
             let said = format!(in alloc;
                 "this FOR has {turns} turns, and at most 10000 are allowed"
             )?;
-            let page = "docs/LANGUAGE.md, \"Limits (this profile)\"";
-            return Ok(Spot {
+            return Ok(Some(Spot {
                 file: FileOf::Source(number),
-                cause: cause_at(mark, said, page),
-            });
+                cause: cause_at(mark, said, LIMITS),
+            }));
         }
     }
-    over_limit(alloc, refused, Limit::Turns)
+    Ok(None)
+}
+
+/// How often the body of a FOR runs, by how often the FOR does and its turns; `None` where one isn't known.
+fn times_of(around: Option<u64>, turns: Option<u64>) -> Option<u64> {
+    Some(around?.saturating_mul(turns?))
+}
+
+/// The FOR among tokens whose body runs most often, the first of several, by the number of its token, and how often; where a bound or a step is no plain
+/// number, that FOR and those in it aren't asked.
+pub fn busiest(
+    alloc: Global,
+    tokens: &[Token],
+    range: (usize, usize),
+) -> Result<Option<(usize, u64)>, AllocError> {
+    let mut open: Vec<Option<u64>> = Vec::new(alloc);
+    let mut best = None;
+    let mut most = 0u64;
+    for number in range.0..range.1 {
+        if has_keyword(tokens, number, 0, Keyword::For) {
+            let around = open.last().copied().unwrap_or(Some(1));
+            let times = times_of(around, turns_at(tokens, number));
+            open.push(times)?;
+            if times.unwrap_or(0) > most {
+                most = times.unwrap_or(0);
+                best = Some((number, most));
+            }
+        } else if has_keyword(tokens, number, 0, Keyword::EndFor) {
+            open.pop();
+        }
+    }
+    Ok(best)
 }

@@ -1,6 +1,7 @@
 //! What is likely to be wrong in a plant that is accepted.
 
 use crate::globals::ALARMS;
+use crate::spots::spot_at;
 use crate::uses::{Use, Variables, use_by};
 use plant_folder::PlantTexts;
 use plant_places::{FileOf, Spot, first_field, next_field, unquoted};
@@ -8,7 +9,7 @@ use plant_types::Region;
 use st_lexer::{Keyword, TokenKind};
 use std::alloc::{AllocError, Global};
 use std::str;
-use token_causes::{Role, cause_at, kind_at, role_of, section_after, span_of, word_at};
+use token_causes::{Role, cause_at, kind_at, role_of, section_after, word_at};
 use unit_words::{Entry, Source, What, entries_of, sources_of};
 
 /// Where variables are described.
@@ -36,21 +37,9 @@ fn warning_at(
     entry: &Entry<'_>,
     said: &str,
 ) -> Result<Option<Spot>, AllocError> {
-    let Some(source) = sources.get(entry.source) else {
-        return Ok(None);
-    };
-    let (token, word) = (entry.token, entry.word);
-    let mark = span_of(
-        source.text,
-        source.tokens.as_slice(),
-        token,
-        token.saturating_add(1),
-    );
+    let word = entry.word;
     let said = format!(in alloc; "warning: {said} '{word}'")?;
-    Ok(Some(Spot {
-        file: FileOf::Source(entry.source),
-        cause: cause_at(mark, said, VARIABLES),
-    }))
+    Ok(spot_at(sources, entry, said, VARIABLES))
 }
 
 /// Whether a global is an output of the plant.
