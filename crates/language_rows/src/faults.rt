@@ -35,12 +35,21 @@ fn column(word: &str) -> Column {
 
 /// The limit of a name; for another word that on areas.
 fn limit(word: &str) -> Limit {
-    match word.as_bytes() {
-        b"TURNS" => Limit::Turns,
-        b"COST" => Limit::Cost,
-        b"ALARMS" => Limit::Alarms,
-        _ => Limit::Areas,
+    for limit in [
+        Limit::Consoles,
+        Limit::Turns,
+        Limit::BlockDepth,
+        Limit::Programs,
+        Limit::Slots,
+        Limit::Size,
+        Limit::Cost,
+        Limit::Alarms,
+    ] {
+        if limit.name() == word {
+            return limit;
+        }
     }
+    Limit::Areas
 }
 
 /// A fault at a line and a column of a source.
