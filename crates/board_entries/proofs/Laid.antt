@@ -1,6 +1,5 @@
 -- The entry that is laid by is that of the event that was made ready.
 use Rattle.std.proofs.Common.{◌≡◌, Bool, true, List, [], ◌∷◌, ◌++◌, Result, Ok, Err, MatchResult, ap, sym, ◌∙◌, subst}
-use Rattle.alarm_bank.specs.Banks.{PlainBank}
 use Rattle.plant_cells.specs.Cells.{PlainCells, value_at}
 use Rattle.block_frames.specs.Stands.{StandFor}
 use Rattle.alarm_bank.specs.declared.event.BankEvent.TheVariants as bank_event
@@ -17,12 +16,13 @@ use Rattle.plant_system.proofs.CellWorlds.{SameGlobals, values_stand}
 use Rattle.engine.specs.Engines.{PlainEngine, state_of, Fits, FitsOrder, LeavesState}
 use Rattle.boards.specs.declared.entry.Entry.{Entry}
 use Rattle.boards.specs.declared.entry.Entry.TheVariants as entry
+use Rattle.boards.specs.declared.picture.Picture.{Picture}
 use Rattle.boards.specs.declared.writer.BoardWriter.{BoardWriter}
 use Rattle.engine.specs.Lawful.{IsTaken}
 use Rattle.boards.specs.Stories.{Story, shown}
 use Rattle.boards.specs.Replies.{after, allows}
 use Rattle.boards.specs.Readers.{laid}
-use Rattle.board_entries.specs.Entries.{board_reply, bank_of, entry_of, entries_of}
+use Rattle.board_entries.specs.Entries.{board_reply, picture_of, entry_of, entries_of}
 use Rattle.board_entries.specs.Showing.{HasHistory}
 use Rattle.board_entries.proofs.Scans.{conditions_same, suppressions_same}
 use Rattle.board_entries.proofs.Steps.{history_more, next_may, alarms_next}
@@ -50,13 +50,13 @@ order_entry e p fits = ap (λ (r : Reply). entry.Order p.console (record { order
 -- the entry of the next event may be laid by
 pub may_come : (plant : PlainPlant) (history : List Event) (e : Event) (board : BoardWriter) (x : Entry) → HasHistory plant history board → x ≡ entry_of (system plant history) e
     → allows (shown after (laid board).0 (laid board).1) x ≡ true
-may_come plant history e board x has is = ap (λ (s : Story PlainBank Entry). allows (shown after s.0 s.1) x) has.laid_is ∙ next_may plant history e x has.alarms is
+may_come plant history e board x has is = ap (λ (s : Story Picture Entry). allows (shown after s.0 s.1) x) has.laid_is ∙ next_may plant history e x has.alarms is
 
 has_next : (plant : PlainPlant) (history : List Event) (e : Event) (old new : BoardWriter) (x : Entry) → HasHistory plant history old → IsTaken (system plant history) e
     → x ≡ entry_of (system plant history) e → laid new ≡ ((laid old).0, (laid old).1 ++ x ∷ []) → HasHistory plant (history ++ e ∷ []) new
 has_next plant history e old new x has taken is more =
-    let opening = bank_of (opening_system plant) in record {
-      laid_is = more ∙ (ap (λ (s : Story PlainBank Entry). (s.0, s.1 ++ x ∷ [])) has.laid_is
+    let opening = picture_of (opening_system plant) in record {
+      laid_is = more ∙ (ap (λ (s : Story Picture Entry). (s.0, s.1 ++ x ∷ [])) has.laid_is
           ∙ (ap (λ (y : Entry). (opening, entries_of plant history ++ y ∷ [])) is ∙ ap (λ (l : List Entry). (opening, l)) (sym (history_more plant history e))));
       alarms = alarms_next plant history e taken has.alarms;
     }

@@ -1,7 +1,6 @@
 -- A board goes on with a history: the next entry may come, and after it the board's alarms are the system's.
 use Rattle.std.proofs.Common.{◌≡◌, suc, true, List, [], ◌∷◌, ◌++◌, length, fold, Ok, Err, IfOk, refl, ap, sym, ◌∙◌}
 use Rattle.std.specs.declared.result.Result.{Result}
-use Rattle.alarm_bank.specs.Banks.{PlainBank}
 use Rattle.event_history.specs.declared.event.Event.{Event}
 use Rattle.event_history.specs.declared.event.Event.TheVariants as event
 use Rattle.plant_config.specs.Plants.{PlainPlant}
@@ -11,13 +10,14 @@ use Rattle.plant_system.proofs.Images.{taken_when}
 use Rattle.plant_system.proofs.Systems.{system_alarms, system_next, system_none}
 use Rattle.engine.specs.Lawful.{IsTaken}
 use Rattle.boards.specs.declared.entry.Entry.{Entry}
+use Rattle.boards.specs.declared.picture.Picture.{Picture}
 use Rattle.boards.specs.declared.writer.BoardWriter.{BoardWriter}
 use Rattle.boards.specs.Stories.{shown}
-use Rattle.boards.specs.Replies.{after, allows}
+use Rattle.boards.specs.Replies.{after, allows, alarms_after}
 use Rattle.boards.specs.declared.board.Board.{Board}
 use Rattle.boards.specs.Readers.{published, laid, story_of}
 use Rattle.boards.proofs.Takes.{shown_more}
-use Rattle.board_entries.specs.Entries.{entry_of, entries_from, entries_of, bank_of}
+use Rattle.board_entries.specs.Entries.{entry_of, entries_from, entries_of, bank_of, counted_consoles, picture_of}
 use Rattle.board_entries.specs.Showing.{HasAlarmsOf, HasHistory}
 use Rattle.board_entries.proofs.Orders.{order_takes}
 use Rattle.board_entries.proofs.Scans.{scan_after}
@@ -39,29 +39,37 @@ pub length_of : (plant : PlainPlant) (history : List Event) → length (entries_
 unfolding entries_of
 length_of plant history = length_from (opening_system plant) history
 
-next_allowed : (sys : System) (e : Event) → allows (bank_of sys) (entry_of sys e) ≡ true
+next_allowed : (sys : System) (e : Event) → allows (picture_of sys) (entry_of sys e) ≡ true
 next_allowed sys (event.Scan image t) = refl
 next_allowed sys (event.Order console order) = (order_takes (bank_of sys) sys.plant sys.faulted console order).may
 
-next_after : (sys : System) (e : Event) → length sys.alarms ≡ length sys.plant.alarms → IsTaken sys e → after (bank_of sys) (entry_of sys e) ≡ bank_of (after_event sys e)
-next_after sys (event.Scan image t) each h = scan_after sys image t each (taken_when (globals_of sys.plant) sys.moment sys.events h.0 t t image h.1).in_range
-next_after sys (event.Order console order) each h = (order_takes (bank_of sys) sys.plant sys.faulted console order).after
+bank_after : (sys : System) (e : Event) → length sys.alarms ≡ length sys.plant.alarms → IsTaken sys e → alarms_after (bank_of sys) (entry_of sys e) ≡ bank_of (after_event sys e)
+bank_after sys (event.Scan image t) each h = scan_after sys image t each (taken_when (globals_of sys.plant) sys.moment sys.events h.0 t t image h.1).in_range
+bank_after sys (event.Order console order) each h = (order_takes (bank_of sys) sys.plant sys.faulted console order).after
+
+-- no event changes the plant
+same_plant : (sys : System) (e : Event) → (after_event sys e).plant ≡ sys.plant
+same_plant sys (event.Scan image t) = refl
+same_plant sys (event.Order console order) = refl
+
+next_after : (sys : System) (e : Event) → length sys.alarms ≡ length sys.plant.alarms → IsTaken sys e → after (picture_of sys) (entry_of sys e) ≡ picture_of (after_event sys e)
+next_after sys e each h = λ i. record { bank = bank_after sys e each h i; consoles = counted_consoles ((sym (same_plant sys e) i).consoles) }
 
 -- the entry of an event may come after the history before it
 pub next_may : (plant : PlainPlant) (history : List Event) (e : Event) (x : Entry) → HasAlarmsOf plant history → x ≡ entry_of (system plant history) e
-    → allows (shown after (bank_of (opening_system plant)) (entries_of plant history)) x ≡ true
+    → allows (shown after (picture_of (opening_system plant)) (entries_of plant history)) x ≡ true
 next_may plant history e x alarms is =
-    ap (λ (b : PlainBank). allows b x) alarms ∙ (ap (λ (y : Entry). allows (bank_of (system plant history)) y) is ∙ next_allowed (system plant history) e)
+    ap (λ (p : Picture). allows p x) alarms ∙ (ap (λ (y : Entry). allows (picture_of (system plant history)) y) is ∙ next_allowed (system plant history) e)
 
 -- and after it the alarms are the system's
 pub alarms_next : (plant : PlainPlant) (history : List Event) (e : Event) → IsTaken (system plant history) e → HasAlarmsOf plant history → HasAlarmsOf plant (history ++ e ∷ [])
 alarms_next plant history e taken alarms =
     let sys = system plant history in
-    let opening = bank_of (opening_system plant) in
+    let opening = picture_of (opening_system plant) in
     let es = entries_of plant history in
     let x = entry_of sys e in
     ap (λ (l : List Entry). shown after opening l) (history_more plant history e)
-    ∙ (shown_more after opening es x ∙ (ap (λ (b : PlainBank). after b x) alarms ∙ (next_after sys e (system_alarms plant history) taken ∙ ap bank_of (sym (system_next plant history e)))))
+    ∙ (shown_more after opening es x ∙ (ap (λ (p : Picture). after p x) alarms ∙ (next_after sys e (system_alarms plant history) taken ∙ ap picture_of (sym (system_next plant history e)))))
 
 -- before the first event there is none
 pub no_entries : (plant : PlainPlant) → entries_of plant [] ≡ []
@@ -69,11 +77,11 @@ unfolding entries_of
 no_entries plant = refl
 
 -- a writer that was made of a board before the first entry has the history without events
-pub all_open : {E : Type 0} (r : Result BoardWriter E) (plant : PlainPlant) (first : Board) → first.opening.value ≡ bank_of (opening_system plant) → first.list ≡ []
+pub all_open : {E : Type 0} (r : Result BoardWriter E) (plant : PlainPlant) (first : Board) → first.opening.value ≡ picture_of (opening_system plant) → first.list ≡ []
     → IfOk r (λ w. (published w ≡ story_of first) × (laid w ≡ story_of first)) → IfOk r (HasHistory plant [])
-all_open (Ok w) plant first bank none h =
-    let opening = bank_of (opening_system plant) in record {
-      laid_is = h.1 ∙ ((λ i. (bank i, none i)) ∙ ap (λ (l : List Entry). (opening, l)) (sym (no_entries plant)));
-      alarms = ap (λ (l : List Entry). shown after opening l) (no_entries plant) ∙ ap bank_of (sym (system_none plant));
+all_open (Ok w) plant first picture none h =
+    let opening = picture_of (opening_system plant) in record {
+      laid_is = h.1 ∙ ((λ i. (picture i, none i)) ∙ ap (λ (l : List Entry). (opening, l)) (sym (no_entries plant)));
+      alarms = ap (λ (l : List Entry). shown after opening l) (no_entries plant) ∙ ap picture_of (sym (system_none plant));
     }
-all_open (Err e) plant first bank none h = tt
+all_open (Err e) plant first picture none h = tt

@@ -1,5 +1,5 @@
 -- The entries of a history, as a board takes them in: event by event, from the system's state before it.
-use Rattle.std.specs.Prelude.{ℕ, List, [], ◌∷◌, Option, Result, Ok, Err}
+use Rattle.std.specs.Prelude.{ℕ, List, [], ◌∷◌, map, Option, Result, Ok, Err}
 use Rattle.plant_types.specs.declared.values.Value.{Value}
 use Rattle.alarm_machine.specs.declared.states.OrderFault.{OrderFault}
 use Rattle.alarm_machine.specs.Codes.{PlainChange}
@@ -8,6 +8,7 @@ use Rattle.alarm_bank.specs.declared.event.BankEvent.{BankEvent}
 use Rattle.alarm_bank.specs.declared.event.BankEvent.TheVariants as bank_event
 use Rattle.event_history.specs.declared.event.Event.{Event}
 use Rattle.event_history.specs.declared.event.Event.TheVariants as event
+use Rattle.plant_file.specs.declared.console.Console.{Console}
 use Rattle.plant_config.specs.Plants.{PlainPlant}
 use Rattle.plant_config.specs.Names.{globals_of}
 use Rattle.plant_system.specs.declared.event.Reply.{Reply}
@@ -16,6 +17,7 @@ use Rattle.plant_system.specs.Programs.{global_in}
 use Rattle.plant_system.specs.System.{System, opening_system, after_event, conditions, suppressions, scanned_by, reply_to, sites_of}
 use Rattle.boards.specs.declared.entry.Entry.{Entry}
 use Rattle.boards.specs.declared.entry.Entry.TheVariants as entry
+use Rattle.boards.specs.declared.picture.Picture.{Picture}
 use Rattle.boards.specs.Stories.{Story}
 
 -- a reply, as a board has it
@@ -47,6 +49,14 @@ entries_of plant history = entries_from (opening_system plant) history
 abbrev pub bank_of : System → PlainBank
 bank_of sys = record { sites = sites_of sys.plant.alarms; alarms = sys.alarms; moment = sys.moment }
 
--- what a board shows of a history: the alarms as they open, and its entries
-abbrev pub history_story : PlainPlant → List Event → Story PlainBank Entry
-history_story plant history = (bank_of (opening_system plant), entries_of plant history)
+-- the consoles whose orders the board of a plant counts: all that the plant lists
+abbrev pub counted_consoles : List Console → List ℕ
+counted_consoles consoles = map (λ (console : Console). console.number) consoles
+
+-- what the board of a system shows: its alarms, and how many orders each console of its plant gave
+abbrev pub picture_of : System → Picture
+picture_of sys = record { bank = bank_of sys; consoles = counted_consoles sys.plant.consoles }
+
+-- what a board shows of a history: the picture as the plant opens, and its entries
+abbrev pub history_story : PlainPlant → List Event → Story Picture Entry
+history_story plant history = (picture_of (opening_system plant), entries_of plant history)

@@ -7,11 +7,11 @@ use Rattle.boards.specs.declared.writer.BoardWriter.{BoardWriter}
 use Rattle.boards.specs.Stories.{shown}
 use Rattle.boards.specs.Replies.{after}
 use Rattle.boards.specs.Readers.{laid}
-use Rattle.board_entries.specs.Entries.{bank_of, entries_of, history_story}
+use Rattle.board_entries.specs.Entries.{picture_of, entries_of, history_story}
 
--- after the entries of a history a board's alarms are the system's
+-- after the entries of a history a board's picture is the system's
 abbrev pub HasAlarmsOf : PlainPlant → List Event → Type 0
-HasAlarmsOf plant history = shown after (bank_of (opening_system plant)) (entries_of plant history) ≡ bank_of (system plant history)
+HasAlarmsOf plant history = shown after (picture_of (opening_system plant)) (entries_of plant history) ≡ picture_of (system plant history)
 
 -- all that was laid by for the board is this history, and its alarms are the system's. What readers take is a beginning of that
 pub record HasHistory (plant : PlainPlant) (history : List Event) (board : BoardWriter) : Type 0 where

@@ -2,7 +2,8 @@
 
 ghost use Rattle.std.specs.Prelude.{◌≡◌, [], IfOk, All};
 ghost use Rattle.plant_system.specs.System.{opening_system};
-ghost use Rattle.board_entries.specs.Entries.{bank_of};
+ghost use Rattle.boards.specs.Counts.{consoles_in};
+ghost use Rattle.board_entries.specs.Entries.{bank_of, counted_consoles, picture_of};
 ghost use Rattle.board_entries.specs.Showing.{HasHistory};
 
 use alarm_bank::Bank;
@@ -23,7 +24,8 @@ fn opening_bank(alloc: Global, plant: &Plant) -> Result<Bank, AllocError>
 
 /// A tally for each console, with no order yet. Fails if allocation fails.
 fn tallies_of(alloc: Global, consoles: &[Console]) -> Result<Vec<Tally>, AllocError>
-    ensures { IfOk result (λ tallies. All (λ t. t.orders ≡ 0) tallies.items) }
+    ensures none { IfOk result (λ tallies. All (λ t. t.orders ≡ 0) tallies.items) }
+    ensures all { IfOk result (λ tallies. consoles_in tallies.items ≡ counted_consoles consoles.now) }
 {
     let mut tallies = Vec::new(alloc);
     for console in consoles {
@@ -37,7 +39,7 @@ fn tallies_of(alloc: Global, consoles: &[Console]) -> Result<Vec<Tally>, AllocEr
 
 /// A board of a plant before the first event, which counts the orders of its consoles. Fails if allocation fails.
 fn opening_board(alloc: Global, plant: &Plant) -> Result<Board, AllocError>
-    ensures { IfOk result (λ board. (board.opening.value ≡ bank_of (opening_system plant.now)) × (board.list ≡ [])) }
+    ensures { IfOk result (λ board. (board.opening.value ≡ picture_of (opening_system plant.now)) × (board.list ≡ [])) }
 {
     let bank = opening_bank(alloc, plant)?;
     let tallies = tallies_of(alloc, plant.consoles())?;

@@ -2,11 +2,11 @@
 use Rattle.std.proofs.Common.{◌≡◌, ℕ, ◌+◌, ◌<◌, ◌^◌, true, List, [], ◌∷◌, ◌++◌, length, fold, refl, sym, ◌∙◌, ap, subst, arith}
 use Rattle.left_right.specs.Register.{TurnsAt}
 use Rattle.marked_log.specs.Marks.{PlainMark}
-use Rattle.alarm_bank.specs.Banks.{PlainBank}
 use Rattle.boards.specs.declared.board.Board.{Board}
 use Rattle.boards.specs.declared.entry.Entry.{Entry}
 use Rattle.boards.specs.declared.entry.Operation.{Operation}
 use Rattle.boards.specs.declared.entry.Operation.TheVariants as operation
+use Rattle.boards.specs.declared.picture.Picture.{Picture}
 use Rattle.boards.specs.declared.view.View.{View}
 use Rattle.boards.specs.Stories.{Story, shown, Begins, Continues}
 use Rattle.boards.specs.Replies.{after, allows}
@@ -21,14 +21,14 @@ folded_more s [] op = refl
 folded_more s (x ∷ ops) op = folded_more (operated s x) ops op
 
 -- one more entry waits, which may come
-pub laid_more : (s : MarkedStory) (ops : List Operation) (opening : PlainBank) (es : List Entry) (m : PlainMark Entry) (e : Entry) → fold operated s ops ≡ (opening, es, m)
+pub laid_more : (s : MarkedStory) (ops : List Operation) (opening : Picture) (es : List Entry) (m : PlainMark Entry) (e : Entry) → fold operated s ops ≡ (opening, es, m)
     → length es + 1 < 2 ^ 64 → allows (shown after opening es) e ≡ true → fold operated s (ops ++ operation.Entry e ∷ []) ≡ (opening, es ++ e ∷ [], m)
 laid_more s ops opening es m e is few may =
     let grows = grown_on after allows (opening, es) e (omega (arith, few)) may in
-    folded_more s ops (operation.Entry e) ∙ (ap (λ (t : MarkedStory). operated t (operation.Entry e)) is ∙ ap (λ (g : Story PlainBank Entry). (g.0, g.1, m)) (sym grows))
+    folded_more s ops (operation.Entry e) ∙ (ap (λ (t : MarkedStory). operated t (operation.Entry e)) is ∙ ap (λ (g : Story Picture Entry). (g.0, g.1, m)) (sym grows))
 
 -- a mark waits
-pub marked_last : (s : MarkedStory) (ops : List Operation) (opening : PlainBank) (es : List Entry) (m n : PlainMark Entry) → fold operated s ops ≡ (opening, es, m)
+pub marked_last : (s : MarkedStory) (ops : List Operation) (opening : Picture) (es : List Entry) (m n : PlainMark Entry) → fold operated s ops ≡ (opening, es, m)
     → fold operated s (ops ++ operation.Mark n ∷ []) ≡ (opening, es, n)
 marked_last s ops opening es m n is = folded_more s ops (operation.Mark n) ∙ ap (λ (t : MarkedStory). operated t (operation.Mark n)) is
 
@@ -56,6 +56,6 @@ turns_same seat v now next is =
     let list : next.list ≡ now.list = ap (λ (t : MarkedStory). t.1) is in
     let marked : next.mark ≡ now.mark = ap (λ (t : MarkedStory). t.2) is in
     turns story_of mark_of seat v now next
-    (subst (λ (s : Story PlainBank Entry). Continues (story_of now) s) (ap (λ (t : MarkedStory). (t.0, t.1)) (sym is)) (continues_same (story_of now)))
+    (subst (λ (s : Story Picture Entry). Continues (story_of now) s) (ap (λ (t : MarkedStory). (t.0, t.1)) (sym is)) (continues_same (story_of now)))
     (ap (λ (x : PlainMark Entry). x.log) marked)
     (λ whole. ap (λ (x : PlainMark Entry). x.entries) marked ∙ (whole ∙ sym list))

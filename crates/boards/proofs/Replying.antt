@@ -13,6 +13,7 @@ use Rattle.alarm_bank.specs.Banks.{PlainBank, reply_of}
 use Rattle.boards.specs.declared.entry.Answer.{Answer}
 use Rattle.boards.specs.declared.entry.Entry.{Entry}
 use Rattle.boards.specs.declared.entry.Entry.TheVariants as entry
+use Rattle.boards.specs.declared.picture.Picture.{Picture}
 use Rattle.boards.specs.Stories.{shown, is_lawful}
 use Rattle.boards.specs.Replies.{fault_number, same_change, same_reply, is_restart, is_outside, IsAsked, may_answer, after, allows}
 
@@ -103,22 +104,22 @@ abbrev fits : PlainBank → Answer → Option ℕ → Bool
 fits b a target = elim target [ None ↦ false | Some n ↦ same_reply a.reply (reply_of n a.order.verb b) ]
 
 -- an entry of a lawful list might come after those before it
-lawful_at : (b : PlainBank) (es : List Entry) (e : Entry) (fs : List Entry) → is_lawful after allows b (es ++ e ∷ fs) ≡ true → allows (shown after b es) e ≡ true
-lawful_at b [] e fs h = (and_parts (allows b e) (is_lawful after allows (after b e) fs) h).0
-lawful_at b (x ∷ es) e fs h = lawful_at (after b x) es e fs (and_parts (allows b x) (is_lawful after allows (after b x) (es ++ e ∷ fs)) h).1
+lawful_at : (p : Picture) (es : List Entry) (e : Entry) (fs : List Entry) → is_lawful after allows p (es ++ e ∷ fs) ≡ true → allows (shown after p es) e ≡ true
+lawful_at p [] e fs h = (and_parts (allows p e) (is_lawful after allows (after p e) fs) h).0
+lawful_at p (x ∷ es) e fs h = lawful_at (after p x) es e fs (and_parts (allows p x) (is_lawful after allows (after p x) (es ++ e ∷ fs)) h).1
 
 -- of an order for which an alarm is asked this is left of what it may be replied
 asked_fits : (b : PlainBank) (a : Answer) → may_answer b a ≡ true → IsAsked a → fits b a a.order.target ≡ true
 asked_fits b a may asked = third (is_restart a.order.verb) (is_outside a.reply) (fits b a a.order.target) (no_restart a.order.verb asked.0) (inside a.reply asked.1.0 asked.1.1) may
 
-pub reply_is : (b : PlainBank) (console alarm : ℕ) (a : Answer) (es fs : List Entry) → is_lawful after allows b (es ++ entry.Order console a ∷ fs) ≡ true → IsAsked a → a.order.target ≡ Some alarm
-    → a.reply ≡ reply_of alarm a.order.verb (shown after b es)
-reply_is b console alarm a es fs h asked target =
-    let now = shown after b es in
-    replies_same a.reply (reply_of alarm a.order.verb now) (sym (ap (fits now a) target) ∙ asked_fits now a (lawful_at b es (entry.Order console a) fs h) asked)
+pub reply_is : (p : Picture) (console alarm : ℕ) (a : Answer) (es fs : List Entry) → is_lawful after allows p (es ++ entry.Order console a ∷ fs) ≡ true → IsAsked a → a.order.target ≡ Some alarm
+    → a.reply ≡ reply_of alarm a.order.verb (shown after p es).bank
+reply_is p console alarm a es fs h asked target =
+    let now = (shown after p es).bank in
+    replies_same a.reply (reply_of alarm a.order.verb now) (sym (ap (fits now a) target) ∙ asked_fits now a (lawful_at p es (entry.Order console a) fs h) asked)
 
-pub has_target : (b : PlainBank) (console : ℕ) (a : Answer) (es fs : List Entry) → is_lawful after allows b (es ++ entry.Order console a ∷ fs) ≡ true → IsAsked a → a.order.target ≡ None → ⊥
-has_target b console a es fs h asked none =
-    let now = shown after b es in
-    let no : false ≡ true = sym (ap (fits now a) none) ∙ asked_fits now a (lawful_at b es (entry.Order console a) fs h) asked in
+pub has_target : (p : Picture) (console : ℕ) (a : Answer) (es fs : List Entry) → is_lawful after allows p (es ++ entry.Order console a ∷ fs) ≡ true → IsAsked a → a.order.target ≡ None → ⊥
+has_target p console a es fs h asked none =
+    let now = (shown after p es).bank in
+    let no : false ≡ true = sym (ap (fits now a) none) ∙ asked_fits now a (lawful_at p es (entry.Order console a) fs h) asked in
     absurd (cc (no))

@@ -1,13 +1,14 @@
 -- One more entry of a board's list.
-use Rattle.std.proofs.Common.{◌≡◌, ℕ, zero, suc, ◌+◌, ◌<◌, ◌≤◌, ◌^◌, ◌==◌, Bool, true, false, ◌&&◌, if◌then◌else◌, nat_lt, List, [], ◌∷◌, ◌++◌, map, length, All, slice_index_or, refl, sym, ◌∙◌, ap, arith}
+use Rattle.std.proofs.Common.{◌≡◌, ℕ, zero, suc, ◌+◌, ◌<◌, ◌≤◌, ◌^◌, ◌==◌, Bool, true, false, ◌&&◌, if◌then◌else◌, nat_lt, ◌||◌, cond, Option, Some, None, List, [], ◌∷◌, ◌++◌, map, length, All, slice_index_or, refl, sym, ◌∙◌, ap, eqb-true, arith}
+use Rattle.std.specs.List.{find}
 use Rattle.std.proofs.lemmas.Bool.{lt-ltb, le-ltb}
-use Rattle.std.proofs.lemmas.List.Elements.{All-map}
+use Rattle.std.proofs.lemmas.List.Elements.{All-map, All-head, All-tail}
 use Rattle.alarm_bank.specs.declared.event.BankEvent.{BankEvent}
 use Rattle.boards.specs.declared.entry.Entry.{Entry}
 use Rattle.boards.specs.declared.entry.Entry.TheVariants as entry
 use Rattle.boards.specs.declared.tally.Tally.{Tally}
 use Rattle.boards.specs.Stories.{Story, shown, is_lawful, grown}
-use Rattle.boards.specs.Counts.{counts_as, count_of, tallied}
+use Rattle.boards.specs.Counts.{counts_as, count_of, tallied, consoles_in, is_counted, orders_counted}
 
 both : (a b : Bool) → a ≡ true → b ≡ true → a && b ≡ true
 both a b h k = ap (λ (c : Bool). c && b) h ∙ k
@@ -77,6 +78,32 @@ each_more es e ts h = All-map (λ t. t.orders ≡ count_of t.console (es ++ e �
 pub none_more : (s : BankEvent) (ts : List Tally) → ts ≡ map (tallied (entry.Scan s)) ts
 none_more s [] = refl
 none_more s (t ∷ ts) = ap (λ (l : List Tally). t ∷ l) (none_more s ts)
+
+-- an entry leaves the consoles that have a tally
+same_console : (e : Entry) (t : Tally) → (tallied e t).console ≡ t.console
+same_console (entry.Scan s) t = refl
+same_console (entry.Order n a) t = refl
+
+pub same_consoles : (e : Entry) (ts : List Tally) → consoles_in (map (tallied e) ts) ≡ consoles_in ts
+same_consoles e [] = refl
+same_consoles e (t ∷ ts) = ap (λ (n : ℕ). n ∷ consoles_in (map (tallied e) ts)) (same_console e t) ∙ ap (λ (ns : List ℕ). t.console ∷ ns) (same_consoles e ts)
+
+-- what a tally says, if there is one
+abbrev pub orders_in : Option Tally → Option ℕ
+orders_in None = None
+orders_in (Some t) = Some t.orders
+
+first_counted : (b : Bool) (console : ℕ) (es : List Entry) (t : Tally) (ts : List Tally) → (t.console == console) ≡ b → t.orders ≡ count_of t.console es
+    → orders_in (find (λ x. x.console == console) ts) ≡ orders_counted console (consoles_in ts) es
+    → orders_in (cond b (Some t) (find (λ x. x.console == console) ts)) ≡ (if b || is_counted console (consoles_in ts) then Some (count_of console es) else None)
+first_counted true console es t ts is h rest = ap (λ (n : ℕ). Some n) (h ∙ ap (λ (n : ℕ). count_of n es) (eqb-true t.console console is))
+first_counted false console es t ts is h rest = rest
+
+-- the first tally of a console says how many of its orders there are, and there is one where it is counted
+pub tally_counts : (console : ℕ) (es : List Entry) (ts : List Tally) → All (λ t. t.orders ≡ count_of t.console es) ts → orders_in (find (λ t. t.console == console) ts) ≡ orders_counted console (consoles_in ts) es
+tally_counts console es [] h = refl
+tally_counts console es (t ∷ ts) h =
+    first_counted (t.console == console) console es t ts refl (All-head (λ x. x.orders ≡ count_of x.console es) t ts h) (tally_counts console es ts (All-tail (λ x. x.orders ≡ count_of x.console es) t ts h))
 
 -- an element that is there doesn't depend on what stands in for one that isn't
 pub any_default : {X : Type 0} (xs : List X) (i : ℕ) (d e : X) → i < length xs → slice_index_or xs i d ≡ slice_index_or xs i e

@@ -1,5 +1,6 @@
 -- How many entries of a list are orders of a console.
-use Rattle.std.specs.Prelude.{ℕ, ◌+◌, ◌==◌, List, [], ◌∷◌, if◌then◌else◌}
+use Rattle.std.specs.Prelude.{ℕ, ◌+◌, ◌==◌, Bool, List, [], ◌∷◌, map, Option, Some, None, if◌then◌else◌}
+use Rattle.std.specs.List.{list_any}
 use Rattle.boards.specs.declared.entry.Answer.{Answer}
 use Rattle.boards.specs.declared.entry.Entry.{Entry}
 use Rattle.boards.specs.declared.entry.Entry.TheVariants as entry
@@ -29,3 +30,15 @@ counted console t = record { console = t.console; orders = (if t.console == cons
 abbrev pub tallied : Entry → Tally → Tally
 tallied (entry.Scan s) t = t
 tallied (entry.Order n a) t = counted n t
+
+-- the numbers of the consoles that have a tally
+abbrev pub consoles_in : List Tally → List ℕ
+consoles_in ts = map (λ (t : Tally). t.console) ts
+
+-- whether a console is among those that are counted
+abbrev pub is_counted : ℕ → List ℕ → Bool
+is_counted console consoles = list_any (λ n. n == console) consoles
+
+-- how many of the entries are orders of this console, where it is counted
+abbrev pub orders_counted : ℕ → List ℕ → List Entry → Option ℕ
+orders_counted console consoles es = if is_counted console consoles then Some (count_of console es) else None

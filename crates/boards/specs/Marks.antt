@@ -2,7 +2,7 @@
 use Rattle.std.specs.Prelude.{◌≡◌, List, Option, Some, None}
 use Rattle.logbook.specs.Pages.{Book}
 use Rattle.marked_log.specs.Marks.{PlainMark}
-use Rattle.alarm_bank.specs.Banks.{PlainBank}
+use Rattle.boards.specs.declared.picture.Picture.{Picture}
 use Rattle.boards.specs.declared.entry.Entry.{Entry}
 use Rattle.boards.specs.declared.entry.Operation.{Operation}
 use Rattle.boards.specs.declared.entry.Operation.TheVariants as operation
@@ -11,7 +11,7 @@ use Rattle.boards.specs.Replies.{after, allows}
 
 -- an opening picture, a list of entries, and the mark
 abbrev pub MarkedStory : Type 0
-MarkedStory = PlainBank × List Entry × PlainMark Entry
+MarkedStory = Picture × List Entry × PlainMark Entry
 
 -- the story with an entry more, if it may come, or with another mark
 abbrev pub operated : MarkedStory → Operation → MarkedStory

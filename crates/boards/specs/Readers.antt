@@ -2,7 +2,7 @@
 use Rattle.std.specs.Prelude.{Option}
 use Rattle.logbook.specs.Pages.{Book}
 use Rattle.left_right.specs.Sides.{view}
-use Rattle.alarm_bank.specs.Banks.{PlainBank}
+use Rattle.boards.specs.declared.picture.Picture.{Picture}
 use Rattle.boards.specs.declared.entry.Entry.{Entry}
 use Rattle.boards.specs.declared.board.Board.{Board}
 use Rattle.boards.specs.declared.reader.BoardReader.{BoardReader}
@@ -11,23 +11,23 @@ use Rattle.boards.specs.declared.writer.BoardWriter.{BoardWriter}
 use Rattle.boards.specs.Stories.{Story}
 
 -- the story of a board
-abbrev pub story_of : Board → Story PlainBank Entry
+abbrev pub story_of : Board → Story Picture Entry
 story_of b = (b.opening.value, b.list)
 
 -- the story that a reader saw last, if it saw one
-abbrev pub seen : BoardReader → Option (Story PlainBank Entry)
+abbrev pub seen : BoardReader → Option (Story Picture Entry)
 seen r = (view r.reader.place).seen
 
 -- the story that it was told of, if it was
-abbrev pub told : BoardReader → Option (Story PlainBank Entry)
+abbrev pub told : BoardReader → Option (Story Picture Entry)
 told r = (view r.reader.place).told
 
 -- the story that is read
-abbrev pub story_read : BoardReading → Story PlainBank Entry
+abbrev pub story_read : BoardReading → Story Picture Entry
 story_read r = story_of r.reading.part.value
 
 -- the story of which its reader was told before
-abbrev pub told_before : BoardReading → Option (Story PlainBank Entry)
+abbrev pub told_before : BoardReading → Option (Story Picture Entry)
 told_before r = (view r.reading.place).told
 
 -- the log of which it has marks
@@ -39,11 +39,11 @@ abbrev pub log_read : BoardReading → Book
 log_read r = r.reading.part.value.mark.log
 
 -- the story that readers take now
-abbrev pub published : BoardWriter → Story PlainBank Entry
+abbrev pub published : BoardWriter → Story Picture Entry
 published w = story_of w.writer.desk.shown.value
 
 -- the story of all that was laid by, published or not yet
-abbrev pub laid : BoardWriter → Story PlainBank Entry
+abbrev pub laid : BoardWriter → Story Picture Entry
 laid w = (w.writer.desk.shown.value.opening.value, w.log.entries)
 
 -- the log of what was laid by

@@ -12,6 +12,7 @@ use Rattle.alarm_bank.specs.Banks.{PlainBank, after_event, reply_of}
 use Rattle.boards.specs.declared.entry.Answer.{Answer}
 use Rattle.boards.specs.declared.entry.Entry.{Entry}
 use Rattle.boards.specs.declared.entry.Entry.TheVariants as entry
+use Rattle.boards.specs.declared.picture.Picture.{Picture}
 
 -- the number of a refusal
 abbrev pub fault_number : OrderFault → ℕ
@@ -64,15 +65,23 @@ is_scan (event.Scan t cs ss) = true
 is_scan (event.Order n v) = false
 
 -- the alarms after an entry
-abbrev pub after : PlainBank → Entry → PlainBank
-after b (entry.Scan ev) = after_event ev b
-after b (entry.Order n a) = after_answer b a
+abbrev pub alarms_after : PlainBank → Entry → PlainBank
+alarms_after b (entry.Scan ev) = after_event ev b
+alarms_after b (entry.Order n a) = after_answer b a
+
+-- whether an entry may come after these alarms
+abbrev pub alarms_allow : PlainBank → Entry → Bool
+alarms_allow b (entry.Scan ev) = is_scan ev
+alarms_allow b (entry.Order n a) = may_answer b a
+
+-- the picture after an entry: the consoles that are counted stay the same
+abbrev pub after : Picture → Entry → Picture
+after p e = record p { bank = alarms_after p.bank e }
 
 -- whether an entry may come next
-abbrev pub allows : PlainBank → Entry → Bool
-allows b (entry.Scan ev) = is_scan ev
-allows b (entry.Order n a) = may_answer b a
+abbrev pub allows : Picture → Entry → Bool
+allows p e = alarms_allow p.bank e
 
 -- the state of the alarm of a number, if it is there
-abbrev pub state_at : ℕ → PlainBank → Option AlarmState
-state_at n b = elim (slice_get b.alarms n) [ None ↦ None | Some a ↦ Some a.state ]
+abbrev pub state_at : ℕ → Picture → Option AlarmState
+state_at n p = elim (slice_get p.bank.alarms n) [ None ↦ None | Some a ↦ Some a.state ]

@@ -1,10 +1,11 @@
 //! Laws of what a board allows and counts.
 ghost use Rattle.std.specs.Prelude.{◌≡◌, ◌≢◌, ℕ, List, ◌∷◌, ◌++◌, length, true, Some, None};
 ghost use mathlib.Core.List.{IsPrefix};
-ghost use Rattle.alarm_bank.specs.Banks.{PlainBank, reply_of};
+ghost use Rattle.alarm_bank.specs.Banks.{reply_of};
 ghost use Rattle.boards.specs.declared.entry.Answer.{Answer};
 ghost use Rattle.boards.specs.declared.entry.Entry.{Entry};
 ghost use Rattle.boards.specs.declared.entry.Entry.TheVariants as entry;
+ghost use Rattle.boards.specs.declared.picture.Picture.{Picture};
 ghost use Rattle.boards.specs.Counts.{count_of, answers_of};
 ghost use Rattle.boards.specs.Replies.{IsAsked, after, allows};
 ghost use Rattle.boards.specs.Stories.{shown, is_lawful};
@@ -19,6 +20,6 @@ pub fn orders_are_counted()
 /// In a lawful list an order for which an alarm is asked is for an alarm, and has the reply that the table of transitions gives for it after the entries
 /// before it.
 pub fn replies_are_of_the_table()
-    ensures reply { (b : PlainBank) (console alarm : ℕ) (a : Answer) (es fs : List Entry) → is_lawful after allows b (es ++ entry.Order console a ∷ fs) ≡ true → IsAsked a → a.order.target ≡ Some alarm → a.reply ≡ reply_of alarm a.order.verb (shown after b es) }
-    ensures target { (b : PlainBank) (console : ℕ) (a : Answer) (es fs : List Entry) → is_lawful after allows b (es ++ entry.Order console a ∷ fs) ≡ true → IsAsked a → a.order.target ≢ None }
+    ensures reply { (p : Picture) (console alarm : ℕ) (a : Answer) (es fs : List Entry) → is_lawful after allows p (es ++ entry.Order console a ∷ fs) ≡ true → IsAsked a → a.order.target ≡ Some alarm → a.reply ≡ reply_of alarm a.order.verb (shown after p es).bank }
+    ensures target { (p : Picture) (console : ℕ) (a : Answer) (es fs : List Entry) → is_lawful after allows p (es ++ entry.Order console a ∷ fs) ≡ true → IsAsked a → a.order.target ≢ None }
 {}

@@ -1,6 +1,6 @@
 //! What an entry does to the alarms, and whether it may come next.
 ghost use Rattle.std.specs.Prelude.{◌≡◌, if◌then◌else◌};
-ghost use Rattle.boards.specs.Replies.{fault_number, same_change, same_reply, is_restart, is_outside, is_scan, may_answer, after_answer, after, allows};
+ghost use Rattle.boards.specs.Replies.{fault_number, same_change, same_reply, is_restart, is_outside, is_scan, may_answer, after_answer, alarms_after, alarms_allow};
 
 use crate::entry::{Answer, Entry, Reply};
 use alarm_bank::{Bank, BankEvent};
@@ -100,8 +100,8 @@ fn answer(bank: &mut Bank, answer: Answer)
 
 /// Takes in an entry, if it may come next, and tells whether it may; one that may not changes nothing.
 pub(crate) fn take(bank: &mut Bank, entry: &Entry) -> bool
-    ensures allowed { result ≡ allows bank.old entry.now }
-    ensures taken { bank.new ≡ (if allows bank.old entry.now then after bank.old entry.now else bank.old) }
+    ensures allowed { result ≡ alarms_allow bank.old entry.now }
+    ensures taken { bank.new ≡ (if alarms_allow bank.old entry.now then alarms_after bank.old entry.now else bank.old) }
 {
     match entry {
         Entry::Scan(event) => {

@@ -1,8 +1,10 @@
 //! How many orders of each console a board has.
-ghost use Rattle.std.specs.Prelude.{◌≡◌, ◌^◌, ◌+◌, ◌<◌, All, map, IfSome, Contains};
-ghost use Rattle.boards.specs.Counts.{counted, tallied};
+ghost use Rattle.std.specs.Prelude.{◌≡◌, ◌==◌, ◌^◌, ◌+◌, ◌<◌, All, map};
+ghost use Rattle.std.specs.List.{find};
+ghost use Rattle.boards.specs.Counts.{counted, tallied, consoles_in};
 
 use crate::entry::Entry;
+use trace::Trace;
 
 /// A console, by its number, and how many of its orders there are.
 #[derive(Clone, Copy, Drop)]
@@ -48,14 +50,23 @@ pub(crate) fn count_entry(tallies: &mut Vec<Tally>, entry: &Entry)
     }
 }
 
-/// The tally of the console of a number; `None` where it isn't there.
+/// The first tally of the console of a number; `None` where there is none.
 pub(crate) fn tally_of(tallies: &[Tally], console: u32) -> Option<Tally>
-    ensures { IfSome result (λ t. Contains tallies.now t × (t.console ≡ console)) }
+    ensures { result ≡ find (λ t. t.console == console) tallies.now }
 {
+    tallies
+        .iter()
+        .copied()
+        .find(|tally| tally.console == console)
+}
+
+/// The numbers of the consoles that have a tally, for contracts alone.
+pub(crate) fn consoles_in(tallies: &[Tally]) -> Trace<u32>
+    ensures { result ≡ consoles_in tallies.now }
+{
+    let mut consoles = Trace::new();
     for tally in tallies {
-        if tally.console == console {
-            return Some(*tally);
-        }
+        consoles = consoles.then(&tally.console);
     }
-    None
+    consoles
 }

@@ -1,19 +1,19 @@
 -- What a console sees of its board, and has seen.
-use Rattle.std.specs.Prelude.{◌≡◌, ◌≤◌, ℕ, true, Option, Some, None}
+use Rattle.std.specs.Prelude.{◌≡◌, ◌≤◌, ◌<◌, ℕ, true, Option, Some, None}
 use Rattle.logbook.specs.Pages.{Book}
 use Rattle.alarm_machine.specs.declared.states.AlarmState.{AlarmState}
-use Rattle.alarm_bank.specs.Banks.{PlainBank}
 use Rattle.boards.specs.declared.entry.Entry.{Entry}
+use Rattle.boards.specs.declared.picture.Picture.{Picture}
 use Rattle.boards.specs.Stories.{Story, IsSince, shown, is_lawful}
 use Rattle.boards.specs.Replies.{after, allows, state_at}
-use Rattle.boards.specs.Counts.{count_of}
+use Rattle.boards.specs.Counts.{count_of, is_counted}
 use Rattle.boards.specs.Readers.{seen, told, log_of, story_read, told_before, log_read}
 use Rattle.operator_console.specs.declared.sight.Sight.{Sight}
 use Rattle.operator_console.specs.declared.sight.Sight.TheVariants as sight
 
 -- what a board shows: the alarms as they opened, and the events since
 abbrev pub BoardStory : Type 0
-BoardStory = Story PlainBank Entry
+BoardStory = Story Picture Entry
 
 -- what was seen last, if anything was
 abbrev pub seen_by : Sight → Option BoardStory
@@ -62,6 +62,11 @@ pub record LooksFrom (before told : Option BoardStory) (log : Book) (b : Sight) 
 abbrev pub HasOrders : ℕ → ℕ → Option BoardStory → Type 0
 HasOrders console orders None = ⊥
 HasOrders console orders (Some s) = (is_lawful after allows s.0 s.1 ≡ true) × (orders ≤ count_of console s.1)
+
+-- no board is looked at, or one that doesn't count this console's orders, or has fewer
+abbrev pub LacksOrders : ℕ → ℕ → Option BoardStory → Type 0
+LacksOrders console orders None = Unit {0}
+LacksOrders console orders (Some s) = is_counted console s.0.consoles ≡ true → count_of console s.1 < orders
 
 -- the state of an alarm on the board that is looked at
 abbrev pub state_shown : ℕ → Option BoardStory → Option AlarmState

@@ -1,10 +1,10 @@
 //! How a console stands to its board.
-ghost use Rattle.std.specs.Prelude.{◌≡◌, None, IsTrue};
+ghost use Rattle.std.specs.Prelude.{◌≡◌, None, MatchBool};
 ghost use Rattle.boards.specs.Stories.{seen_events, seen_list, IsSound};
 ghost use Rattle.boards.specs.Replies.{after, allows};
 ghost use Rattle.boards.specs.Marks.{IsMark};
 ghost use Rattle.boards.specs.Readers.{seen, told, log_of};
-ghost use Rattle.operator_console.specs.Sights.{seen_by, told_by, log_by, looked_at, state_shown, HasOrders, KnowsAs, LooksFrom};
+ghost use Rattle.operator_console.specs.Sights.{seen_by, told_by, log_by, looked_at, state_shown, HasOrders, LacksOrders, KnowsAs, LooksFrom};
 
 use alarm_machine::AlarmState;
 use boards::{BoardReader, BoardReading, Entry};
@@ -71,7 +71,7 @@ impl Sight {
 
     /// Whether it looks at a board that has so many orders of the console of a number, or more.
     pub(crate) fn has_orders(&self, console: u32, orders: u64) -> bool
-        ensures { IsTrue result → HasOrders console orders (looked_at self.now) }
+        ensures { MatchBool result (HasOrders console orders (looked_at self.now)) (LacksOrders console orders (looked_at self.now)) }
     {
         let Sight::Looking(reading) = self else {
             return false;

@@ -15,7 +15,7 @@ use Rattle.boards.specs.declared.writer.BoardWriter.{BoardWriter}
 use Rattle.boards.specs.Stories.{Story, Begins}
 use Rattle.boards.specs.Readers.{published, laid}
 use Rattle.boards.proofs.Prefixes.{prefix_of_both}
-use Rattle.board_entries.specs.Entries.{bank_of, entries_of, history_story}
+use Rattle.board_entries.specs.Entries.{entries_of, history_story}
 use Rattle.board_entries.specs.Showing.{HasHistory}
 use Rattle.board_entries.proofs.Steps.{length_of, no_entries}
 use Rattle.operator_console.specs.declared.console.Finished.{Finished as Ended}

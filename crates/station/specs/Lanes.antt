@@ -8,7 +8,7 @@ use Rattle.event_history.specs.declared.event.Event.{Event}
 use Rattle.event_history.specs.declared.event.Order.{Order}
 use Rattle.plant_config.specs.Plants.{PlainPlant, IsPlant}
 use Rattle.plant_system.specs.System.{opening_system}
-use Rattle.board_entries.specs.Entries.{bank_of, history_story}
+use Rattle.board_entries.specs.Entries.{picture_of, history_story}
 use Rattle.boards.specs.Stories.{is_lawful}
 use Rattle.boards.specs.Replies.{after, allows}
 use Rattle.logbook.specs.Pages.{Book}
@@ -95,9 +95,9 @@ pub record HasNotLooked (story : BoardStory) (c : Operator Order Reply) : Type 0
   pub none_seen : story_seen c ≡ None
   pub told_is : story_told c ≡ Some story
 
--- what an ended console saw of the board: so many events as its end says and as its mark has, each of which might come after those before it, from the alarms as the plant opens
+-- what an ended console saw of the board: so many events as its end says and as its mark has, each of which might come after those before it, from the alarms as the plant opens; the orders of each console of the plant are counted
 pub record HasSeen (plant : PlainPlant) (story : BoardStory) (f : Ended Order Reply) : Type 0 where
-  pub opening : story.0 ≡ bank_of (opening_system plant)
+  pub opening : story.0 ≡ picture_of (opening_system plant)
   pub lawful : is_lawful after allows story.0 story.1 ≡ true
   pub events : f.link.seen ≡ length story.1
   pub marked : f.mark.entries ≡ story.1

@@ -3,12 +3,13 @@ ghost use Rattle.std.specs.Prelude.{◌≡◌, ◌^◌, ◌+◌, ◌<◌, true, 
 ghost use Rattle.boards.specs.Stories.{shown, is_lawful, grown};
 ghost use Rattle.boards.specs.Marks.{operated};
 ghost use Rattle.boards.specs.Replies.{after, allows};
-ghost use Rattle.boards.specs.Counts.{count_of, tallied};
+ghost use Rattle.boards.specs.Counts.{count_of, tallied, consoles_in};
 
 use super::Board;
 use crate::entry::{Entry, Operation};
+use crate::picture::Picture;
 use crate::replies::take;
-use crate::tally::{Tally, count_entry};
+use crate::tally::{Tally, consoles_in, count_entry};
 use alarm_bank::Bank;
 use left_right::Absorb;
 use marked_log::{Log, Mark};
@@ -19,9 +20,14 @@ impl Board {
     /// A board before the first entry, which counts the orders of these consoles. None of them has one yet.
     pub fn new(bank: Bank, tallies: Vec<Tally>) -> Board
         requires { All (λ t. t.orders ≡ 0) tallies.items }
-        ensures { (result.opening.value ≡ bank) × (result.list ≡ []) }
+        ensures alarms { result.opening.value.bank ≡ bank }
+        ensures consoles { result.opening.value.consoles ≡ consoles_in tallies.items }
+        ensures none { result.list ≡ [] }
     {
-        let opening = Remembered::of(&bank);
+        let consoles = consoles_in(tallies.as_slice());
+        let picture = Picture { bank, consoles };
+        let opening = Remembered::of(&picture);
+        let Picture { bank, consoles: _ } = picture;
         Board {
             bank,
             opening,
@@ -46,7 +52,7 @@ impl Board {
 }
 
 impl Absorb<Operation> for Board {
-    type State = (Bank, Trace<Entry>, Mark<Entry>);
+    type State = (Picture, Trace<Entry>, Mark<Entry>);
 
     ghost state = { λ b. (b.opening.value, b.list, b.mark) };
 

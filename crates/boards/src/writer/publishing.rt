@@ -18,7 +18,7 @@ use std::sync::Wait;
 use trace::Remembered;
 
 impl BoardWriter {
-    /// A writer for so many readers, with two copies of a board before the first entry. Fails if allocation fails.
+    /// A writer for so many readers, with two copies of a board before the first entry. Fails if memory was refused.
     pub fn new<R: Wait>(
         rt: &R,
         alloc: Global,
@@ -62,7 +62,7 @@ impl BoardWriter {
         self.log.mark()
     }
 
-    /// Lays an entry by, to be published, which may come after all that was laid by before. Fails if allocation fails, where there are
+    /// Lays an entry by, to be published, which may come after all that was laid by before. Fails if memory was refused, where there are
     /// 2^64 - 1 entries, and where the log doesn't take the entry, which then takes no other: nothing was laid by.
     pub fn lay(&mut self, entry: Entry) -> Result<(), AllocError>
         requires may_come { allows (shown after (laid self.old).0 (laid self.old).1) entry ≡ true }
@@ -116,7 +116,7 @@ impl BoardWriter {
         (shown, Ok(()))
     }
 
-    /// Shows readers the board with each entry that was laid by. It waits for readers that still have the copy before. Fails if allocation fails, or where the
+    /// Shows readers the board with each entry that was laid by. It waits for readers that still have the copy before. Fails if memory was refused, or where the
     /// log didn't take an entry: then readers see what they saw, and the next call shows what was laid by until then.
     pub fn publish<R: Wait>(&mut self, rt: &R) -> Result<(), AllocError>
         ensures same { (laid self.new ≡ laid self.old) × (log_kept self.new ≡ log_kept self.old) }
@@ -125,7 +125,7 @@ impl BoardWriter {
         replace_with(self, rt, BoardWriter::shown)
     }
 
-    /// A reader that has seen nothing yet, and is told what is published now. Fails where no place is left for one, or if allocation fails.
+    /// A reader that has seen nothing yet, and is told what is published now. Fails where no place is left for one, or if memory was refused.
     #[tactic(auto, using(crate::proofs::Sights::opens_unseen))]
     pub fn reader(&mut self) -> Result<BoardReader, AllocError>
         ensures same { (published self.new ≡ published self.old) × (laid self.new ≡ laid self.old) × (log_kept self.new ≡ log_kept self.old) }
