@@ -117,6 +117,7 @@ impl<C: Drop> Closing<C> {
         ensures none { IfNone result ((left_in console self.old.lanes ≡ []) × (left_in console self.new.lanes ≡ [])) }
         ensures others { (n : ℕ) → n ≢ console → left_in n self.new.lanes ≡ left_in n self.old.lanes }
         ensures engine { self.new.engine ≡ self.old.engine }
+        ensures crew { self.new.crew ≡ self.old.crew }
         ensures within { (n : ℕ) (events : ℕ) → is_within n events self.new.lanes ≡ is_within n events self.old.lanes }
     {
         next_left_in(self.lanes.as_mut_slice(), console)
