@@ -13,7 +13,7 @@ use Rattle.boards.specs.declared.entry.Entry.{Entry}
 use Rattle.boards.specs.declared.picture.Picture.{Picture}
 use Rattle.boards.specs.declared.writer.BoardWriter.{BoardWriter}
 use Rattle.boards.specs.Stories.{shown}
-use Rattle.boards.specs.Replies.{after, allows, alarms_after}
+use Rattle.boards.specs.Replies.{after, allows, bank_after_entry}
 use Rattle.boards.specs.declared.board.Board.{Board}
 use Rattle.boards.specs.Readers.{published, laid, story_of}
 use Rattle.boards.proofs.Takes.{shown_more}
@@ -43,7 +43,7 @@ next_allowed : (sys : System) (e : Event) → allows (picture_of sys) (entry_of 
 next_allowed sys (event.Scan image t) = refl
 next_allowed sys (event.Order console order) = (order_takes (bank_of sys) sys.plant sys.faulted console order).may
 
-bank_after : (sys : System) (e : Event) → length sys.alarms ≡ length sys.plant.alarms → IsTaken sys e → alarms_after (bank_of sys) (entry_of sys e) ≡ bank_of (after_event sys e)
+bank_after : (sys : System) (e : Event) → length sys.alarms ≡ length sys.plant.alarms → IsTaken sys e → bank_after_entry (bank_of sys) (entry_of sys e) ≡ bank_of (after_event sys e)
 bank_after sys (event.Scan image t) each h = scan_after sys image t each (taken_when (globals_of sys.plant) sys.moment sys.events h.0 t t image h.1).in_range
 bank_after sys (event.Order console order) each h = (order_takes (bank_of sys) sys.plant sys.faulted console order).after
 

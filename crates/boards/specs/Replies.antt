@@ -65,22 +65,22 @@ is_scan (event.Scan t cs ss) = true
 is_scan (event.Order n v) = false
 
 -- the alarms after an entry
-abbrev pub alarms_after : PlainBank → Entry → PlainBank
-alarms_after b (entry.Scan ev) = after_event ev b
-alarms_after b (entry.Order n a) = after_answer b a
+abbrev pub bank_after_entry : PlainBank → Entry → PlainBank
+bank_after_entry b (entry.Scan ev) = after_event ev b
+bank_after_entry b (entry.Order n a) = after_answer b a
 
 -- whether an entry may come after these alarms
-abbrev pub alarms_allow : PlainBank → Entry → Bool
-alarms_allow b (entry.Scan ev) = is_scan ev
-alarms_allow b (entry.Order n a) = may_answer b a
+abbrev pub bank_allows_entry : PlainBank → Entry → Bool
+bank_allows_entry b (entry.Scan ev) = is_scan ev
+bank_allows_entry b (entry.Order n a) = may_answer b a
 
 -- the picture after an entry: the consoles that are counted stay the same
 abbrev pub after : Picture → Entry → Picture
-after p e = record p { bank = alarms_after p.bank e }
+after p e = record p { bank = bank_after_entry p.bank e }
 
 -- whether an entry may come next
 abbrev pub allows : Picture → Entry → Bool
-allows p e = alarms_allow p.bank e
+allows p e = bank_allows_entry p.bank e
 
 -- the state of the alarm of a number, if it is there
 abbrev pub state_at : ℕ → Picture → Option AlarmState

@@ -1,6 +1,6 @@
 //! What an entry does to the alarms, and whether it may come next.
 ghost use Rattle.std.specs.Prelude.{◌≡◌, if◌then◌else◌};
-ghost use Rattle.boards.specs.Replies.{fault_number, same_change, same_reply, is_restart, is_outside, is_scan, may_answer, after_answer, alarms_after, alarms_allow};
+ghost use Rattle.boards.specs.Replies.{fault_number, same_change, same_reply, is_restart, is_outside, is_scan, may_answer, after_answer, bank_after_entry, bank_allows_entry};
 
 use crate::entry::{Answer, Entry, Reply};
 use alarm_bank::{Bank, BankEvent};
@@ -100,8 +100,8 @@ fn answer(bank: &mut Bank, answer: Answer)
 
 /// Takes in an entry, if it may come next, and tells whether it may; one that may not changes nothing.
 pub(crate) fn take(bank: &mut Bank, entry: &Entry) -> bool
-    ensures allowed { result ≡ alarms_allow bank.old entry.now }
-    ensures taken { bank.new ≡ (if alarms_allow bank.old entry.now then alarms_after bank.old entry.now else bank.old) }
+    ensures allowed { result ≡ bank_allows_entry bank.old entry.now }
+    ensures taken { bank.new ≡ (if bank_allows_entry bank.old entry.now then bank_after_entry bank.old entry.now else bank.old) }
 {
     match entry {
         Entry::Scan(event) => {

@@ -4,7 +4,7 @@ use Rattle.boards.specs.declared.entry.Entry.{Entry}
 use Rattle.boards.specs.declared.picture.Picture.{Picture}
 use Rattle.boards.specs.declared.tally.Tally.{Tally}
 use Rattle.boards.specs.Stories.{shown, is_lawful}
-use Rattle.boards.specs.Replies.{after, allows, alarms_after, alarms_allow}
+use Rattle.boards.specs.Replies.{after, allows, bank_after_entry, bank_allows_entry}
 use Rattle.boards.specs.Counts.{count_of, tallied, consoles_in}
 use Rattle.boards.proofs.Takes.{shown_more, lawful_more, few_each, each_more, same_consoles}
 use Rattle.boards.proofs.board.Board.take.Goals as goal
@@ -20,10 +20,10 @@ invariant_of-self c =
     let e = c.args.entry.now in
     let opening = s.opening.value in
     let more = c.then-self.ensures in
-    let may : alarms_allow s.bank e ≡ true = sym c.take.ensures.allowed ∙ c.if-take.true in
+    let may : bank_allows_entry s.bank e ≡ true = sym c.take.ensures.allowed ∙ c.if-take.true in
     let longer = ap (λ (es : List Entry). length es) more in record {
-      is_shown = c.take.ensures.taken ∙ (ap (λ (b : Bool). if b then alarms_after s.bank e else s.bank) may ∙ (ap (λ (b : PlainBank). alarms_after b e) s.is_shown ∙ (ap (λ (p : Picture). p.bank) (sym (shown_more after opening s.list e)) ∙ ap (λ (es : List Entry). (shown after opening es).bank) (sym more))));
-      lawful = subst (λ (es : List Entry). is_lawful after allows opening es ≡ true) (sym more) (lawful_more after allows opening s.list e s.lawful (ap (λ (b : PlainBank). alarms_allow b e) (sym s.is_shown) ∙ may));
+      is_shown = c.take.ensures.taken ∙ (ap (λ (b : Bool). if b then bank_after_entry s.bank e else s.bank) may ∙ (ap (λ (b : PlainBank). bank_after_entry b e) s.is_shown ∙ (ap (λ (p : Picture). p.bank) (sym (shown_more after opening s.list e)) ∙ ap (λ (es : List Entry). (shown after opening es).bank) (sym more))));
+      lawful = subst (λ (es : List Entry). is_lawful after allows opening es ≡ true) (sym more) (lawful_more after allows opening s.list e s.lawful (ap (λ (b : PlainBank). bank_allows_entry b e) (sym s.is_shown) ∙ may));
       all_counted = omega (arith, s.all_counted, length-append s.list (e ∷ []), longer);
       each_counted = subst (λ (ts : List Tally). All (λ t. t.orders ≡ count_of t.console c.then-self.result) ts) (sym c.count_entry.ensures)
           (subst (λ (es : List Entry). All (λ t. t.orders ≡ count_of t.console es) (map (tallied e) s.tallies.items)) (sym more) (each_more s.list e s.tallies.items s.each_counted));
