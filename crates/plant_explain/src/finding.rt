@@ -1,11 +1,9 @@
 //! The cause of a refusal is looked for.
 
-use crate::deep::too_deep;
 use crate::globals::unknown;
-use crate::numbered::one_too_many;
 use crate::past::too_costly;
-use crate::turns::too_many_turns;
 use crate::units::cause_in;
+use limit_causes::{one_too_many, too_deep, too_many_turns};
 use plant_config::{ConfigFault, Limit};
 use plant_folder::PlantTexts;
 use plant_places::{

@@ -23,20 +23,16 @@
 #![tactic(auto)]
 
 mod all_told;
-mod deep;
 mod finding;
 mod globals;
 mod narrow;
-mod numbered;
 mod parting;
 mod past;
 mod refusal;
 mod rest;
 mod search;
-mod spots;
 mod stage;
 mod telling;
-mod turns;
 mod units;
 mod uses;
 mod warnings;

@@ -14,7 +14,7 @@ use std::alloc::{AllocError, Global};
 
 /// A line with its line feed, and a text.
 pub fn under(alloc: Global, line: &str, text: &str) -> Result<String, AllocError>
-    ensures { IfOk result (λ both. BeginsWith (line.now ++ codes "\n") (string_bytes both)) }
+    ensures { IfOk result (λ both. string_bytes both ≡ line.now ++ (codes "\n" ++ text.now)) }
 {
     let mut both = String::from_str(alloc, line)?;
     both.push_str("\n")?;

@@ -1,8 +1,8 @@
 //! What is likely to be wrong in a plant that is accepted.
 
 use crate::globals::ALARMS;
-use crate::spots::spot_at;
 use crate::uses::{Use, Variables, use_by};
+use limit_causes::spot_at;
 use plant_folder::PlantTexts;
 use plant_places::{FileOf, Spot, first_field, next_field, unquoted};
 use plant_types::Region;
