@@ -42,7 +42,10 @@ def send(line, new=True, show=True):  # gives the last line of the answer
 signal.signal(signal.SIGALRM, lambda *_: tell(f"no answer in {PATIENCE} s", 1))
 server = subprocess.Popen([ALARMD, "run", PLANT], stdin=subprocess.PIPE, stdout=subprocess.PIPE)
 record = open(RECORD, "a+b")
-fcntl.flock(record, fcntl.LOCK_EX | fcntl.LOCK_NB)  # one gateway for a record
+try:
+    fcntl.flock(record, fcntl.LOCK_EX | fcntl.LOCK_NB)
+except OSError:
+    tell("another gateway has the record", 2)
 record.seek(0)
 *kept, torn = record.read().split(b"\n")
 record.truncate(record.tell() - len(torn))  # a line without its end was never sent
@@ -54,8 +57,10 @@ record.write(b"" if kept else head + b"\n")
 events = moment = 0
 for number, line in enumerate(kept[1:], 2):
     send(line.decode(), new=False, show=number == len(kept))  # of the last line the answer may not have been seen
-epoch = re.search(r'^epoch *= *"(.*)"', pathlib.Path(PLANT).read_text(), re.M).group(1)
-start = time.time() - datetime.datetime.strptime(epoch, "%Y-%m-%dT%H:%M:%S%z").timestamp()
+epoch = re.search(r'^epoch *= *"(.*)"', pathlib.Path(PLANT).read_text(), re.M)
+if not epoch:
+    tell("the plant file has no epoch", 2)
+start = time.time() - datetime.datetime.strptime(epoch.group(1), "%Y-%m-%dT%H:%M:%S%z").timestamp()
 start = max(start, moment / 1000) - time.monotonic()  # from now on by a clock that nobody sets
 samples, rest, got, due = {}, "", b"\n", time.monotonic() + PERIOD
 while got:
