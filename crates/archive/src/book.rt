@@ -60,7 +60,7 @@ pub(crate) fn order_in(
 }
 
 impl<L: Ledger> Book<L> {
-    /// The book of a plant before the first event. Fails if allocation fails.
+    /// The book of a plant before the first event. Fails if memory was refused.
     pub fn new(alloc: Global, plant: Plant, tally: Tally<L>) -> Result<Book<L>, AllocError>
         requires { tally.total ≡ 0 }
         ensures { IfOk result (λ b. (b.plant ≡ plant) × (b.history ≡ [])) }
@@ -81,7 +81,7 @@ impl<L: Ledger> Book<L> {
     }
 
     /// The texts of exactly the journal's rows whose numbers are `from` and the next, `n` in all, in order: fewer where the journal ends before, and
-    /// none behind its end. Rows are numbered from 1. Fails if allocation fails.
+    /// none behind its end. Rows are numbered from 1. Fails if memory was refused.
     pub fn page(&self, alloc: Global, from: u64, n: u32) -> Result<Vec<String>, AllocError>
         ensures { IfOk result (λ lines. IsPage self.now.plant self.now.history from n (map string_bytes lines.items)) }
     {

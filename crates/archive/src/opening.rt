@@ -11,7 +11,7 @@ use std::alloc::{AllocError, Global};
 use std::sync::ledger::{Blank, Ledger, Share};
 use std::sync::{Arc, Wait};
 
-/// The archive of a plant before the first event, and the whole share of its ledger. Fails if allocation fails.
+/// The archive of a plant before the first event, and the whole share of its ledger. Fails if memory was refused.
 fn open_archive<L: Ledger>(
     alloc: Global,
     plant: &Plant,
@@ -34,7 +34,7 @@ fn open_archive<L: Ledger>(
 }
 
 impl<L: Ledger> Recorder<L> {
-    /// The recorder of a plant before the first event, with an archive and a board. The blank is that of the ledger `L`. Fails if allocation fails; the
+    /// The recorder of a plant before the first event, with an archive and a board. The blank is that of the ledger `L`. Fails if memory was refused; the
     /// plant is then gone.
     pub fn open<H: Wait>(
         rt: &H,

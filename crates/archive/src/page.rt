@@ -16,7 +16,7 @@ fn page_end(rows: u64, from: u64, n: u32) -> u64
     }
 }
 
-/// The texts of the journal's rows whose numbers are from one on, so many at most, in order. Fails if allocation fails.
+/// The texts of the journal's rows whose numbers are from one on, so many at most, in order. Fails if memory was refused.
 pub(crate) fn page_of(
     alloc: Global,
     engine: &Engine,

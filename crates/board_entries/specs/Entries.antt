@@ -53,7 +53,7 @@ bank_of sys = record { sites = sites_of sys.plant.alarms; alarms = sys.alarms; m
 abbrev pub counted_consoles : List Console → List ℕ
 counted_consoles consoles = map (λ (console : Console). console.number) consoles
 
--- what the board of a system shows: its alarms, and how many orders each console of its plant gave
+-- what the board of a system shows: its alarms, and the numbers of the consoles whose orders it counts
 abbrev pub picture_of : System → Picture
 picture_of sys = record { bank = bank_of sys; consoles = counted_consoles sys.plant.consoles }
 

@@ -29,7 +29,7 @@ fn is_met(cells: &Cells, row: &AlarmRow) -> bool
     value_at(cells, row.condition) != 0
 }
 
-/// The condition of each alarm, by cells. Fails if allocation fails.
+/// The condition of each alarm, by cells. Fails if memory was refused.
 fn conditions(alloc: Global, rows: &[AlarmRow], cells: &Cells) -> Result<Vec<bool>, AllocError>
     ensures { IfOk result (λ flags. flags.items ≡ conditions (value_at cells.now) rows.now) }
 {
@@ -50,7 +50,7 @@ fn is_suppressed(cells: &Cells, row: &AlarmRow) -> bool
     }
 }
 
-/// The suppression of each alarm, by cells. Fails if allocation fails.
+/// The suppression of each alarm, by cells. Fails if memory was refused.
 fn suppressions(alloc: Global, rows: &[AlarmRow], cells: &Cells) -> Result<Vec<bool>, AllocError>
     ensures { IfOk result (λ flags. flags.items ≡ suppressions (value_at cells.now) rows.now) }
 {
@@ -61,7 +61,7 @@ fn suppressions(alloc: Global, rows: &[AlarmRow], cells: &Cells) -> Result<Vec<b
     Ok(flags)
 }
 
-/// What a scan gives to the alarms that leaves these cells. Fails if allocation fails.
+/// What a scan gives to the alarms that leaves these cells. Fails if memory was refused.
 fn given(
     alloc: Global,
     rows: &[AlarmRow],
@@ -89,7 +89,7 @@ fn board_reply(reply: Reply) -> boards::Reply
     }
 }
 
-/// Lays the entry by of a scan that was made ready. Fails if allocation fails, or where the board takes no entry more; then nothing is laid by.
+/// Lays the entry by of a scan that was made ready. Fails if memory was refused, or where the board takes no entry more; then nothing is laid by.
 pub fn lay_scan(
     alloc: Global,
     board: &mut BoardWriter,
@@ -108,7 +108,7 @@ pub fn lay_scan(
     board.lay(Entry::Scan(given))
 }
 
-/// Lays the entry by of an order that was made ready. Fails if allocation fails, or where the board takes no entry more; then nothing is laid by.
+/// Lays the entry by of an order that was made ready. Fails if memory was refused, or where the board takes no entry more; then nothing is laid by.
 pub fn lay_order(
     board: &mut BoardWriter,
     engine: &Engine,

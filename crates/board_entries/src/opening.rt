@@ -14,7 +14,7 @@ use plant_system::opening_state;
 use std::alloc::{AllocError, Global};
 use std::sync::Wait;
 
-/// The alarms of a plant before the first event. Fails if allocation fails.
+/// The alarms of a plant before the first event. Fails if memory was refused.
 fn opening_bank(alloc: Global, plant: &Plant) -> Result<Bank, AllocError>
     ensures { IfOk result (λ bank. bank ≡ bank_of (opening_system plant.now)) }
 {
@@ -22,7 +22,7 @@ fn opening_bank(alloc: Global, plant: &Plant) -> Result<Bank, AllocError>
     Ok(state.bank)
 }
 
-/// A tally for each console, with no order yet. Fails if allocation fails.
+/// A tally for each console, with no order yet. Fails if memory was refused.
 fn tallies_of(alloc: Global, consoles: &[Console]) -> Result<Vec<Tally>, AllocError>
     ensures none { IfOk result (λ tallies. All (λ t. t.orders ≡ 0) tallies.items) }
     ensures all { IfOk result (λ tallies. consoles_in tallies.items ≡ counted_consoles consoles.now) }
@@ -37,7 +37,7 @@ fn tallies_of(alloc: Global, consoles: &[Console]) -> Result<Vec<Tally>, AllocEr
     Ok(tallies)
 }
 
-/// A board of a plant before the first event, which counts the orders of its consoles. Fails if allocation fails.
+/// A board of a plant before the first event, which counts the orders of its consoles. Fails if memory was refused.
 fn opening_board(alloc: Global, plant: &Plant) -> Result<Board, AllocError>
     ensures { IfOk result (λ board. (board.opening.value ≡ picture_of (opening_system plant.now)) × (board.list ≡ [])) }
 {
@@ -46,7 +46,7 @@ fn opening_board(alloc: Global, plant: &Plant) -> Result<Board, AllocError>
     Ok(Board::new(bank, tallies))
 }
 
-/// The writer of a board of a plant before the first event, with a place for a reader for each console of the plant. Fails if allocation fails.
+/// The writer of a board of a plant before the first event, with a place for a reader for each console of the plant. Fails if memory was refused.
 pub fn open_board<R: Wait>(rt: &R, alloc: Global, plant: &Plant) -> Result<BoardWriter, AllocError>
     ensures { IfOk result (HasHistory plant.now []) }
 {

@@ -50,7 +50,7 @@ fn has_area(plant: &Plant, number: u32, area: u32) -> bool {
 }
 
 impl Post {
-    /// The post of the console of a number. Fails if allocation fails.
+    /// The post of the console of a number. Fails if memory was refused.
     pub fn new(alloc: Global, plant: &Plant, number: u32) -> Result<Post, AllocError> {
         let mut lamps = Vec::new(alloc);
         for row in plant.alarm_rows() {

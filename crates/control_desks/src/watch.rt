@@ -12,7 +12,7 @@ pub struct Watch {
 }
 
 impl Watch {
-    /// What owner and consoles share when the day begins. Fails if allocation fails.
+    /// What owner and consoles share when the day begins. Fails if memory was refused.
     pub fn shared(alloc: Global) -> Result<Arc<Watch>, AllocError> {
         let watch = Watch {
             over: AtomicBool::new(false),

@@ -33,7 +33,7 @@ impl Events {
         }
     }
 
-    /// Adds a turn. Fails if allocation fails.
+    /// Adds a turn. Fails if memory was refused.
     pub fn add(&mut self, turn: &Turn) -> Result<(), AllocError> {
         self.scans = self.scans.saturating_add(1);
         if turn.taken == 0 {

@@ -7,7 +7,7 @@ use std::alloc::{AllocError, Global};
 use std::rt::Files;
 use std::thread::Threads;
 
-/// Names and texts of sources, lent. Fails if allocation fails.
+/// Names and texts of sources, lent. Fails if memory was refused.
 fn lent(alloc: Global, fetched: &Fetched) -> Result<Vec<(&str, &[u8])>, AllocError> {
     let mut sources = Vec::new(alloc);
     for source in fetched.sources.as_slice() {

@@ -13,7 +13,7 @@ use std::alloc::{AllocError, AllocFailed, Global};
 /// Why there is no station.
 #[derive(Clone, Copy)]
 pub enum StationFault {
-    /// Allocation failed.
+    /// Memory was refused.
     Memory,
     /// A console's reader of the board wasn't given.
     Ends,

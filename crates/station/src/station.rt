@@ -71,7 +71,7 @@ impl<L: Ledger, C> Model for Station<L, C> {
 impl<L: Ledger, C: Drop> Station<L, C> {
     /// The station of a plant before the first event, and a console for each that the plant lists, in the same order. Its archive is before the
     /// first event too. The blank is that of the ledger `L`. Each console has a reader of the board, which
-    /// shows the plant before the first event. Fails if allocation fails, or a reader isn't given; the plant and the crew are then gone.
+    /// shows the plant before the first event. Fails if memory was refused, or a reader isn't given; the plant and the crew are then gone.
     pub fn new<H: Wait>(
         rt: &H,
         alloc: Global,

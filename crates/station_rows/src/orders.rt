@@ -14,7 +14,7 @@ fn target_of(plant: &Plant, verb: Verb, word: &[u8]) -> Option<u32> {
     }
 }
 
-/// The order of a line, and the number of its console; `None` where the line is no order. Fails if allocation fails.
+/// The order of a line, and the number of its console; `None` where the line is no order. Fails if memory was refused.
 pub fn order_of(
     alloc: Global,
     plant: &Plant,
