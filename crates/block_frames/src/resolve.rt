@@ -131,7 +131,7 @@ fn resolve_arguments(
 ) -> Result<Vec<Argument<usize>>, AllocError>
     ensures { IfOk result (λ r. map view_argument r.items ≡ map (mapped_argument (mapping_of scope.now) instance.now) (map (resolved_argument (scope_kind scope.now) (scope_output_kind scope.now)) (map view_argument arguments.now))) }
 {
-    let mut resolved = Vec::new(alloc);
+    let mut resolved = Vec::with_capacity(alloc, arguments.len())?;
     for argument in arguments {
         resolved.push(resolve_argument(alloc, scope, instance, argument)?)?;
     }
@@ -218,7 +218,7 @@ fn resolve_branches(
     ensures branches { IfOk result (λ r. view_branches r.items ≡ flat_branches scope.now number.old (view_branches branches.now)) }
     ensures count { IfOk result (λ r. number.new ≡ number.old + count_branches (view_branches branches.now)) }
 {
-    let mut resolved = Vec::new(alloc);
+    let mut resolved = Vec::with_capacity(alloc, branches.len())?;
     for branch in branches {
         let body = resolve_body(alloc, scope, &branch.body, number)?;
         let test = resolve_expr(alloc, scope, &branch.test)?;
@@ -239,7 +239,7 @@ fn resolve_choices(
     ensures choices { IfOk result (λ r. view_choices r.items ≡ flat_choices scope.now number.old (view_choices choices.now)) }
     ensures count { IfOk result (λ r. number.new ≡ number.old + count_choices (view_choices choices.now)) }
 {
-    let mut resolved = Vec::new(alloc);
+    let mut resolved = Vec::with_capacity(alloc, choices.len())?;
     for choice in choices {
         let labels = copy_labels(alloc, &choice.labels)?;
         let body = resolve_body(alloc, scope, &choice.body, number)?;
@@ -260,7 +260,7 @@ pub fn resolve_body(
     ensures body { IfOk result (λ r. view_body r.items ≡ flat_body scope.now number.old (view_body body.now)) }
     ensures count { IfOk result (λ r. number.new ≡ number.old + count_body (view_body body.now)) }
 {
-    let mut resolved = Vec::new(alloc);
+    let mut resolved = Vec::with_capacity(alloc, body.len())?;
     for stmt in body {
         resolved.push(resolve_stmt(alloc, scope, stmt, number)?)?;
     }

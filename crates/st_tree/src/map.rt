@@ -129,7 +129,7 @@ fn mapped_arguments<V, W: Drop, P: Pass<V, W>>(
 ) -> Result<Vec<Argument<W>>, AllocError>
     ensures { IfOk result (λ r. map view_argument r.items ≡ map (mapped_argument (P.mapping pass.now) instance.now) (map view_argument arguments.now)) }
 {
-    let mut mapped = Vec::new(alloc);
+    let mut mapped = Vec::with_capacity(alloc, arguments.len())?;
     for argument in arguments {
         mapped.push(mapped_argument(alloc, pass, instance, argument)?)?;
     }
@@ -218,7 +218,7 @@ fn mapped_branches<V, W: Drop, P: Pass<V, W>>(
 ) -> Result<Vec<Branch<W>>, AllocError>
     ensures { IfOk result (λ r. view_branches r.items ≡ mapped_branches (P.mapping pass.now) (view_branches branches.now)) }
 {
-    let mut mapped = Vec::new(alloc);
+    let mut mapped = Vec::with_capacity(alloc, branches.len())?;
     for branch in branches {
         let test = mapped_expr(alloc, pass, &branch.test)?;
         let body = mapped_body(alloc, pass, &branch.body)?;
@@ -236,7 +236,7 @@ fn mapped_choices<V, W: Drop, P: Pass<V, W>>(
 ) -> Result<Vec<Choice<W>>, AllocError>
     ensures { IfOk result (λ r. view_choices r.items ≡ mapped_choices (P.mapping pass.now) (view_choices choices.now)) }
 {
-    let mut mapped = Vec::new(alloc);
+    let mut mapped = Vec::with_capacity(alloc, choices.len())?;
     for choice in choices {
         let labels = copy_labels(alloc, &choice.labels)?;
         let body = mapped_body(alloc, pass, &choice.body)?;
@@ -254,7 +254,7 @@ pub(crate) fn mapped_body<V, W: Drop, P: Pass<V, W>>(
 ) -> Result<Vec<Stmt<W>>, AllocError>
     ensures { IfOk result (λ r. view_body r.items ≡ mapped_body (P.mapping pass.now) (view_body body.now)) }
 {
-    let mut mapped = Vec::new(alloc);
+    let mut mapped = Vec::with_capacity(alloc, body.len())?;
     for stmt in body {
         mapped.push(mapped_stmt(alloc, pass, stmt)?)?;
     }
