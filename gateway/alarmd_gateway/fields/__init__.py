@@ -1,0 +1,1 @@
+"""Sources of samples, and where outputs are written back."""
