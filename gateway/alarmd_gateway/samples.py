@@ -1,6 +1,4 @@
-"""Samples that wait for a scan, and how old the last sample of each input is.
-
-Times are seconds of a clock that nobody sets (`time.monotonic`)."""
+"""Samples that wait for a scan, and how old the last sample of each input is."""
 
 from __future__ import annotations
 
@@ -8,20 +6,11 @@ from collections import deque
 from collections.abc import Iterator, Mapping
 from dataclasses import dataclass
 
-Value = bool | int
+from .model import Value
 
 
 class QueueFull(Exception):
     """So many samples wait that another one has no room."""
-
-
-@dataclass(frozen=True)
-class Stale:
-    """An input whose last sample is older than its limit."""
-
-    name: str
-    age: float  # seconds since its last sample, or since the start where there was none
-    limit: float  # seconds
 
 
 class SampleQueue:
@@ -29,43 +18,69 @@ class SampleQueue:
 
     A sample goes to the scan that is to come last, unless that one has another value of its input already: then it begins a scan after
     it. So each distinct value of an input is taken by some scan, in order, and no scan sees a sample before one that came earlier. A
-    sample whose value its input has already waits for nothing; it only shows that the input is alive.
-    """
+    sample whose value its input has already waits for nothing."""
 
-    def __init__(self, limits: Mapping[str, float], now: float, room: int = 10_000) -> None:
-        """`limits` are the seconds after which an input is stale, by its name; one that isn't there never is. `room` is for how many
-        scans samples may wait."""
-        self._limits = dict(limits)
-        self._seen = {name: now for name in self._limits}
+    def __init__(self, room: int = 10_000) -> None:
+        """`room` is for how many scans samples may wait."""
         self._room = room
         self._last: dict[str, Value] = {}
         self._scans: deque[dict[str, Value]] = deque()
 
-    def __len__(self) -> int:
-        """How many scans it takes until no sample waits."""
-        return len(self._scans)
-
-    def put(self, name: str, value: Value, now: float) -> bool:
-        """Takes a sample, and tells whether it waits for a scan. Raises QueueFull, and then the sample isn't taken."""
-        known = name in self._last and self._last[name] == value
-        if not known:
-            if not self._scans or name in self._scans[-1]:
-                if len(self._scans) >= self._room:
-                    raise QueueFull(f"samples wait for {self._room} scans")
-                self._scans.append({})
-            self._scans[-1][name] = value
-            self._last[name] = value
-        if name in self._seen:
-            self._seen[name] = now
-        return not known
+    def put(self, name: str, value: Value) -> None:
+        """Takes a value of an input, by its name as declared. Raises QueueFull, and then it isn't taken."""
+        if name in self._last and self._last[name] == value:
+            return
+        if not self._scans or name in self._scans[-1]:
+            if self.full:
+                raise QueueFull(f"samples wait for {self._room} scans")
+            self._scans.append({})
+        self._scans[-1][name] = value
+        self._last[name] = value
 
     def take(self) -> dict[str, Value]:
-        """The samples of the next scan, which no longer wait; none where nothing waits."""
+        """The values for the next scan, which no longer wait; none where nothing waits."""
         return self._scans.popleft() if self._scans else {}
+
+    def __len__(self) -> int:
+        """How many values wait, of all inputs."""
+        return sum(map(len, self._scans))
+
+    @property
+    def pressed(self) -> bool:
+        """Whether one scan can't take all that waits: then a scan is due at once."""
+        return len(self._scans) > 1
+
+    @property
+    def full(self) -> bool:
+        """Whether a value that wants a scan of its own has no room."""
+        return len(self._scans) >= self._room
 
     def forget(self) -> None:
         """Lets the next sample of each input wait for a scan, whatever its value: for a server that begins anew."""
         self._last.clear()
+
+
+@dataclass(frozen=True)
+class Stale:
+    """An input whose last sample is older than its limit. Both are seconds; the age counts from the start where there was none."""
+
+    name: str
+    age: float
+    limit: float
+
+
+class Ages:
+    """How old the last sample of each input is. Times are seconds of a clock that nobody sets (`time.monotonic`)."""
+
+    def __init__(self, limits: Mapping[str, float], now: float) -> None:
+        """`limits` are the seconds after which an input is stale, by its name; one that isn't there never is."""
+        self._limits = dict(limits)
+        self._seen = {name: now for name in self._limits}
+
+    def saw(self, name: str, now: float) -> None:
+        """A sample of the input has come, of whatever value."""
+        if name in self._seen:
+            self._seen[name] = now
 
     def stale(self, now: float) -> Iterator[Stale]:
         """The inputs that are stale now, in the order of the limits."""
@@ -73,3 +88,7 @@ class SampleQueue:
             age = now - self._seen[name]
             if age > limit:
                 yield Stale(name, age, limit)
+
+    def names(self) -> list[str]:
+        """The inputs that have a limit."""
+        return list(self._limits)

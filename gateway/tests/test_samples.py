@@ -6,14 +6,22 @@ import random
 
 import pytest
 
-from alarmd_gateway.samples import QueueFull, SampleQueue, Value
+from alarmd_gateway.model import Value
+from alarmd_gateway.samples import Ages, QueueFull, SampleQueue
+
+
+def all_scans(queue: SampleQueue) -> list[dict[str, Value]]:
+    scans = []
+    while len(queue):
+        scans.append(queue.take())
+    return scans
 
 
 def scans_of(samples: list[tuple[str, Value]]) -> list[dict[str, Value]]:
-    queue = SampleQueue({}, 0.0)
+    queue = SampleQueue()
     for name, value in samples:
-        queue.put(name, value, 0.0)
-    return [queue.take() for _ in range(len(queue))]
+        queue.put(name, value)
+    return all_scans(queue)
 
 
 def test_a_pulse_between_two_scans_is_two_scans() -> None:
@@ -25,36 +33,49 @@ def test_samples_of_several_inputs_share_a_scan() -> None:
 
 
 def test_no_scan_sees_a_sample_before_an_earlier_one() -> None:
-    scans = scans_of([("a", 1), ("a", 0), ("b", 1)])
-    assert scans == [{"a": 1}, {"a": 0, "b": 1}]
+    assert scans_of([("a", 1), ("a", 0), ("b", 1)]) == [{"a": 1}, {"a": 0, "b": 1}]
 
 
 def test_an_equal_value_waits_for_nothing() -> None:
-    queue = SampleQueue({}, 0.0)
-    assert queue.put("level", 5, 0.0)
-    assert not queue.put("level", 5, 0.0)
-    assert queue.take() == {"level": 5}
-    assert not queue.put("level", 5, 0.0)
-    assert queue.take() == {}
+    queue = SampleQueue()
+    queue.put("level", 5)
+    queue.put("level", 5)
+    assert all_scans(queue) == [{"level": 5}]
+    queue.put("level", 5)
+    assert len(queue) == 0 and queue.take() == {}
+
+
+def test_a_scan_is_due_at_once_where_one_cannot_take_all() -> None:
+    queue = SampleQueue()
+    queue.put("a", 1)
+    queue.put("b", 1)
+    assert len(queue) == 2 and not queue.pressed
+    queue.put("a", 2)
+    assert len(queue) == 3 and queue.pressed
+    queue.take()
+    assert len(queue) == 1 and not queue.pressed
 
 
 def test_after_forget_an_equal_value_waits() -> None:
-    queue = SampleQueue({}, 0.0)
-    queue.put("level", 5, 0.0)
+    queue = SampleQueue()
+    queue.put("level", 5)
     queue.take()
     queue.forget()
-    assert queue.put("level", 5, 0.0)
-    assert queue.take() == {"level": 5}
+    queue.put("level", 5)
+    assert all_scans(queue) == [{"level": 5}]
 
 
 def test_a_full_queue_refuses_and_keeps_what_it_has() -> None:
-    queue = SampleQueue({}, 0.0, room=2)
-    queue.put("n", 1, 0.0)
-    queue.put("n", 2, 0.0)
+    queue = SampleQueue(room=2)
+    queue.put("n", 1)
+    queue.put("n", 2)
+    assert queue.full
     with pytest.raises(QueueFull):
-        queue.put("n", 3, 0.0)
-    assert [queue.take(), queue.take()] == [{"n": 1}, {"n": 2}]
-    assert queue.put("n", 3, 0.0)
+        queue.put("n", 3)
+    queue.put("m", 3)  # has room in the last scan
+    assert all_scans(queue) == [{"n": 1}, {"n": 2, "m": 3}]
+    queue.put("n", 3)
+    assert all_scans(queue) == [{"n": 3}]
 
 
 def test_random_samples_are_all_taken_in_order() -> None:
@@ -77,18 +98,19 @@ def test_random_samples_are_all_taken_in_order() -> None:
         at = 0
         for (
             scan
-        ) in scans:  # each scan shows a picture that was there, and later ones show later pictures
+        ) in scans:  # each scan shows a picture that was there, and none shows an earlier one
             seen = {**seen, **scan}
             at = next(i for i in range(at, len(pictures)) if pictures[i] == seen)
 
 
 def test_an_input_is_stale_past_its_limit() -> None:
-    queue = SampleQueue({"level": 10.0, "flow": 2.5}, 100.0)
-    assert not list(queue.stale(102.5))
-    assert [it.name for it in queue.stale(102.6)] == ["flow"]
-    queue.put("flow", 1, 110.0)
-    (found,) = queue.stale(112.0)
+    ages = Ages({"level": 10.0, "flow": 2.5}, 100.0)
+    assert not list(ages.stale(102.5))
+    assert [it.name for it in ages.stale(102.6)] == ["flow"]
+    ages.saw("flow", 110.0)
+    ages.saw("additive", 110.0)  # has no limit
+    (found,) = ages.stale(112.0)
     assert (found.name, found.age, found.limit) == ("level", 12.0, 10.0)
-    queue.put("level", 1, 112.0)
-    queue.put("flow", 1, 112.0)  # an equal value shows that the input is alive
-    assert not list(queue.stale(114.0))
+    ages.saw("level", 112.0)
+    ages.saw("flow", 112.0)
+    assert not list(ages.stale(114.0))
