@@ -71,6 +71,10 @@ class Table:
         name = f"{self.name}.{key}" if self.name else key
         return [Table(f"{name}[{at}]", one, self.folder) for at, one in enumerate(value, 1)]
 
+    def anything(self, key: str) -> Any:
+        """Whatever stands there; it has to be there."""
+        return self._take(key, None)
+
     def has(self, key: str) -> bool:
         """Whether the key is there and wasn't taken yet."""
         return key in self._values

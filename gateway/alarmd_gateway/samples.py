@@ -25,6 +25,7 @@ class SampleQueue:
         self._room = room
         self._last: dict[str, Value] = {}
         self._scans: deque[dict[str, Value]] = deque()
+        self._count = 0
 
     def put(self, name: str, value: Value) -> None:
         """Takes a value of an input, by its name as declared. Raises QueueFull, and then it isn't taken."""
@@ -36,14 +37,17 @@ class SampleQueue:
             self._scans.append({})
         self._scans[-1][name] = value
         self._last[name] = value
+        self._count += 1
 
     def take(self) -> dict[str, Value]:
         """The values for the next scan, which no longer wait; none where nothing waits."""
-        return self._scans.popleft() if self._scans else {}
+        values = self._scans.popleft() if self._scans else {}
+        self._count -= len(values)
+        return values
 
     def __len__(self) -> int:
         """How many values wait, of all inputs."""
-        return sum(map(len, self._scans))
+        return self._count
 
     @property
     def pressed(self) -> bool:

@@ -1,0 +1,208 @@
+"""Reads the map of a plant's field: a TOML file beside the configuration, which names it (`[fields]`, `map = "map.toml"`)."""
+
+from __future__ import annotations
+
+import tomllib
+from decimal import Decimal
+from fractions import Fraction
+from pathlib import Path
+
+from .config import WORDS_STATUS, Table
+from .mapping import (
+    Area,
+    Form,
+    LinesSource,
+    Map,
+    ModbusSource,
+    MqttSource,
+    Point,
+    Retry,
+    Scale,
+    Topic,
+)
+from .model import GatewayFault, Kind, Plant, Variable
+
+LARGEST_SCALE = 10**12
+
+
+class Reader:
+    """Reads a map for a plant. All that is wrong is a GatewayFault (status 2)."""
+
+    def __init__(self, plant: Plant) -> None:
+        self._plant = plant
+        self._names: set[str] = set()
+        self._inputs: set[str] = set()
+
+    def read(self, table: Table) -> Map:
+        """The map of a whole document."""
+        map = Map(
+            lines=tuple(self._lines(one) for one in table.tables("lines")),
+            mqtt=tuple(self._mqtt(one) for one in table.tables("mqtt")),
+            modbus=tuple(self._modbus(one) for one in table.tables("modbus")),
+            limits=self._limits(table.table("stale_ms")),
+        )
+        table.end()
+        return map
+
+    def _name(self, table: Table) -> str:
+        name = table.text("name")
+        if not name or " " in name or name in self._names:
+            raise table.wrong("name", "a word that no other source is called")
+        self._names.add(name)
+        return name
+
+    def _retry(self, table: Table) -> Retry:
+        first = table.number("retry_ms", 500, 10, 3_600_000)
+        most = table.number("retry_most_ms", max(30_000, first), first, 3_600_000)
+        return Retry(first / 1000, most / 1000)
+
+    def _lines(self, table: Table) -> LinesSource:
+        name, path = self._name(table), table.text("path", "-")
+        source = LinesSource(
+            name,
+            None if path == "-" else table.folder / path,
+            table.truth("orders", False),
+            table.truth("hold", True),
+            self._retry(table),
+        )
+        table.end()
+        return source
+
+    def _mqtt(self, table: Table) -> MqttSource:
+        name = self._name(table)
+        ca = table.path("ca") if table.has("ca") else None
+        username = table.text("username") if table.has("username") else None
+        password = read_secret(table.path("password_file")) if table.has("password_file") else None
+        source = MqttSource(
+            name,
+            table.text("host"),
+            table.number("port", 8883 if ca else 1883, 1, 65535),
+            table.text("client", f"alarmd-{name}"),
+            username,
+            password,
+            ca,
+            table.number("qos", 1, 0, 2),
+            self._retry(table),
+            tuple(self._topic(one, True) for one in table.tables("input")),
+            tuple(self._topic(one, False) for one in table.tables("output")),
+        )
+        table.end()
+        return source
+
+    def _modbus(self, table: Table) -> ModbusSource:
+        source = ModbusSource(
+            self._name(table),
+            table.text("host"),
+            table.number("port", 502, 1, 65535),
+            table.number("unit", 1, 0, 255),
+            table.number("poll_ms", 1000, 10, 3_600_000) / 1000,
+            table.number("timeout_ms", 3000, 10, 600_000) / 1000,
+            self._retry(table),
+            tuple(self._point(one, True) for one in table.tables("input")),
+            tuple(self._point(one, False) for one in table.tables("output")),
+        )
+        table.end()
+        return source
+
+    def _variable(self, table: Table, is_input: bool) -> Variable:
+        key = "input" if is_input else "output"
+        found = (self._plant.inputs if is_input else self._plant.outputs).get(
+            table.text(key).lower()
+        )
+        if found is None:
+            raise table.wrong(key, f"the name of an {key} of the plant")
+        if is_input and found.name in self._inputs:
+            raise table.wrong(key, "an input that no other place of the map brings")
+        if is_input:
+            self._inputs.add(found.name)
+        return found
+
+    def _scale(self, table: Table, kind: Kind) -> Scale:
+        if kind is Kind.BOOL:
+            return Scale(invert=table.truth("invert", False))
+        factor = fraction(table, "scale", Fraction(1))
+        if factor == 0:
+            raise table.wrong("scale", "another number than 0")
+        return Scale(factor, fraction(table, "offset", Fraction(0)))
+
+    def _topic(self, table: Table, is_input: bool) -> Topic:
+        variable = self._variable(table, is_input)
+        topic = table.text("topic")
+        if not topic or "+" in topic or "#" in topic:
+            raise table.wrong("topic", "a topic without + and #")
+        path = table.text("json", "") if is_input else ""
+        retain = False if is_input else table.truth("retain", True)
+        scale = self._scale(table, variable.kind)
+        table.end()
+        return Topic(variable, topic, tuple(path.split(".")) if path else (), scale, retain)
+
+    def _point(self, table: Table, is_input: bool) -> Point:
+        variable = self._variable(table, is_input)
+        areas = [it.value for it in Area if is_input or it in (Area.HOLDING, Area.COIL)]
+        area = Area(word(table, "area", areas))
+        address = table.number("address", None, 0, 65535)
+        form, low, bit = Form.INT16, False, None
+        if variable.kind is not Kind.BOOL:
+            if area.bits:
+                raise table.wrong("area", "holding or input, since the variable is no BOOL")
+            form = Form[word(table, "form", [it.name.lower() for it in Form], "int16").upper()]
+            low = form.registers == 2 and word(table, "words", ["high", "low"], "high") == "low"
+        elif is_input and not area.bits:
+            bit = table.number("bit", None, 0, 15)
+        scale = self._scale(table, variable.kind)
+        table.end()
+        return Point(variable, area, address, form, low, bit, scale)
+
+    def _limits(self, table: Table) -> tuple[tuple[str, float], ...]:
+        limits = []
+        for key in table.keys():
+            found = self._plant.inputs.get(key.lower())
+            if found is None:
+                raise table.wrong(key, "left out: no input of the plant has this name")
+            limits.append((found.name, table.number(key, None, 1, 10**9) / 1000))
+        return tuple(limits)
+
+
+def word(table: Table, key: str, words: list[str], default: str | None = None) -> str:
+    """A text that is one of some words."""
+    found = table.text(key, default)
+    if found not in words:
+        raise table.wrong(key, " or ".join(words))
+    return found
+
+
+def fraction(table: Table, key: str, default: Fraction) -> Fraction:
+    """A number, whole or with a point, as it is written: 0.1 is a tenth."""
+    if not table.has(key):
+        return default
+    number = table.anything(key)
+    if isinstance(number, Decimal) and number.is_finite() or type(number) is int:
+        found = Fraction(number)
+        if abs(found) <= LARGEST_SCALE and found.denominator <= LARGEST_SCALE:
+            return found
+    raise table.wrong(
+        key, f"a number of at most {LARGEST_SCALE}, with at most 12 digits behind its point"
+    )
+
+
+def read_secret(path: Path) -> str:
+    """The first line of a file. Raises GatewayFault (status 2) where it can't be read."""
+    try:
+        return (path.read_text().splitlines() or [""])[0]
+    except (OSError, UnicodeDecodeError) as fault:
+        raise GatewayFault(f"{path}: {fault}", WORDS_STATUS) from None
+
+
+def read(path: Path, plant: Plant) -> Map:
+    """The map in a file. Raises GatewayFault (status 2) with what is wrong in it."""
+    try:
+        with open(path, "rb") as file:
+            values = tomllib.load(file, parse_float=Decimal)
+    except OSError as fault:
+        raise GatewayFault(f"{path}: {fault.strerror}", WORDS_STATUS) from None
+    except (tomllib.TOMLDecodeError, UnicodeDecodeError) as fault:
+        raise GatewayFault(f"{path}: no TOML: {fault}", WORDS_STATUS) from None
+    try:
+        return Reader(plant).read(Table("", values, path.resolve().parent))
+    except GatewayFault as fault:
+        raise GatewayFault(f"{path}: {fault.words}", fault.status) from None
