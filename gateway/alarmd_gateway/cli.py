@@ -33,5 +33,7 @@ def main(words: list[str]) -> int:
     try:
         return int(module.main(words))
     except GatewayFault as fault:
+        if fault.details:
+            print(fault.details, file=sys.stderr)
         print(f"SERVER {fault.words}", file=sys.stderr)
         return fault.status

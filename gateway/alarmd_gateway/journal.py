@@ -2,10 +2,40 @@
 
 from __future__ import annotations
 
+import csv
+import io
+from array import array
 from collections.abc import Iterator, Sequence
 from dataclasses import dataclass
+from typing import Final
 
-from .model import Json, Order, Plant
+from . import statements
+from .model import Json, Order, Plant, civil
+from .tokens import BadSource
+
+CSV_COLUMNS: Final = (
+    "number",
+    "time",
+    "kind",
+    "tag",
+    "from",
+    "to",
+    "area",
+    "priority",
+    "text",
+    "path",
+    "statement",
+    "fault",
+    "file",
+    "line",
+    "console",
+    "command",
+    "target",
+    "milliseconds",
+    "reply",
+    "user",
+    "reason",
+)
 
 
 @dataclass(frozen=True)
@@ -17,44 +47,116 @@ class Row:
     number: int
     moment: int
     words: tuple[str, ...]
-    user: str | None
-    reason: str | None
+    user: str | None = None
+    reason: str | None = None
 
     def line(self, plant: Plant) -> str:
         """The row as the server writes it."""
-        raise NotImplementedError
+        return f"{self.number} {civil(plant.time(self.moment))} {' '.join(self.words)}"
 
-    def json(self, plant: Plant) -> dict[str, Json]:
+    def json(self, plant: Plant, places: statements.Statements | None = None) -> dict[str, Json]:
         """`number`, `moment`, `time`, `kind` (`alarm`, `fault`, `order`) and, by the kind: `tag`, `from`, `to`, `area`,
-        `priority`, `text`; `path`, `statement`, `fault`, `file`, `line`; `console`, `command`, `target`, `milliseconds`,
-        `reply`, `user`, `reason`."""
-        raise NotImplementedError
+        `priority`, `text`; `path`, `statement`, `fault`, `file`, `line` (the last two where `places` are given); `console`,
+        `command`, `target`, `milliseconds`, `reply`, `user`, `reason`."""
+        fields: dict[str, Json] = {
+            "number": self.number,
+            "moment": self.moment,
+            "time": civil(plant.time(self.moment)),
+            "kind": self.words[0].lower(),
+        }
+        if self.words[0] == "ALARM":
+            return {**fields, **self._alarm(plant)}
+        more = self._order() if self.words[0] == "ORDER" else self._fault(places)
+        return {**fields, **more}
+
+    def _alarm(self, plant: Plant) -> dict[str, Json]:
+        _, tag, before, after = self.words
+        row = plant.by_tag[tag]
+        return {
+            "tag": tag,
+            "from": before,
+            "to": after,
+            "area": row.area,
+            "priority": row.priority,
+            "text": row.text,
+        }
+
+    def _fault(self, places: statements.Statements | None) -> dict[str, Json]:
+        _, path, statement, kind = self.words
+        fields: dict[str, Json] = {"path": path, "statement": int(statement), "fault": kind}
+        place = None if places is None else places.place(path, int(statement))
+        if place is not None:
+            fields["file"], fields["line"] = place.file, place.line
+        return fields
+
+    def _order(self) -> dict[str, Json]:
+        _, console, command, target, *milliseconds, reply = self.words
+        return {
+            "console": int(console),
+            "command": command,
+            "target": target,
+            "milliseconds": int(milliseconds[0]) if milliseconds else None,
+            "reply": reply,
+            "user": self.user,
+            "reason": self.reason,
+        }
 
 
 class Journal:
-    """All rows of the run, numbered from 1."""
+    """All rows of the run, numbered from 1. A row takes some 40 bytes of memory."""
 
     def __init__(self, plant: Plant) -> None:
-        raise NotImplementedError
+        self._plant = plant
+        self._text = bytearray()  # the rows' words, one row after another
+        self._ends = array("Q", [0])  # where each ends in it
+        self._moments = array("q")
+        self._by: dict[int, tuple[str | None, str | None]] = {}  # user and reason, by the row
+        self._places: statements.Statements | None = None
 
     def __len__(self) -> int:
-        raise NotImplementedError
+        return len(self._moments)
+
+    def row(self, number: int) -> Row:
+        """One row. Raises IndexError where there is none of this number."""
+        if not 1 <= number <= len(self):
+            raise IndexError(number)
+        text = self._text[self._ends[number - 1] : self._ends[number]].decode()
+        user, reason = self._by.get(number, (None, None))
+        return Row(number, self._moments[number - 1], tuple(text.split(" ")), user, reason)
 
     def rows(self, first: int = 1, count: int | None = None) -> Iterator[Row]:
         """The rows from a number on, at most so many. Numbers outside are passed over."""
-        raise NotImplementedError
+        last = len(self) if count is None else min(len(self), first + count - 1)
+        return (self.row(number) for number in range(max(first, 1), last + 1))
 
     def lines(self, first: int = 1, count: int | None = None) -> Iterator[str]:
         """The same as the server writes them."""
-        raise NotImplementedError
+        return (row.line(self._plant) for row in self.rows(first, count))
+
+    def json(self, first: int = 1, count: int | None = None) -> Iterator[dict[str, Json]]:
+        """The same as displays have them, with the places of faults in the sources."""
+        places = self._statements()
+        return (row.json(self._plant, places) for row in self.rows(first, count))
 
     def csv(self, first: int = 1, count: int | None = None) -> Iterator[str]:
         """A header, then the same rows as CSV, each with its line end."""
-        raise NotImplementedError
+        line = io.StringIO(newline="")
+        writer = csv.DictWriter(line, CSV_COLUMNS, extrasaction="ignore")
+        writer.writeheader()
+        yield line.getvalue()
+        for row in self.json(first, count):
+            line.seek(0)
+            line.truncate()
+            writer.writerow(row)
+            yield line.getvalue()
 
     def scan(self, answer: Sequence[str]) -> None:
         """Takes the lines of a scan's answer."""
-        raise NotImplementedError
+        if len(answer) == 1:
+            return  # it changed nothing, or was refused
+        for line in answer:
+            if line.startswith(("FAULT ", "ALARM ")):
+                self._changed(line)
 
     def order(
         self,
@@ -65,4 +167,35 @@ class Journal:
         reason: str | None = None,
     ) -> None:
         """Takes an order, the moment of the last scan, and the lines of its answer."""
-        raise NotImplementedError
+        if not answer or not answer[0].startswith("REPLY "):
+            return  # the history is full: it is no event
+        reply = answer[0].partition(" ")[2]
+        target = "?" if reply == "O1" else self._declared(order)
+        tail = "" if order.milliseconds is None else f" {order.milliseconds}"
+        self._add(moment, f"ORDER {order.console} {order.verb.value} {target}{tail} {reply}")
+        if user is not None or reason is not None:
+            self._by[len(self)] = user, reason
+        for line in answer[1:]:
+            self._changed(line)
+
+    def _declared(self, order: Order) -> str:
+        program = self._plant.programs.get(order.target.lower())
+        return program.name if order.verb.value == "restart" and program else order.target
+
+    def _changed(self, line: str) -> None:
+        """A row of a line of an answer, whose second word is its moment."""
+        kind, moment, rest = line.split(" ", 2)
+        self._add(int(moment), f"{kind} {rest}")
+
+    def _add(self, moment: int, words: str) -> None:
+        self._text += words.encode()
+        self._ends.append(len(self._text))
+        self._moments.append(moment)
+
+    def _statements(self) -> statements.Statements:
+        if self._places is None:
+            try:
+                self._places = statements.read(self._plant)
+            except (OSError, BadSource):  # the sources aren't what they were
+                self._places = statements.Statements({})
+        return self._places

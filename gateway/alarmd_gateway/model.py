@@ -201,12 +201,14 @@ class BadSample(ValueError):
 
 
 class GatewayFault(Exception):
-    """What ends the gateway, or keeps it from starting: one line for `SERVER`, and the status of the process."""
+    """What ends the gateway, or keeps it from starting: one line for `SERVER`, and the status of the process. `details` are
+    further lines for a person, as `alarmd` has written them."""
 
-    def __init__(self, words: str, status: int) -> None:
+    def __init__(self, words: str, status: int, details: str = "") -> None:
         super().__init__(words)
         self.words = words
         self.status = status
+        self.details = details
 
 
 class ServerGone(GatewayFault):

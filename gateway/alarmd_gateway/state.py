@@ -2,10 +2,22 @@
 
 from __future__ import annotations
 
+from collections import Counter
 from collections.abc import Mapping, Sequence
 from dataclasses import dataclass
+from typing import Final, TypeAlias
 
-from .model import AlarmRow, Code, Json, Order, Plant, Value
+from . import statements
+from .model import MOST_EVENTS, AlarmRow, Code, Json, Order, Plant, Value, Variable, Verb, civil
+from .tokens import BadSource
+
+_CODES: Final = {code.value: code for code in Code}
+_ASIDE: Final = (Code.SHELVED, Code.OOS)
+
+
+def time_of(plant: Plant, moment: int | None) -> str | None:
+    """The civil time of a moment, None where there is none."""
+    return None if moment is None else civil(plant.time(moment))
 
 
 @dataclass
@@ -27,12 +39,25 @@ class AlarmState:
         """`tag`, `area`, `priority`, `text`, `code`, `since`, `since_time`, `shelved_until`, `shelved_until_time`, `user`,
         `reason`, `max_shelve_ms`; moments in milliseconds, times civil, null where there is none.
         """
-        raise NotImplementedError
+        return {
+            "tag": self.row.tag,
+            "area": self.row.area,
+            "priority": self.row.priority,
+            "text": self.row.text,
+            "code": self.code.value,
+            "since": self.since,
+            "since_time": time_of(plant, self.since),
+            "shelved_until": self.shelved_until,
+            "shelved_until_time": time_of(plant, self.shelved_until),
+            "user": self.user,
+            "reason": self.reason,
+            "max_shelve_ms": self.row.max_shelve_ms,
+        }
 
 
 @dataclass(frozen=True)
 class Stopped:
-    """A program that has stopped: where by the `FAULT` line, and the place in its source."""
+    """A program that has stopped: where by the `FAULT` line, and the place in its source (empty and 0 where it isn't known)."""
 
     program: str
     moment: int
@@ -44,30 +69,115 @@ class Stopped:
 
     def json(self, plant: Plant) -> dict[str, Json]:
         """`program`, `moment`, `time`, `path`, `statement`, `kind`, `file`, `line`."""
-        raise NotImplementedError
+        return {
+            "program": self.program,
+            "moment": self.moment,
+            "time": time_of(plant, self.moment),
+            "path": self.path,
+            "statement": self.statement,
+            "kind": self.kind,
+            "file": self.file,
+            "line": self.line,
+        }
+
+
+@dataclass(frozen=True)
+class AlarmMoved:
+    """An alarm has another code than `before`, or a shelving another end."""
+
+    alarm: AlarmState
+    before: Code
+
+
+@dataclass(frozen=True)
+class ValueMoved:
+    """An input or an output has another value."""
+
+    variable: Variable
+    value: Value
+
+
+@dataclass(frozen=True)
+class Restarted:
+    """A stopped program runs again from the next scan on."""
+
+    program: str
+
+
+Happening: TypeAlias = AlarmMoved | ValueMoved | Stopped | Restarted
 
 
 class State:
     """Fed with each command and its answer, in order."""
 
-    plant: Plant
-    alarms: list[AlarmState]  # in the order of the alarm file
-    by_tag: Mapping[str, AlarmState]
-    stopped: dict[str, Stopped]  # by the program's name in small letters
-    inputs: dict[
-        str, Value
-    ]  # by the names as declared; those that no scan named have their initial values
-    outputs: dict[str, Value]
-    events: int  # of the 1,000,000 that a run takes
-    moment: int  # of the last scan, 0 before the first
-    scanned: bool  # whether there was a scan
-
     def __init__(self, plant: Plant) -> None:
-        raise NotImplementedError
+        self.plant = plant
+        self.alarms = [AlarmState(row) for row in plant.alarms]  # in the order of the alarm file
+        self.by_tag: Mapping[str, AlarmState] = {alarm.row.tag: alarm for alarm in self.alarms}
+        self.stopped: dict[str, Stopped] = {}  # by the program's name in small letters
+        self.inputs: dict[str, Value] = {one.name: one.initial for one in plant.inputs.values()}
+        self.outputs: dict[str, Value] = {one.name: one.initial for one in plant.outputs.values()}
+        self.events = 0  # of the 1,000,000 that a run takes
+        self.moment = 0  # of the last scan, 0 before the first
+        self.scanned = False  # whether there was a scan
+        self._statements: statements.Statements | None = None
 
-    def scan(self, moment: int, given: Mapping[str, Value], answer: Sequence[str]) -> None:
-        """Takes a scan (its inputs by their names as declared) and the lines of its answer."""
-        raise NotImplementedError
+    @property
+    def events_left(self) -> int:
+        """How many events the run still takes."""
+        return MOST_EVENTS - self.events
+
+    def scan(
+        self, moment: int, given: Mapping[str, Value], answer: Sequence[str]
+    ) -> list[Happening]:
+        """Takes a scan (its inputs by their names as declared) and the lines of its answer, and tells what has happened."""
+        if not answer[-1].startswith("DONE"):
+            return []  # refused: nothing changed
+        self.events += 1
+        self.moment = moment
+        self.scanned = True
+        happened: list[Happening] = []
+        for name, value in given.items():
+            if self.inputs[name] != value:
+                self.inputs[name] = value
+                happened.append(ValueMoved(self.plant.inputs[name.lower()], value))
+        if len(answer) > 1:
+            happened += [self._line(moment, line) for line in answer[:-1]]
+        return happened
+
+    def _line(self, moment: int, line: str) -> Happening:
+        words = line.split(" ")
+        if words[0] == "ALARM":
+            return self._moved(moment, self.by_tag[words[2]], _CODES[words[4]])
+        if words[0] == "OUT":
+            variable = self.plant.outputs[words[2].lower()]
+            value = words[3] == "TRUE" if words[3] in ("TRUE", "FALSE") else int(words[3])
+            self.outputs[variable.name] = value
+            return ValueMoved(variable, value)
+        return self._stop(moment, words[2], int(words[3]), words[4])
+
+    def _stop(self, moment: int, path: str, statement: int, kind: str) -> Stopped:
+        program = path.partition(".")[0]
+        place = self._place(path, statement)
+        stopped = Stopped(program, moment, path, statement, kind, place.file, place.line)
+        self.stopped[program.lower()] = stopped
+        return stopped
+
+    def _place(self, path: str, statement: int) -> statements.Place:
+        if self._statements is None:
+            try:
+                self._statements = statements.read(self.plant)
+            except (OSError, BadSource):  # the sources aren't what they were
+                self._statements = statements.Statements({})
+        return self._statements.place(path, statement) or statements.Place("", 0)
+
+    def _moved(self, moment: int, alarm: AlarmState, code: Code) -> AlarmMoved:
+        before, alarm.code, alarm.since = alarm.code, code, moment
+        if code is not Code.SHELVED:
+            alarm.shelved_until = None
+        if code not in _ASIDE:
+            alarm.user = alarm.reason = None
+        return AlarmMoved(alarm, before)
 
     def order(
         self,
@@ -75,14 +185,52 @@ class State:
         answer: Sequence[str],
         user: str | None = None,
         reason: str | None = None,
-    ) -> None:
-        """Takes an order and the lines of its answer."""
-        raise NotImplementedError
+    ) -> list[Happening]:
+        """Takes an order and the lines of its answer, and tells what has happened."""
+        if not answer or not answer[0].startswith("REPLY"):
+            return []  # the history is full: nothing changed
+        self.events += 1
+        if answer[0] != "REPLY OK":
+            return []
+        if order.verb is Verb.RESTART:
+            stopped = self.stopped.pop(order.target.lower(), None)
+            return [] if stopped is None else [Restarted(stopped.program)]
+        alarm = self.by_tag[order.target]
+        moved = AlarmMoved(alarm, alarm.code)
+        for line in answer[1:]:
+            words = line.split(" ")
+            moved = self._moved(self.moment, alarm, _CODES[words[4]])
+        if order.milliseconds is not None:
+            alarm.shelved_until = self.moment + order.milliseconds
+        if alarm.code in _ASIDE:
+            alarm.user, alarm.reason = user, reason
+        return [moved]
 
     def listing(self) -> list[str]:
         """The lines that the server would answer to `list`."""
-        raise NotImplementedError
+        lines = [
+            f"STATE {alarm.row.tag} {alarm.code.value} {alarm.row.priority}"
+            for alarm in self.alarms
+            if alarm.code is not Code.NORM
+        ]
+        count = Counter((one.row.area, one.row.priority, one.code) for one in self.alarms)
+        for area in self.plant.areas:
+            for priority in range(1, 5):
+                for code in Code:
+                    if number := count[area, priority, code]:
+                        lines.append(f"COUNT {area} {priority} {code.value} {number}")
+        return [*lines, f"END {len(lines)}"]
 
     def json(self) -> dict[str, Json]:
-        """`alarms`, `stopped`, `inputs`, `outputs`, `events`, `events_left`, `moment`, `time`."""
-        raise NotImplementedError
+        """`alarms`, `stopped`, `inputs`, `outputs`, `events`, `events_left`, `moment`, `time`; the last is null before the
+        first scan."""
+        return {
+            "alarms": [alarm.json(self.plant) for alarm in self.alarms],
+            "stopped": [stopped.json(self.plant) for stopped in self.stopped.values()],
+            "inputs": dict(self.inputs),
+            "outputs": dict(self.outputs),
+            "events": self.events,
+            "events_left": self.events_left,
+            "moment": self.moment,
+            "time": time_of(self.plant, self.moment if self.scanned else None),
+        }

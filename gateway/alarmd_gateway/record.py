@@ -1,0 +1,269 @@
+"""The record: each scan and each order, in order, on the disk before the server sees it.
+
+`Log` is what the core wants of a record; `FileRecord` keeps it in a file. A line of it is a scan, an order, or a remark. The first
+line is a remark with the sums of the plant's files; a remark before an order tells who gave it, and why.
+"""
+
+from __future__ import annotations
+
+import asyncio
+import errno
+import fcntl
+import hashlib
+import json
+import os
+from collections.abc import Iterator, Sequence
+from concurrent.futures import ThreadPoolExecutor
+from dataclasses import dataclass
+from pathlib import Path
+from typing import IO, Final, Protocol
+
+from .model import GatewayFault, Plant
+from .plant import files
+
+_HEAD: Final = "# gateway record "
+_BY: Final = "# by "
+_OLD_HEAD: Final = "# plant "
+_NO_HELP: Final = (errno.ENOENT, errno.ENOTDIR, errno.EISDIR, errno.EACCES, errno.EROFS)
+"""Faults of opening a record that another start doesn't help."""
+
+_TAIL: Final = 65_536  # bytes that are read at once to find the last line
+
+
+@dataclass(frozen=True, slots=True)
+class Entry:
+    """A command of the record, with the user and the reason of an order, where they are known."""
+
+    line: str
+    user: str | None = None
+    reason: str | None = None
+
+
+class Log(Protocol):
+    """What the core wants of a record."""
+
+    def replay(self) -> Iterator[Entry]:
+        """All commands, in order."""
+
+    async def append(self, entry: Entry) -> None:
+        """The command will outlast a loss of power once this has returned. Raises GatewayFault (status 1)."""
+
+    async def succeed(self, entries: Sequence[Entry]) -> str:
+        """A new record takes the place of this one, at once and whole, with these commands in it. Gives the name under which
+        the old one is kept. Raises GatewayFault (status 1)."""
+
+    def close(self) -> None:
+        """No more is appended. Another gateway may have the record."""
+
+
+def sums(plant: Plant) -> dict[str, str]:
+    """Of each file that the plant names, and of the plant file: its SHA-256 in hexadecimal digits."""
+    names = (plant.path.name, *plant.sources, plant.alarm_file)
+    return {
+        name: hashlib.sha256(path.read_bytes()).hexdigest()
+        for name, path in zip(names, files(plant), strict=True)
+    }
+
+
+def head(plant: Plant, follows: str | None = None) -> str:
+    """The first line of a record of this plant. `follows` names the record before it."""
+    fields: dict[str, object] = {"files": sums(plant)}
+    if follows is not None:
+        fields["follows"] = follows
+    return f"{_HEAD}{json.dumps(fields)}"
+
+
+def _remark(entry: Entry) -> str:
+    fields = {"user": entry.user, "reason": entry.reason}
+    known = {key: value for key, value in fields.items() if value is not None}
+    return f"{_BY}{json.dumps(known)}\n" if known else ""
+
+
+def entries(lines: Iterator[bytes]) -> Iterator[Entry]:
+    """The commands of whole lines. Remarks are taken for the order behind them; other lines are passed over by the core."""
+    by: dict[str, str] = {}
+    for raw in lines:
+        if not raw.endswith(b"\n"):
+            return  # it was never sent
+        line = raw[:-1].decode("utf-8", "surrogateescape")
+        if line.startswith(_BY):
+            by = _fields(line.removeprefix(_BY))
+        elif line and not line.startswith("#"):
+            yield Entry(line, by.get("user"), by.get("reason")) if by else Entry(line)
+            by = {}
+
+
+def _fields(text: str) -> dict[str, str]:
+    try:
+        found = json.loads(text)
+    except ValueError:
+        return {}
+    return found if isinstance(found, dict) else {}
+
+
+def judge_head(line: str, plant: Plant, path: Path) -> None:
+    """Raises GatewayFault (status 2) where the first line of a record isn't that of this plant, with what differs."""
+    if line.startswith(_OLD_HEAD):
+        raise GatewayFault(
+            f"{path} is a record of the example gateway, whose sums are of another form: keep it, and begin a new record",
+            2,
+        )
+    kept = _fields(line.removeprefix(_HEAD)).get("files") if line.startswith(_HEAD) else None
+    if not isinstance(kept, dict):
+        raise GatewayFault(f"{path} is no record of a gateway", 2)
+    now = sums(plant)
+    for name in (*now, *kept):
+        if name not in kept:
+            raise GatewayFault(f"the record is of another plant: it knows no file {name}", 2)
+        if name not in now:
+            raise GatewayFault(f"the record is of another plant: the plant names no {name}", 2)
+        if now[name] != kept[name]:
+            raise GatewayFault(
+                f"the record is of another plant: {name} has changed since it began", 2
+            )
+
+
+class FileRecord:
+    """A record in a file that one gateway has at a time."""
+
+    def __init__(self, path: Path, plant: Plant) -> None:
+        """Opens the record, or begins it. A torn last line is cut off. Raises GatewayFault: status 2 where another gateway has
+        it or it is another plant's, 1 where it can't be read or written."""
+        self.path = path
+        self._plant = plant
+        self._thread = ThreadPoolExecutor(1, "record")
+        try:
+            self._file = _locked(path)
+            try:
+                self._begin()
+            except BaseException:
+                self._file.close()
+                raise
+        except OSError as fault:
+            raise self._fault(fault, 2 if fault.errno in _NO_HELP else 1) from None
+
+    def _begin(self) -> None:
+        _cut(self._file)
+        self._file.seek(0)
+        first = self._file.readline().decode("utf-8", "replace").rstrip("\n")
+        if first:
+            judge_head(first, self._plant, self.path)
+        else:
+            _write(self._file, head(self._plant) + "\n")
+            _sync_folder(self.path)
+
+    def _fault(self, fault: OSError, status: int = 1) -> GatewayFault:
+        return GatewayFault(f"the record {self.path}: {fault.strerror}", status)
+
+    def replay(self) -> Iterator[Entry]:
+        """All commands, in order, read as they are wanted."""
+        with open(self.path, "rb", buffering=1 << 20) as file:
+            yield from entries(iter(file))
+
+    async def append(self, entry: Entry) -> None:
+        """Appends, flushes and waits for the disk, in a thread of its own: meanwhile displays are served."""
+        text = f"{_remark(entry)}{entry.line}\n"
+        loop = asyncio.get_running_loop()
+        try:
+            await loop.run_in_executor(self._thread, _write, self._file, text)
+        except OSError as fault:
+            raise self._fault(fault) from None
+
+    async def succeed(self, entries: Sequence[Entry]) -> str:
+        """The old record is kept as `record.1` (the next number that is free), and a new one takes its name."""
+        loop = asyncio.get_running_loop()
+        try:
+            return await loop.run_in_executor(self._thread, self._succeed, entries)
+        except OSError as fault:
+            raise self._fault(fault) from None
+
+    def _succeed(self, entries: Sequence[Entry]) -> str:
+        kept, fresh = _archive(self.path), self.path.with_name(f"{self.path.name}.new")
+        fresh.unlink(missing_ok=True)
+        file = _locked(fresh)
+        commands = "".join(f"{_remark(entry)}{entry.line}\n" for entry in entries)
+        _write(file, f"{head(self._plant, kept.name)}\n{commands}")
+        os.replace(fresh, self.path)  # at each moment there is one of the two, whole
+        _sync_folder(self.path)
+        old, self._file = self._file, file
+        old.close()
+        return kept.name
+
+    def close(self) -> None:
+        """Waits for what is being written, and gives the lock back."""
+        self._thread.shutdown()
+        self._file.close()
+
+
+def peek(path: Path, plant: Plant) -> Iterator[Entry]:
+    """The commands of a record that another gateway may have, without a lock. Raises GatewayFault (status 2)."""
+    try:
+        with open(path, "rb", buffering=1 << 20) as file:
+            judge_head(file.readline().decode("utf-8", "replace").rstrip("\n"), plant, path)
+            yield from entries(iter(file))
+    except OSError as fault:
+        raise GatewayFault(f"the record {path}: {fault.strerror}", 2) from None
+
+
+def _locked(path: Path) -> IO[bytes]:
+    """The file of this name, locked."""
+    while True:
+        file = open(path, "a+b", buffering=0)
+        try:
+            fcntl.flock(file, fcntl.LOCK_EX | fcntl.LOCK_NB)
+            if os.path.samestat(os.fstat(file.fileno()), os.stat(path)):
+                return file
+        except BlockingIOError:
+            file.close()
+            raise GatewayFault(f"another gateway has the record {path}", 2) from None
+        except OSError:
+            file.close()
+            raise
+        file.close()  # a new record has taken the name meanwhile
+
+
+def _write(file: IO[bytes], text: str) -> None:
+    """All of it, on the disk."""
+    data = text.encode("utf-8", "surrogateescape")
+    while data:
+        data = data[file.write(data) :]
+    os.fsync(file.fileno())
+
+
+def _sync_folder(path: Path) -> None:
+    """The names of the folder are on the disk too."""
+    folder = os.open(path.parent, os.O_RDONLY | os.O_DIRECTORY)
+    try:
+        os.fsync(folder)
+    finally:
+        os.close(folder)
+
+
+def _cut(file: IO[bytes]) -> None:
+    """Cuts off a last line without its end, which was never sent, and a remark whose order was never written."""
+    size = file.seek(0, os.SEEK_END)
+    end, tail = size, b""
+    while end > 0 and tail.count(b"\n") < 2:
+        begin = max(0, end - _TAIL)
+        file.seek(begin)
+        tail = file.read(end - begin) + tail
+        end = begin
+    whole = tail[: tail.rfind(b"\n") + 1]
+    last = whole[whole[:-1].rfind(b"\n") + 1 :]
+    keep = end + len(whole) - (len(last) if last.startswith(_BY.encode()) else 0)
+    if keep < size:
+        file.truncate(keep)
+        os.fsync(file.fileno())
+
+
+def _archive(path: Path) -> Path:
+    """The old record's further name, the next that is free; one that an earlier attempt gave it is taken again."""
+    number = 1
+    while True:
+        kept = path.with_name(f"{path.name}.{number}")
+        if not kept.exists():
+            os.link(path, kept)
+            return kept
+        if kept.samefile(path):
+            return kept
+        number += 1
