@@ -15,7 +15,6 @@
 from __future__ import annotations
 
 import re
-from collections.abc import Iterator
 from dataclasses import dataclass, field, replace
 
 from .config import WORDS_STATUS
@@ -152,48 +151,3 @@ def read_value(word: str, kind: Kind) -> Value | None:
     if kind is Kind.BOOL:
         return {"TRUE": True, "1": True, "FALSE": False, "0": False}.get(word.upper())
     return int(word) if re.fullmatch(r"-?[0-9]{1,19}", word) else None
-
-
-def spelled(value: Value) -> str:
-    """A value as the server spells it."""
-    return str(value).upper() if isinstance(value, bool) else str(value)
-
-
-class Seen:
-    """What the answers have shown so far: codes, values of inputs and outputs, stopped programs."""
-
-    def __init__(self, plant: Plant) -> None:
-        self.codes = {tag: Code.NORM.value for tag in plant.by_tag}
-        variables = {**plant.inputs, **plant.outputs}
-        self.values = {name: spelled(it.initial) for name, it in variables.items()}
-        self.stopped: set[str] = set()
-        self._plant = plant
-
-    def take(self, command: str, answer: list[str]) -> None:
-        """Takes a command and the lines of its answer."""
-        for words in map(str.split, answer):
-            if words[0] == "ALARM" and len(words) == 5:
-                self.codes[words[2]] = words[4]
-            elif words[0] == "OUT":
-                self.values[words[2].lower()] = words[3]
-            elif words[0] == "FAULT":
-                self.stopped.add(words[2].split(".")[0].lower())
-            elif words[0] == "DONE":
-                self.values.update(self._given(command))
-        if command.startswith("restart ") and answer == ["REPLY OK"]:
-            self.stopped.discard(command.split()[2].lower())
-
-    def _given(self, command: str) -> Iterator[tuple[str, str]]:
-        for pair in command.split()[2:]:
-            name, _, word = pair.lower().partition("=")
-            value = read_value(word, self._plant.inputs[name].kind)
-            yield name, word if value is None else spelled(value)
-
-    def of(self, expected: Expected) -> str:
-        """What is there where something is expected of an alarm, a variable or a program."""
-        if expected.wanted in CODES:
-            return self.codes[expected.subject]
-        name = expected.subject.lower()
-        if expected.wanted in (STOPPED, RUNS):
-            return STOPPED if name in self.stopped else RUNS
-        return self.values[name]

@@ -13,13 +13,12 @@ from dataclasses import dataclass
 from pathlib import Path
 
 from . import plant as plants
-from .case_text import ANSWERS, Case, Cases, Expected, Seen, Step, read_value, spelled
+from .case_text import ANSWERS, CODES, RUNS, STOPPED, Case, Cases, Expected, Step, read_value
+from .commands import END_ANSWER, END_MARK, Scan, read, spelled
 from .config import WORDS_STATUS
 from .model import GatewayFault, Plant
 from .programs import find_alarmd
-
-BEHIND_ORDERS = "scan 4000000000001"
-"""A line that is always answered `REFUSED E2`, and is no event: it shows where the answer to an order ends."""
+from .state import State
 
 
 @dataclass(frozen=True)
@@ -32,10 +31,8 @@ class Difference:
 
     def text(self, file: str, case: Case) -> str:
         """For a person: both sides beside each other, lines that differ with a mark."""
-        head = (
-            f"{file}:{self.line}: {case.name}".rstrip(": ")
-            + f"\n    {self.command or 'at the start'}\n"
-        )
+        place = f"{file}:{self.line}: {case.name}".rstrip(": ")
+        head = f"{place}\n    {self.command or 'at the start'}\n"
         width = max(len("expected"), *(len(left) for left, _ in self.sides)) + 3
         rows = [("expected", "got"), *self.sides]
         return head + "".join(
@@ -48,7 +45,7 @@ def run_case(alarmd: Path, plant: Plant, case: Case, seconds: float) -> list[lis
     """The answers of a fresh server to the case's commands. Raises GatewayFault where it ends before the last, or isn't done in
     so many seconds."""
     commands = [step.command for step in case.steps if step.command]
-    text = "".join(f"{command}\n{BEHIND_ORDERS}\n" for command in commands)
+    text = "".join(f"{command}\n{END_MARK}\n" for command in commands)
     words = [str(alarmd), "run", str(plant.path)]
     try:
         done = subprocess.run(words, input=text.encode(), capture_output=True, timeout=seconds)
@@ -67,12 +64,12 @@ def run_case(alarmd: Path, plant: Plant, case: Case, seconds: float) -> list[lis
 
 
 def split_answers(lines: list[str], commands: list[str]) -> Iterator[list[str]]:
-    """The lines of each command's answer, where BEHIND_ORDERS stood behind each command."""
+    """The lines of each command's answer, where END_MARK stood behind each command."""
     at = 0
     for command in commands:
         # a scan may itself be answered by the line that ends an answer
         end = lines.index(
-            "REFUSED E2", at + (lines[at] == "REFUSED E2" and command.startswith("scan "))
+            END_ANSWER, at + (lines[at] == END_ANSWER and command.startswith("scan "))
         )
         yield lines[at:end]
         at = end + 1
@@ -80,16 +77,16 @@ def split_answers(lines: list[str], commands: list[str]) -> Iterator[list[str]]:
 
 def judge(plant: Plant, case: Case, answers: list[list[str]]) -> Iterator[Difference]:
     """What differs in a case, in order."""
-    seen, given = Seen(plant), iter(answers)
+    state, given = State(plant), iter(answers)
     for step in case.steps:
         answer = next(given) if step.command else []
-        seen.take(step.command, answer)
+        take(state, step.command, answer)
         if step.answer is not None and list(step.answer) != answer:
             yield Difference(step.line, step.command, tuple(beside(list(step.answer), answer)))
         if is_surprise(step, answer):
             yield Difference(step.line, step.command, (("that it is taken", answer[0]),))
         for expected in step.expected:
-            if (sides := compare(plant, seen, expected, answer)) is not None:
+            if (sides := compare(state, expected, answer)) is not None:
                 yield Difference(expected.line, step.command, (sides,))
 
 
@@ -105,18 +102,31 @@ def is_surprise(step: Step, answer: list[str]) -> bool:
     )
 
 
-def compare(
-    plant: Plant, seen: Seen, expected: Expected, answer: list[str]
-) -> tuple[str, str] | None:
+def take(state: State, command: str, answer: list[str]) -> None:
+    """Gives the state a command of a case and its answer."""
+    found = read(state.plant, command)
+    if isinstance(found, Scan):
+        state.scan(found.moment, found.given, answer)
+    elif found is not None:
+        state.order(found, answer)
+
+
+def compare(state: State, expected: Expected, answer: list[str]) -> tuple[str, str] | None:
     """Both sides where something else is there than expected."""
+    name, wanted = expected.subject.lower(), expected.wanted
     if expected.subject in ANSWERS:
-        wanted, got = f"{expected.subject} {expected.wanted}", (answer or ["no answer"])[0]
+        got = answer[0] if answer else "no answer"
+        wanted = f"{expected.subject} {wanted}"
         return None if wanted == got else (wanted, got)
-    wanted, got = expected.wanted, seen.of(expected)
-    name = expected.subject.lower()
-    if (variable := plant.inputs.get(name) or plant.outputs.get(name)) is not None:
+    if wanted in CODES:
+        got = state.by_tag[expected.subject].code.value
+    elif wanted in (STOPPED, RUNS):
+        got = STOPPED if name in state.stopped else RUNS
+    else:
+        variable = state.plant.inputs.get(name) or state.plant.outputs[name]
         value = read_value(wanted, variable.kind)
         wanted = wanted if value is None else spelled(value)
+        got = spelled({**state.inputs, **state.outputs}[variable.name])
     return None if wanted == got else (f"{expected.subject} {wanted}", f"{expected.subject} {got}")
 
 
