@@ -1,0 +1,97 @@
+"""The field: all sources of the map around a core, the outputs that are written back, and inputs that are stale."""
+
+from __future__ import annotations
+
+import asyncio
+import time
+
+from .config import Config
+from .core import ChangeKind, Core, CutOff
+from .fields.lines import LineSource
+from .fields.modbus import ModbusClient
+from .fields.mqtt import MqttClient
+from .fields.printer import Printer
+from .fields.source import Intake, Source
+from .map_file import read
+from .mapping import Map
+from .model import Value
+from .samples import Ages
+
+CHECK_SECONDS = 0.25  # between two looks at the ages of samples
+
+
+class Field:
+    """The sources run from the start until `close`."""
+
+    asks = False
+
+    def __init__(self, core: Core, map: Map) -> None:
+        self._core = core
+        self._intake = Intake(core, Ages(dict(map.limits), time.monotonic()))
+        self._sources = sources(map, self._intake)
+        running = [source.run(self._current) for source in self._sources]
+        watches = [self._watch_outputs(), self._watch_ages()]
+        self._tasks = [asyncio.create_task(one) for one in (*running, *watches)]
+
+    async def close(self) -> None:
+        """Ends all sources."""
+        for task in self._tasks:
+            task.cancel()
+        await asyncio.gather(*self._tasks, return_exceptions=True)
+        for source in self._sources:
+            source.close()
+
+    def _current(self) -> dict[str, Value]:
+        return dict(self._core.state.outputs)
+
+    async def _watch_outputs(self) -> None:
+        """Hands each change of an output to the sources, in order."""
+        while True:
+            changes = self._core.subscribe()
+            for name, value in self._current().items():
+                self._put(name, value)
+            try:
+                async for change in changes:
+                    if change.kind is ChangeKind.OUTPUT:
+                        name = str(change.data["name"])
+                        self._put(name, value_of(change.data["value"]))
+                    elif change.kind is ChangeKind.ANEW:
+                        for name, value in self._current().items():
+                            self._put(name, value)
+                return  # the core has closed
+            except CutOff:
+                pass
+            finally:
+                changes.close()
+
+    def _put(self, name: str, value: Value) -> None:
+        for source in self._sources:
+            source.put_output(name, value)
+
+    async def _watch_ages(self) -> None:
+        while True:
+            self._intake.check_ages()
+            await asyncio.sleep(CHECK_SECONDS)
+
+
+def value_of(value: object) -> Value:
+    """The value of a change, which is a BOOL or a number."""
+    assert isinstance(value, int)
+    return value
+
+
+def sources(map: Map, intake: Intake) -> list[Source]:
+    """A source for each of the map."""
+    printer = Printer() if map.lines else None
+    found: list[Source] = [LineSource(it, intake, printer) for it in map.lines if printer]
+    found += [MqttClient(it, intake) for it in map.mqtt]
+    found += [ModbusClient(it, intake) for it in map.modbus]
+    return found
+
+
+async def attach(core: Core, config: Config) -> Field | None:
+    """Starts the sources of the map that `[fields]` names; None where there is none. Raises GatewayFault (status 2)."""
+    table = config.table("fields")
+    path = table.path("map") if table.has("map") else None
+    table.end()
+    return None if path is None else Field(core, read(path, core.plant))

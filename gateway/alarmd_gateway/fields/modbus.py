@@ -1,0 +1,190 @@
+"""A Modbus TCP device: its registers and coils are read each period, and outputs are written.
+
+Between two readings the device isn't seen: what was there only meanwhile is no sample."""
+
+from __future__ import annotations
+
+import asyncio
+import logging
+from collections.abc import Callable, Iterable, Iterator
+from concurrent.futures import ThreadPoolExecutor
+from dataclasses import dataclass
+from typing import Any, Final
+
+from pymodbus.client import ModbusTcpClient
+from pymodbus.exceptions import ModbusException
+
+from ..mapping import Area, BadRaw, ModbusSource, Point
+from ..model import Value
+from .source import Intake, Lost, Source
+
+MOST_REGISTERS: Final = 125  # that one request may read
+MOST_BITS: Final = 2000
+
+logging.getLogger("pymodbus").addHandler(logging.NullHandler())
+logging.getLogger("pymodbus").propagate = False  # what is lost is a trouble
+
+
+@dataclass(frozen=True)
+class Block:
+    """Registers or bits that are read by one request, and the points that lie in them."""
+
+    area: Area
+    address: int
+    length: int
+    points: tuple[Point, ...]
+
+
+def blocks(points: Iterable[Point]) -> Iterator[Block]:
+    """The fewest requests that read the points, and nothing beside them: a device may refuse what it hasn't."""
+    for area in Area:
+        most = MOST_BITS if area.bits else MOST_REGISTERS
+        begun: list[Point] = []
+        start = end = 0
+        for point in sorted((it for it in points if it.area is area), key=lambda it: it.address):
+            last = max(end, point.address + point.length)
+            if begun and (point.address > end or last - start > most):
+                yield Block(area, start, end - start, tuple(begun))
+                begun = []
+            if not begun:
+                start, last = point.address, point.address + point.length
+            begun.append(point)
+            end = last
+        if begun:
+            yield Block(area, start, end - start, tuple(begun))
+
+
+class Refusal(Exception):
+    """The device answers a request with an exception: it is there, but doesn't do this."""
+
+
+class Device:
+    """The device, as it is spoken to in a thread: each call waits for the answer. Raises Lost and Refusal."""
+
+    def __init__(self, given: ModbusSource) -> None:
+        self._given = given
+        self._client = ModbusTcpClient(given.host, port=given.port, retries=0)
+        self._client.params.timeout = given.timeout
+
+    def connect(self) -> None:
+        """Connects."""
+        if not self._client.connect():
+            raise Lost(f"{self._given.host}:{self._given.port} doesn't take a connection")
+
+    def close(self) -> None:
+        """Ends the connection."""
+        self._client.close()
+
+    def read(self, block: Block) -> list[int]:
+        """The registers or bits of a block."""
+        ask = {
+            Area.HOLDING: self._client.read_holding_registers,
+            Area.INPUT: self._client.read_input_registers,
+            Area.COIL: self._client.read_coils,
+            Area.DISCRETE: self._client.read_discrete_inputs,
+        }[block.area]
+        what = f"{block.area.value} {block.address}, {block.length} long"
+        answer = self._ask(what, ask, block.address, block.length)
+        found = answer.bits if block.area.bits else answer.registers
+        if len(found) < block.length:
+            raise Lost(f"{what}: the answer is too short")
+        return [int(one) for one in found[: block.length]]
+
+    def write(self, point: Point, words: list[int]) -> None:
+        """Writes a coil or registers."""
+        what = f"{point.area.value} {point.address}"
+        if point.area is Area.COIL:
+            self._ask(what, self._client.write_coil, point.address, bool(words[0]))
+        elif len(words) == 1:
+            self._ask(what, self._client.write_register, point.address, words[0])
+        else:
+            self._ask(what, self._client.write_registers, point.address, words)
+
+    def _ask(self, what: str, ask: Callable[..., Any], *words: Any) -> Any:
+        try:
+            answer = ask(*words, slave=self._given.unit)
+        except (ModbusException, OSError) as fault:
+            raise Lost(f"{what}: {fault}") from None
+        if isinstance(answer, Exception):
+            raise Lost(f"{what}: {answer}")
+        if answer.isError():
+            raise Refusal(f"{what}: the device answers exception {answer.exception_code}")
+        return answer
+
+
+class ModbusClient(Source):
+    """A session is a connection: a request that isn't answered ends it."""
+
+    def __init__(self, given: ModbusSource, intake: Intake) -> None:
+        super().__init__(given.name, given.retry, intake)
+        self._given = given
+        self._blocks = list(blocks(given.inputs))
+        self._points = {point.variable.name: point for point in given.outputs}
+        self._thread = ThreadPoolExecutor(1, given.name)
+
+    async def session(self, current: Callable[[], dict[str, Value]]) -> None:
+        """Connects, and reads and writes each period until the device doesn't answer."""
+        loop = asyncio.get_running_loop()
+        device = Device(self._given)
+        try:
+            await loop.run_in_executor(self._thread, device.connect)
+            due = loop.time()
+            await self._read(device)
+            self.up()
+            for name, value in current().items():
+                await self._write(device, name, value)
+            while True:
+                due = max(due + self._given.poll, loop.time())
+                await self._writes(device, due)
+                await self._read(device)
+        finally:
+            self._thread.submit(device.close)
+
+    async def _read(self, device: Device) -> None:
+        """Reads all blocks, and gives what is in them. What the device refuses is a trouble of its inputs."""
+        loop = asyncio.get_running_loop()
+        for block in self._blocks:
+            try:
+                raw = await loop.run_in_executor(self._thread, device.read, block)
+            except Refusal as fault:
+                for point in block.points:
+                    self.intake.bad(self.name, point.variable.name, str(fault))
+                continue
+            for point in block.points:
+                await self._give(point, raw[point.address - block.address :][: point.length])
+
+    async def _give(self, point: Point, raw: list[int]) -> None:
+        try:
+            value = point.read(raw)
+        except BadRaw as fault:
+            self.intake.bad(self.name, point.variable.name, str(fault))
+            return
+        await self.intake.give(self.name, point.variable.name, value)
+
+    async def _writes(self, device: Device, due: float) -> None:
+        """Writes outputs as they change, until the next reading is due."""
+        loop = asyncio.get_running_loop()
+        while (left := due - loop.time()) > 0:
+            try:
+                name, value = await asyncio.wait_for(self.next_output(), left)
+            except asyncio.TimeoutError:
+                return
+            await self._write(device, name, value)
+        for name, value in self.waiting_outputs():
+            await self._write(device, name, value)
+
+    async def _write(self, device: Device, name: str, value: Value) -> None:
+        point = self._points.get(name)
+        if point is None:
+            return
+        loop = asyncio.get_running_loop()
+        try:
+            await loop.run_in_executor(self._thread, device.write, point, point.write(value))
+        except (Refusal, BadRaw) as fault:
+            self.intake.bad(self.name, name, str(fault))
+        else:
+            self.intake.good(self.name, name)
+
+    def close(self) -> None:
+        """The thread ends once its last request is done."""
+        self._thread.shutdown(wait=False)

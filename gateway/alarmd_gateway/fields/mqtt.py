@@ -1,0 +1,167 @@
+"""An MQTT broker: topics become samples, and outputs are published.
+
+A session of the broker outlasts a loss (the client's name is kept), so what was published meanwhile with a quality of 1 or 2 comes
+when the broker is back, as far as the broker keeps it."""
+
+from __future__ import annotations
+
+import asyncio
+import json
+import re
+from collections.abc import Callable
+from decimal import Decimal
+from fractions import Fraction
+from typing import Any, Final
+
+import paho.mqtt.client as paho
+
+from ..commands import spelled
+from ..mapping import BadRaw, MqttSource, Scale, Topic
+from ..model import Kind, Value
+from .source import Intake, Lost, Source
+
+CONNECT_SECONDS: Final = 10.0
+PAYLOAD_BYTES: Final = 4096
+TRUTHS: Final = {"true": True, "1": True, "on": True, "false": False, "0": False, "off": False}
+NUMBER: Final = re.compile(r"[+-]?[0-9]{1,30}(\.[0-9]{1,30})?")
+
+
+def value_of(topic: Topic, payload: bytes) -> Value:
+    """The value of an input by a payload. Raises BadRaw."""
+    if len(payload) > PAYLOAD_BYTES:
+        raise BadRaw(f"{topic.topic}: a payload of {len(payload)} bytes")
+    try:
+        text = payload.decode().strip()
+        word = text if not topic.path else spelling(inside(text, topic.path))
+    except (ValueError, LookupError, TypeError, RecursionError):
+        raise BadRaw(f"{topic.topic}: {payload[:60]!r} has no such value") from None
+    if topic.variable.kind is Kind.BOOL:
+        if word.lower() not in TRUTHS:
+            raise BadRaw(f"{topic.topic}: {word[:60]!r} is no BOOL")
+        return topic.scale.truth(TRUTHS[word.lower()])
+    if not NUMBER.fullmatch(word):
+        raise BadRaw(f"{topic.topic}: {word[:60]!r} is no number")
+    return topic.scale.number(Fraction(Decimal(word)))
+
+
+def inside(text: str, path: tuple[str, ...]) -> Any:
+    """What a JSON document has under a path of keys and of numbers in lists. Raises ValueError, LookupError or TypeError."""
+    found = json.loads(text, parse_float=Decimal)
+    for key in path:
+        found = found[int(key)] if isinstance(found, list) else found[key]
+    return found
+
+
+def spelling(value: object) -> str:
+    """A value of JSON as the word of a payload."""
+    return format(value, "f") if isinstance(value, Decimal) else str(value)
+
+
+def payload_of(scale: Scale, value: Value) -> str:
+    """What is published for an output."""
+    return spelled(scale.truth(value) if isinstance(value, bool) else scale.number(value))
+
+
+class MqttClient(Source):
+    """A session is a connection: its loss ends it."""
+
+    def __init__(self, given: MqttSource, intake: Intake) -> None:
+        super().__init__(given.name, given.retry, intake)
+        self._given = given
+        self._topics = {topic.topic: topic for topic in given.inputs}
+        self._outputs_by_name = {topic.variable.name: topic for topic in given.outputs}
+
+    async def session(self, current: Callable[[], dict[str, Value]]) -> None:
+        """Connects, and takes what comes until the connection is lost."""
+        loop = asyncio.get_running_loop()
+        events: asyncio.Queue[
+            str
+        ] = asyncio.Queue()  # empty text: connected; another: why it is lost
+        client = self._client(loop, events)
+        try:
+            try:
+                await asyncio.to_thread(client.connect, self._given.host, self._given.port, 30)
+            except (OSError, ValueError) as fault:
+                raise Lost(f"{self._given.host}:{self._given.port}: {fault}") from None
+            client.loop_start()
+            await self._connected(events)
+            self.up()
+            for name, value in current().items():
+                self._publish(client, name, value)
+            await self._serve(client, events)
+        finally:
+            client.disconnect()
+            await asyncio.shield(asyncio.to_thread(client.loop_stop))
+
+    async def _connected(self, events: asyncio.Queue[str]) -> None:
+        try:
+            words = await asyncio.wait_for(events.get(), CONNECT_SECONDS)
+        except asyncio.TimeoutError:
+            raise Lost(f"the broker didn't answer in {CONNECT_SECONDS:g} s") from None
+        if words:
+            raise Lost(words)
+
+    async def _serve(self, client: paho.Client, events: asyncio.Queue[str]) -> None:
+        """Publishes outputs until the connection is lost."""
+        lost = asyncio.ensure_future(events.get())
+        try:
+            while True:
+                output = asyncio.ensure_future(self.next_output())
+                done, _ = await asyncio.wait({lost, output}, return_when=asyncio.FIRST_COMPLETED)
+                if lost in done:
+                    output.cancel()
+                    raise Lost(lost.result())
+                self._publish(client, *output.result())
+        finally:
+            lost.cancel()
+
+    def _publish(self, client: paho.Client, name: str, value: Value) -> None:
+        topic = self._outputs_by_name.get(name)
+        if topic is not None:
+            payload = payload_of(topic.scale, value)
+            client.publish(topic.topic, payload, self._given.quality, topic.retain)
+
+    def _client(self, loop: asyncio.AbstractEventLoop, events: asyncio.Queue[str]) -> paho.Client:
+        """A client whose callbacks, which come in its own thread, are handed to the loop."""
+        client = paho.Client(self._given.client, clean_session=False)
+        if self._given.username is not None:
+            client.username_pw_set(self._given.username, self._given.password)
+        if self._given.ca is not None:
+            try:
+                client.tls_set(str(self._given.ca))
+            except (OSError, ValueError) as fault:
+                raise Lost(f"{self._given.ca}: {fault}") from None
+
+        def tell(words: str) -> None:
+            loop.call_soon_threadsafe(events.put_nowait, words)
+
+        def on_connect(client: paho.Client, _: Any, flags: Any, code: int) -> None:
+            if code:
+                tell(str(paho.connack_string(code)))
+                return
+            if self._topics:
+                client.subscribe([(topic, self._given.quality) for topic in self._topics])
+            tell("")
+
+        def on_disconnect(client: paho.Client, _: Any, code: int) -> None:
+            tell(f"the connection has ended: {paho.error_string(code)}")
+
+        def on_message(client: paho.Client, _: Any, message: paho.MQTTMessage) -> None:
+            taking = self._take(message.topic, bytes(message.payload))
+            asyncio.run_coroutine_threadsafe(taking, loop).result()
+
+        client.on_connect, client.on_disconnect = on_connect, on_disconnect
+        client.on_message = on_message
+        return client
+
+    async def _take(self, name: str, payload: bytes) -> None:
+        """Takes a message; the next one isn't read before."""
+        topic = self._topics.get(name)
+        if topic is None:
+            return  # from an earlier map: the broker remembers the subscription
+        try:
+            value = value_of(topic, payload)
+        except BadRaw as fault:
+            self.intake.bad(self.name, topic.variable.name, str(fault))
+            return
+        await self.intake.give(self.name, topic.variable.name, value)

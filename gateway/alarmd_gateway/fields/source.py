@@ -1,0 +1,160 @@
+"""What all sources share: they give samples, tell their troubles, and are read again after a loss, later and later."""
+
+from __future__ import annotations
+
+import abc
+import asyncio
+import time
+from collections.abc import Callable
+from typing import Final, Protocol
+
+from ..mapping import Retry
+from ..model import BadSample, Order, Plant, Reply, Sample, Value
+from ..samples import Ages
+from ..troubles import TroubleKind, Troubles
+
+LINE_BYTES: Final = 1_048_576
+"""A line or a payload has at most so many bytes."""
+
+
+class Lost(Exception):
+    """A source can't be read now. The text says why."""
+
+
+class Taker(Protocol):
+    """What sources want of the core."""
+
+    @property
+    def plant(self) -> Plant:
+        """The plant whose inputs they bring."""
+
+    @property
+    def troubles(self) -> Troubles:
+        """Where troubles are told."""
+
+    async def offer(self, sample: Sample) -> None:
+        """Takes a sample; raises BadSample."""
+
+    async def order(
+        self, order: Order, user: str | None = None, reason: str | None = None
+    ) -> Reply:
+        """Gives an order, and its answer."""
+
+
+class Intake:
+    """Gives samples to the core. A sample that doesn't fit is a trouble of its source and its input, until one that fits comes."""
+
+    def __init__(self, taker: Taker, ages: Ages, clock: Callable[[], float] = time.monotonic):
+        """`clock` gives seconds."""
+        self.taker = taker
+        self.troubles = taker.troubles
+        self._ages = ages
+        self._clock = clock
+
+    async def give(self, source: str, name: str, value: Value | str) -> str | None:
+        """Gives a sample. Returns why it isn't taken, where it isn't."""
+        subject = f"{source} {name}"
+        try:
+            await self.taker.offer(Sample(name, value, source))
+        except BadSample as fault:
+            self.bad(source, name, str(fault))
+            return str(fault)
+        self.troubles.clear(TroubleKind.SOURCE, subject)
+        variable = self.taker.plant.inputs[name.lower()]
+        self._ages.saw(variable.name, self._clock())
+        return None
+
+    def bad(self, source: str, name: str, words: str) -> None:
+        """A value of an input or output can't be taken from this source, or written there."""
+        self.troubles.raises(TroubleKind.SOURCE, f"{source} {name}", f"{source}: {words}")
+
+    def good(self, source: str, name: str) -> None:
+        """It can now."""
+        self.troubles.clear(TroubleKind.SOURCE, f"{source} {name}")
+
+    def check_ages(self) -> None:
+        """Raises and clears the troubles of inputs that are stale."""
+        stale = {it.name: it for it in self._ages.stale(self._clock())}
+        for name in self._ages.names():
+            if name in stale:
+                words = f"no sample of {name} for more than {stale[name].limit:g} s: its last value is used"
+                self.troubles.raises(TroubleKind.STALE, name, words)
+            else:
+                self.troubles.clear(TroubleKind.STALE, name)
+
+
+class Backoff:
+    """How long to wait before the next try: twice as long each time, up to the most."""
+
+    def __init__(self, retry: Retry) -> None:
+        self._retry = retry
+        self._next = retry.first
+
+    def wait(self) -> float:
+        """Seconds until the next try."""
+        seconds, self._next = self._next, min(self._next * 2, self._retry.most)
+        return seconds
+
+    def reset(self) -> None:
+        """The source was there: the next loss is tried soon again."""
+        self._next = self._retry.first
+
+
+class Source(abc.ABC):
+    """A source of samples, and a place where outputs are written."""
+
+    def __init__(self, name: str, retry: Retry, intake: Intake) -> None:
+        self.name = name
+        self.intake = intake
+        self._backoff = Backoff(retry)
+        self._outputs: asyncio.Queue[tuple[str, Value]] = asyncio.Queue()
+        self.is_up = False
+
+    @abc.abstractmethod
+    async def session(self, current: Callable[[], dict[str, Value]]) -> None:
+        """Reads and writes until the source is lost, and then raises Lost; returns where it has ended for good. Calls `up` once
+        it is there, and writes the outputs that it has then: `current` gives all of them, by their names as declared.
+        """
+
+    async def run(self, current: Callable[[], dict[str, Value]]) -> None:
+        """Sessions, one after another. A loss is a trouble until the source is there again."""
+        while True:
+            try:
+                await self.session(current)
+                return
+            except Lost as fault:
+                words = f"{self.name} is lost: {fault}"
+            except (
+                Exception
+            ) as fault:  # whatever a library raises ends neither the gateway nor another source
+                words = f"{self.name} is lost: {type(fault).__name__}: {fault}"
+            finally:
+                self.is_up = False
+            self.intake.troubles.raises(TroubleKind.SOURCE, self.name, words)
+            await asyncio.sleep(self._backoff.wait())
+
+    def up(self) -> None:
+        """The source is there."""
+        self.is_up = True
+        self._backoff.reset()
+        self._outputs = asyncio.Queue()
+        self.intake.troubles.clear(TroubleKind.SOURCE, self.name)
+
+    def put_output(self, name: str, value: Value) -> None:
+        """An output has this value now. One that changes while the source is lost is written when that is back, as it is then."""
+        if self.is_up:
+            self._outputs.put_nowait((name, value))
+
+    async def next_output(self) -> tuple[str, Value]:
+        """Waits for an output that is to be written."""
+        return await self._outputs.get()
+
+    def waiting_outputs(self) -> list[tuple[str, Value]]:
+        """The outputs that are to be written now, in order."""
+        waiting = []
+        while not self._outputs.empty():
+            waiting.append(self._outputs.get_nowait())
+        return waiting
+
+    def close(self) -> None:
+        """Nothing more is read or written."""
