@@ -148,7 +148,10 @@ class MqttClient(Source):
 
         def on_message(client: paho.Client, _: Any, message: paho.MQTTMessage) -> None:
             taking = self._take(message.topic, bytes(message.payload))
-            asyncio.run_coroutine_threadsafe(taking, loop).result()
+            try:
+                asyncio.run_coroutine_threadsafe(taking, loop).result()
+            except Exception as fault:  # the core doesn't take it now
+                tell(f"{message.topic}: {fault}")
 
         client.on_connect, client.on_disconnect = on_connect, on_disconnect
         client.on_message = on_message

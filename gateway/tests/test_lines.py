@@ -1,0 +1,182 @@
+"""Lines of a FIFO: samples, orders, mistakes, the loss of the FIFO and its return."""
+
+from __future__ import annotations
+
+import asyncio
+import os
+from pathlib import Path
+
+import pytest
+
+from alarmd_gateway import plant as plants
+from alarmd_gateway.fields.lines import LineSource, Lines
+from alarmd_gateway.fields.printer import Printer
+from alarmd_gateway.fields.source import Backoff
+from alarmd_gateway.mapping import LinesSource, Retry
+from field_help import Kept, Running, until
+
+SOON = Retry(0.02, 0.1)
+
+
+class Page(Printer):
+    """Keeps what would be printed."""
+
+    def __init__(self) -> None:
+        self.lines: list[str] = []
+
+    def put(self, line: str) -> None:
+        self.lines.append(line)
+
+
+def write(path: Path, text: str) -> None:
+    """As `echo .. > FIFO` does: opens it, writes, and closes it."""
+    file = os.open(path, os.O_WRONLY | os.O_NONBLOCK)
+    os.write(file, text.encode())
+    os.close(file)
+
+
+class Fifo:
+    """A source on a FIFO of a tank."""
+
+    def __init__(self, examples: Path, folder: Path, orders: bool = True, hold: bool = True):
+        self.path = folder / "commands"
+        self.kept = Kept(plants.read(examples / "tank" / "plant.toml"))
+        self.page = Page()
+        given = LinesSource("fifo", self.path, orders, hold, SOON)
+        self.source = LineSource(given, self.kept.intake(), self.page)
+
+    async def __aenter__(self) -> Fifo:
+        self.running = Running(self.source, self.kept)
+        return self
+
+    async def __aexit__(self, *_: object) -> None:
+        await self.running.close()
+
+
+def test_samples_and_orders(examples: Path, tmp_path: Path) -> None:
+    async def body() -> None:
+        async with Fifo(examples, tmp_path) as it:
+            os.mkfifo(it.path)
+            await until(lambda: it.source.is_up)
+            write(it.path, "level=250 RUNNING=true\n# a remark\n\n")
+            write(it.path, "ack 1 LAL-101\r\nshelve 2 RAH-104 60000\nlevel=2")
+            write(it.path, "60\n")  # a line may come in pieces
+            await until(lambda: len(it.kept.samples) == 3)
+            assert it.kept.samples == [("level", 250), ("running", True), ("level", 260)]
+            assert [order.line() for order in it.kept.orders] == [
+                "ack 1 LAL-101",
+                "shelve 2 RAH-104 60000",
+            ]
+            assert it.page.lines == [
+                "ack 1 LAL-101: OK, done",
+                "shelve 2 RAH-104 60000: OK, done",
+            ]
+            assert not it.kept.standing()
+
+    asyncio.run(body())
+
+
+def test_mistakes_are_answered(examples: Path, tmp_path: Path) -> None:
+    lines = ["akc 1 LAL-101", "help", "ack LAL-101", "ack 1 LAL-101 now", "level = 5"]
+    wrong = ["levl=5", "level=high", "pump=TRUE", "level=2147483648"]
+
+    async def body() -> None:
+        async with Fifo(examples, tmp_path) as it:
+            os.mkfifo(it.path)
+            await until(lambda: it.source.is_up)
+            write(it.path, "\n".join([*lines, *wrong, "running=TRUE"]) + "\n")
+            await until(lambda: it.kept.samples)
+            assert it.kept.samples == [("running", True)] and not it.kept.orders
+            assert len(it.page.lines) == 9
+            assert all(line.startswith("REFUSED L1") for line in it.page.lines[:5])
+            assert "level takes a whole number" in it.page.lines[6]
+            subjects = [subject for _, subject in it.kept.standing()]
+            assert subjects == ["fifo levl", "fifo level", "fifo pump"]
+            write(it.path, "level=5\n")
+            await until(lambda: len(it.kept.samples) == 2)
+            assert [subject for _, subject in it.kept.standing()] == ["fifo levl", "fifo pump"]
+
+    asyncio.run(body())
+
+
+def test_without_leave_no_order_is_taken(examples: Path, tmp_path: Path) -> None:
+    async def body() -> None:
+        async with Fifo(examples, tmp_path, orders=False) as it:
+            os.mkfifo(it.path)
+            await until(lambda: it.source.is_up)
+            write(it.path, "ack 1 LAL-101\nlevel=1\n")
+            await until(lambda: it.kept.samples)
+            assert not it.kept.orders
+            assert it.page.lines == ["REFUSED ack: fifo takes no orders (its key orders)"]
+
+    asyncio.run(body())
+
+
+def test_a_fifo_that_goes_and_comes_back(examples: Path, tmp_path: Path) -> None:
+    async def body() -> None:
+        async with Fifo(examples, tmp_path) as it:
+            await until(it.kept.standing)  # it isn't there
+            assert it.kept.standing() == [("source", "fifo")]
+            assert "No such file" in it.kept.texts()
+            os.mkfifo(it.path)
+            await until(lambda: not it.kept.standing())
+            write(it.path, "level=1\n")
+            await until(lambda: it.kept.samples)
+            it.path.unlink()
+            await until(it.kept.standing)
+            os.mkfifo(it.path)
+            await until(lambda: not it.kept.standing())
+            write(it.path, "level=2\n")
+            await until(lambda: len(it.kept.samples) == 2)
+            it.path.unlink()
+            it.path.write_text("level=3\n")  # a file, and no FIFO
+            await until(it.kept.standing)
+            await until(lambda: "is no FIFO" in it.kept.texts())
+
+    asyncio.run(body())
+
+
+def test_where_it_is_not_held_the_last_writer_is_the_source(examples: Path, tmp_path: Path) -> None:
+    async def body() -> None:
+        async with Fifo(examples, tmp_path, hold=False) as it:
+            os.mkfifo(it.path)
+            await until(it.kept.standing)
+            await until(lambda: "nobody writes" in it.kept.texts())
+            loop = asyncio.get_running_loop()
+            for number in (1, 2):
+                file = await loop.run_in_executor(None, os.open, it.path, os.O_WRONLY)
+                await until(lambda: not it.kept.standing())
+                os.write(file, f"level={number}\nflow={number}".encode())
+                os.close(file)
+                await until(it.kept.standing)
+                # what stands before the end of input counts, with its line's end or without
+                assert it.kept.samples[-2:] == [("level", number), ("flow", number)]
+
+    asyncio.run(body())
+
+
+def test_lines_are_cut_at_their_ends() -> None:
+    lines = Lines()
+    assert lines.feed(b"a\r\nb") == ["a"]
+    assert lines.feed(b"c\n\n") == ["bc", ""]
+    assert lines.feed(b"x" * 1_048_577) == []
+    assert lines.feed(b"x" * 1_048_577 + b"\nd\n") == [None, "d"]
+    assert lines.feed(b"e\xff") == []
+    assert lines.end() == ["e\ufffd"]
+    assert lines.end() == []
+
+
+def test_tries_come_later_and_later() -> None:
+    backoff = Backoff(Retry(0.5, 3.0))
+    assert [backoff.wait() for _ in range(5)] == [0.5, 1.0, 2.0, 3.0, 3.0]
+    backoff.reset()
+    assert backoff.wait() == 0.5
+
+
+def test_a_printer_whose_reader_has_gone_holds_up_nobody(
+    monkeypatch: pytest.MonkeyPatch,
+) -> None:
+    printer = Printer()
+    monkeypatch.setattr("builtins.print", lambda *_, **__: (_ for _ in ()).throw(OSError()))
+    for number in range(20_000):
+        printer.put(str(number))

@@ -1,0 +1,205 @@
+"""Modbus TCP with a real server: registers and coils, outputs, its loss and its return."""
+
+from __future__ import annotations
+
+import asyncio
+import subprocess
+import sys
+from collections.abc import Iterator
+from dataclasses import replace
+from fractions import Fraction
+from pathlib import Path
+
+import pytest
+from pymodbus.client import ModbusTcpClient
+
+from alarmd_gateway import plant as plants
+from alarmd_gateway.fields.modbus import ModbusClient, blocks
+from alarmd_gateway.mapping import Area, Form, ModbusSource, Point, Retry, Scale
+from alarmd_gateway.model import Plant, Value, Variable
+from field_help import Kept, Running, free_port, until
+
+DEVICE = Path(__file__).with_name("modbus_device.py")
+
+
+class Device:
+    """A server in a process of its own, and a client that plays the field."""
+
+    def __init__(self) -> None:
+        self.port = free_port()
+        self._process: subprocess.Popen[bytes] | None = None
+        self.client = ModbusTcpClient("127.0.0.1", port=self.port)
+
+    def start(self) -> None:
+        self._process = subprocess.Popen(
+            [sys.executable, str(DEVICE), str(self.port)],
+            stdin=subprocess.DEVNULL,
+            stdout=subprocess.DEVNULL,
+            stderr=subprocess.DEVNULL,
+        )
+
+    async def there(self) -> None:
+        await until(self.client.connect)
+
+    def stop(self) -> None:
+        self.client.close()
+        if self._process is not None:
+            self._process.kill()
+            self._process.wait()
+            self._process = None
+
+
+@pytest.fixture
+def device() -> Iterator[Device]:
+    found = Device()
+    found.start()
+    yield found
+    found.stop()
+
+
+def point(variable: Variable, area: Area, address: int, form: Form = Form.INT16) -> Point:
+    bit = 4 if variable.kind.value == "BOOL" and not area.bits else None
+    return Point(variable, area, address, form, False, bit, Scale())
+
+
+def source(plant: Plant, port: int) -> ModbusSource:
+    inputs, outputs = plant.inputs, plant.outputs
+    tenth = Scale(Fraction(1, 10))
+    return ModbusSource(
+        name="plc",
+        host="127.0.0.1",
+        port=port,
+        unit=1,
+        poll=0.02,
+        timeout=2.0,
+        retry=Retry(0.05, 0.2),
+        inputs=(
+            replace(point(inputs["level"], Area.HOLDING, 0, Form.INT32), scale=tenth),
+            point(inputs["flow"], Area.HOLDING, 2),
+            point(inputs["temperature"], Area.INPUT, 7, Form.UINT16),
+            point(inputs["running"], Area.COIL, 3),
+        ),
+        outputs=(
+            point(outputs["pump"], Area.COIL, 10),
+            point(outputs["ratio"], Area.HOLDING, 20, Form.INT32),
+            replace(point(outputs["heater"], Area.HOLDING, 30), bit=None),
+        ),
+    )
+
+
+def tank(examples: Path) -> Plant:
+    return plants.read(examples / "tank" / "plant.toml")
+
+
+def test_inputs_outputs_loss_and_return(examples: Path, device: Device) -> None:
+    async def body() -> None:
+        outputs = {"pump": True, "ratio": 70_000, "heater": False}
+        kept = Kept(tank(examples), outputs=outputs)
+        plc = ModbusClient(source(kept.plant, device.port), kept.intake())
+        running, field = Running(plc, kept), device.client
+
+        def now() -> dict[str, Value]:
+            return dict(kept.samples)
+
+        try:
+            await device.there()
+            await until(lambda: plc.is_up and len(now()) == 4)
+            assert now() == {"level": 0, "flow": 0, "temperature": 1007, "running": False}
+            await until(lambda: field.read_coils(10, 1).bits[0])
+            await until(lambda: field.read_holding_registers(20, 2).registers == [1, 4464])
+            field.write_registers(0, [1, 4, 0xFFFE])  # 65,540 and -2
+            field.write_coil(3, True)
+            await until(lambda: now()["running"] is True and now()["flow"] == -2)
+            assert now()["level"] == 6554
+            plc.put_output("pump", False)
+            plc.put_output("heater", True)
+            plc.put_output("ratio", -1)
+            await until(lambda: not field.read_coils(10, 1).bits[0])
+            await until(lambda: field.read_holding_registers(30, 1).registers == [1])
+            await until(lambda: field.read_holding_registers(20, 2).registers == [65535, 65535])
+            device.stop()
+            await until(lambda: kept.standing() == [("source", "plc")])
+            kept.outputs.update(pump=True, ratio=5)
+            kept.samples.clear()
+            device.start()
+            await device.there()
+            await until(lambda: not kept.standing() and len(now()) == 4)
+            await until(lambda: field.read_coils(10, 1).bits[0])
+            await until(lambda: field.read_holding_registers(20, 2).registers == [0, 5])
+        finally:
+            await running.close()
+
+    asyncio.run(body())
+
+
+def test_what_the_device_refuses_is_a_trouble_of_its_input(examples: Path, device: Device) -> None:
+    async def body() -> None:
+        kept = Kept(tank(examples), outputs={"pump": True, "ratio": 2**31 - 1})
+        given = source(kept.plant, device.port)
+        far = replace(given.inputs[1], address=500)
+        low = replace(given.outputs[1], form=Form.INT16)
+        away = replace(given.outputs[0], address=500)
+        given = replace(given, inputs=(given.inputs[0], far), outputs=(low, away))
+        running = Running(ModbusClient(given, kept.intake()), kept)
+        try:
+            await until(lambda: len(kept.standing()) == 3 and kept.samples)
+            assert {subject for _, subject in kept.standing()} == {
+                "plc flow",
+                "plc ratio",
+                "plc pump",
+            }
+            assert "exception 2" in kept.texts() and "doesn't fit int16" in kept.texts()
+            assert {name for name, _ in kept.samples} == {"level"}
+            running.source.put_output("ratio", 7)
+            await until(lambda: ("source", "plc ratio") not in kept.standing())
+        finally:
+            await running.close()
+
+    asyncio.run(body())
+
+
+def test_a_device_that_is_not_there_is_a_trouble(examples: Path) -> None:
+    async def body() -> None:
+        kept = Kept(tank(examples))
+        running = Running(ModbusClient(source(kept.plant, free_port()), kept.intake()), kept)
+        await until(kept.standing)
+        assert kept.standing() == [("source", "plc")]
+        await running.close()
+
+    asyncio.run(body())
+
+
+def test_a_device_that_answers_nothing_is_lost(examples: Path) -> None:
+    async def body() -> None:
+        kept = Kept(tank(examples))
+        deaf = await asyncio.start_server(lambda *_: asyncio.sleep(3600), "127.0.0.1", 0)
+        port = deaf.sockets[0].getsockname()[1]
+        given = replace(source(kept.plant, port), timeout=0.1)
+        running = Running(ModbusClient(given, kept.intake()), kept)
+        await until(kept.standing)
+        assert kept.standing() == [("source", "plc")] and not kept.samples
+        await running.close()
+        deaf.close()
+
+    asyncio.run(body())
+
+
+def test_points_beside_each_other_are_one_request(examples: Path) -> None:
+    level = tank(examples).inputs["level"]
+    places = [(Area.HOLDING, 5), (Area.HOLDING, 0), (Area.HOLDING, 1), (Area.INPUT, 2)]
+    points = [point(level, area, address) for area, address in places]
+    points.append(point(level, Area.HOLDING, 2, Form.INT32))
+    found = [(it.area, it.address, it.length, len(it.points)) for it in blocks(points)]
+    assert found == [
+        (Area.HOLDING, 0, 4, 3),
+        (Area.HOLDING, 5, 1, 1),
+        (Area.INPUT, 2, 1, 1),
+    ]
+
+
+def test_a_request_has_at_most_125_registers_and_2000_bits(examples: Path) -> None:
+    plant = tank(examples)
+    words = [point(plant.inputs["level"], Area.INPUT, at, Form.INT32) for at in range(0, 300, 2)]
+    assert [(it.address, it.length) for it in blocks(words)] == [(0, 124), (124, 124), (248, 52)]
+    bits = [point(plant.inputs["running"], Area.COIL, at) for at in range(2001)]
+    assert [(it.address, it.length) for it in blocks(bits)] == [(0, 2000), (2000, 1)]

@@ -1,0 +1,252 @@
+"""MQTT with a real broker: samples, outputs, its loss and its return."""
+
+from __future__ import annotations
+
+import asyncio
+import subprocess
+from collections.abc import Iterator
+from dataclasses import replace
+from fractions import Fraction
+from pathlib import Path
+
+import paho.mqtt.client as paho
+import pytest
+
+from alarmd_gateway import plant as plants
+from alarmd_gateway.fields.mqtt import MqttClient, value_of
+from alarmd_gateway.mapping import BadRaw, MqttSource, Retry, Scale, Topic
+from alarmd_gateway.model import Plant
+from field_help import Kept, Running, free_port, until
+
+
+class Broker:
+    """A mosquitto of this test's own, on a port of the loopback address."""
+
+    def __init__(self, folder: Path) -> None:
+        self.port = free_port()
+        self._config = folder / "mosquitto.conf"
+        self._config.write_text(f"listener {self.port} 127.0.0.1\nallow_anonymous true\n")
+        self._process: subprocess.Popen[bytes] | None = None
+
+    def start(self) -> None:
+        self._process = subprocess.Popen(
+            ["/usr/sbin/mosquitto", "-c", str(self._config)],
+            stdin=subprocess.DEVNULL,
+            stdout=subprocess.DEVNULL,
+            stderr=subprocess.DEVNULL,
+        )
+
+    def stop(self) -> None:
+        if self._process is not None:
+            self._process.kill()
+            self._process.wait()
+            self._process = None
+
+
+@pytest.fixture
+def broker(tmp_path: Path) -> Iterator[Broker]:
+    found = Broker(tmp_path)
+    found.start()
+    yield found
+    found.stop()
+
+
+class Field:
+    """Something in the field that publishes, and hears what is published to it."""
+
+    def __init__(self, port: int) -> None:
+        self.heard: list[tuple[str, str]] = []
+        self._client = paho.Client()
+        self._client.on_connect = lambda client, *_: client.subscribe("tank/+/set", 1)
+        self._client.on_message = lambda _, __, message: self.heard.append(
+            (message.topic, message.payload.decode())
+        )
+        self._client.reconnect_delay_set(1, 1)
+        self._client.connect_async("127.0.0.1", port)
+        self._client.loop_start()
+
+    async def publish(self, *messages: tuple[str, str]) -> None:
+        await until(self._client.is_connected)
+        for topic, payload in messages:
+            info = self._client.publish(topic, payload, 1)
+            await until(info.is_published)
+
+    async def close(self) -> None:
+        self._client.disconnect()
+        await asyncio.to_thread(self._client.loop_stop)
+
+
+def tank(examples: Path) -> Plant:
+    return plants.read(examples / "tank" / "plant.toml")
+
+
+def source(plant: Plant, port: int) -> MqttSource:
+    inputs = (
+        Topic(plant.inputs["level"], "tank/level", (), Scale(Fraction(10)), False),
+        Topic(plant.inputs["running"], "tank/running", ("value",), Scale(), False),
+    )
+    outputs = (
+        Topic(plant.outputs["pump"], "tank/pump/set", (), Scale(), True),
+        Topic(plant.outputs["ratio"], "tank/ratio/set", (), Scale(Fraction(1, 10)), True),
+    )
+    retry = Retry(0.05, 0.2)
+    return MqttSource(
+        "broker", "127.0.0.1", port, "tank", None, None, None, 1, retry, inputs, outputs
+    )
+
+
+def test_samples_outputs_loss_and_return(examples: Path, broker: Broker) -> None:
+    async def body() -> None:
+        kept = Kept(tank(examples), outputs={"pump": False, "ratio": 30, "heater": True})
+        client = MqttClient(source(kept.plant, broker.port), kept.intake())
+        running, field = Running(client, kept), Field(broker.port)
+        try:
+            await until(lambda: client.is_up)
+            await field.publish(
+                ("tank/level", "25.04"), ("tank/level", "25"), ("tank/running", '{"value": true}')
+            )
+            await until(lambda: len(kept.samples) == 3)
+            assert kept.samples == [("level", 250), ("level", 250), ("running", True)]
+            client.put_output("pump", True)
+            client.put_output("ratio", 55)
+            client.put_output("pump", False)
+            first = [("tank/pump/set", "FALSE"), ("tank/ratio/set", "3")]
+            wanted = first + [
+                ("tank/pump/set", "TRUE"),
+                ("tank/ratio/set", "6"),
+                ("tank/pump/set", "FALSE"),
+            ]
+            await until(lambda: field.heard[-3:] == wanted[-3:])
+            assert field.heard == wanted[-len(field.heard) :]
+            broker.stop()
+            await until(lambda: kept.standing() == [("source", "broker")])
+            client.put_output("pump", True)  # it is written when the broker is back, as it is then
+            kept.outputs.update(pump=True, ratio=40)
+            field.heard.clear()
+            broker.start()
+            await until(lambda: not kept.standing())
+            back = [("tank/pump/set", "TRUE"), ("tank/ratio/set", "4")]
+            await until(lambda: field.heard[-2:] == back)
+            await field.publish(("tank/level", "26"))
+            await until(lambda: kept.samples[-1] == ("level", 260))
+        finally:
+            await field.close()
+            await running.close()
+
+    asyncio.run(body())
+
+
+def test_what_is_published_while_the_gateway_is_away_comes_later(
+    examples: Path, broker: Broker
+) -> None:
+    async def body() -> None:
+        kept = Kept(tank(examples))
+        given = source(kept.plant, broker.port)
+        client = MqttClient(given, kept.intake())
+        running, field = Running(client, kept), Field(broker.port)
+        try:
+            await field.publish(("tank/level", "1"))
+            await until(lambda: client.is_up)
+            await field.publish(("tank/level", "2"))
+            await until(lambda: kept.samples and kept.samples[-1] == ("level", 20))
+            await running.close()
+            kept.samples.clear()
+            await field.publish(*[("tank/level", str(number)) for number in range(3, 9)])
+            running = Running(MqttClient(given, kept.intake()), kept)
+            await until(lambda: len(kept.samples) == 6)
+            assert [value for _, value in kept.samples] == [30, 40, 50, 60, 70, 80]
+        finally:
+            await field.close()
+            await running.close()
+
+    asyncio.run(body())
+
+
+def test_a_broker_that_is_not_there_is_a_trouble(examples: Path) -> None:
+    async def body() -> None:
+        kept = Kept(tank(examples))
+        running = Running(MqttClient(source(kept.plant, free_port()), kept.intake()), kept)
+        await until(kept.standing)
+        assert kept.standing() == [("source", "broker")] and "refused" in kept.texts()
+        nowhere = replace(source(kept.plant, 1883), name="nowhere", host="no.such.host.invalid")
+        other = Running(MqttClient(nowhere, kept.intake()), kept)
+        await until(lambda: ("source", "nowhere") in kept.standing())
+        await running.close()
+        await other.close()
+
+    asyncio.run(body())
+
+
+def test_a_payload_that_is_no_value_is_a_trouble_until_one_comes(
+    examples: Path, broker: Broker
+) -> None:
+    async def body() -> None:
+        kept = Kept(tank(examples))
+        client = MqttClient(source(kept.plant, broker.port), kept.intake())
+        running, field = Running(client, kept), Field(broker.port)
+        try:
+            await until(lambda: client.is_up)
+            await field.publish(("tank/level", "high"), ("tank/running", "{}"))
+            await until(lambda: len(kept.standing()) == 2)
+            assert kept.standing() == [("source", "broker level"), ("source", "broker running")]
+            await field.publish(("tank/level", "300000000"))  # times 10: no DINT
+            await until(lambda: "level takes a whole number" in kept.texts())
+            await field.publish(("tank/level", "30"), ("tank/running", '{"value": 0}'))
+            await until(lambda: not kept.standing())
+            assert kept.samples == [("level", 300), ("running", False)]
+        finally:
+            await field.close()
+            await running.close()
+
+    asyncio.run(body())
+
+
+@pytest.mark.parametrize(
+    ("path", "payload", "wanted"),
+    [
+        ((), b" 25 ", 250),
+        ((), b"-0.05", -1),
+        ((), b"+3", 30),
+        (("a", "1"), b'{"a": [1, 2.5]}', 25),
+        (("a",), b'{"a": "7"}', 70),
+        (("a",), b'{"a": 1.25}', 13),
+    ],
+)
+def test_payloads_are_numbers(
+    examples: Path, path: tuple[str, ...], payload: bytes, wanted: int
+) -> None:
+    topic = Topic(tank(examples).inputs["level"], "t", path, Scale(Fraction(10)), False)
+    assert value_of(topic, payload) == wanted
+
+
+@pytest.mark.parametrize(
+    ("path", "payload"),
+    [
+        ((), b""),
+        ((), b"1e3"),
+        ((), b"nan"),
+        ((), b"\xff"),
+        ((), b"1" * 31),
+        ((), b"1" * 5000),
+        ((), b"true"),
+        (("a",), b"5"),
+        (("a",), b'{"b": 5}'),
+        (("a",), b'{"a": null}'),
+        (("a",), b'{"a": 1e999}'),
+        (("a",), b'{"a": true}'),
+        (("5",), b"[1]"),
+        (("a",), b"[1]"),
+        (("a",), b"[" * 4000),
+    ],
+)
+def test_other_payloads_are_none(examples: Path, path: tuple[str, ...], payload: bytes) -> None:
+    topic = Topic(tank(examples).inputs["level"], "t", path, Scale(), False)
+    with pytest.raises(BadRaw):
+        value_of(topic, payload)
+
+
+def test_payloads_are_truths(examples: Path) -> None:
+    topic = Topic(tank(examples).inputs["running"], "t", (), Scale(invert=True), False)
+    assert value_of(topic, b"off") is True and value_of(topic, b"TRUE") is False
+    with pytest.raises(BadRaw):
+        value_of(topic, b"2")
