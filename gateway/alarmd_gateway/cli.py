@@ -3,8 +3,11 @@
 from __future__ import annotations
 
 import importlib
+import os
 import sys
+import traceback
 
+from .link import tell
 from .model import GatewayFault
 
 COMMANDS = {  # the word, its module, what it does. A new command is one line
@@ -23,18 +26,31 @@ def usage() -> str:
 def main(words: list[str]) -> int:
     """Runs the command that the words name, and gives the status of the process. Whatever is wrong with the server or the
     gateway is one line on standard error that begins with SERVER."""
-    if not words or words[0] not in COMMANDS:
-        asked = words[:1] == ["help"] or words[:1] == ["--help"]
-        print(usage(), file=sys.stdout if asked else sys.stderr)
-        if not asked:
-            what = f"no command is called {words[0]!r}" if words else "a command is wanted"
-            print(f"SERVER {what}", file=sys.stderr)
-        return 0 if asked else 2
-    module = importlib.import_module(f".{COMMANDS[words[0]][0]}", __package__)
     try:
-        return int(module.main(words))
+        return _run(words)
     except GatewayFault as fault:
         if fault.details:
             print(fault.details, file=sys.stderr)
-        print(f"SERVER {fault.words}", file=sys.stderr)
+        tell(fault.words)
         return fault.status
+    except (BrokenPipeError, KeyboardInterrupt):
+        os.dup2(os.open(os.devnull, os.O_WRONLY), 1)  # nobody reads what is left
+        return 1
+    except Exception as fault:
+        last = traceback.extract_tb(fault.__traceback__)[-1]
+        where = f"{os.path.basename(last.filename)}, line {last.lineno}"
+        tell(f"a fault of the gateway itself: {type(fault).__name__}: {fault} ({where})")
+        return 1
+
+
+def _run(words: list[str]) -> int:
+    if words[:1] in (["help"], ["--help"], ["-h"]):
+        print(usage())
+        return 0
+    if not words or words[0] not in COMMANDS:
+        wrong = f"no command is called {words[0]!r}" if words else "a command is wanted"
+        raise GatewayFault(
+            f"{wrong}: {', '.join(COMMANDS)} (`gateway help` says what each does)", 2
+        )
+    module = importlib.import_module(f".{COMMANDS[words[0]][0]}", __package__)
+    return int(module.main(words))

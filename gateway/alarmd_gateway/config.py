@@ -115,6 +115,10 @@ class Config:
     patience_ms: int = 10_000  # for so long an answer may take
     workers: int = 1
     rotate_at: int = 900_000  # events at which a new record is due
+    gap_ms: int = (
+        86_400_000  # the first moment may be so far from the record's last one without a question
+    )
+    console: bool | None = None  # standard input is read; None: where nothing else brings anything
     yes: bool = False  # questions at the start are answered with yes
     restarts: int = 3  # so often in a row alarmd is started again, without a scan between
     tables: dict[str, Any] = field(default_factory=dict)
@@ -146,6 +150,8 @@ def read(path: Path) -> Config:
         patience_ms=table.number("patience_ms", 10_000, 100, 3_600_000),
         workers=table.number("workers", 1, 1, 64),
         rotate_at=table.number("rotate_at", 900_000, 10, 999_000),
+        gap_ms=table.number("gap_ms", 86_400_000, 0, 4_000_000_000_000),
+        console=table.truth("console") if table.has("console") else None,
         yes=table.truth("yes", False),
         restarts=table.number("restarts", 3, 0, 1000),
         tables=others,

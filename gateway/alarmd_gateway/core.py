@@ -6,62 +6,28 @@ A display begins with a snapshot, and goes on by the changes after it, whose num
 
 from __future__ import annotations
 
-import enum
-from collections.abc import AsyncIterator, Mapping
-from dataclasses import dataclass
-from datetime import datetime
-from typing import Protocol
+import asyncio
+from collections import deque
+from collections.abc import Mapping
+from dataclasses import dataclass, field
+from datetime import datetime, timezone
 
+from . import commands
+from .announcer import Announcer
+from .changes import Change, ChangeKind, CutOff, Subscription
+from .clock import Clock
+from .commands import Scan
+from .config import Config
+from .first_moment import FirstMoment
 from .journal import Journal
-from .model import Json, Order, Plant, Reply, Sample, Value
+from .link import Link
+from .model import MOST_EVENTS, GatewayFault, Json, Order, Reply, Sample, ServerGone, civil
+from .questions import Answer, Question, Questions
+from .renewal import Renewal
+from .samples import SampleQueue
 from .state import State
-from .troubles import Troubles
 
-
-class ChangeKind(enum.Enum):
-    """What a change is about, with its fields in `Change.data`."""
-
-    ALARM = "alarm"  # `from`, and the fields of AlarmState.json (a second shelving too, where `from` is SHELVED)
-    OUTPUT = "output"  # `name`, `value`
-    INPUT = "input"  # `name`, `value`: an input that a scan has set to another value
-    STOPPED = "stopped"  # the fields of Stopped.json
-    RESTARTED = "restarted"  # `program`
-    ROWS = "rows"  # `length`: how many rows the journal has now, where there are new ones
-    SCAN = "scan"  # `events_left`: the last change of each scan
-    TROUBLE = "trouble"  # the fields of Trouble.json and `stands`, a truth
-    QUESTION = "question"  # the fields of Question.json
-    ANSWERED = "answered"  # `number`, `yes`, `user`, `console`
-    ANEW = "anew"  # all is to be had anew: a new record has begun, or the server was started again. Take a snapshot
-
-
-@dataclass(frozen=True)
-class Change:
-    """A change for displays, with its number, its moment and the civil time of that."""
-
-    number: int
-    kind: ChangeKind
-    moment: int
-    time: str
-    data: Mapping[str, Json]
-
-    def json(self) -> dict[str, Json]:
-        """`number`, `kind`, `moment`, `time` and the fields of `data`, at one level."""
-        raise NotImplementedError
-
-
-@dataclass(frozen=True)
-class Question:
-    """What the gateway asks before it goes on; `console` where an operator has to answer from a console."""
-
-    number: int
-    subject: str  # `clock` or `record`
-    text: str
-    details: tuple[str, ...]  # a line each
-    since: datetime
-
-    def json(self) -> dict[str, Json]:
-        """`number`, `subject`, `text`, `details`, `since`."""
-        raise NotImplementedError
+__all__ = ["Change", "ChangeKind", "Core", "CutOff", "Question", "Snapshot", "Subscription"]
 
 
 @dataclass(frozen=True)
@@ -74,78 +40,224 @@ class Snapshot:
     def json(self) -> dict[str, Json]:
         """`number`, `plant` (`name`, `epoch`, `areas`, `consoles`, `sources`), `now` (civil), the fields of State.json,
         `journal` (how many rows), `troubles`, `questions`."""
-        raise NotImplementedError
+        return {"number": self.number, **self.data}
 
 
-class CutOff(Exception):
-    """A subscriber that didn't read. It takes a snapshot and subscribes anew."""
+@dataclass
+class _Job:
+    """An order that waits, and whoever waits for its reply."""
 
-
-class Subscription(AsyncIterator[Change]):
-    """The changes after the moment at which it was made, in order. One that has more than its room waiting is cut off: after
-    the changes that were kept it raises CutOff. It ends (StopAsyncIteration) when the core closes.
-    """
-
-    async def __anext__(self) -> Change:
-        raise NotImplementedError
-
-    def close(self) -> None:
-        """No more changes are wanted."""
-        raise NotImplementedError
-
-
-class SampleQueue(Protocol):
-    """What `samples.py` gives to the core: each distinct value of an input is taken by some scan, in order."""
-
-    def put(self, name: str, value: Value) -> None:
-        """Takes a value of an input, by its name as declared. One that says nothing new is dropped."""
-
-    def take(self) -> dict[str, Value]:
-        """The values for the next scan: of each input the one that waits longest."""
-
-    def __len__(self) -> int:
-        """How many values wait, of all inputs."""
-
-    @property
-    def pressed(self) -> bool:
-        """Whether some input has two values or more that wait: then a scan is due at once."""
+    order: Order
+    user: str | None
+    reason: str | None
+    reply: asyncio.Future[Reply] = field(default_factory=asyncio.Future)
 
 
 class Core:
     """The one owner of server, record, state and journal. `state` and `journal` are new objects after a new record or a new
     start of the server: don't keep them."""
 
-    plant: Plant
-    state: State
-    journal: Journal
-    troubles: Troubles
+    def __init__(self, config: Config, link: Link) -> None:
+        """`start` makes one."""
+        self.config = config
+        self.plant = link.plant
+        self.troubles = link.troubles
+        self.last = (
+            link.last
+        )  # the record's last command with its answer, which nobody may have seen
+        self._link = link
+        self._announcer = Announcer(link)
+        self._questions = Questions(self._announcer.asked)
+        last = self.state.moment if self.state.scanned else None
+        self._clock = Clock(link.plant, last, config.gap_ms)
+        self._first = FirstMoment(self._clock, self._questions, link.troubles, config.yes)
+        self._renewal = Renewal(config, link, self._clock, self._questions)
+        self._queue = SampleQueue()
+        self._jobs: deque[_Job] = deque()
+        self._wake = asyncio.Event()
+        self._taken = asyncio.Event()
+        self._closing = False
+        self._draining = False
+        self._due = 0.0
+
+    @classmethod
+    async def start(cls, config: Config) -> Core:
+        """Starts the server, reads the plant, and plays the record. Raises GatewayFault: status 3 where the plant is refused, 2
+        where words or the record are wrong, 1 where the server or the disk fail."""
+        core = cls(config, await Link.start(config))
+        core._first.look()
+        core._renewal.look_at_history()
+        return core
+
+    @property
+    def state(self) -> State:
+        """The state after the commands so far."""
+        return self._link.book.state
+
+    @property
+    def journal(self) -> Journal:
+        """The journal of the commands so far."""
+        return self._link.book.journal
+
+    # what others ask of the core
 
     async def order(
         self, order: Order, user: str | None = None, reason: str | None = None
     ) -> Reply:
         """Records an order with its user and reason, sends it, and gives the answer (OK, O1 to O5, or E6). Raises ServerGone,
         or ValueError where a word of the order can't stand in a line."""
-        raise NotImplementedError
+        commands.check(order)
+        if self._closing:
+            raise ServerGone("the gateway ends", 1)
+        job = _Job(order, user, reason)
+        self._jobs.append(job)
+        self._wake.set()
+        return await job.reply
 
     async def offer(self, sample: Sample) -> None:
-        """Takes a sample of an input. Raises BadSample where its name or its value doesn't fit the plant; the text says why."""
-        raise NotImplementedError
+        """Takes a sample of an input; waits while too many wait. Raises BadSample where its name or its value doesn't fit the
+        plant; the text says why."""
+        variable, value = commands.fit(self.plant, sample.name, sample.value)
+        while self._queue.full and not self._closing:
+            self._taken.clear()
+            await self._taken.wait()
+        self._queue.put(variable.name, value)
+        if self._queue.pressed or self._draining:
+            self._wake.set()
 
     def subscribe(self, room: int = 1000) -> Subscription:
         """The changes from now on. Make it before the snapshot, and pass over changes up to the snapshot's number."""
-        raise NotImplementedError
+        return self._announcer.board.subscribe(room)
 
     def snapshot(self) -> Snapshot:
         """All that a display wants, at one moment."""
-        raise NotImplementedError
+        plant = self.plant
+        consoles: list[Json] = [
+            {"number": row.number, "areas": list(row.areas)} for row in plant.consoles
+        ]
+        about: dict[str, Json] = {
+            "name": plant.name,
+            "epoch": civil(plant.epoch),
+            "areas": list(plant.areas),
+            "sources": list(plant.sources),
+            "consoles": consoles,
+        }
+        data: dict[str, Json] = {
+            "plant": about,
+            "now": civil(datetime.now(timezone.utc)),
+            **self.state.json(),
+            "journal": len(self.journal),
+            "troubles": [trouble.json() for trouble in self.troubles],
+            "questions": [question.json() for question in self._questions],
+        }
+        return Snapshot(self._announcer.board.number, data)
 
     @property
     def questions(self) -> tuple[Question, ...]:
         """The questions that wait for an answer."""
-        raise NotImplementedError
+        return tuple(self._questions)
 
     async def answer(
         self, number: int, yes: bool, console: int | None = None, user: str | None = None
     ) -> None:
         """Answers a question. Raises KeyError where none of this number waits, ValueError where the plant has no such console."""
-        raise NotImplementedError
+        if console is not None and console not in [row.number for row in self.plant.consoles]:
+            raise ValueError(f"the plant has no console {console}")
+        self._questions.answer(number, Answer(yes, console, user))
+        self._wake.set()
+
+    # the work: one command after another
+
+    async def run(self) -> None:
+        """Serves until `stop`. Raises GatewayFault where it can't go on; then nothing is served any more."""
+        try:
+            while not self._closing:
+                await self._step()
+        finally:
+            self._closing = True
+            self._taken.set()
+            while self._jobs:
+                _fail(self._jobs.popleft(), ServerGone("the gateway ends", 1))
+            self._announcer.board.close()
+            await self._link.close()
+
+    async def drain(self) -> None:
+        """Waits until scans have taken all samples that wait, and all orders are answered."""
+        self._draining = True
+        self._wake.set()
+        while (len(self._queue) or self._jobs) and not self._closing and not self._full:
+            self._taken.clear()
+            await self._taken.wait()
+        self._draining = False
+
+    def stop(self) -> None:
+        """Ends `run` in order, after the command that is under way."""
+        self._closing = True
+        self._wake.set()
+
+    async def _step(self) -> None:
+        """A scan where one is due, then an order where one waits, then what else is due; or waits for the next."""
+        self._wake.clear()
+        self._first.look()
+        if self._first.refused is not None:
+            raise self._first.refused
+        if scan := self._scan_is_due():
+            await self._scan()
+        if job := bool(self._jobs):
+            await self._order(self._jobs.popleft())
+        await self._renewal.look()
+        if not scan and not job:
+            await self._wait()
+
+    async def _wait(self) -> None:
+        await self._link.look()
+        loop = asyncio.get_running_loop()
+        period = self.config.period_ms / 1000
+        left = max(0.0, self._due - loop.time()) if self._may_scan() else period
+        try:
+            await asyncio.wait_for(self._wake.wait(), min(left, period))
+        except asyncio.TimeoutError:
+            pass
+
+    def _may_scan(self) -> bool:
+        """Whether a scan may be sent: the first one of all waits for samples, and no moment is in doubt."""
+        if not self._clock.started or self._full:
+            return False
+        return self.state.scanned or len(self._queue) > 0
+
+    @property
+    def _full(self) -> bool:
+        return self.state.events >= MOST_EVENTS
+
+    def _scan_is_due(self) -> bool:
+        if not self._may_scan():
+            return False
+        pressed = self._queue.pressed or (self._draining and len(self._queue) > 0)
+        return pressed or asyncio.get_running_loop().time() >= self._due
+
+    async def _scan(self) -> None:
+        now, period = asyncio.get_running_loop().time(), self.config.period_ms / 1000
+        self._due = (self._due if 0 <= now - self._due < period else now) + period
+        scan = Scan(self._clock.now(), self._queue.take())
+        answer, happened = await self._link.give(scan)
+        self._announcer.happened(happened)
+        self._announcer.scanned(answer[-1])
+        self._taken.set()
+
+    async def _order(self, job: _Job) -> None:
+        try:
+            answer, happened = await self._link.give(job.order, job.user, job.reason)
+        except GatewayFault as fault:
+            _fail(job, ServerGone(fault.words, fault.status))
+            raise
+        if not job.reply.done():  # whoever asked may have gone
+            job.reply.set_result(Reply(answer[0].partition(" ")[2], tuple(answer)))
+        self._announcer.happened(happened)
+        self._taken.set()
+
+
+def _fail(job: _Job, fault: ServerGone) -> None:
+    """The order gets no reply."""
+    if not job.reply.done():
+        job.reply.set_exception(fault)
+        job.reply.exception()  # whoever asked may have gone

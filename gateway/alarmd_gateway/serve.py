@@ -2,10 +2,26 @@
 
 from __future__ import annotations
 
-from typing import Protocol
+import asyncio
+import contextlib
+import dataclasses
+import importlib
+import os
+import signal
+from pathlib import Path
+from typing import Any, Protocol
 
+from . import config as configs
 from .config import Config
+from .console import Console, told
 from .core import Core
+from .input import lines
+from .model import GatewayFault
+from .output import Output
+from .words import Words
+
+PARTS: tuple[str, ...] = ()
+"""The modules of the parts. Each has `async attach(core, config) -> Part | None`, None where its table isn't there."""
 
 
 class Part(Protocol):
@@ -17,13 +33,114 @@ class Part(Protocol):
         """Ends the part, in at most some seconds. Raises nothing."""
 
 
-async def parts(core: Core, config: Config) -> list[Part]:
-    """Starts the parts that the configuration names, after the record has been played. Each is a module with
-    `async attach(core, config) -> Part | None` (None where its table isn't there), and a line here.
-    """
-    raise NotImplementedError
-
-
 def main(words: list[str]) -> int:
-    """`serve CONFIG`."""
-    raise NotImplementedError
+    """`serve CONFIG [--yes]`. The status is 0 where it was ended in order."""
+    parser = Words(prog="gateway serve", description="Serves a plant.")
+    parser.add_argument("config", type=Path, help="the configuration, gateway.toml")
+    parser.add_argument("--yes", action="store_true", help="answers questions at the start by yes")
+    given = parser.parse_args(words[1:])
+    config = configs.read(given.config)
+    if given.yes:
+        config = dataclasses.replace(config, yes=True)
+    asyncio.run(serve(config))
+    return 0
+
+
+async def serve(config: Config) -> None:
+    """Serves until a signal, or the end of the input where nothing else brings anything. Raises GatewayFault."""
+    stop = asyncio.Event()
+    loop = asyncio.get_running_loop()
+    for number in (signal.SIGTERM, signal.SIGINT, signal.SIGHUP):
+        loop.add_signal_handler(number, stop.set)
+    starting = asyncio.create_task(Core.start(config))
+    if not await _first(starting, stop):  # the record is still played
+        starting.cancel()
+        await asyncio.gather(starting, return_exceptions=True)
+        return
+    output = Output(broken=lambda: loop.call_soon_threadsafe(stop.set))
+    await _Serving(config, starting.result(), output).run(stop)
+    output.close(2)
+    if output.fault is not None:
+        raise GatewayFault(f"standard output: {output.fault.strerror}", 1)
+
+
+async def _first(task: asyncio.Task[Core], stop: asyncio.Event) -> bool:
+    """Whether a task has ended, before it was to stop."""
+    stopping = asyncio.create_task(stop.wait())
+    await asyncio.wait({task, stopping}, return_when=asyncio.FIRST_COMPLETED)
+    stopping.cancel()
+    return task.done()
+
+
+class _Serving:
+    """The core with its parts and its console, from the played record to the end."""
+
+    def __init__(self, config: Config, core: Core, output: Output) -> None:
+        self._config = config
+        self._core = core
+        self._console = Console(core, output)
+        self._output = output
+        self._parts: list[Part] = []
+
+    async def run(self, stop: asyncio.Event) -> None:
+        """Serves until the core ends, or it is to stop."""
+        working = asyncio.create_task(self._core.run())
+        showing = asyncio.create_task(self._console.show())
+        self._console.show_last(self._core.last)
+        tasks: list[asyncio.Task[Any]] = [showing]
+        try:
+            await self._attach()
+            self._ask()
+            if self._reads_input():
+                tasks.append(asyncio.create_task(self._read(stop)))
+            stopping = asyncio.create_task(stop.wait())
+            tasks.append(stopping)
+            await asyncio.wait({working, stopping}, return_when=asyncio.FIRST_COMPLETED)
+        finally:
+            self._core.stop()
+            await asyncio.wait({working})
+            for part in self._parts:
+                await part.close()
+            await asyncio.wait({showing}, timeout=2)
+            for task in tasks:
+                task.cancel()
+            await asyncio.gather(working, *tasks, return_exceptions=True)
+        working.result()
+
+    async def _attach(self) -> None:
+        """Starts the parts that the configuration names."""
+        for name in PARTS:
+            module = importlib.import_module(f".{name}", __package__)
+            part: Part | None = await module.attach(self._core, self._config)
+            if part is not None:
+                self._parts.append(part)
+
+    def _reads_input(self) -> bool:
+        """Whether standard input is read: as the configuration says, else where nothing but it brings anything."""
+        if self._config.console is not None:
+            return self._config.console
+        return not self._parts or _terminal()
+
+    def _ask(self) -> None:
+        """Shows the questions of the start. Raises GatewayFault (status 2) where nobody is there to answer them."""
+        questions = self._core.questions
+        if questions and not any(part.asks for part in self._parts):
+            if not (_terminal() and self._reads_input()):
+                words = "there is nobody to ask, and neither --yes nor `yes = true` says so"
+                raise GatewayFault(f"{questions[0].text} {words}", 2)
+        for question in questions:
+            for line in told(question):
+                self._output.put(line)
+
+    async def _read(self, stop: asyncio.Event) -> None:
+        """Takes the lines of standard input. Its end is the end of all where nothing else brings anything."""
+        await self._console.serve(lines())
+        if not self._parts:
+            await self._core.drain()
+            stop.set()
+
+
+def _terminal() -> bool:
+    with contextlib.suppress(OSError):
+        return os.isatty(0)
+    return False

@@ -1,0 +1,72 @@
+"""Asks the operators for a new record when it is due, and begins it once one of them has confirmed what is lost by it."""
+
+from __future__ import annotations
+
+from . import rotation
+from .clock import Clock
+from .config import Config
+from .link import Link, tell
+from .questions import Answer, Questions
+from .troubles import TroubleKind
+
+_SUBJECT = "record"
+
+
+class Renewal:
+    """Looked at after each command."""
+
+    def __init__(self, config: Config, link: Link, clock: Clock, questions: Questions) -> None:
+        self._config = config
+        self._link = link
+        self._clock = clock
+        self._questions = questions
+        self._due = rotation.Due(config.rotate_at)
+        self._confirmed: Answer | None = None
+        self._announced: frozenset[str] = frozenset()
+
+    def look_at_history(self) -> None:
+        """Whether the history is nearly full is a trouble."""
+        words = self._due.words(self._link.book.state.events)
+        if words is None:
+            self._link.troubles.clear(TroubleKind.HISTORY, "")
+        else:
+            self._link.troubles.raises(TroubleKind.HISTORY, "", words)
+
+    async def look(self) -> None:
+        """Asks where a new record is due, and begins it where that was confirmed. Raises GatewayFault."""
+        self.look_at_history()
+        state = self._link.book.state
+        if not self._clock.started or not state.scanned:
+            return
+        if self._confirmed is not None:
+            answer, self._confirmed = self._confirmed, None
+            await self._begin(answer)
+        elif self._due.now(state.events) and self._questions.about(_SUBJECT) is None:
+            await self._begin(None)
+
+    async def _begin(self, answer: Answer | None) -> None:
+        """Tries the new run. It becomes the run where it loses nothing grave that wasn't announced and confirmed; else that is
+        asked."""
+        trial = await rotation.attempt(self._config, self._link.book.state, self._clock.now())
+        if trial.lost if answer is None else trial.grave - self._announced:
+            await trial.server.kill()
+            self._ask(trial)
+            return
+        entries = [rotation.remark(answer), *trial.entries]
+        kept = await self._link.renew(trial.server, trial.book, entries)
+        self._due.begun()
+        who = "" if answer is None else f", confirmed by {answer.user or 'an operator'}"
+        tell(f"a new record has begun{who}; the old one is kept as {kept}")
+        self.look_at_history()
+
+    def _ask(self, trial: rotation.Trial) -> None:
+        self._announced = trial.grave
+        events = self._link.book.state.events
+        text = f"a new record is due, after {events:,} events. What stands below is lost by it. Begin it now?"
+        self._questions.ask(_SUBJECT, text, trial.lost, self._answered)
+
+    def _answered(self, answer: Answer) -> None:
+        if answer.yes:
+            self._confirmed = answer
+        else:
+            self._due.declined(self._link.book.state.events)
