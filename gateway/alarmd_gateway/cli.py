@@ -14,6 +14,7 @@ COMMANDS = {  # the word, its module, what it does. A new command is one line
     "serve": ("serve", "CONFIG: serve a plant"),
     "state": ("show", "CONFIG: what stands, by the record"),
     "journal": ("show", "CONFIG [--from N] [--csv]: the journal, by the record"),
+    "password": ("password", "a password as the file of users keeps it"),
     "test": ("cases", "PLANT CASES ..: cases of a plant, and what differs"),
 }
 

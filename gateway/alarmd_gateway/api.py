@@ -1,0 +1,250 @@
+"""JSON over HTTP: who is there, what stands, the journal, the figures, and orders."""
+
+from __future__ import annotations
+
+import asyncio
+import csv
+import io
+import time
+from collections.abc import AsyncIterator
+
+from aiohttp import web
+
+from .core import Core
+from .guard import Guard, Refused, answer, body, number
+from .journal import Row
+from .model import Json
+from .ordering import read_order, with_console
+from .report_table import as_json, table
+from .reports import Report, report
+from .sessions import Pace, Session, Tries
+from .view import View
+
+MOST_ROWS = 1000
+HOUR = 3_600_000
+REPORT_LASTS = 10.0  # seconds for which a report is kept
+SCRYPTS = 2  # so many passwords are tried at once
+
+
+class Api:
+    """The handlers of `/api/`."""
+
+    def __init__(self, core: Core, guard: Guard) -> None:
+        self.core = core
+        self.guard = guard
+        self.orders: dict[tuple[str, str], int] = {}  # how many by verb and reply
+        self._tries = Tries()
+        self._pace = Pace()
+        self._scrypts = asyncio.Semaphore(SCRYPTS)
+        self._reports: dict[tuple[tuple[int, ...], int], tuple[float, Report]] = {}
+        self._reporting = asyncio.Lock()
+
+    def routes(self) -> list[web.RouteDef]:
+        """The paths and their handlers."""
+        return [
+            web.get("/api/session", self.session),
+            web.post("/api/login", self.login),
+            web.post("/api/logout", self.logout),
+            web.get("/api/plant", self.plant),
+            web.get("/api/state", self.state),
+            web.get("/api/journal", self.journal),
+            web.get("/api/journal.csv", self.journal_csv),
+            web.get("/api/report", self.report),
+            web.get("/api/report.csv", self.report_csv),
+            web.post("/api/order", self.order),
+            web.post("/api/answer", self.answer),
+        ]
+
+    def view(self, session: Session) -> View:
+        """What the session's user sees."""
+        return View(self.core.plant, session.consoles)
+
+    def who(self, session: Session) -> dict[str, Json]:
+        """A session as the page has it."""
+        return {
+            "user": session.user,
+            "consoles": list(session.consoles),
+            "areas": list(self.view(session).areas),
+            "token": session.token,
+            "users": self.guard.users is not None,
+            "plant": self.core.plant.name,
+        }
+
+    async def session(self, request: web.Request) -> web.Response:
+        """Who is logged in. Where nobody has to, this begins a session."""
+        try:
+            return answer(self.who(self.guard.session(request)))
+        except Refused:
+            if self.guard.users is not None:
+                return answer({"error": "nobody is logged in", "plant": self.core.plant.name}, 401)
+        response = answer(None)
+        session = self.guard.begin(response, None, self.guard.consoles)
+        response.text = answer(self.who(session)).text
+        return response
+
+    async def login(self, request: web.Request) -> web.Response:
+        """Begins a session by a name and a password."""
+        given = await body(request)
+        name, password = given.get("name"), given.get("password")
+        if self.guard.users is None:
+            raise Refused(400, "this plant has no users")
+        if not isinstance(name, str) or not isinstance(password, str) or len(name) > 64:
+            raise Refused(400, "name and password have to be texts")
+        address = request.remote or ""
+        wait = self._tries.wait(address, name)
+        if wait:
+            raise Refused(429, f"too many wrong passwords: again in {int(wait) + 1} seconds", wait)
+        self._tries.failed(
+            address, name
+        )  # until it is known to be right, so that many at once are counted
+        async with self._scrypts:
+            user = await asyncio.to_thread(self.guard.users.check, name, password)
+        if user is None:
+            raise Refused(403, "the name or the password is wrong")
+        self._tries.succeeded(address, name)
+        self.guard.sessions.end(request.cookies.get(self.guard.cookie))
+        response = answer(None)
+        session = self.guard.begin(response, user.name, user.consoles)
+        response.text = answer(self.who(session)).text
+        return response
+
+    async def logout(self, request: web.Request) -> web.Response:
+        """Ends the session."""
+        self.guard.changing(request)
+        self.guard.sessions.end(request.cookies.get(self.guard.cookie))
+        response = answer({"user": None})
+        self.guard.forget(response)
+        return response
+
+    async def plant(self, request: web.Request) -> web.Response:
+        """What doesn't change while the plant is served."""
+        response = answer(self.view(self.guard.session(request)).table())
+        response.enable_compression()
+        return response
+
+    async def state(self, request: web.Request) -> web.Response:
+        """All that stands at one moment."""
+        view = self.view(self.guard.session(request))
+        response = answer(view.snapshot(self.core.snapshot(), normal=True))
+        response.enable_compression()
+        return response
+
+    async def journal(self, request: web.Request) -> web.Response:
+        """Rows of the journal from a number on; `next` is that of the row after them, null at the end."""
+        view = self.view(self.guard.session(request))
+        first = number(request, "from", 1, 1, 10**12)
+        count = number(request, "count", 100, 1, MOST_ROWS)
+        journal = self.core.journal
+        rows = list(view.rows(journal, first, count + 1))
+        shown: list[Json] = [one for row in rows[:count] for one in journal.json(row.number, 1)]
+        after = rows[count].number if len(rows) > count else None
+        return answer({"length": len(journal), "rows": shown, "next": after})
+
+    async def journal_csv(self, request: web.Request) -> web.StreamResponse:
+        """The journal as CSV, from a number on."""
+        view = self.view(self.guard.session(request))
+        first = number(request, "from", 1, 1, 10**12)
+        count = number(request, "count", 10**9, 1, 10**9)
+        response = web.StreamResponse(headers=download("journal.csv"))
+        await response.prepare(request)
+        async for text in csv_parts(self.core, view, first, count):
+            await response.write(text.encode())
+        await response.write_eof()
+        return response
+
+    async def order(self, request: web.Request) -> web.Response:
+        """Gives an order, and answers what the server replied."""
+        session = self.guard.changing(request)
+        given = await body(request)
+        order, reason = read_order(given)
+        if not self._pace.take(session.token):
+            raise Refused(429, "too many orders at once", 1)
+        view = self.view(session)
+        if order.console == 0:
+            order = with_console(order, view)
+        elif order.console not in session.consoles:
+            raise Refused(403, f"console {order.console} isn't yours")
+        try:
+            reply = await self.core.order(order, session.user, reason)
+        except ValueError as bad:
+            raise Refused(400, str(bad)) from bad
+        key = order.verb.value, reply.code
+        self.orders[key] = self.orders.get(key, 0) + 1
+        return answer({"reply": reply.code, "taken": reply.taken, "why": reply.why})
+
+    async def answer(self, request: web.Request) -> web.Response:
+        """Answers a question of the gateway."""
+        session = self.guard.changing(request)
+        given = await body(request)
+        asked, yes, console = given.get("number"), given.get("yes"), given.get("console")
+        if type(asked) is not int or type(yes) is not bool:
+            raise Refused(400, "number has to be a whole number, and yes a truth")
+        own = console if type(console) is int else next(iter(session.consoles), 0)
+        if own not in session.consoles:
+            raise Refused(403, "the console isn't yours")
+        try:
+            await self.core.answer(asked, yes, own, session.user)
+        except KeyError as bad:
+            raise Refused(404, "no such question waits") from bad
+        except ValueError as bad:
+            raise Refused(400, str(bad)) from bad
+        return answer({"answered": asked})
+
+    async def report(self, request: web.Request) -> web.Response:
+        """The figures of the alarm system."""
+        return answer(as_json(self.core.plant, await self.make_report(request)))
+
+    async def report_csv(self, request: web.Request) -> web.Response:
+        """The same as CSV."""
+        text = io.StringIO()
+        csv.writer(text).writerows(table(self.core.plant, await self.make_report(request)))
+        return web.Response(body=text.getvalue().encode(), headers=download("figures.csv"))
+
+    async def make_report(self, request: web.Request) -> Report:
+        """The figures of the last `hours` (0: from the journal's beginning), worked out in a thread, and kept for a while."""
+        session = self.guard.session(request)
+        hours = number(request, "hours", 24, 0, 24 * 366)
+        key = session.consoles, hours
+        async with self._reporting:
+            kept = self._reports.get(key)
+            if kept is not None and time.monotonic() < kept[0] + REPORT_LASTS:
+                return kept[1]
+            journal, end = self.core.journal, self.core.state.moment + 1
+            rows = journal.rows(1, len(journal))
+            first = journal.row(1).moment if len(journal) else end
+            begin = max(first, end - hours * HOUR) if hours else first
+            consoles = None if self.view(session).everything else session.consoles
+            made = await asyncio.to_thread(report, self.core.plant, rows, begin, end, consoles)
+            if len(self._reports) > 50:
+                self._reports.clear()
+            self._reports[key] = time.monotonic(), made
+            return made
+
+
+def download(name: str) -> dict[str, str]:
+    """The headers of a table that a browser keeps."""
+    return {
+        "Content-Type": "text/csv; charset=utf-8",
+        "Content-Disposition": f'attachment; filename="{name}"',
+        "Cache-Control": "no-store",
+    }
+
+
+async def csv_parts(core: Core, view: View, first: int, count: int) -> AsyncIterator[str]:
+    """The header, and then the rows to be shown, some hundred at a time; others run in between."""
+    journal = core.journal
+    header, length = True, len(journal)
+    while header or (first <= length and count > 0):
+        wanted: list[Row] = list(journal.rows(first, min(500, length - first + 1)))
+        shown = [row for row in wanted if view.shows_row(row)][:count]
+        parts: list[str] = []
+        if header:
+            parts += list(journal.csv(1, 1))[:1]
+        if len(shown) == len(wanted):
+            parts += list(journal.csv(first, len(wanted)))[1:] if wanted else []
+        else:
+            parts += [list(journal.csv(row.number, 1))[1] for row in shown]
+        yield "".join(parts)
+        header, count = False, count - len(shown)
+        first += len(wanted)
+        await asyncio.sleep(0)

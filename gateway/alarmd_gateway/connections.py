@@ -1,0 +1,84 @@
+"""A limit on connections: so many at once, half of them from one address, and a time in which the first request has to come."""
+
+from __future__ import annotations
+
+import asyncio
+from collections import Counter
+from typing import cast
+
+from aiohttp import web
+from aiohttp.web_protocol import RequestHandler
+
+FIRST_REQUEST = 20.0  # seconds in which a connection has to bring a whole request
+IDLE = 75.0  # seconds that a connection may rest between two requests
+LONGEST_LINE = 8190  # bytes of a request's first line, or of a header
+
+
+class Limit:
+    """Counts connections by address."""
+
+    def __init__(self, most: int) -> None:
+        self._most = most
+        self._each = max(most // 2, 1)
+        self._open: Counter[str] = Counter()
+        self.refused = 0
+
+    def __len__(self) -> int:
+        return self._open.total()
+
+    def enter(self, address: str) -> bool:
+        """Counts a connection and says so, unless there are too many."""
+        if len(self) >= self._most or self._open[address] >= self._each:
+            self.refused += 1
+            return False
+        self._open[address] += 1
+        return True
+
+    def leave(self, address: str) -> None:
+        """A connection that was counted has ended."""
+        self._open[address] -= 1
+        self._open += Counter()  # drops those that are 0
+
+
+class Connection(RequestHandler):
+    """A connection of aiohttp's that is closed at once where there are too many, and later where it brings no request."""
+
+    __slots__ = ("_limit", "_address", "_timer", "served")
+
+    def __init__(self, server: web.Server, limit: Limit, loop: asyncio.AbstractEventLoop) -> None:
+        super().__init__(
+            server,
+            loop=loop,
+            keepalive_timeout=IDLE,
+            max_line_size=LONGEST_LINE,
+            max_field_size=LONGEST_LINE,
+        )
+        self.access_log = None  # type: ignore[assignment]
+        self.access_logger = None
+        self._limit = limit
+        self._address: str | None = None
+        self._timer: asyncio.TimerHandle | None = None
+        self.served = False  # whether it has brought a request
+
+    def connection_made(self, transport: asyncio.BaseTransport) -> None:
+        peer = transport.get_extra_info("peername")
+        address = str(peer[0]) if isinstance(peer, tuple) else ""
+        if not self._limit.enter(address):
+            cast(asyncio.Transport, transport).abort()
+            return
+        self._address = address
+        self._timer = asyncio.get_running_loop().call_later(FIRST_REQUEST, self._late, transport)
+        super().connection_made(transport)
+
+    def connection_lost(self, exc: BaseException | None) -> None:
+        if self._address is None:
+            return
+        self._limit.leave(self._address)
+        self._address = None
+        if self._timer is not None:
+            self._timer.cancel()
+        super().connection_lost(exc)
+
+    def _late(self, transport: asyncio.Transport) -> None:
+        if not self.served:
+            transport.abort()

@@ -1,0 +1,177 @@
+"""What each request meets first: headers for the browser, the host, the session, the token, and limits of bodies."""
+
+from __future__ import annotations
+
+import asyncio
+import json
+import logging
+from collections.abc import Awaitable, Callable
+
+from aiohttp import web
+
+from .connections import Connection
+from .model import GatewayFault, Json
+from .sessions import Session, Sessions
+from .users import Users
+
+Handler = Callable[[web.Request], Awaitable[web.StreamResponse]]
+
+LARGEST_BODY = 16_384  # bytes
+PATIENCE = 10.0  # seconds in which a body has to come
+TOKEN = "X-Alarmd-Token"
+THIS_MACHINE = ("localhost", "127.0.0.1", "[::1]")
+HEADERS = {
+    "Content-Security-Policy": "default-src 'none'; script-src 'self'; style-src 'self'; img-src 'self'; "
+    "connect-src 'self'; base-uri 'none'; form-action 'none'; frame-ancestors 'none'",
+    "X-Content-Type-Options": "nosniff",
+    "X-Frame-Options": "DENY",
+    "Referrer-Policy": "no-referrer",
+    "Cross-Origin-Opener-Policy": "same-origin",
+    "Cross-Origin-Resource-Policy": "same-origin",
+    "Permissions-Policy": "camera=(), geolocation=(), microphone=()",
+}
+log = logging.getLogger(__name__)
+
+
+class Refused(Exception):
+    """A request that isn't carried out: the status, and a sentence for a person."""
+
+    def __init__(self, status: int, words: str, wait: float = 0) -> None:
+        super().__init__(words)
+        self.status, self.words, self.wait = status, words, wait
+
+
+def answer(data: Json, status: int = 200) -> web.Response:
+    """JSON that no cache keeps."""
+    return web.json_response(
+        data, status=status, headers={"Cache-Control": "no-store"}, dumps=compact
+    )
+
+
+def compact(data: Json) -> str:
+    """JSON without blanks."""
+    return json.dumps(data, separators=(",", ":"))
+
+
+class Guard:
+    """Who is at the other end of a request, and whether it may be answered."""
+
+    def __init__(
+        self, users: Users | None, consoles: tuple[int, ...], port: int, tls: bool
+    ) -> None:
+        self.users = users
+        self.consoles = consoles  # all of the plant, for who needn't log in
+        self.sessions = Sessions()
+        self.tls = tls
+        self._port = port
+
+    @property
+    def cookie(self) -> str:
+        """The name of the cookie: of this port, since browsers give cookies to all ports of a host."""
+        return f"{'__Host-' if self.tls else ''}alarmd_{self._port}"
+
+    def served_at(self, port: int) -> None:
+        """Says which port the system has chosen."""
+        self._port = port
+
+    def session(self, request: web.Request) -> Session:
+        """The session of a request. Raises Refused (401)."""
+        session = self.sessions.find(request.cookies.get(self.cookie))
+        if session is None:
+            raise Refused(401, "nobody is logged in")
+        return session
+
+    def changing(self, request: web.Request) -> Session:
+        """The session of a request that changes something: it brings the session's token. Raises Refused (401, 403)."""
+        session = self.session(request)
+        if not session.owns(request.headers.get(TOKEN)):
+            raise Refused(403, "the token is missing or isn't this session's")
+        return session
+
+    def begin(
+        self, response: web.StreamResponse, user: str | None, consoles: tuple[int, ...]
+    ) -> Session:
+        """A new session, whose cookie the response sets."""
+        cookie, session = self.sessions.begin(user, consoles)
+        response.set_cookie(
+            self.cookie, cookie, path="/", httponly=True, samesite="Strict", secure=self.tls
+        )
+        return session
+
+    def forget(self, response: web.StreamResponse) -> None:
+        """Makes the browser forget the cookie."""
+        response.set_cookie(
+            self.cookie, "", path="/", httponly=True, samesite="Strict", secure=self.tls, max_age=0
+        )
+
+    def check_host(self, request: web.Request) -> None:
+        """Raises Refused where another site stands behind the request.
+
+        Without users the host has to be this machine by name, so that no name of another site leads here.
+        """
+        host = request.headers.get("Host", "")
+        origin = request.headers.get("Origin")
+        if (
+            self.users is None
+            and host.rpartition(":")[0] not in THIS_MACHINE
+            and host not in THIS_MACHINE
+        ):
+            raise Refused(421, "without users the page is served to this machine alone")
+        if origin is not None and origin.partition("://")[2] != host:
+            raise Refused(403, "the request comes from another site")
+
+    @web.middleware
+    async def middleware(self, request: web.Request, handler: Handler) -> web.StreamResponse:
+        """Answers each refusal and each fault in JSON, and sets the headers."""
+        if isinstance(request.protocol, Connection):
+            request.protocol.served = True
+        try:
+            self.check_host(request)
+            return await handler(request)
+        except Refused as refused:
+            response = answer({"error": refused.words}, refused.status)
+            if refused.wait:
+                response.headers["Retry-After"] = str(int(refused.wait) + 1)
+            return response
+        except web.HTTPException as fault:
+            return answer({"error": fault.reason}, fault.status)
+        except GatewayFault as fault:
+            return answer({"error": fault.words}, 503)
+        except asyncio.CancelledError:
+            raise
+        except Exception:
+            log.exception("a request to %s failed", request.path)
+            return answer({"error": "a fault in the gateway: its log has more"}, 500)
+
+    async def headers(self, request: web.Request, response: web.StreamResponse) -> None:
+        """Sets the headers of every response, before it is sent."""
+        response.headers.update(HEADERS)
+        response.headers["Server"] = "alarmd"
+        if self.tls:
+            response.headers["Strict-Transport-Security"] = "max-age=31536000"
+
+
+async def body(request: web.Request) -> dict[str, Json]:
+    """The object of a request's body. Raises Refused (400, 408, 413, 415)."""
+    if request.content_type != "application/json":
+        raise Refused(415, "the body has to be application/json")
+    try:
+        text = await asyncio.wait_for(request.read(), PATIENCE)
+        found = json.loads(text.decode("utf-8"))
+    except asyncio.TimeoutError as late:
+        raise Refused(408, "the body didn't come") from late
+    except (ValueError, RecursionError) as bad:
+        raise Refused(400, "the body is no JSON") from bad
+    if not isinstance(found, dict):
+        raise Refused(400, "the body has to be an object")
+    return found
+
+
+def number(request: web.Request, key: str, default: int, least: int, most: int) -> int:
+    """A whole number of the query. Raises Refused (400)."""
+    text = request.query.get(key)
+    if text is None:
+        return default
+    if not (text.isascii() and text.isdigit() and len(text) <= 15 and least <= int(text) <= most):
+        raise Refused(400, f"{key} has to be a whole number from {least} to {most}")
+    return int(text)

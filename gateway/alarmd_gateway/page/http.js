@@ -1,0 +1,40 @@
+// Requests to the gateway. Each that changes something brings the session's token.
+
+let token = "";
+
+export class Refused extends Error {
+  constructor(status, words) {
+    super(words);
+    this.status = status;
+  }
+}
+
+export function setToken(given) {
+  token = given;
+}
+
+async function ask(path, options) {
+  let response;
+  try {
+    response = await fetch(path, { credentials: "same-origin", signal: AbortSignal.timeout(20000), ...options });
+  } catch {
+    throw new Refused(0, "the gateway doesn't answer");
+  }
+  let data = null;
+  try {
+    data = await response.json();
+  } catch {
+    throw new Refused(response.status, `the answer couldn't be read (${response.status})`);
+  }
+  if (!response.ok) throw new Refused(response.status, data?.error ?? `refused (${response.status})`);
+  return data;
+}
+
+export const get = (path) => ask(path, {});
+
+export const post = (path, body) =>
+  ask(path, {
+    method: "POST",
+    headers: { "Content-Type": "application/json", "X-Alarmd-Token": token },
+    body: JSON.stringify(body),
+  });

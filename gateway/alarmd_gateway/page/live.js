@@ -1,0 +1,80 @@
+// The live connection. Whoever hears nothing for too long says that nothing is live any more, and tries again.
+
+const SILENCE = 2400; // ms without a message, after which the connection counts as lost
+const WAITS = [300, 600, 1000, 2000, 3000]; // ms before the next try
+
+export class Live {
+  // `told` has the functions snapshot(data), changes(list), heard(time), lost(since), ended()
+  constructor(told) {
+    this.told = told;
+    this.socket = null;
+    this.heard = null; // when the last message came, by the browser's clock
+    this.alive = false;
+    this.tries = 0;
+    this.number = null; // of the last change
+    this.stopped = false;
+    this.watch = setInterval(() => this.look(), 200);
+    this.begun = performance.now();
+    this.connect();
+  }
+
+  stop() {
+    this.stopped = true;
+    clearInterval(this.watch);
+    this.socket?.close();
+  }
+
+  connect() {
+    if (this.stopped) return;
+    const socket = new WebSocket(`${location.protocol === "https:" ? "wss" : "ws"}://${location.host}/api/live`);
+    this.socket = socket;
+    this.opened = performance.now();
+    socket.onmessage = (event) => this.socket === socket && this.take(JSON.parse(event.data));
+    socket.onclose = () => this.socket === socket && this.again();
+  }
+
+  take(message) {
+    this.heard = performance.now();
+    if (message.type === "snapshot") {
+      this.number = message.snapshot.number;
+      this.tries = 0;
+      this.told.snapshot(message.snapshot);
+    } else if (message.type === "changes") {
+      this.told.changes(message.changes);
+      this.number = message.upto;
+    } else if (message.type === "beat") {
+      this.told.heard(message.time);
+    }
+    if (!this.alive && this.number !== null) {
+      this.alive = true;
+      this.told.alive();
+    }
+  }
+
+  look() {
+    const now = performance.now();
+    if (this.alive && now - this.heard > SILENCE) this.drop();
+    else if (!this.alive && now - Math.max(this.opened ?? 0, this.heard ?? 0) > 5000) this.drop();
+  }
+
+  drop() {
+    const socket = this.socket;
+    this.again();
+    socket?.close();
+  }
+
+  again() {
+    if (this.stopped || this.socket === null) return;
+    this.socket = null;
+    this.number = null;
+    this.alive = false;
+    this.told.lost();
+    const wait = WAITS[Math.min(this.tries, WAITS.length - 1)];
+    this.tries += 1;
+    setTimeout(async () => {
+      if (this.stopped) return;
+      if (await this.told.ended()) this.stop();
+      else this.connect();
+    }, wait);
+  }
+}

@@ -1,0 +1,243 @@
+// The page: logging in, the screens, the keys, and what is told above and below them.
+
+import { $, el, setText, sign } from "./dom.js";
+import { allScreen, asideScreen, summaryScreen } from "./alarms.js";
+import { Banner, isDead, showLink } from "./banner.js";
+import { anyOpen, showKeys } from "./dialogs.js";
+import { FiguresScreen } from "./figures.js";
+import { get, post, setToken } from "./http.js";
+import { JournalScreen } from "./journal.js";
+import { Live } from "./live.js";
+import { tell } from "./orders.js";
+import { PlantScreen } from "./plant.js";
+import { Store } from "./store.js";
+import { longTime } from "./words.js";
+
+const NAMES = ["alarms", "aside", "all", "plant", "journal", "figures"];
+const KEYS = [
+  ["1 – 6", "screens"],
+  ["↑ ↓ PgUp PgDn Home End", "choose an alarm"],
+  ["A", "acknowledge the chosen alarm"],
+  ["V", "acknowledge those on the screen"],
+  ["S", "shelve, with a time and a reason"],
+  ["U", "unshelve"],
+  ["R", "reset a latched alarm"],
+  ["O", "take out of service"],
+  ["T", "return to service"],
+  ["F", "choose an area"],
+  ["/", "search in all alarms"],
+  ["B", "to the troubles of the server"],
+  ["Tab", "to the next field or button"],
+  ["Esc", "close a dialog, back to the list"],
+];
+
+const store = new Store();
+const banner = new Banner(store);
+const screens = {};
+let shown = "alarms";
+let live = null;
+let lostAt = null;
+
+async function start() {
+  let who;
+  try {
+    who = await get("/api/session");
+  } catch (fault) {
+    if (fault.status === 401) return askLogin();
+    document.body.className = "plain";
+    $("lost").hidden = false;
+    setText($("lost"), `The page can't begin: ${fault.message}. Trying again …`);
+    setTimeout(start, 2000);
+    return undefined;
+  }
+  $("lost").hidden = true;
+  return begin(who);
+}
+
+function askLogin(words = "") {
+  live?.stop();
+  live = null;
+  document.body.className = "plain";
+  for (const id of ["top", "tabs", "screens", "bottom", "troubles", "lost"]) $(id).hidden = true;
+  $("login").hidden = false;
+  setText($("login-message"), words);
+  $("login-name").focus();
+  document.title = "Alarms";
+}
+
+$("login").onsubmit = async (event) => {
+  event.preventDefault();
+  setText($("login-message"), "");
+  const [name, password] = [$("login-name"), $("login-password")];
+  try {
+    const who = await post("/api/login", { name: name.value, password: password.value });
+    password.value = "";
+    await begin(who);
+  } catch (fault) {
+    setText($("login-message"), fault.message);
+    password.value = "";
+    password.focus();
+  }
+};
+
+$("log-out").onclick = async () => {
+  try {
+    await post("/api/logout", {});
+  } catch { /* it has ended already */ }
+  askLogin("Logged out.");
+};
+
+async function begin(who) {
+  setToken(who.token);
+  document.body.className = "";
+  $("login").hidden = true;
+  setText($("plant-name"), who.plant);
+  setText($("user-name"), who.user ?? "");
+  $("log-out").hidden = !who.users;
+  let table;
+  try {
+    table = await get("/api/plant");
+  } catch (fault) {
+    if (fault.status === 401) return askLogin();
+    setTimeout(() => begin(who), 2000);
+    return undefined;
+  }
+  store.takeTable(table);
+  const kept = store.areas.includes(store.area) ? store.area : "";
+  $("area").replaceChildren(el("option", { value: "" }, "All areas"), ...store.areas.map((area) => el("option", { value: area }, area)));
+  $("area").value = store.area = kept;
+  if (!screens.alarms) makeScreens();
+  for (const id of ["top", "tabs", "screens", "bottom"]) $(id).hidden = false;
+  showScreen(shown);
+  live?.stop();
+  live = new Live({
+    snapshot: (data) => store.takeSnapshot(data),
+    changes: (list) => {
+      store.takeChanges(list);
+      if (list.some((change) => change.kind === "anew")) refreshTable();
+    },
+    heard: () => {},
+    alive: () => setLost(null),
+    lost: () => setLost(lostAt ?? new Date()),
+    ended,
+  });
+}
+
+// Whether the session has ended, so that trying again is in vain.
+async function ended() {
+  try {
+    setToken((await get("/api/session")).token);
+    return false;
+  } catch (fault) {
+    if (fault.status !== 401) return false;
+    askLogin("The session has ended.");
+    return true;
+  }
+}
+
+async function refreshTable() {
+  try {
+    store.takeTable(await get("/api/plant"));
+  } catch { /* the next snapshot brings it */ }
+}
+
+function setLost(since) {
+  if (since && !lostAt) document.querySelector("dialog[open]")?.close(); // it would hide that nothing is live
+  lostAt = since;
+  store.live = since === null && !isDead(store);
+  store.changed();
+}
+
+function makeScreens() {
+  Object.assign(screens, {
+    alarms: summaryScreen(store),
+    aside: asideScreen(store),
+    all: allScreen(store),
+    plant: new PlantScreen(store),
+    journal: new JournalScreen(store),
+    figures: new FiguresScreen(store),
+  });
+  for (const name of NAMES) $(`tab-${name}`).onclick = () => showScreen(name);
+  $("tabs").addEventListener("keydown", (event) => {
+    const step = { ArrowRight: 1, ArrowLeft: -1 }[event.key];
+    if (!step || event.target.getAttribute("role") !== "tab") return;
+    const next = NAMES[(NAMES.indexOf(shown) + step + NAMES.length) % NAMES.length];
+    showScreen(next);
+    $(`tab-${next}`).focus();
+  });
+  $("area").onchange = () => {
+    store.area = $("area").value;
+    store.changed();
+  };
+  $("help-button").onclick = () => showKeys(KEYS);
+  store.listen(draw);
+  document.addEventListener("away", () => store.changed());
+}
+
+function showScreen(name) {
+  shown = name;
+  for (const one of NAMES) {
+    $(one).hidden = one !== name;
+    $(`tab-${one}`).setAttribute("aria-selected", one === name);
+    $(`tab-${one}`).tabIndex = one === name ? 0 : -1;
+  }
+  draw();
+  screens[name].opened?.();
+  screens[name].focus();
+}
+
+function draw() {
+  store.live = lostAt === null && live !== null && live.alive && !isDead(store);
+  showLink(store, lostAt);
+  banner.show();
+  drawCounts();
+  setText($("scan-time"), store.now ? longTime(store.now) : "no scan yet");
+  screens[shown].show();
+}
+
+function drawCounts() {
+  const counts = store.counts();
+  const drawn = JSON.stringify(counts);
+  const waiting = counts.waiting.reduce((sum, one) => sum + one, 0);
+  document.title = waiting ? `(${waiting}) ${$("plant-name").textContent}` : $("plant-name").textContent;
+  const box = $("counts");
+  if (box.dataset.drawn === drawn) return;
+  box.dataset.drawn = drawn;
+  const parts = [1, 2, 3, 4].map((priority) => {
+    const [few, all] = [counts.waiting[priority], counts.standing[priority]];
+    const words = `${few} of ${all} of priority ${priority} unacknowledged`;
+    return el("span", { class: `count${few ? " waits" : all ? " stands" : ""}`, title: words, "aria-label": words, role: "img" }, sign(priority, few ? "UNACK" : all ? "ACKED" : "NORM"), el("b", {}, String(few)), `/${all}`);
+  });
+  box.replaceChildren(...parts, counts.hidden ? el("span", { class: "hidden-count" }, `${counts.hidden} unacknowledged in other areas`) : "");
+}
+
+document.addEventListener("keydown", (event) => {
+  if (event.ctrlKey || event.altKey || event.metaKey || anyOpen() || $("screens").hidden) return;
+  const field = event.target.matches?.("input, select, textarea");
+  if (event.key === "Escape") {
+    screens[shown].focus();
+    return;
+  }
+  if (field) return;
+  const key = event.key.toLowerCase();
+  const screen = NAMES["123456".indexOf(key)];
+  if (screen && key) showScreen(screen);
+  else if (key === "f") $("area").focus();
+  else if (key === "?") showKeys(KEYS);
+  else if (key === "b") $("troubles").querySelector("button")?.focus();
+  else if (key === "/") {
+    showScreen("all");
+    screens.all.search.focus();
+  } else if (!screens[shown].key(key)) return;
+  event.preventDefault();
+});
+
+// All signs that flash do so together, slowly; where movement isn't wanted, none does.
+const still = matchMedia("(prefers-reduced-motion: reduce)");
+setInterval(() => {
+  const off = !still.matches && lostAt === null && Math.floor(Date.now() / 600) % 2 === 1;
+  document.body.classList.toggle("off", off);
+}, 100);
+
+window.addEventListener("unhandledrejection", (event) => tell(`A fault of the page: ${event.reason?.message ?? event.reason}`, true));
+start();

@@ -1,0 +1,158 @@
+"""The web server: the operators' page, JSON, the live connection and /metrics, on one port."""
+
+from __future__ import annotations
+
+import asyncio
+import hashlib
+import hmac
+from contextlib import suppress
+from pathlib import Path
+
+from aiohttp import web
+
+from .api import Api
+from .config import WORDS_STATUS, Config
+from .connections import Connection, Limit
+from .core import Core
+from .guard import LARGEST_BODY, Guard, Refused
+from .live import Live
+from .metrics import Count, Metrics
+from .model import GatewayFault
+from .web_config import WebConfig, web_config
+
+FOLDER = Path(__file__).parent / "page"
+TYPES = {
+    ".html": "text/html; charset=utf-8",
+    ".css": "text/css; charset=utf-8",
+    ".js": "text/javascript; charset=utf-8",
+    ".svg": "image/svg+xml",
+}
+
+
+class Pages:
+    """The files of the page, read once."""
+
+    def __init__(self, folder: Path = FOLDER) -> None:
+        self._files = {
+            file.name: (file.read_bytes(), TYPES[file.suffix])
+            for file in folder.iterdir()
+            if file.suffix in TYPES
+        }
+        self._tags = {
+            name: f'"{hashlib.sha256(data).hexdigest()[:20]}"'
+            for name, (data, _) in self._files.items()
+        }
+
+    async def handle(self, request: web.Request) -> web.Response:
+        """A file by its name; `/` is index.html."""
+        name = request.match_info.get("name", "index.html")
+        if name not in self._files:
+            raise Refused(404, "there is no such page")
+        headers = {"Cache-Control": "no-cache", "ETag": self._tags[name]}
+        if request.headers.get("If-None-Match") == self._tags[name]:
+            return web.Response(status=304, headers=headers)
+        data, kind = self._files[name]
+        response = web.Response(body=data, headers={**headers, "Content-Type": kind})
+        response.enable_compression()
+        return response
+
+
+class Web:
+    """The web server as a part of the gateway."""
+
+    asks = True
+
+    def __init__(self, core: Core, config: WebConfig) -> None:
+        consoles = tuple(row.number for row in core.plant.consoles)
+        self.config = config
+        self.guard = Guard(config.users, consoles, config.port, config.tls is not None)
+        self.limit = Limit(config.connections)
+        self.live = Live(core, self.guard)
+        self.api = Api(core, self.guard)
+        self.metrics = Metrics(core, self.api.orders, self._counts())
+        self.port = config.port
+        self._runner: web.AppRunner | None = None
+        self._server: asyncio.Server | None = None
+
+    async def start(self) -> None:
+        """Listens. Raises GatewayFault where the address isn't to be had."""
+        app = web.Application(middlewares=[self.guard.middleware], client_max_size=LARGEST_BODY)
+        app.on_response_prepare.append(self.guard.headers)
+        pages = Pages()
+        app.add_routes(
+            [
+                web.get("/", pages.handle),
+                web.get("/page/{name}", pages.handle),
+                web.get("/metrics", self._metrics),
+                web.get("/api/live", self.live.handle),
+                *self.api.routes(),
+            ]
+        )
+        self._runner = web.AppRunner(app, handle_signals=False, access_log=None)
+        await self._runner.setup()
+        server, loop = self._runner.server, asyncio.get_running_loop()
+        assert server is not None
+        try:
+            self._server = await loop.create_server(
+                lambda: Connection(server, self.limit, loop),
+                self.config.host,
+                self.config.port,
+                ssl=self.config.tls,
+                backlog=128,
+            )
+        except OSError as fault:
+            await self._runner.cleanup()
+            raise GatewayFault(
+                f"the page can't be served at {self.config.host} port {self.config.port}: {fault.strerror}",
+                WORDS_STATUS,
+            ) from fault
+        self.port = self._server.sockets[0].getsockname()[1]
+        self.guard.served_at(self.port)
+
+    @property
+    def url(self) -> str:
+        """Where the page is."""
+        host = f"[{self.config.host}]" if ":" in self.config.host else self.config.host
+        return f"{'https' if self.config.tls else 'http'}://{host}:{self.port}/"
+
+    async def close(self) -> None:
+        """Ends all connections, and listens no more."""
+        if self._server is not None:
+            self._server.close()
+        await self.live.close()
+        if self._runner is not None and self._runner.server is not None:
+            with suppress(asyncio.TimeoutError):
+                await asyncio.wait_for(self._runner.server.shutdown(2), 4)
+            await self._runner.cleanup()
+
+    def _counts(self) -> dict[str, tuple[str, Count]]:
+        return {
+            "alarmd_web_connections": ("Connections to the web server", lambda: len(self.limit)),
+            "alarmd_web_refused_connections": (
+                "Connections that were refused because there were too many",
+                lambda: self.limit.refused,
+            ),
+            "alarmd_web_pages": ("Pages with a live connection", lambda: len(self.live)),
+            "alarmd_web_sessions": ("Sessions", lambda: len(self.guard.sessions)),
+        }
+
+    async def _metrics(self, request: web.Request) -> web.Response:
+        token = self.config.metrics_token
+        given = request.headers.get("Authorization", "").removeprefix("Bearer ")
+        by_token = token is not None and hmac.compare_digest(given.encode(), token.encode())
+        if not by_token and self.config.users is not None:
+            self.guard.session(request)
+        return web.Response(
+            body=self.metrics.text(),
+            headers={"Content-Type": "text/plain; version=0.0.4; charset=utf-8"},
+        )
+
+
+async def attach(core: Core, config: Config) -> Web | None:
+    """Serves the page where the configuration has a table `[web]`. Raises GatewayFault."""
+    found = web_config(config, core.plant)
+    if found is None:
+        return None
+    served = Web(core, found)
+    await served.start()
+    return served

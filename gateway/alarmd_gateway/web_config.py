@@ -1,0 +1,94 @@
+"""The table `[web]` of the configuration: where the page is served, by which certificate, and for whom.
+
+    [web]
+    listen = "127.0.0.1:8080"       # where; [::1]:8080 too. Port 0 lets the system choose
+    users = "users.toml"            # without it nobody logs in, and only a loopback address is taken
+    certificate = "page.pem"        # TLS; an address beyond the loopback wants it, and users
+    key = "page.key"
+    metrics_token = ".."            # who brings it may read /metrics without a session
+    connections = 200               # so many at once; half of them from one address
+"""
+
+from __future__ import annotations
+
+import ipaddress
+import ssl
+from dataclasses import dataclass, field
+from pathlib import Path
+
+from .config import WORDS_STATUS, Config
+from .model import GatewayFault, Plant
+from .users import BadUsers, Users, read_users
+
+
+@dataclass(frozen=True)
+class WebConfig:
+    """What the web server goes by. `users` is None where there is no file of them."""
+
+    host: str
+    port: int
+    users: Users | None
+    tls: ssl.SSLContext | None
+    metrics_token: str | None = field(default=None, repr=False)
+    connections: int = 200
+
+
+def web_config(config: Config, plant: Plant) -> WebConfig | None:
+    """The table as it stands in the configuration, None where there is none. Raises GatewayFault (status 2)."""
+    if "web" not in config.tables:
+        return None
+    table = config.table("web")
+    host, port = address(table.text("listen", "127.0.0.1:8080"))
+    users = table.path("users") if table.has("users") else None
+    certificate = table.path("certificate") if table.has("certificate") else None
+    key = table.path("key") if table.has("key") else None
+    token = table.text("metrics_token") if table.has("metrics_token") else None
+    connections = table.number("connections", 200, 4, 100_000)
+    table.end()
+    if not loopback(host) and (users is None or certificate is None):
+        raise fault(f"listen = {host!r} is beyond this machine: that wants users and a certificate")
+    if (certificate is None) != (key is None):
+        raise fault("certificate and key belong together")
+    tls = None if certificate is None or key is None else tls_of(certificate, key)
+    return WebConfig(host, port, users_of(users, plant), tls, token, connections)
+
+
+def fault(words: str) -> GatewayFault:
+    """What is wrong with the table."""
+    return GatewayFault(f"the configuration's [web]: {words}", WORDS_STATUS)
+
+
+def address(text: str) -> tuple[str, int]:
+    """The host and the port of `HOST:PORT` or `[HOST]:PORT`. Raises GatewayFault."""
+    host, colon, port = text.rpartition(":")
+    host = host[1:-1] if host.startswith("[") and host.endswith("]") else host
+    if not colon or not host or not (port.isascii() and port.isdigit()) or int(port) > 65535:
+        raise fault(f"listen = {text!r} has to be like 127.0.0.1:8080 or [::1]:8080")
+    return host, int(port)
+
+
+def loopback(host: str) -> bool:
+    """Whether a host is this machine alone."""
+    try:
+        return ipaddress.ip_address(host).is_loopback
+    except ValueError:
+        return host == "localhost"
+
+
+def users_of(path: Path | None, plant: Plant) -> Users | None:
+    """The users of a file. Raises GatewayFault."""
+    try:
+        return None if path is None else read_users(path, {row.number for row in plant.consoles})
+    except BadUsers as bad:
+        raise fault(str(bad)) from bad
+
+
+def tls_of(certificate: Path, key: Path) -> ssl.SSLContext:
+    """TLS 1.2 or later by a certificate and its key, both PEM. Raises GatewayFault."""
+    context = ssl.create_default_context(ssl.Purpose.CLIENT_AUTH)
+    context.minimum_version = ssl.TLSVersion.TLSv1_2
+    try:
+        context.load_cert_chain(certificate, key, password=lambda: "")
+    except (OSError, ssl.SSLError) as bad:
+        raise fault(f"certificate {certificate}, key {key}: {bad.strerror or bad}") from bad
+    return context
