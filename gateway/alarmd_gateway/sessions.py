@@ -17,6 +17,9 @@ TRIES_OF_ADDRESS = 20  # and of all names from one address
 WINDOW = 300.0
 MOST_COUNTED = 10_000  # names and addresses whose tries are counted; the oldest goes first
 
+BURST = 100.0  # orders that a session may give at once
+ORDERS_PER_SECOND = 10.0  # and then
+
 Clock = Callable[[], float]  # seconds, of a clock that nobody sets
 
 
@@ -120,3 +123,23 @@ class Tries:
         if times is None or len(times) < most or now >= times[0] + WINDOW:
             return now
         return times[0] + WINDOW
+
+
+class Pace:
+    """How fast a session may order: each order is one of the events that a run takes, and a key may be stuck."""
+
+    def __init__(self, clock: Clock = time.monotonic) -> None:
+        self._clock = clock
+        self._left: OrderedDict[str, tuple[float, float]] = OrderedDict()
+
+    def take(self, token: str) -> bool:
+        """Takes one order of BURST, which come back at ORDERS_PER_SECOND; says whether there was one."""
+        now = self._clock()
+        left, since = self._left.get(token, (BURST, now))
+        left = min(BURST, left + (now - since) * ORDERS_PER_SECOND)
+        taken = left >= 1
+        self._left[token] = left - taken, now
+        self._left.move_to_end(token)
+        while len(self._left) > MOST_SESSIONS:
+            self._left.popitem(last=False)
+        return taken
