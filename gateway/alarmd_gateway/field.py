@@ -4,17 +4,19 @@ from __future__ import annotations
 
 import asyncio
 import time
+from collections.abc import AsyncIterator
 
 from .config import Config
+from .console import Console
 from .core import ChangeKind, Core, CutOff
 from .fields.lines import LineSource
 from .fields.modbus import ModbusClient
 from .fields.mqtt import MqttClient
-from .fields.printer import Printer
 from .fields.source import Intake, Source
 from .map_file import read
 from .mapping import Map
 from .model import Value
+from .output import Output
 from .samples import Ages
 
 CHECK_SECONDS = 0.25  # between two looks at the ages of samples
@@ -28,7 +30,7 @@ class Field:
     def __init__(self, core: Core, map: Map) -> None:
         self._core = core
         self._intake = Intake(core, Ages(dict(map.limits), time.monotonic()))
-        self._sources = sources(map, self._intake)
+        self._sources = sources(map, self._intake, core)
         running = [source.run(self._current) for source in self._sources]
         watches = [self._watch_outputs(), self._watch_ages()]
         self._tasks = [asyncio.create_task(one) for one in (*running, *watches)]
@@ -80,10 +82,30 @@ def value_of(value: object) -> Value:
     return value
 
 
-def sources(map: Map, intake: Intake) -> list[Source]:
+class Operator:
+    """Answers lines as the console of standard input does, on standard output."""
+
+    def __init__(self, core: Core) -> None:
+        self._output = Output()
+        self._console = Console(core, self._output)
+
+    def put(self, line: str) -> None:
+        """A line for whoever reads the answers."""
+        self._output.put(line)
+
+    async def order(self, line: str) -> None:
+        """Takes an order or a question, and answers it."""
+
+        async def alone() -> AsyncIterator[str | None]:
+            yield line
+
+        await self._console.serve(alone())
+
+
+def sources(map: Map, intake: Intake, core: Core) -> list[Source]:
     """A source for each of the map."""
-    printer = Printer() if map.lines else None
-    found: list[Source] = [LineSource(it, intake, printer) for it in map.lines if printer]
+    operator = Operator(core) if map.lines else None
+    found: list[Source] = [LineSource(it, intake, operator) for it in map.lines if operator]
     found += [MqttClient(it, intake) for it in map.mqtt]
     found += [ModbusClient(it, intake) for it in map.modbus]
     return found

@@ -57,10 +57,9 @@ class Reader:
         return Retry(first / 1000, most / 1000)
 
     def _lines(self, table: Table) -> LinesSource:
-        name, path = self._name(table), table.text("path", "-")
         source = LinesSource(
-            name,
-            None if path == "-" else table.folder / path,
+            self._name(table),
+            table.path("path"),
             table.truth("orders", False),
             table.truth("hold", True),
             self._retry(table),

@@ -141,11 +141,11 @@ class Retry:
 
 @dataclass(frozen=True)
 class LinesSource:
-    """Lines of a FIFO, or of standard input where there is no path. `orders`: whether lines may be orders. `hold`: whether the
-    FIFO is held open, so that it doesn't end with its last writer."""
+    """Lines of a FIFO. `orders`: whether lines may be orders. `hold`: whether the FIFO is held open, so that it doesn't end
+    with its last writer."""
 
     name: str
-    path: Path | None
+    path: Path
     orders: bool
     hold: bool
     retry: Retry

@@ -9,7 +9,7 @@ from collections.abc import Callable
 from dataclasses import dataclass, field
 
 from alarmd_gateway.commands import fit
-from alarmd_gateway.model import Order, Plant, Reply, Sample, Value
+from alarmd_gateway.model import Plant, Sample, Value
 from alarmd_gateway.samples import Ages
 from alarmd_gateway.fields.source import Intake, Source
 from alarmd_gateway.troubles import Troubles
@@ -24,18 +24,11 @@ class Kept:
     plant: Plant
     troubles: Troubles = field(default_factory=Troubles)
     samples: list[tuple[str, Value]] = field(default_factory=list)
-    orders: list[Order] = field(default_factory=list)
     outputs: dict[str, Value] = field(default_factory=dict)
 
     async def offer(self, sample: Sample) -> None:
         variable, value = fit(self.plant, sample.name, sample.value)
         self.samples.append((variable.name, value))
-
-    async def order(
-        self, order: Order, user: str | None = None, reason: str | None = None
-    ) -> Reply:
-        self.orders.append(order)
-        return Reply("OK", ("REPLY OK",))
 
     def intake(self, limits: dict[str, float] | None = None) -> Intake:
         return Intake(self, Ages(limits or {}, time.monotonic()))

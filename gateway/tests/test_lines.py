@@ -6,11 +6,8 @@ import asyncio
 import os
 from pathlib import Path
 
-import pytest
-
 from alarmd_gateway import plant as plants
-from alarmd_gateway.fields.lines import LineSource, Lines
-from alarmd_gateway.fields.printer import Printer
+from alarmd_gateway.fields.lines import LineSource
 from alarmd_gateway.fields.source import Backoff
 from alarmd_gateway.mapping import LinesSource, Retry
 from field_help import Kept, Running, until
@@ -18,14 +15,18 @@ from field_help import Kept, Running, until
 SOON = Retry(0.02, 0.1)
 
 
-class Page(Printer):
-    """Keeps what would be printed."""
+class Page:
+    """Keeps what would be printed, and the orders."""
 
     def __init__(self) -> None:
         self.lines: list[str] = []
+        self.orders: list[str] = []
 
     def put(self, line: str) -> None:
         self.lines.append(line)
+
+    async def order(self, line: str) -> None:
+        self.orders.append(line)
 
 
 def write(path: Path, text: str) -> None:
@@ -63,21 +64,14 @@ def test_samples_and_orders(examples: Path, tmp_path: Path) -> None:
             write(it.path, "60\n")  # a line may come in pieces
             await until(lambda: len(it.kept.samples) == 3)
             assert it.kept.samples == [("level", 250), ("running", True), ("level", 260)]
-            assert [order.line() for order in it.kept.orders] == [
-                "ack 1 LAL-101",
-                "shelve 2 RAH-104 60000",
-            ]
-            assert it.page.lines == [
-                "ack 1 LAL-101: OK, done",
-                "shelve 2 RAH-104 60000: OK, done",
-            ]
-            assert not it.kept.standing()
+            assert it.page.orders == ["ack 1 LAL-101", "shelve 2 RAH-104 60000"]
+            assert not it.page.lines and not it.kept.standing()
 
     asyncio.run(body())
 
 
 def test_mistakes_are_answered(examples: Path, tmp_path: Path) -> None:
-    lines = ["akc 1 LAL-101", "help", "ack LAL-101", "ack 1 LAL-101 now", "level = 5"]
+    lines = ["akc 1 LAL-101", "hepl", "ack LAL-101", "ack 1 LAL-101 now", "level = 5"]
     wrong = ["levl=5", "level=high", "pump=TRUE", "level=2147483648"]
 
     async def body() -> None:
@@ -86,7 +80,7 @@ def test_mistakes_are_answered(examples: Path, tmp_path: Path) -> None:
             await until(lambda: it.source.is_up)
             write(it.path, "\n".join([*lines, *wrong, "running=TRUE"]) + "\n")
             await until(lambda: it.kept.samples)
-            assert it.kept.samples == [("running", True)] and not it.kept.orders
+            assert it.kept.samples == [("running", True)] and not it.page.orders
             assert len(it.page.lines) == 9
             assert all(line.startswith("REFUSED L1") for line in it.page.lines[:5])
             assert "level takes a whole number" in it.page.lines[6]
@@ -106,8 +100,8 @@ def test_without_leave_no_order_is_taken(examples: Path, tmp_path: Path) -> None
             await until(lambda: it.source.is_up)
             write(it.path, "ack 1 LAL-101\nlevel=1\n")
             await until(lambda: it.kept.samples)
-            assert not it.kept.orders
-            assert it.page.lines == ["REFUSED ack: fifo takes no orders (its key orders)"]
+            assert not it.page.orders
+            assert it.page.lines == ["REFUSED L1: fifo takes samples alone (its key orders)"]
 
     asyncio.run(body())
 
@@ -155,28 +149,8 @@ def test_where_it_is_not_held_the_last_writer_is_the_source(examples: Path, tmp_
     asyncio.run(body())
 
 
-def test_lines_are_cut_at_their_ends() -> None:
-    lines = Lines()
-    assert lines.feed(b"a\r\nb") == ["a"]
-    assert lines.feed(b"c\n\n") == ["bc", ""]
-    assert lines.feed(b"x" * 1_048_577) == []
-    assert lines.feed(b"x" * 1_048_577 + b"\nd\n") == [None, "d"]
-    assert lines.feed(b"e\xff") == []
-    assert lines.end() == ["e\ufffd"]
-    assert lines.end() == []
-
-
 def test_tries_come_later_and_later() -> None:
     backoff = Backoff(Retry(0.5, 3.0))
     assert [backoff.wait() for _ in range(5)] == [0.5, 1.0, 2.0, 3.0, 3.0]
     backoff.reset()
     assert backoff.wait() == 0.5
-
-
-def test_a_printer_whose_reader_has_gone_holds_up_nobody(
-    monkeypatch: pytest.MonkeyPatch,
-) -> None:
-    printer = Printer()
-    monkeypatch.setattr("builtins.print", lambda *_, **__: (_ for _ in ()).throw(OSError()))
-    for number in range(20_000):
-        printer.put(str(number))

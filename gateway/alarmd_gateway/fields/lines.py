@@ -1,93 +1,47 @@
-"""Lines of a FIFO or of standard input: samples as `level=250 running=TRUE`, and orders as `ack 1 LAL-101`.
+"""Lines of a FIFO: samples as `level=250 running=TRUE`, and, where that is let, orders as `ack 1 LAL-101`.
 
-Each order, and each line that is wrong, is answered on standard output, as the server answers it."""
+Each order, and each line that is wrong, is answered on standard output."""
 
 from __future__ import annotations
 
 import asyncio
 import os
 import stat
-import threading
 from collections.abc import Callable
 from pathlib import Path
-from typing import Final
+from typing import Final, Protocol
 
-from ..commands import VERBS, check, order
+from ..input import MOST, Lines
 from ..mapping import LinesSource
-from ..model import GatewayFault, Order, Value
-from ..troubles import TroubleKind
-from .printer import Printer
-from .source import LINE_BYTES, Intake, Lost, Source
+from ..model import Sample, Value
+from ..typed import Mistake, read
+from .source import Intake, Lost, Source
 
 CHUNK: Final = 65_536
-HINT: Final = "samples are NAME=VALUE .., an order is VERB CONSOLE TAG"
+LOOK_SECONDS: Final = 1.0  # between two looks whether the FIFO is still there
 
 
-class Lines:
-    """Cuts bytes into lines. One that is too long comes as None."""
+class Answers(Protocol):
+    """Who answers lines."""
 
-    def __init__(self) -> None:
-        self._rest = b""
-        self._too_long = False
+    def put(self, line: str) -> None:
+        """A line for whoever reads the answers."""
 
-    def feed(self, data: bytes) -> list[str | None]:
-        """The lines that end in this data."""
-        *ended, self._rest = (self._rest + data).split(b"\n")
-        lines = [self._line(line) for line in ended]
-        if len(self._rest) > LINE_BYTES:
-            self._rest, self._too_long = b"", True
-        return lines
-
-    def end(self) -> list[str | None]:
-        """What stands behind the last line's end counts as a line."""
-        return self.feed(b"\n") if self._rest or self._too_long else []
-
-    def _line(self, line: bytes) -> str | None:
-        too_long, self._too_long = self._too_long or len(line) > LINE_BYTES, False
-        return None if too_long else line.decode("utf-8", "replace").rstrip("\r")
+    async def order(self, line: str) -> None:
+        """Takes an order or a question, and answers it."""
 
 
 class LineSource(Source):
     """Lines, one after another: the next isn't looked at before the last has been taken."""
 
-    def __init__(self, given: LinesSource, intake: Intake, printer: Printer) -> None:
+    def __init__(self, given: LinesSource, intake: Intake, answers: Answers) -> None:
         super().__init__(given.name, given.retry, intake)
         self._given = given
-        self._printer = printer
+        self._answers = answers
 
     async def session(self, current: Callable[[], dict[str, Value]]) -> None:
-        """Reads a FIFO until it is lost, or standard input to its end, which is told as a trouble that stays."""
-        if self._given.path is None:
-            await self._read_input()
-            words = f"{self.name}: standard input has ended"
-            self.intake.troubles.raises(TroubleKind.SOURCE, self.name, words)
-            return
-        await self._read_fifo(self._given.path)
-
-    async def _read_input(self) -> None:
-        """Standard input is whatever was given, a file too: a thread reads it, and waits for each piece to be taken."""
-        self.up()
-        loop, done, lines = asyncio.get_running_loop(), asyncio.Event(), Lines()
-
-        def read() -> None:
-            try:
-                while data := os.read(0, CHUNK):
-                    asyncio.run_coroutine_threadsafe(self._take(lines.feed(data)), loop).result()
-                asyncio.run_coroutine_threadsafe(self._take(lines.end()), loop).result()
-            except (OSError, RuntimeError, asyncio.CancelledError):
-                pass
-            finally:
-                try:
-                    loop.call_soon_threadsafe(done.set)
-                except RuntimeError:
-                    pass  # the gateway has ended meanwhile
-
-        threading.Thread(target=read, name="standard input", daemon=True).start()
-        await done.wait()
-
-    async def _read_fifo(self, path: Path) -> None:
-        file = open_fifo(path, self._given.hold)
-        lines = Lines()
+        """Reads the FIFO until it isn't there any more, or, where it isn't held open, until its last writer closes it."""
+        file, lines = open_fifo(self._given.path, self._given.hold), Lines()
         try:
             data = read_now(file)
             while data is None or data:
@@ -95,7 +49,7 @@ class LineSource(Source):
                     self.up()
                 if data:
                     await self._take(lines.feed(data))
-                data = await read_ready(file, path)
+                data = await read_ready(file, self._given.path)
             await self._take(lines.end())
             raise Lost("nobody writes to it")
         finally:
@@ -103,44 +57,26 @@ class LineSource(Source):
 
     async def _take(self, lines: list[str | None]) -> None:
         for line in lines:
-            words = [] if line is None else line.split()
             if line is None:
-                self._printer.put("REFUSED L1: the line is too long")
-            elif words and words[0] in VERBS:
-                await self._order(words)
-            elif words and not words[0].startswith("#"):
-                await self._samples(words)
+                self._answers.put(f"REFUSED L1: a line has at most {MOST} bytes")
+                continue
+            try:
+                found = read(line, self.name)
+            except Mistake as mistake:
+                self._answers.put(f"REFUSED L1: {mistake}")
+                continue
+            if isinstance(found, list):
+                await self._samples(found)
+            elif found is not None and self._given.orders:
+                await self._answers.order(line)
+            elif found is not None:
+                self._answers.put(f"REFUSED L1: {self.name} takes samples alone (its key orders)")
 
-    async def _samples(self, words: list[str]) -> None:
-        if not all("=" in word for word in words):
-            self._printer.put(f"REFUSED L1: {HINT}: {' '.join(words)[:80]}")
-            return
-        for word in words:
-            name, _, value = word.partition("=")
-            why = await self.intake.give(self.name, name, value)
+    async def _samples(self, samples: list[Sample]) -> None:
+        for sample in samples:
+            why = await self.intake.give(self.name, sample.name, sample.value)
             if why is not None:
-                self._printer.put(f"REFUSED {word[:80]}: {why}")
-
-    async def _order(self, words: list[str]) -> None:
-        found = order(words)
-        if not self._given.orders:
-            self._printer.put(f"REFUSED {words[0]}: {self.name} takes no orders (its key orders)")
-        elif found is None:
-            self._printer.put(f"REFUSED L1: {HINT}: {' '.join(words)[:80]}")
-        else:
-            await self._give(found)
-
-    async def _give(self, found: Order) -> None:
-        try:
-            check(found)
-            reply = await self.intake.taker.order(found, self.name)
-        except ValueError as fault:
-            self._printer.put(f"REFUSED L1: {fault}")
-            return
-        except GatewayFault as fault:
-            self._printer.put(f"REFUSED {found.line()}: {fault.words}")
-            return
-        self._printer.put(f"{found.line()}: {reply.code}, {reply.why}")
+                self._answers.put(f"REFUSED sample: {why}")
 
 
 def open_fifo(path: Path, hold: bool) -> int:
@@ -168,7 +104,7 @@ async def read_ready(file: int, path: Path) -> bytes:
         ready: asyncio.Future[None] = loop.create_future()
         loop.add_reader(file, lambda: None if ready.done() else ready.set_result(None))
         try:
-            await asyncio.wait_for(ready, 1)
+            await asyncio.wait_for(ready, LOOK_SECONDS)
         except asyncio.TimeoutError:
             still_there(file, path)
         finally:

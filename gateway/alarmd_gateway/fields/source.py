@@ -6,15 +6,12 @@ import abc
 import asyncio
 import time
 from collections.abc import Callable
-from typing import Final, Protocol
+from typing import Protocol
 
 from ..mapping import Retry
-from ..model import BadSample, Order, Plant, Reply, Sample, Value
+from ..model import BadSample, Plant, Sample, Value
 from ..samples import Ages
 from ..troubles import TroubleKind, Troubles
-
-LINE_BYTES: Final = 1_048_576
-"""A line or a payload has at most so many bytes."""
 
 
 class Lost(Exception):
@@ -34,11 +31,6 @@ class Taker(Protocol):
 
     async def offer(self, sample: Sample) -> None:
         """Takes a sample; raises BadSample."""
-
-    async def order(
-        self, order: Order, user: str | None = None, reason: str | None = None
-    ) -> Reply:
-        """Gives an order, and its answer."""
 
 
 class Intake:
