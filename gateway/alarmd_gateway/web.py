@@ -4,7 +4,6 @@ from __future__ import annotations
 
 import asyncio
 import hashlib
-import hmac
 from contextlib import suppress
 from pathlib import Path
 
@@ -18,6 +17,7 @@ from .guard import LARGEST_BODY, Guard, Refused
 from .live import Live
 from .metrics import Count, Metrics
 from .model import GatewayFault
+from .sessions import same
 from .web_config import WebConfig, web_config
 
 FOLDER = Path(__file__).parent / "page"
@@ -139,7 +139,7 @@ class Web:
     async def _metrics(self, request: web.Request) -> web.Response:
         token = self.config.metrics_token
         given = request.headers.get("Authorization", "").removeprefix("Bearer ")
-        by_token = token is not None and hmac.compare_digest(given.encode(), token.encode())
+        by_token = token is not None and same(given, token)
         if not by_token and self.config.users is not None:
             self.guard.session(request)
         return web.Response(
