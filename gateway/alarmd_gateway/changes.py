@@ -90,6 +90,10 @@ class Subscription(AsyncIterator[Change]):
             await self._came.wait()
         return self._waiting.popleft()
 
+    def more(self, most: int) -> list[Change]:
+        """Those changes that wait already, at most so many; none where none waits."""
+        return [self._waiting.popleft() for _ in range(min(most, len(self._waiting)))]
+
     def close(self) -> None:
         """No more changes are wanted."""
         self._board.leave(self)

@@ -26,7 +26,8 @@ from .view import Texts, View
 
 LARGEST_FRAME = 4096  # bytes
 BEAT = 0.8  # seconds
-MOST_AT_ONCE = 200  # changes in a message
+MOST_AT_ONCE = 500  # changes in a message
+ROOM = 60_000  # changes that may wait for a page: three of each alarm of the largest plant
 SLOWEST = 15.0  # seconds in which a message has to leave
 PING = 20.0  # seconds between two pings of the WebSocket's own
 
@@ -46,7 +47,9 @@ class Live:
     async def handle(self, request: web.Request) -> web.WebSocketResponse:
         """Serves a page until it, its session or the gateway ends."""
         session = self._guard.session(request)
-        socket = web.WebSocketResponse(max_msg_size=LARGEST_FRAME, heartbeat=PING, compress=False)
+        socket = web.WebSocketResponse(
+            max_msg_size=LARGEST_FRAME + 1, heartbeat=PING, compress=False
+        )
         await socket.prepare(request)
         self._open.add(socket)
         reader = asyncio.create_task(drain(socket))
@@ -73,7 +76,7 @@ class Live:
     async def _write(self, socket: web.WebSocketResponse, session: Session) -> None:
         """Sends snapshots and what changes after them, until the core closes or the session ends."""
         while self._guard.sessions.lasts(session):
-            subscription = self._core.subscribe()
+            subscription = self._core.subscribe(ROOM)
             try:
                 if not await self._follow(socket, session, subscription):
                     return
@@ -117,21 +120,18 @@ class Feed:
 
     async def next(self, patience: float) -> list[Change] | None:
         """The changes that are there, none after so many seconds, None at the core's end. Raises CutOff."""
-        found: list[Change] = []
-        while len(found) < MOST_AT_ONCE:
-            if self._waiting is None:
-                self._waiting = asyncio.ensure_future(anext(self._subscription))
-            done, _ = await asyncio.wait({self._waiting}, timeout=0 if found else patience)
-            if not done:
-                return found
-            task, self._waiting = self._waiting, None
-            try:
-                change = task.result()
-            except StopAsyncIteration:
-                return None
-            if change.number > self._number:
-                found.append(change)
-        return found
+        if self._waiting is None:
+            self._waiting = asyncio.ensure_future(anext(self._subscription))
+        done, _ = await asyncio.wait({self._waiting}, timeout=patience)
+        if not done:
+            return []
+        task, self._waiting = self._waiting, None
+        try:
+            first = task.result()
+        except StopAsyncIteration:
+            return None
+        found = [first, *self._subscription.more(MOST_AT_ONCE - 1)]
+        return [change for change in found if change.number > self._number]
 
     def beat_is_due(self) -> bool:
         """Whether the last beat is so long ago that another one is due; it counts as sent then."""
