@@ -16,6 +16,7 @@ COMMANDS = {  # the word, its module, what it does. A new command is one line
     "journal": ("show", "CONFIG [--from N] [--csv]: the journal, by the record"),
     "password": ("password", "a password as the file of users keeps it"),
     "test": ("cases", "PLANT CASES ..: cases of a plant, and what differs"),
+    "simulate": ("simulate", "PLANT MODEL [--page]: a plant whose field is a model of it"),
 }
 
 

@@ -5,12 +5,24 @@ from __future__ import annotations
 import time
 from collections.abc import Callable
 from datetime import timedelta
-from typing import Final
+from typing import Final, TypeAlias
 
 from .model import LAST_MOMENT, Plant, civil
 
 DRIFT_MS: Final = 10_000
 """By so much the time of day may part from the moments before it is a trouble."""
+
+
+Seconds: TypeAlias = Callable[[], float]
+
+
+def clocks(speed: int) -> tuple[Seconds, Seconds]:
+    """The time of day and a clock that nobody sets; both go `speed` times as fast from now on."""
+    if speed == 1:
+        return time.time, time.monotonic
+    day, steady = time.time(), time.monotonic()
+    gone: Seconds = lambda: (time.monotonic() - steady) * speed
+    return lambda: day + gone(), lambda: steady + gone()
 
 
 class Clock:
@@ -21,8 +33,8 @@ class Clock:
         plant: Plant,
         last: int | None,
         gap_ms: int,
-        day: Callable[[], float] = time.time,
-        steady: Callable[[], float] = time.monotonic,
+        day: Seconds = time.time,
+        steady: Seconds = time.monotonic,
     ) -> None:
         """`last` is the moment of the record's last scan, None where it has none; `gap_ms` is how far from it the first moment
         may be unasked. `day` gives the seconds since 1970, `steady` those of a clock that nobody sets.

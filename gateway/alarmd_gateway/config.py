@@ -121,6 +121,7 @@ class Config:
     console: bool | None = None  # standard input is read; None: where nothing else brings anything
     yes: bool = False  # questions at the start are answered with yes
     restarts: int = 3  # so often in a row alarmd is started again, without a scan between
+    speed: int = 1  # moments go so many times as fast as the time of day: for simulations alone
     tables: dict[str, Any] = field(default_factory=dict)
 
     def table(self, name: str) -> Table:

@@ -44,9 +44,17 @@ class Console:
         """Each by itself, so that a bad one takes no other along."""
         for sample in samples:
             try:
-                await self._core.offer(sample)
+                await self._sample(sample)
             except BadSample as fault:
                 self._output.put(f"REFUSED sample: {fault}")
+
+    async def _sample(self, sample: Sample) -> None:
+        disturbances = self._core.disturbances
+        if disturbances is not None and disturbances.has(sample.name):
+            disturbances.disturb(sample.name, sample.value)
+            self._output.put(f"# {sample.name} is {sample.value} from the next scan on")
+        else:
+            await self._core.offer(sample)
 
     async def _order(self, order: Order) -> None:
         try:

@@ -8,20 +8,32 @@ from __future__ import annotations
 
 import asyncio
 from collections import deque
-from collections.abc import Mapping
+from collections.abc import Awaitable, Callable, Mapping
 from dataclasses import dataclass, field
 from datetime import datetime, timezone
+from typing import Protocol
 
 from . import commands
 from .announcer import Announcer
 from .changes import Change, ChangeKind, CutOff, Subscription
-from .clock import Clock
+from .clock import Clock, clocks
 from .commands import Scan
 from .config import Config
 from .first_moment import FirstMoment
 from .journal import Journal
 from .link import Link
-from .model import MOST_EVENTS, GatewayFault, Json, Order, Reply, Sample, ServerGone, civil
+from .model import (
+    MOST_EVENTS,
+    GatewayFault,
+    Json,
+    Order,
+    Reply,
+    Sample,
+    ServerGone,
+    Value,
+    Variable,
+    civil,
+)
 from .questions import Answer, Question, Questions
 from .renewal import Renewal
 from .samples import SampleQueue
@@ -41,6 +53,19 @@ class Snapshot:
         """`number`, `plant` (`name`, `epoch`, `areas`, `consoles`, `sources`), `now` (civil), the fields of State.json,
         `journal` (how many rows), `troubles`, `questions`."""
         return {"number": self.number, **self.data}
+
+
+class Disturbances(Protocol):
+    """What a person may set in a simulation, beside the plant."""
+
+    def has(self, name: str) -> bool:
+        """Whether there is one of this name, in any letter case."""
+
+    def disturb(self, name: str, value: Value | str) -> None:
+        """Sets one. Raises BadSample."""
+
+    def values(self) -> list[tuple[Variable, Value]]:
+        """All of them, and what each is."""
 
 
 @dataclass
@@ -69,10 +94,12 @@ class Core:
         self._announcer = Announcer(link)
         self._questions = Questions(self._announcer.asked)
         last = self.state.moment if self.state.scanned else None
-        self._clock = Clock(link.plant, last, config.gap_ms)
+        self._clock = Clock(link.plant, last, config.gap_ms, *clocks(config.speed))
         self._first = FirstMoment(self._clock, self._questions, link.troubles, config.yes)
         self._renewal = Renewal(config, link, self._clock, self._questions)
         self._queue = SampleQueue()
+        self.disturbances: Disturbances | None = None  # of a simulation
+        self.before_scan: Callable[[int], Awaitable[None]] | None = None  # told of its moment
         self._jobs: deque[_Job] = deque()
         self._wake = asyncio.Event()
         self._taken = asyncio.Event()
@@ -238,7 +265,10 @@ class Core:
     async def _scan(self) -> None:
         now, period = asyncio.get_running_loop().time(), self.config.period_ms / 1000
         self._due = (self._due if 0 <= now - self._due < period else now) + period
-        scan = Scan(self._clock.now(), self._queue.take())
+        moment = self._clock.now()
+        if self.before_scan is not None:
+            await self.before_scan(moment)
+        scan = Scan(moment, self._queue.take())
         answer, happened = await self._link.give(scan)
         self._announcer.happened(happened)
         self._announcer.scanned(answer[-1])

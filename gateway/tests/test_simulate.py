@@ -1,0 +1,237 @@
+"""The tank with its model: an hour and a day of it, disturbances, and models that don't fit."""
+
+from __future__ import annotations
+
+import asyncio
+import os
+import pty
+import shutil
+import signal
+import subprocess
+from collections import Counter
+from pathlib import Path
+
+import pytest
+
+from alarmd_gateway.core import Core
+from alarmd_gateway.model import BadSample, Code, GatewayFault
+from alarmd_gateway.simulate import Simulation, attach
+from core_help import Served, by_core, by_record, config_of
+from field_help import until
+
+GATEWAY = Path(__file__).resolve().parents[1] / "gateway"
+HOUR = 3_600_000
+
+
+class Simulated:
+    """A tank that is simulated, a hundred times as fast as time, or as the test says."""
+
+    def __init__(
+        self,
+        alarmd: Path,
+        examples: Path,
+        folder: Path,
+        model: Path | None = None,
+        speed: int = 100,
+    ) -> None:
+        tank = examples / "tank"
+        table = {"model": str(model or tank / "model" / "plant.toml")}
+        self.config = config_of(
+            alarmd,
+            tank / "plant.toml",
+            folder,
+            period_ms=max(1, 1000 // speed),
+            speed=speed,
+            tables={"simulate": table},
+        )
+
+    async def __aenter__(self) -> Simulated:
+        self.core = await Core.start(self.config)
+        try:
+            simulation = await attach(self.core, self.config)
+            assert simulation is not None
+            self.simulation: Simulation = simulation
+        except BaseException:
+            served = Served(self.core)
+            await served.close()
+            raise
+        self._served = Served(self.core)
+        return self
+
+    async def __aexit__(self, *_: object) -> None:
+        await self._served.close()
+        await self.simulation.close()
+
+    def code(self, tag: str) -> Code:
+        return self.core.state.by_tag[tag].code
+
+
+async def play(it: Simulated, milliseconds: int, seconds: float) -> Counter[str]:
+    """Lets so much time of the plant pass, and counts the alarms that came."""
+    await until(lambda: it.core.state.scanned)
+    end = it.core.state.moment + milliseconds
+    lowest, highest = 1000, 0
+    while (moment := it.core.state.moment) < end:
+        await until(lambda: it.core.state.moment > moment, seconds)
+        level = int(it.core.state.inputs["level"])
+        lowest, highest = min(lowest, level), max(highest, level)
+        assert not it.core.state.stopped and not list(it.core.troubles)
+    assert 200 < lowest <= highest < 900
+    rows = [row.words for row in it.core.journal.rows()]
+    return Counter(words[1] for words in rows if words[0] == "ALARM" and words[3] == "UNACK")
+
+
+def assert_cycles(came: Counter[str], milliseconds: int) -> None:
+    """500 mm down by 7 mm a second and up by 12 are 113 seconds: each brings one low and one high level, and nothing else."""
+    assert set(came) <= {"LAL-101", "LAH-101"}
+    cycles = milliseconds / 113_095
+    assert cycles * 0.8 - 2 <= came["LAL-101"] <= cycles * 1.1 + 2
+    assert abs(came["LAL-101"] - came["LAH-101"]) <= 1
+
+
+@pytest.mark.server
+def test_a_quarter_of_an_hour_of_the_tank(alarmd: Path, examples: Path, tmp_path: Path) -> None:
+    async def body() -> None:
+        async with Simulated(alarmd, examples, tmp_path, speed=200) as it:
+            came = await play(it, HOUR // 4, 120)
+        assert_cycles(came, HOUR // 4)
+        assert by_core(it.core) == by_record(it.config)
+
+    asyncio.run(body())
+
+
+@pytest.mark.server
+@pytest.mark.long
+def test_a_day_of_the_tank(alarmd: Path, examples: Path, tmp_path: Path) -> None:
+    async def body() -> None:
+        async with Simulated(alarmd, examples, tmp_path, speed=400) as it:
+            came = await play(it, 24 * HOUR, 1200)
+        assert_cycles(came, 24 * HOUR)
+        assert by_core(it.core) == by_record(it.config)
+
+    asyncio.run(body())
+
+
+@pytest.mark.server
+def test_disturbances_become_alarms(alarmd: Path, examples: Path, tmp_path: Path) -> None:
+    async def body() -> None:
+        async with Simulated(alarmd, examples, tmp_path) as it:
+            names = [variable.name for variable, _ in it.simulation.values()]
+            assert names == ["switched", "outlet", "blocked", "stuck", "rich"]
+            assert it.core.disturbances is it.simulation
+            it.simulation.disturb("RICH", "TRUE")
+            await until(lambda: it.code("RAH-104") is Code.UNACK)
+            it.simulation.disturb("rich", False)
+            await until(lambda: it.code("RAH-104") is Code.RTNUN)
+            it.simulation.disturb("stuck", True)
+            await until(lambda: it.code("TAHH-102") is Code.UNACK)
+            it.simulation.disturb("stuck", False)
+            await until(lambda: it.code("TAHH-102") is Code.LATUN)
+            it.simulation.disturb("switched", False)
+            await until(lambda: it.code("LAL-101") is Code.SUPPR)
+            it.simulation.disturb("switched", True)
+            it.simulation.disturb("blocked", True)
+            await until(lambda: "dose" in it.core.state.stopped)
+            await until(lambda: it.code("FAL-103") is Code.UNACK)
+            assert it.core.state.inputs["flow"] == 0
+            for name in ("pump", "elapsed_ms", "none", "outlet"):
+                with pytest.raises(BadSample):
+                    it.simulation.disturb(name, "x")
+
+    asyncio.run(body())
+
+
+@pytest.mark.server
+def test_a_model_whose_server_ends_begins_anew(
+    alarmd: Path, examples: Path, tmp_path: Path
+) -> None:
+    async def body() -> None:
+        async with Simulated(alarmd, examples, tmp_path) as it:
+            await until(lambda: it.core.state.scanned)
+            seen: list[tuple[str, bool]] = []
+            it.core.troubles.listen(lambda trouble, stands: seen.append((trouble.subject, stands)))
+            server = it.simulation._model._server
+            assert server is not None
+            os.kill(server.pid, signal.SIGKILL)
+            await until(lambda: seen == [("model", True), ("model", False)])
+            moment = it.core.state.moment
+            await until(lambda: it.core.state.moment > moment + 5000)
+
+    asyncio.run(body())
+
+
+def changed(examples: Path, folder: Path, old: str, new: str) -> Path:
+    """The model with a change in its source."""
+    shutil.copytree(examples / "tank" / "model", folder / "model")
+    source = folder / "model" / "model.st"
+    text = source.read_text()
+    assert old in text
+    source.write_text(text.replace(old, new))
+    return folder / "model" / "plant.toml"
+
+
+@pytest.mark.server
+@pytest.mark.parametrize(
+    ("old", "new", "status", "words"),
+    [
+        (
+            "pump       AT %IX0.0 : BOOL",
+            "pump       AT %ID9 : DINT",
+            2,
+            "pump is a DINT and a BOOL",
+        ),
+        ("AT %Q", "AT %M", 2, "no output of the model"),
+        ("running := switched;", "running := switch;", 3, "alarmd refuses the plant: CONFIG C6"),
+    ],
+)
+def test_a_model_that_does_not_fit(
+    alarmd: Path, examples: Path, tmp_path: Path, old: str, new: str, status: int, words: str
+) -> None:
+    async def body() -> None:
+        model = changed(examples, tmp_path, old, new)
+        if status == 2:  # what uses the pump is changed with it
+            source = model.parent / "model.st"
+            source.write_text(source.read_text().replace("ELSIF pump THEN", "ELSIF pump = 0 THEN"))
+        with pytest.raises(GatewayFault) as found:
+            async with Simulated(alarmd, examples, tmp_path, model):
+                pass
+        assert found.value.status == status and words in found.value.words
+
+    asyncio.run(body())
+
+
+@pytest.mark.server
+def test_the_command_takes_disturbances_and_ends_in_order(alarmd: Path, examples: Path) -> None:
+    ours, theirs = pty.openpty()
+    tank = examples / "tank"
+    words = [str(GATEWAY), "simulate", str(tank / "plant.toml"), str(tank / "model" / "plant.toml")]
+    process = subprocess.Popen(
+        [*words, "--alarmd", str(alarmd), "--speed", "50"],
+        stdin=theirs,
+        stdout=subprocess.PIPE,
+        stderr=subprocess.PIPE,
+        text=True,
+    )
+    try:
+        assert process.stdout is not None
+        assert process.stdout.readline().startswith("OUT ")
+        os.write(ours, b"rich=TRUE\nlevel=5x\n")
+        lines: list[str] = []
+        while not any("RAH-104 NORM UNACK" in line for line in lines):
+            lines.append(process.stdout.readline())
+            assert lines[-1]
+        assert "# rich is TRUE from the next scan on\n" in lines
+        process.send_signal(signal.SIGTERM)
+        assert process.wait(60) == 0
+    finally:
+        process.kill()
+        process.communicate()
+        os.close(ours)
+        os.close(theirs)
+
+
+@pytest.mark.parametrize("more", [["--speed", "0"], ["--period-ms", "0"], ["--what"], []])
+def test_wrong_words_are_status_2(more: list[str]) -> None:
+    done = subprocess.run([str(GATEWAY), "simulate", *more], capture_output=True, text=True)
+    assert done.returncode == 2
+    assert done.stderr.startswith("SERVER gateway simulate: ")
