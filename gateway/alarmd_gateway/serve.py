@@ -20,7 +20,7 @@ from .model import GatewayFault
 from .output import Output
 from .words import Words
 
-PARTS: tuple[str, ...] = ("field", "simulate")
+PARTS: tuple[str, ...] = ("field", "simulate", "web")
 """The modules of the parts. Each has `async attach(core, config) -> Part | None`, None where its table isn't there."""
 
 
