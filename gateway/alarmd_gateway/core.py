@@ -82,6 +82,9 @@ class Core:
     """The one owner of server, record, state and journal. `state` and `journal` are new objects after a new record or a new
     start of the server: don't keep them."""
 
+    disturbances: Disturbances | None = None  # of a simulation
+    before_scan: Callable[[int], Awaitable[None]] | None = None  # told of its moment
+
     def __init__(self, config: Config, link: Link) -> None:
         """`start` makes one."""
         self.config = config
@@ -98,8 +101,6 @@ class Core:
         self._first = FirstMoment(self._clock, self._questions, link.troubles, config.yes)
         self._renewal = Renewal(config, link, self._clock, self._questions)
         self._queue = SampleQueue()
-        self.disturbances: Disturbances | None = None  # of a simulation
-        self.before_scan: Callable[[int], Awaitable[None]] | None = None  # told of its moment
         self._jobs: deque[_Job] = deque()
         self._wake = asyncio.Event()
         self._taken = asyncio.Event()

@@ -13,6 +13,7 @@ from .api import Api
 from .config import WORDS_STATUS, Config
 from .connections import Connection, Limit
 from .core import Core
+from .disturbing import Disturbing
 from .guard import LARGEST_BODY, Guard, Refused
 from .live import Live
 from .metrics import Count, Metrics
@@ -67,6 +68,7 @@ class Web:
         self.config = config
         self.guard = Guard(config.users, consoles, config.port, config.tls is not None)
         self.limit = Limit(config.connections)
+        self._core = core
         self.live = Live(core, self.guard)
         self.api = Api(core, self.guard)
         self.metrics = Metrics(core, self.api.orders, self._counts())
@@ -86,6 +88,7 @@ class Web:
                 web.get("/metrics", self._metrics),
                 web.get("/api/live", self.live.handle),
                 *self.api.routes(),
+                *Disturbing(self._core, self.guard).routes(),
             ]
         )
         self._runner = web.AppRunner(app, handle_signals=False, access_log=None)

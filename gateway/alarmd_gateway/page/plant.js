@@ -2,6 +2,7 @@
 
 import { $, el, setText } from "./dom.js";
 import { restart, stoppedPlace } from "./banner.js";
+import { Disturb } from "./disturb.js";
 import { VirtualList } from "./rows.js";
 import { shortTime, value } from "./words.js";
 
@@ -50,8 +51,10 @@ export class PlantScreen {
     });
     const part = (title, list, name) => el("div", { class: `part ${name}` }, el("h2", {}, title), list.grid);
     this.more = el("p", { class: "more" });
+    this.disturb = new Disturb();
     $("plant").append(
       el("div", { class: "parts" }, part("Programs", this.programs, "programs"), part("Inputs", this.inputs, "inputs"), part("Outputs", this.outputs, "outputs")),
+      this.disturb.part,
       this.more,
     );
   }
@@ -71,6 +74,10 @@ export class PlantScreen {
     this.outputs.show(rows(store.outputs, store.values.outputs));
     this.programs.show(store.programs.map((one) => ({ ...one, stopped: store.stopped.get(one.name) })));
     setText(this.more, store.eventsLeft === null ? "" : `${store.eventsLeft.toLocaleString("en")} of 1,000,000 events are left in this record.`);
+  }
+
+  opened() {
+    this.disturb.load();
   }
 
   key() {
