@@ -8,7 +8,7 @@ import { FiguresScreen } from "./figures.js";
 import { get, post, setToken } from "./http.js";
 import { JournalScreen } from "./journal.js";
 import { Live } from "./live.js";
-import { tell } from "./orders.js";
+import { settled, tell } from "./orders.js";
 import { PlantScreen } from "./plant.js";
 import { Store } from "./store.js";
 import { longTime } from "./words.js";
@@ -62,6 +62,7 @@ function askLogin(words = "") {
   $("login").hidden = false;
   setText($("login-message"), words);
   $("login-name").focus();
+  $("login-name").select();
   document.title = "Alarms";
 }
 
@@ -114,6 +115,7 @@ async function begin(who) {
     snapshot: (data) => store.takeSnapshot(data),
     changes: (list) => {
       store.takeChanges(list);
+      for (const change of list) if (change.kind === "alarm") settled(change.data.tag);
       if (list.some((change) => change.kind === "anew")) refreshTable();
     },
     heard: () => {},
@@ -144,8 +146,7 @@ async function refreshTable() {
 function setLost(since) {
   if (since && !lostAt) document.querySelector("dialog[open]")?.close(); // it would hide that nothing is live
   lostAt = since;
-  store.live = since === null && !isDead(store);
-  store.changed();
+  draw();
 }
 
 function makeScreens() {
@@ -187,7 +188,11 @@ function showScreen(name) {
 }
 
 function draw() {
-  store.live = lostAt === null && live !== null && live.alive && !isDead(store);
+  const alive = lostAt === null && live !== null && live.alive && !isDead(store);
+  if (alive !== store.live) {
+    store.live = alive;
+    for (const screen of Object.values(screens)) screen.refresh?.();
+  }
   showLink(store, lostAt);
   banner.show();
   drawCounts();

@@ -4,11 +4,22 @@ import { $, setText } from "./dom.js";
 import { post } from "./http.js";
 import { DONE } from "./words.js";
 
-const away = new Set(); // targets of orders that have no answer yet
-const SETTLES = 300; // ms after an answer, in which its change comes
+// Targets of orders that are under way, until the answer is there and the change that it makes too.
+const away = new Map();
+const SETTLES = 1000; // ms after an answer, in which its change comes
 
-export function isAway(target) {
-  return away.has(target);
+export const isAway = (target) => away.has(target);
+
+function end(target) {
+  if (away.delete(target)) document.dispatchEvent(new Event("away"));
+}
+
+// An alarm has changed: an order for it that was answered is done.
+export function settled(target) {
+  const order = away.get(target);
+  if (!order) return;
+  order.changed = true;
+  if (order.answered) end(target);
 }
 
 export function tell(words, bad = false) {
@@ -18,21 +29,22 @@ export function tell(words, bad = false) {
 }
 
 // Gives an order, and says what came of it: null where it was taken, else why it wasn't.
-async function give(order, target, more) {
+async function give(verb, target, more) {
   if (away.has(target)) return "an order for it is under way";
-  away.add(target);
+  const order = { answered: false, changed: verb === "restart" };
+  away.set(target, order);
   document.dispatchEvent(new Event("away"));
+  let why;
   try {
-    const reply = await post("/api/order", { order, target, ...more });
-    return reply.taken ? null : reply.why;
+    const reply = await post("/api/order", { order: verb, target, ...more });
+    why = reply.taken ? null : reply.why;
   } catch (fault) {
-    return fault.message;
-  } finally {
-    setTimeout(() => {
-      away.delete(target);
-      document.dispatchEvent(new Event("away"));
-    }, SETTLES);
+    why = fault.message;
   }
+  order.answered = true;
+  if (order.changed || why !== null) end(target);
+  else setTimeout(() => away.get(target) === order && end(target), SETTLES);
+  return why;
 }
 
 export async function order(verb, target, more = {}) {

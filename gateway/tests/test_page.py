@@ -1,0 +1,470 @@
+"""The operators' page in a browser, before a core without a server: what is shown, what orders do, and the keyboard alone."""
+
+from __future__ import annotations
+
+import time
+from collections.abc import Iterator
+from datetime import datetime, timezone
+
+import pytest
+from browser_help import Keys, Page, browser, until
+from fake_core import FakeCore, fake_plant
+from http_help import two_users
+from served import Served, served
+
+from alarmd_gateway.core import Question
+from alarmd_gateway.model import Code, Order, Verb
+from alarmd_gateway.troubles import TroubleKind
+
+pytestmark = pytest.mark.browser
+
+
+@pytest.fixture(scope="module")
+def page() -> Iterator[Page]:
+    """One browser for all tests of this file; each opens the page anew."""
+    with browser() as found:
+        yield found
+
+
+@pytest.fixture
+def site(page: Page) -> Iterator[Served]:
+    """A plant of 24 alarms without users, opened in the browser. A2, A1 and A5 are unacknowledged, A0 is acknowledged."""
+    with served(FakeCore(fake_plant(24))) as found:
+        core = found.core
+        found.do(lambda: core.scan(1000, {"A0": Code.UNACK, "A2": Code.UNACK, "A1": Code.UNACK}))
+        found.run(core.order(Order(Verb.ACK, 1, "A0"), None, None))
+        found.do(lambda: core.scan(61_000, {"A5": Code.UNACK}))
+        core.orders.clear()
+        page.faults()  # of the test before
+        page.open(found.url)
+        page.until_live()
+        until(lambda: len(page.rows()) == 4)
+        yield found
+        faults = page.faults()
+        page.open("about:blank")
+        assert faults == []
+
+
+def test_unacknowledged_first_then_by_priority_then_the_newest(site: Served, page: Page) -> None:
+    # A1 and A5 have priority 2, A2 has 3, A0 has 1 and is acknowledged
+    assert page.rows() == [("A5", "UNACK"), ("A1", "UNACK"), ("A2", "UNACK"), ("A0", "ACKED")]
+    assert "Unacknowledged" in page.text("#alarms .row[data-tag='A5'] .state")
+    assert page.text("#alarms .row[data-tag='A5'] .since") == "06:01:01"
+    assert page.text("#alarms .row[data-tag='A5'] .text") == "Tank level low"
+    shapes = page.run(
+        "return ['A5', 'A2', 'A0'].map((tag) => {"
+        "const sign = document.querySelector(`#alarms .row[data-tag='${tag}'] svg`);"
+        "return [sign.firstChild.tagName, sign.textContent]})"
+    )
+    assert shapes == [["polygon", "2"], ["polygon", "3"], ["rect", "1"]]
+    assert page.text("#counts").split() == [
+        "1",
+        "0",
+        "/1",
+        "2",
+        "2",
+        "/2",
+        "3",
+        "1",
+        "/1",
+        "4",
+        "0",
+        "/0",
+    ]
+    assert page.run("return document.title") == "(3) Buffer tank"
+
+
+def test_only_what_waits_flashes(site: Served, page: Page) -> None:
+    def fills() -> list[str]:
+        return [
+            str(fill)
+            for fill in page.run(
+                "return ['A5', 'A0'].map((tag) => getComputedStyle("
+                "document.querySelector(`#alarms .row[data-tag='${tag}'] svg > *`)).fill)"
+            )
+        ]
+
+    seen: list[list[str]] = []
+
+    def changed() -> bool:
+        seen.append(fills())
+        return len({fill for fill, _ in seen}) == 2
+
+    until(changed)
+    assert len({fill for _, fill in seen}) == 1
+
+
+def test_acknowledge_one(site: Served, page: Page) -> None:
+    page.choose("A1")
+    page.click("#alarms [data-order=ack]")
+    until(lambda: ("A1", "ACKED") in page.rows())
+    assert site.core.orders == [(Order(Verb.ACK, 1, "A1"), None, None)]
+    until(lambda: page.text("#message") == "A1: acknowledged")
+    # the chosen alarm stays chosen, and no other one is acknowledged by a second press
+    page.keys("a")
+    until(lambda: "acknowledged: the order isn't for that" in page.text("#message"))
+    assert len(site.core.orders) == 1
+
+
+def test_shelve_with_a_time_and_a_reason(site: Served, page: Page) -> None:
+    page.choose("A2")
+    page.click("#alarms [data-order=shelve]")
+    until(lambda: page.text("#shelve .subject").startswith("A2"))
+    page.keys("61", Keys.ENTER)  # longer than an hour: the form doesn't take it
+    assert page.run("return document.querySelector('#shelve').open")
+    page.run("document.querySelector('#shelve-minutes').select()")
+    page.keys("2.5", Keys.ENTER)
+    assert page.run("return document.querySelector('#shelve').open")  # a reason is wanted
+    page.run("document.querySelector('#shelve-reason').focus()")
+    page.keys("sensor <b>cleaned</b>", Keys.ENTER)
+    until(lambda: ("A2", "UNACK") not in page.rows())
+    reason = "sensor <b>cleaned</b>"
+    assert site.core.orders == [(Order(Verb.SHELVE, 1, "A2", 150_000), None, reason)]
+    page.click("#tab-aside")
+    assert page.rows("#aside") == [("A2", "SHELVED")]
+    assert page.text("#aside .row[data-tag='A2'] .until") == "06:03:31"
+    assert page.text("#aside .row[data-tag='A2'] .why") == reason
+    page.choose("A2", "#aside")
+    page.click("#aside [data-order=unshelve]")
+    until(lambda: page.rows("#aside") == [])
+
+
+def test_an_alarm_that_may_not_be_shelved(site: Served, page: Page) -> None:
+    page.choose("A1")
+    assert page.run("return document.querySelector('#alarms [data-order=shelve]').disabled")
+    page.keys("s")
+    until(lambda: page.text("#message") == "A1 is unacknowledged: it may not be shelved.")
+    assert site.core.orders == []
+
+
+def test_out_of_service_return_and_the_lists(site: Served, page: Page) -> None:
+    site.do(lambda: site.core.scan(62_000, {"A7": Code.SUPPR, "A4": Code.LATAK}))
+    page.choose("A1")
+    page.click("#alarms [data-order=remove]")
+    page.keys("broken wire", Keys.ENTER)
+    until(lambda: "A1" not in dict(page.rows()))
+    page.choose("A4")
+    page.click("#alarms [data-order=reset]")
+    until(lambda: "A4" not in dict(page.rows()))
+    page.click("#tab-aside")
+    until(lambda: page.rows("#aside") == [("A1", "OOS"), ("A7", "SUPPR")])
+    assert page.text("#aside .choice").split("\n") == [
+        "All 2",
+        "Shelved 0",
+        "Suppressed 1",
+        "Out of service 1",
+    ]
+    page.click("#aside [data-code=SUPPR]")
+    until(lambda: page.rows("#aside") == [("A7", "SUPPR")])
+    page.click("#aside [data-code=OOS]")
+    until(lambda: page.rows("#aside") == [("A1", "OOS")])
+    assert "broken wire" in page.text("#aside .row[data-tag='A1'] .why")
+    page.choose("A1", "#aside")
+    page.click("#aside [data-order=return]")
+    until(lambda: page.rows("#aside") == [])
+    assert [order.verb.value for order, _, _ in site.core.orders] == ["remove", "reset", "return"]
+
+
+def test_the_area_filter_says_what_it_hides(site: Served, page: Page) -> None:
+    page.keys("f")
+    page.keys("d", Keys.ENTER)  # dosing
+    until(lambda: page.rows() == [("A0", "ACKED")])
+    until(lambda: "3 unacknowledged in other areas" in page.text("#counts"))
+    page.run(
+        "const a = document.querySelector('#area'); a.value = ''; a.dispatchEvent(new Event('change'))"
+    )
+    until(lambda: len(page.rows()) == 4)
+
+
+def test_a_stopped_program_is_told_above_all_alarms_and_restarted(site: Served, page: Page) -> None:
+    site.do(lambda: site.core.stops("dose"))
+    told = until(lambda: page.text("#troubles"))
+    assert "Program stopped" in told and "control.st line 34 (division by zero)" in told
+    above = "return document.querySelector(arguments[0]).getBoundingClientRect().bottom"
+    assert page.run(above, "#troubles") <= page.run(above, "#tabs")
+    page.click("#troubles [data-restart=dose]")
+    page.click("#confirm-yes")
+    until(lambda: page.text("#troubles") == "")
+    assert site.core.orders == [(Order(Verb.RESTART, 1, "dose"), None, None)]
+
+
+def test_troubles_stand_above_and_the_worst_first(site: Served, page: Page) -> None:
+    troubles = site.core.troubles
+    for number in range(50):
+        site.do(lambda: troubles.raises(TroubleKind.STALE, f"in{number}", f"in{number} is stale"))
+    site.do(lambda: troubles.raises(TroubleKind.SOURCE, "broker", "the broker is lost"))
+    until(lambda: "48 more" in page.text("#troubles"))
+    kinds = (
+        "return [...document.querySelectorAll('#troubles .trouble')].map((one) => one.dataset.kind)"
+    )
+    assert page.run(kinds) == ["source", "stale", "stale"]
+    assert len(page.rows()) >= 4 and page.live()
+    # the server is silent: then nothing that is shown is live
+    site.do(lambda: troubles.raises(TroubleKind.SILENCE, "", "no answer for 10 s"))
+    until(lambda: page.text("#link") == "✕ server silent")
+    assert page.run(kinds)[0] == "silence"
+    assert page.run("return document.body.classList.contains('lost')")
+    page.keys("a", "v")
+    site.do(lambda: troubles.clear(TroubleKind.SILENCE, ""))
+    page.until_live()
+    assert site.core.orders == []
+
+
+def test_a_question_is_shown_and_answered(site: Served, page: Page) -> None:
+    now = datetime.now(timezone.utc)
+    question = Question(3, "record", "A new record is due.", ("A1 will be forgotten",), now)
+    site.do(lambda: site.core.ask(question))
+    until(lambda: "A new record is due." in page.text("#troubles"))
+    page.click("#troubles [data-question='3']")
+    until(lambda: "A1 will be forgotten" in page.text("#confirm .subject"))
+    page.click("#confirm-yes")
+    until(lambda: page.text("#troubles") == "")
+    assert site.core.answers == [(3, True, 1, None)]
+
+
+def test_texts_of_the_plant_are_texts(page: Page) -> None:
+    bad = "<img src=x onerror=alert(1)>"
+    plant = fake_plant(4, name=f"{bad}tank")
+    with served(FakeCore(plant)) as site:
+        site.do(lambda: site.core.scan(1000, {"A1": Code.UNACK}))
+        site.do(lambda: site.core.troubles.raises(TroubleKind.SOURCE, bad, f"{bad} is lost"))
+        reason = f"{bad}<script>alert(2)</script>"
+        site.run(site.core.order(Order(Verb.REMOVE, 1, "A2"), bad, reason))
+        page.open(site.url)
+        page.until_live()
+        for key in "123456":
+            page.keys(key)
+        page.keys("2")
+        until(lambda: reason in page.text("#aside .row[data-tag='A2'] .why"))
+        assert page.text("#plant-name") == f"{bad}tank" and bad in page.text("#troubles")
+        assert (
+            page.run("return document.querySelectorAll('img, main script, header script').length")
+            == 0
+        )
+        assert page.faults() == []
+
+
+def test_the_plant_the_journal_and_the_figures(site: Served, page: Page) -> None:
+    site.do(lambda: site.core.scan(63_000, {}, pump=True))
+    page.click("#tab-plant")
+    until(lambda: page.text("#plant .outputs .row[data-name=pump] .value") == "TRUE")
+    assert page.text("#plant .inputs .row[data-name=level] .value") == "0"
+    site.do(lambda: site.core.stops("dose"))
+    until(lambda: "STOPPED" in page.text("#plant .programs"))
+    page.click("#tab-journal")
+    until(lambda: "rows 1 to 6 of 6" in page.text("#journal .where"))
+    numbers = "return [...document.querySelectorAll('#journal .rows .row')].map((row) => row.innerText.split('\\n')[0])"
+    assert sorted(page.run(numbers), key=int) == ["1", "2", "3", "4", "5", "6"]
+    site.do(lambda: site.core.scan(64_000, {"A8": Code.UNACK}))  # a new row comes by itself
+    until(lambda: "rows 1 to 7 of 7" in page.text("#journal .where"))
+    assert page.run("return document.querySelector('#journal-csv').href").endswith(
+        "/api/journal.csv"
+    )
+    page.click("#tab-figures")
+    until(lambda: "Console 2" in page.text("#figures"))
+    told = page.text("#figures")
+    for title in (
+        "Annunciated alarms",
+        "By priority",
+        "Ten most frequent",
+        "Chattering",
+        "Stale",
+        "Shelved now",
+    ):
+        assert title in told
+    assert "80 %" in told and "less than 1 %" in told
+
+
+def test_a_journal_of_many_pages(site: Served, page: Page) -> None:
+    def fill() -> None:
+        for scan in range(1, 501):
+            site.core.scan(70_000 + scan, {"A9": Code.UNACK if scan % 2 else Code.RTNUN})
+
+    site.do(fill)
+    page.click("#tab-journal")
+    until(lambda: "rows 307 to 506 of 506" in page.text("#journal .where"))
+    page.click("#journal-oldest")
+    until(lambda: page.text("#journal .where") == "rows 1 to 200 of 506")
+    page.click("#journal-later")
+    until(lambda: page.text("#journal .where") == "rows 201 to 400 of 506")
+    page.click("#journal-later")
+    until(lambda: page.text("#journal .where") == "rows 401 to 506 of 506")
+    assert page.run("return document.querySelector('#journal-later').disabled")
+    page.run("document.querySelector('#journal-from').focus()")
+    page.keys("250", Keys.ENTER)
+    until(lambda: page.text("#journal .where") == "rows 250 to 449 of 506")
+
+
+def test_twenty_thousand_alarms_of_which_two_thousand_come_at_once(page: Page) -> None:
+    with served(FakeCore(fake_plant(20_000))) as site:
+        page.open(site.url)
+        page.until_live()
+        begun = time.monotonic()
+        site.do(
+            lambda: site.core.scan(1000, {f"A{10 * number}": Code.UNACK for number in range(2000)})
+        )
+        until(lambda: page.run("return document.title").startswith("(2000)"))
+        took = time.monotonic() - begun
+        assert took < 30, took
+        drawn = page.run("return document.querySelectorAll('#alarms .rows .row').length")
+        assert 10 <= drawn <= 40
+        height = page.run("return document.querySelector('#alarms .spacer').offsetHeight")
+        assert height == 2000 * 40
+        time.sleep(0.5)  # rows that nobody can have read aren't acknowledged
+        seen = page.run(
+            "const box = document.querySelector('#alarms .rows').getBoundingClientRect();"
+            "return [...document.querySelectorAll('#alarms .rows .row')].filter((row) => {"
+            "const r = row.getBoundingClientRect(); return r.top >= box.top - 1 && r.bottom <= box.bottom + 1})"
+            ".map((row) => row.dataset.tag).sort()"
+        )
+        page.keys("v")
+        until(lambda: page.text("#message") == f"{len(seen)} acknowledged")
+        assert sorted(order.target for order, _, _ in site.core.orders) == seen
+        until(lambda: page.run("return document.title").startswith(f"({2000 - len(seen)})"))
+        page.keys(Keys.END)
+        until(lambda: page.rows()[-1][1] == "ACKED")
+        until(lambda: "unacknowledged above" in page.text("#alarms .above"))
+        page.keys("3")  # all of them
+        until(
+            lambda: page.run("return document.querySelector('#all .spacer').offsetHeight")
+            == 800_000
+        )
+        page.keys("/", "a19999")
+        until(lambda: page.rows("#all") == [("A19999", "NORM")])
+        assert page.faults() == []
+
+
+def test_a_lost_connection_is_told_and_comes_back(page: Page) -> None:
+    with served() as site:
+        port = site.web.port
+        site.do(lambda: site.core.scan(1000, {"A1": Code.UNACK}))
+        page.open(site.url)
+        page.until_live()
+        until(lambda: page.rows() == [("A1", "UNACK")])
+    until(lambda: "CONNECTION LOST" in page.text("#lost"))
+    assert page.text("#link") == "✕ not live"
+    assert "NOT LIVE" in page.run(
+        "return getComputedStyle(document.querySelector('main'), '::after').content"
+    )
+    assert page.run(
+        "return [...document.querySelectorAll('[data-order]')].every((one) => one.disabled)"
+    )
+    page.keys(Keys.ARROW_DOWN, "a", "v", "s")
+    assert not page.run("return document.querySelector('dialog[open]')")
+    with served(port=port) as site:
+        site.do(lambda: site.core.scan(5000, {"A3": Code.UNACK}))
+        page.until_live()
+        until(lambda: page.rows() == [("A3", "UNACK")])
+        assert page.text("#lost") == ""
+        page.choose("A3")
+        page.keys("a")  # by a session of the new server
+        until(lambda: page.rows() == [("A3", "ACKED")])
+    page.faults()
+
+
+def test_a_session_that_has_ended_asks_for_the_password(page: Page) -> None:
+    with served(users=two_users()) as site:
+        page.open(site.url)
+        page.login("anna")
+        page.until_live()
+        site.do(site.web.guard.sessions._sessions.clear)
+        until(lambda: page.text("#login-message") == "The session has ended.")
+        assert page.text("#screens") == ""
+        page.login("bert")
+        page.until_live()
+        assert page.text("#user-name") == "bert"
+    page.faults()
+
+
+def test_by_keyboard_alone(page: Page) -> None:
+    with served(FakeCore(fake_plant(24)), users=two_users()) as site:
+        core = site.core
+        site.do(lambda: core.scan(1000, {f"A{number}": Code.UNACK for number in range(10)}))
+        page.open(site.url)
+        until(lambda: page.run("return document.activeElement.id === 'login-name'"))
+        page.keys("anna", Keys.TAB, "wrong", Keys.ENTER)
+        until(lambda: page.text("#login-message") == "the name or the password is wrong")
+        page.keys("annaanna", Keys.ENTER)
+        page.until_live()
+        until(lambda: len(page.rows()) == 10)
+        first = page.rows()[0][0]
+        page.keys(Keys.ARROW_DOWN, "a")
+        until(lambda: (first, "ACKED") in page.rows())
+        page.keys(Keys.HOME, "s")
+        tag = page.rows()[0][0]
+        until(lambda: page.text("#shelve .subject").startswith(tag))
+        page.keys("5", Keys.TAB, Keys.TAB, Keys.TAB, Keys.TAB, "pump is repaired", Keys.ENTER)
+        until(lambda: tag not in dict(page.rows()))
+        assert core.orders[-1] == (Order(Verb.SHELVE, 1, tag, 300_000), "anna", "pump is repaired")
+        page.keys("2", Keys.ARROW_DOWN, "u")
+        until(lambda: page.rows("#aside") == [])
+        page.keys("1", Keys.END, "o")
+        tag = until(lambda: page.text("#remove .subject").split(" ")[0])
+        page.keys("worn out", Keys.ENTER)
+        until(lambda: core.orders[-1][0] == Order(Verb.REMOVE, 1, tag))
+        page.keys("3", "/", tag, Keys.ENTER, Keys.ARROW_DOWN, "t")
+        until(lambda: core.orders[-1][0] == Order(Verb.RETURN, 1, tag))
+        page.keys("?")
+        until(lambda: "acknowledge the chosen alarm" in page.text("#help"))
+        page.keys(Keys.ESCAPE, "1")
+        site.do(lambda: core.stops("dose"))
+        until(lambda: page.text("#troubles"))
+        page.keys("b", Keys.ENTER)
+        until(lambda: page.text("#confirm-title") == "Restart dose?")
+        page.back()
+        page.keys(Keys.ENTER)
+        until(lambda: page.text("#troubles") == "")
+        assert core.orders[-1] == (Order(Verb.RESTART, 1, "dose"), "anna", None)
+        # every screen can be reached and left, and nothing holds the focus
+        for key, screen in zip("123456", ("alarms", "aside", "all", "plant", "journal", "figures")):
+            page.keys(key)
+            until(lambda: page.text(f"#{screen}"))
+            assert page.run("return document.activeElement.closest('main') !== null")
+    page.faults()
+
+
+def test_who_reads_it_to_others_is_told_what_it_is(site: Served, page: Page) -> None:
+    site.do(lambda: site.core.stops("dose"))
+    until(lambda: page.text("#troubles"))
+    page.keys(Keys.ARROW_DOWN)
+    roles = page.run(
+        "return ['#troubles', '#tabs', '#tab-alarms', '#alarms', '#alarms .grid', '#alarms .rows .row',"
+        "'#alarms .rows .row > div', '#message'].map((css) => document.querySelector(css).getAttribute('role'))"
+    )
+    assert roles == ["alert", "tablist", "tab", "tabpanel", "grid", "row", "gridcell", "status"]
+    active = page.run(
+        "const body = document.querySelector('#alarms .rows');"
+        "return document.getElementById(body.getAttribute('aria-activedescendant')).dataset.tag"
+    )
+    assert active == page.rows()[0][0]
+    assert (
+        page.run("return document.querySelector('#alarms .grid').getAttribute('aria-rowcount')")
+        == "5"
+    )
+    assert (
+        page.run("return document.querySelector('#tab-alarms').getAttribute('aria-selected')")
+        == "true"
+    )
+    assert "priority 2" in page.run(
+        "return document.querySelector('#alarms .row[data-tag=A5]').textContent"
+    )
+
+
+def test_nothing_comes_from_another_host(site: Served, page: Page) -> None:
+    names = page.run("return performance.getEntriesByType('resource').map((entry) => entry.name)")
+    assert names and all(
+        name.startswith((site.url, site.url.replace("http", "ws"))) for name in names
+    )
+
+
+def test_at_1280_by_800_nothing_is_cut_off(site: Served, page: Page) -> None:
+    for key in "123456":
+        page.keys(key)
+        wide = "return [document.documentElement.scrollWidth, document.documentElement.scrollHeight, innerWidth, innerHeight]"
+        assert page.run(wide) == [1280, 800, 1280, 800]
+        outside = page.run(
+            "return [...document.querySelectorAll('main section:not([hidden]) button, #top *, #tabs button')]"
+            ".filter((one) => one.getClientRects().length && one.getBoundingClientRect().right > 1280).length"
+        )
+        assert outside == 0
+    page.keys("1")
