@@ -4,6 +4,7 @@ from __future__ import annotations
 
 import asyncio
 import hashlib
+import sys
 from contextlib import suppress
 from pathlib import Path
 
@@ -152,10 +153,12 @@ class Web:
 
 
 async def attach(core: Core, config: Config) -> Web | None:
-    """Serves the page where the configuration has a table `[web]`. Raises GatewayFault."""
+    """Serves the page where the configuration has a table `[web]`, and says on standard error where it is. Raises GatewayFault."""
     found = web_config(config, core.plant)
     if found is None:
         return None
     served = Web(core, found)
     await served.start()
+    with suppress(OSError, ValueError):  # where nobody can be told
+        print(f"PAGE {served.url}", file=sys.stderr, flush=True)
     return served

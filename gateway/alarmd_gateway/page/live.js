@@ -1,6 +1,6 @@
 // The live connection. Whoever hears nothing for too long says that nothing is live any more, and tries again.
 
-const SILENCE = 2400; // ms without a message, after which the connection counts as lost
+const SILENCE = 2200; // ms without a message, after which the connection counts as lost
 const WAITS = [300, 600, 1000, 2000, 3000]; // ms before the next try
 
 export class Live {
@@ -13,7 +13,7 @@ export class Live {
     this.tries = 0;
     this.number = null; // of the last change
     this.stopped = false;
-    this.watch = setInterval(() => this.look(), 200);
+    this.watch = setInterval(() => this.look(), 100);
     this.begun = performance.now();
     this.connect();
   }
