@@ -172,5 +172,6 @@ def main(words: list[str]) -> int:
     plant = plants.read(given.plant)
     counts = [test_file(alarmd, plant, path, given.seconds) for path in given.cases]
     whole, differ = (sum(column) for column in zip(*counts))
-    print(f"{whole} cases, " + (f"{differ} differ" if differ else "all as expected"))
+    told = f"{differ} differ{'s' if differ == 1 else ''}" if differ else "all as expected"
+    print(f"{whole} case{'' if whole == 1 else 's'}, {told}")
     return 1 if differ else 0

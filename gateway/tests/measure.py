@@ -9,6 +9,7 @@ from __future__ import annotations
 
 import argparse
 import asyncio
+import multiprocessing
 import os
 import statistics
 import tempfile
@@ -118,6 +119,11 @@ async def measure(plant: Path, folder: Path, name: str) -> None:
     await page.close()
 
 
+def run(plant: Path, folder: Path, name: str) -> None:
+    """A plant in a process of its own, so that its memory is its own."""
+    asyncio.run(measure(plant, folder, name))
+
+
 def main() -> None:
     """For the tank and for a large plant."""
     parser = argparse.ArgumentParser(description=__doc__)
@@ -128,7 +134,9 @@ def main() -> None:
         with tempfile.TemporaryDirectory(prefix="measure-", dir=given.folder) as made:
             folder = Path(made)
             plant = TANK if name == "tank" else large_plant(folder / "plant", given.alarms)
-            asyncio.run(measure(plant, folder, name))
+            one = multiprocessing.Process(target=run, args=(plant, folder, name))
+            one.start()
+            one.join()
 
 
 if __name__ == "__main__":

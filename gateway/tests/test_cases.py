@@ -126,7 +126,7 @@ expect REFUSED E1
     assert run(alarmd, examples / "tank" / "plant.toml", path) == 1
     out = capsys.readouterr().out
     assert out.startswith(str(tmp_path) + "/" + shown)
-    assert out.endswith("2 cases, 1 differ\n")
+    assert out.endswith("2 cases, 1 differs\n")
 
 
 @pytest.mark.server
