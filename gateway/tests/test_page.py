@@ -201,7 +201,7 @@ def test_troubles_stand_above_and_the_worst_first(site: Served, page: Page) -> N
     assert len(page.rows()) >= 4 and page.live()
     # the server is silent: then nothing that is shown is live
     site.do(lambda: troubles.raises(TroubleKind.SILENCE, "", "no answer for 10 s"))
-    until(lambda: page.text("#link") == "✕ server silent")
+    until(lambda: page.text("#link") == "✕ no scans")
     assert page.run(kinds)[0] == "silence"
     assert page.run("return document.body.classList.contains('lost')")
     page.keys("a", "v")
@@ -212,14 +212,26 @@ def test_troubles_stand_above_and_the_worst_first(site: Served, page: Page) -> N
 
 def test_a_question_is_shown_and_answered(site: Served, page: Page) -> None:
     now = datetime.now(timezone.utc)
-    question = Question(3, "record", "A new record is due.", ("A1 will be forgotten",), now)
-    site.do(lambda: site.core.ask(question))
+    asked = (
+        Question(3, "record", "A new record is due.", ("A1 will be forgotten",), now),
+        Question(4, "clock", "The epoch is in the future. Go on?", (), now),
+    )
+    for question in asked:
+        site.do(lambda question=question: site.core.ask(question))  # type: ignore[misc]
     until(lambda: "A new record is due." in page.text("#troubles"))
+    until(lambda: page.text("#link") == "✕ no scans")  # with the clock in doubt there are none
+    page.click("#troubles [data-question='4']")
+    until(lambda: "in the future" in page.text("#confirm .subject"))
+    page.click("#confirm-cancel")
+    page.click("#troubles [data-question='4']")
+    page.click("#confirm-yes")
+    page.until_live()
     page.click("#troubles [data-question='3']")
     until(lambda: "A1 will be forgotten" in page.text("#confirm .subject"))
-    page.click("#confirm-yes")
+    assert page.text("#confirm-no") == "No: ask again later"
+    page.click("#confirm-no")
     until(lambda: page.text("#troubles") == "")
-    assert site.core.answers == [(3, True, 1, None)]
+    assert site.core.answers == [(4, True, 1, None), (3, False, 1, None)]
 
 
 def test_texts_of_the_plant_are_texts(page: Page) -> None:
@@ -411,7 +423,7 @@ def test_by_keyboard_alone(page: Page) -> None:
         until(lambda: page.text("#troubles"))
         page.keys("b", Keys.ENTER)
         until(lambda: page.text("#confirm-title") == "Restart dose?")
-        page.back()
+        page.back()  # from Cancel, which has the focus at first
         page.keys(Keys.ENTER)
         until(lambda: page.text("#troubles") == "")
         assert core.orders[-1] == (Order(Verb.RESTART, 1, "dose"), "anna", None)

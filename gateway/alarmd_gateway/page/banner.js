@@ -7,9 +7,12 @@ import { order, tell } from "./orders.js";
 import { longTime, shortTime, TRAPS } from "./words.js";
 
 const MOST = 3; // troubles that are shown before somebody asks for all
-const DEAD = new Set(["server", "silence"]); // with one of these nothing that is shown is live
+const DEAD = new Set(["server", "silence", "refused"]); // with one of these nothing that is shown is live
 
-export const isDead = (store) => [...store.troubles.values()].some((trouble) => DEAD.has(trouble.kind));
+// Whether no scan is taken, so that nothing that is shown is live.
+export const isDead = (store) =>
+  [...store.troubles.values()].some((trouble) => DEAD.has(trouble.kind)) ||
+  [...store.questions.values()].some((question) => question.subject === "clock");
 
 export class Banner {
   constructor(store) {
@@ -23,7 +26,7 @@ export class Banner {
     const stopped = [...this.store.stopped.values()];
     const questions = [...this.store.questions.values()];
     const told = new Set(troubles.filter((one) => one.kind === "stopped").map((one) => one.subject.toLowerCase()));
-    const drawn = JSON.stringify([troubles, stopped, questions, this.whole, this.store.live]);
+    const drawn = JSON.stringify([troubles, stopped, questions, this.whole, this.store.live, this.store.connected]);
     if (drawn === this.drawn) return;
     this.drawn = drawn;
     const lines = [
@@ -58,7 +61,7 @@ export class Banner {
   }
 
   questionLine(question) {
-    const button = el("button", { type: "button", "data-question": question.number, disabled: !this.store.live, onclick: () => answer(question) }, "Answer …");
+    const button = el("button", { type: "button", "data-question": question.number, disabled: !this.store.connected, onclick: () => answer(question) }, "Answer …");
     return this.line("question", question.since, question.text, button);
   }
 }
@@ -92,12 +95,14 @@ export async function restart(stopped) {
   if (await askYes(`Restart ${stopped.program}?`, lines, "Restart")) await order("restart", stopped.program);
 }
 
+const NO = { clock: "No: end the gateway", record: "No: ask again later" };
+
 async function answer(question) {
   const lines = [question.text, ...question.details, `Asked at ${longTime(question.since)}.`];
-  const yes = await askYes("The gateway asks", lines, "Yes", "Not now");
-  if (!yes) return;
+  const given = await askYes("The gateway asks", lines, "Yes", NO[question.subject] ?? "No");
+  if (given === null) return;
   try {
-    await post("/api/answer", { number: question.number, yes: true });
+    await post("/api/answer", { number: question.number, yes: given === "yes" });
     tell("Answered.");
   } catch (fault) {
     tell(`Not answered: ${fault.message}`, true);
@@ -112,7 +117,7 @@ export function showLink(store, lostAt) {
   if (lostAt !== null) {
     setText(lost, `CONNECTION LOST since ${lostAt.toISOString().slice(11, 19)} UTC. Nothing on this page is live. Trying again …`);
     setText(link, "✕ not live");
-  } else if (isDead(store)) setText(link, "✕ server silent");
+  } else if (isDead(store)) setText(link, "✕ no scans");
   else setText(link, "● live");
   document.body.classList.toggle("lost", lostAt !== null || isDead(store));
   document.body.classList.toggle("cut", lostAt !== null);

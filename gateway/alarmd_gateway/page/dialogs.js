@@ -5,13 +5,13 @@ import { duration } from "./words.js";
 
 const PRESETS = [10, 30, 60, 240, 480, 1440]; // minutes
 
-// Shows a dialog and waits: true where its form was sent, false where it was cancelled.
+// Shows a dialog and waits: the value of the button by which its form was sent, null where it was cancelled.
 function ask(dialog, first, check = () => "") {
   const form = dialog.querySelector("form");
   const fault = dialog.querySelector(".fault");
   if (fault) setText(fault, "");
   return new Promise((resolve) => {
-    let given = false;
+    let given = null;
     form.onsubmit = (event) => {
       const wrong = check();
       if (wrong) {
@@ -19,7 +19,7 @@ function ask(dialog, first, check = () => "") {
         setText(fault, wrong);
         return;
       }
-      given = true;
+      given = event.submitter?.value ?? "yes";
     };
     const cancel = dialog.querySelector(".cancel");
     if (cancel) cancel.onclick = () => dialog.close();
@@ -62,14 +62,15 @@ export async function askRemoval(alarm) {
   return (await ask(dialog, reason, check)) ? { reason: reason.value.trim() } : null;
 }
 
-// A question with lines; gives true for yes.
-export async function askYes(title, lines, yes, no = "Cancel") {
+// A question with lines: "yes", null where it is cancelled, and "no" where the answer can be no.
+export async function askYes(title, lines, yes, no = null) {
   const dialog = $("confirm");
   setText($("confirm-title"), title);
   dialog.querySelector(".subject").replaceChildren(...lines.map((line) => el("p", {}, line)));
   setText($("confirm-yes"), yes);
-  setText($("confirm-no"), no);
-  return ask(dialog, $("confirm-no"));
+  setText($("confirm-no"), no ?? "");
+  $("confirm-no").hidden = no === null;
+  return ask(dialog, $("confirm-cancel"));
 }
 
 export function showKeys(keys) {

@@ -46,7 +46,7 @@ function rates(report) {
 
 function priorities(report) {
   const rows = report.priorities.map((one) => row(false, `${one.priority} (${one.name})`, one.count, percent(one.share), one.recommended));
-  return table("By priority", ["Priority", "Alarms", "Share", "Recommended"], rows);
+  return table("By priority", ["Priority", "Alarms", "Share", "Recommended"], rows, "Low is 4 here, highest is 1.");
 }
 
 function frequent(report) {

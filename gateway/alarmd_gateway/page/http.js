@@ -3,9 +3,10 @@
 let token = "";
 
 export class Refused extends Error {
-  constructor(status, words) {
+  constructor(status, words, data = null) {
     super(words);
     this.status = status;
+    this.data = data;
   }
 }
 
@@ -26,7 +27,7 @@ async function ask(path, options) {
   } catch {
     throw new Refused(response.status, `the answer couldn't be read (${response.status})`);
   }
-  if (!response.ok) throw new Refused(response.status, data?.error ?? `refused (${response.status})`);
+  if (!response.ok) throw new Refused(response.status, data?.error ?? `refused (${response.status})`, data);
   return data;
 }
 

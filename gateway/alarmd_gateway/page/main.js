@@ -43,7 +43,10 @@ async function start() {
   try {
     who = await get("/api/session");
   } catch (fault) {
-    if (fault.status === 401) return askLogin();
+    if (fault.status === 401) {
+      setText($("login-title"), fault.data?.plant ?? "Alarms");
+      return askLogin();
+    }
     document.body.className = "plain";
     $("lost").hidden = false;
     setText($("lost"), `The page can't begin: ${fault.message}. Trying again …`);
@@ -188,7 +191,8 @@ function showScreen(name) {
 }
 
 function draw() {
-  const alive = lostAt === null && live !== null && live.alive && !isDead(store);
+  store.connected = lostAt === null && live !== null && live.alive;
+  const alive = store.connected && !isDead(store);
   if (alive !== store.live) {
     store.live = alive;
     for (const screen of Object.values(screens)) screen.refresh?.();

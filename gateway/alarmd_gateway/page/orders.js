@@ -22,10 +22,16 @@ export function settled(target) {
   if (order.answered) end(target);
 }
 
+const TOLD = 20000; // ms for which a message stays
+
+let until = 0;
+
 export function tell(words, bad = false) {
   const message = $("message");
   message.classList.toggle("bad", bad);
   setText(message, words);
+  clearTimeout(until);
+  if (words) until = setTimeout(() => tell(""), TOLD);
 }
 
 // Gives an order, and says what came of it: null where it was taken, else why it wasn't.

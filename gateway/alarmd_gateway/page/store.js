@@ -18,7 +18,8 @@ export class Store {
     this.rows = 0; // of the journal
     this.eventsLeft = null;
     this.now = null; // the civil time of the last scan
-    this.live = false;
+    this.connected = false; // whether changes come
+    this.live = false; // and scans are taken
     this.area = ""; // the filter; all areas where it is empty
     this.dirty = false;
   }
