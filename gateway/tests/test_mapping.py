@@ -9,6 +9,8 @@ from pathlib import Path
 
 import pytest
 
+from alarmd_gateway import config as configs
+from alarmd_gateway import plant as plants
 from alarmd_gateway.map_file import read
 from alarmd_gateway.mapping import Area, BadRaw, Form, Map, Point, Scale, whole
 from alarmd_gateway.model import GatewayFault, Kind, Plant, Region, Variable
@@ -214,3 +216,14 @@ def test_a_map_that_is_not_there(tmp_path: Path) -> None:
     with pytest.raises(GatewayFault) as found:
         read(tmp_path / "none.toml", PLANT)
     assert found.value.status == 2 and "none.toml" in found.value.words
+
+
+def test_the_example_is_right(examples: Path) -> None:
+    for name in ("gateway", "lines"):
+        config = configs.read(examples / "gateway" / f"{name}.toml")
+        assert config.plant.samefile(examples / "tank" / "plant.toml")
+    plant = plants.read(examples / "tank" / "plant.toml")
+    map = read(examples / "gateway" / "map.toml", plant)
+    assert {topic.variable.name for topic in map.mqtt[0].inputs} == set(
+        one.name for one in plant.inputs.values()
+    )
