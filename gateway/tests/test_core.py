@@ -1,0 +1,324 @@
+"""The core with a real alarmd: orders, samples, changes, a server that ends or is silent."""
+
+from __future__ import annotations
+
+import asyncio
+import os
+import signal
+import time
+from collections.abc import AsyncIterator, Coroutine
+from contextlib import asynccontextmanager
+from pathlib import Path
+from typing import Any
+
+import pytest
+from around import config_for, plant_copy, until
+
+from alarmd_gateway.changes import Change, ChangeKind, CutOff
+from alarmd_gateway.config import Config
+from alarmd_gateway.core import Core
+from alarmd_gateway.model import BadSample, Code, GatewayFault, Order, Sample, ServerGone, Verb
+from alarmd_gateway.record import peek
+from alarmd_gateway.troubles import TroubleKind
+
+pytestmark = pytest.mark.server
+
+
+@pytest.fixture
+def config(alarmd: Path, tmp_path: Path) -> Config:
+    return config_for(alarmd, plant_copy("tank", tmp_path))
+
+
+@asynccontextmanager
+async def served(config: Config) -> AsyncIterator[Core]:
+    """A core that works meanwhile."""
+    core = await Core.start(config)
+    working = asyncio.create_task(core.run())
+    try:
+        yield core
+    finally:
+        core.stop()
+        await working
+
+
+async def give(core: Core, **values: int | bool | str) -> None:
+    for name, value in values.items():
+        await core.offer(Sample(name, value, "test"))
+
+
+def run(work: Coroutine[Any, Any, None]) -> None:
+    asyncio.run(asyncio.wait_for(work, 120))
+
+
+def code_of(core: Core, tag: str) -> str:
+    return core.state.by_tag[tag].code.value
+
+
+def test_samples_alarms_and_orders(config: Config) -> None:
+    async def work() -> None:
+        async with served(config) as core:
+            assert core.state.events == 0
+            await give(core, RUNNING="true", level=250, flow=100)
+            await until(lambda: core.state.scanned)
+            assert code_of(core, "LAL-101") == "UNACK"
+            assert core.state.outputs["pump"] is True
+            reply = await core.order(Order(Verb.ACK, 1, "LAL-101"), "anna", "seen")
+            assert (reply.code, reply.taken) == ("OK", True)
+            assert code_of(core, "LAL-101") == "ACKED"
+            assert (await core.order(Order(Verb.ACK, 2, "LAL-101"))).code == "O2"
+            assert (await core.order(Order(Verb.ACK, 1, "NONE"))).code == "O1"
+            with pytest.raises(ValueError):
+                await core.order(Order(Verb.ACK, 1, "LAL-101\nscan 4000000000000"))
+            row = next(row for row in core.journal.rows() if row.words[0] == "ORDER")
+            assert (row.user, row.reason) == ("anna", "seen")
+
+    run(work())
+
+
+def test_bad_samples_take_no_others_along(config: Config) -> None:
+    async def work() -> None:
+        async with served(config) as core:
+            bad: dict[str, int | str] = {
+                "levl": 1,
+                "level": 2**31,
+                "running": 2,
+                "flow": "1.5",
+                "additive": "T#5s",
+                "pump": 1,
+            }
+            for name, value in bad.items():
+                with pytest.raises(BadSample, match=name):
+                    await core.offer(Sample(name, value, "test"))
+            await give(core, level=-(2**31), running=1)
+            await until(lambda: core.state.scanned)
+            assert core.state.inputs["level"] == -(2**31)
+            assert core.state.inputs["running"] is True
+
+    run(work())
+
+
+def test_each_distinct_value_is_taken_by_a_scan_in_order(config: Config) -> None:
+    async def work() -> None:
+        async with served(config) as core:
+            values = [0, 1, 0, 1, 1, 0, 1]
+            for number, value in enumerate(values):
+                await give(core, running=value, level=number // 2)
+            await until(lambda: core.state.inputs["level"] == 3 and core.state.inputs["running"])
+        lines = [entry.line for entry in peek(config.record, core.plant)]
+        taken = [word for line in lines for word in line.split() if "running=" in word]
+        assert taken == [f"running={word}" for word in "FALSE TRUE FALSE TRUE FALSE TRUE".split()]
+
+    run(work())
+
+
+def test_the_moments_are_those_of_the_time_of_day(config: Config) -> None:
+    async def work() -> None:
+        async with served(config) as core:
+            await give(core, level=400)
+            await until(lambda: core.state.events >= 3)
+            assert abs(core.plant.time(core.state.moment).timestamp() - time.time()) < 30
+
+    run(work())
+
+
+async def collected(core: Core, room: int = 1000) -> list[Change]:
+    subscription = core.subscribe(room)
+    return [change async for change in subscription]
+
+
+def test_a_display_made_of_changes_is_the_state(config: Config) -> None:
+    async def work() -> None:
+        async with served(config) as core:
+            gathering = asyncio.create_task(collected(core))
+            await asyncio.sleep(0)
+            whole = core.snapshot().json()
+            assert (whole["number"], whole["journal"], whole["events"]) == (0, 0, 0)
+            for number in range(12):
+                level, heat = (100, 400, 900)[number % 3], (700, 850)[number % 2]
+                await give(core, running=1, level=level, temperature=heat, flow=number % 2)
+                await core.order(Order(Verb.ACK, 1, "TAHH-102"))
+                await core.order(Order(Verb.SHELVE, 1, "LAH-101", 5000 + number))
+                await core.order(Order(Verb.RESTART, 1, "dose"))
+            await core.drain()
+            last = core.snapshot().json()
+        changes = await gathering
+        assert [change.number for change in changes[: core.snapshot().number]] == list(
+            range(1, len(changes) + 1)
+        )
+        alarms = {alarm["tag"]: alarm for alarm in whole["alarms"]}  # type: ignore
+        values: dict[str, object] = {**whole["inputs"], **whole["outputs"]}  # type: ignore
+        stopped: dict[str, object] = {}
+        for change in changes:
+            data = dict(change.data)
+            if change.kind is ChangeKind.ALARM:
+                del data["from"]
+                alarms[str(data["tag"])] = data
+            elif change.kind in (ChangeKind.OUTPUT, ChangeKind.INPUT):
+                values[str(data["name"])] = data["value"]
+            elif change.kind is ChangeKind.STOPPED:
+                stopped[str(data["program"])] = data
+            elif change.kind is ChangeKind.RESTARTED:
+                del stopped[str(data["program"])]
+        assert list(alarms.values()) == last["alarms"]
+        assert values == {**last["inputs"], **last["outputs"]}  # type: ignore
+        assert list(stopped.values()) == last["stopped"]
+        rows = [change.data["length"] for change in changes if change.kind is ChangeKind.ROWS]
+        assert rows[-1] == last["journal"]
+
+    run(work())
+
+
+def test_a_display_that_does_not_read_is_cut_off_and_told(config: Config) -> None:
+    async def work() -> None:
+        async with served(config) as core:
+            slow = core.subscribe(5)
+            await give(core, level=400)
+            await until(lambda: core.state.events > 20)
+            got = []
+            with pytest.raises(CutOff):
+                async for change in slow:
+                    got.append(change.number)
+            assert got == [1, 2, 3, 4, 5]
+
+    run(work())
+
+
+def test_whoever_asked_may_go(config: Config) -> None:
+    async def work() -> None:
+        async with served(config) as core:
+            await give(core, running=1, level=100)
+            await until(lambda: core.state.scanned)
+            asked = asyncio.create_task(core.order(Order(Verb.ACK, 1, "LAL-101")))
+            await asyncio.sleep(0)
+            asked.cancel()
+            await until(lambda: core.state.by_tag["LAL-101"].code is Code.ACKED)
+            assert (await core.order(Order(Verb.ACK, 1, "LAL-101"))).code == "O3"
+
+    run(work())
+
+
+def server_pid() -> int:
+    """The child of this process that is alarmd."""
+    for word in Path(f"/proc/{os.getpid()}/task/{os.getpid()}/children").read_text().split():
+        if "\0run\0" in Path(f"/proc/{word}/cmdline").read_text():
+            return int(word)
+    raise AssertionError("no alarmd runs")
+
+
+async def busy(core: Core) -> None:
+    """A state with something of each kind that only a record brings back."""
+    await give(core, running=1, level=100, temperature=850, flow=0, additive=100)
+    await core.drain()
+    assert (await core.order(Order(Verb.ACK, 1, "TAHH-102"))).taken
+    await give(core, temperature=700)
+    await core.drain()
+    assert (await core.order(Order(Verb.SHELVE, 1, "LAL-101", 3_600_000), "anna", "pump")).taken
+    assert (await core.order(Order(Verb.REMOVE, 2, "RAH-104"), "bob", "probe")).taken
+
+
+def test_a_server_that_is_killed_is_started_again_with_the_same_state(config: Config) -> None:
+    async def work() -> None:
+        async with served(config) as core:
+            await busy(core)
+            before, rows = core.state.listing(), list(core.journal.lines())
+            assert core.state.by_tag["TAHH-102"].code is Code.LATAK
+            seen = core.subscribe()
+            os.kill(server_pid(), signal.SIGKILL)
+            await until(lambda: list(core.troubles) != [] or core.state.events > 30)
+            reply = await core.order(Order(Verb.RESET, 1, "TAHH-102"))
+            assert reply.lines[0] == "REPLY OK"
+            assert list(core.journal.lines())[: len(rows)] == rows
+            wanted = [line for line in before if "TAHH-102" not in line and line[:5] == "STATE"]
+            assert [line for line in core.state.listing() if line[:5] == "STATE"] == wanted
+            alarm = core.state.by_tag["LAL-101"]
+            assert (alarm.user, alarm.reason) == ("anna", "pump")
+            kinds = []
+            async for change in seen:
+                kinds.append(change.kind)
+                if change.kind is ChangeKind.ANEW:
+                    break
+            assert TroubleKind.SERVER not in [trouble.kind for trouble in core.troubles]
+
+    run(work())
+
+
+def test_an_order_under_way_when_the_server_ends_is_answered(config: Config) -> None:
+    async def work() -> None:
+        config_slow = config_for(config.alarmd, config.plant, period_ms=60_000)
+        async with served(config_slow) as core:
+            await give(core, running=1, level=100)
+            await core.drain()
+            os.kill(server_pid(), signal.SIGSTOP)
+            asked = asyncio.create_task(core.order(Order(Verb.ACK, 1, "LAL-101")))
+            await asyncio.sleep(0.2)
+            os.kill(server_pid(), signal.SIGKILL)
+            assert (await asked).lines[1].endswith("LAL-101 UNACK ACKED")
+            rows = [line.split(" ", 2)[2] for line in core.journal.lines()]
+            assert rows.count("ORDER 1 ack LAL-101 OK") == 1
+
+    run(work())
+
+
+def test_a_server_that_is_silent_is_started_again(alarmd: Path, tmp_path: Path) -> None:
+    async def work() -> None:
+        config = config_for(alarmd, plant_copy("tank", tmp_path), patience_ms=3000)
+        async with served(config) as core:
+            await give(core, running=1, level=100)
+            await core.drain()
+            pid = server_pid()
+            os.kill(pid, signal.SIGSTOP)
+            assert (await core.order(Order(Verb.ACK, 1, "LAL-101"))).taken
+            assert server_pid() != pid
+
+    run(work())
+
+
+def test_what_holds_the_gateway_up_is_no_silence(alarmd: Path, tmp_path: Path) -> None:
+    async def work() -> None:
+        config = config_for(alarmd, plant_copy("tank", tmp_path), patience_ms=1000, restarts=0)
+        async with served(config) as core:
+            await give(core, running=1, level=100)
+            await core.drain()
+            asked = asyncio.create_task(core.order(Order(Verb.ACK, 1, "LAL-101")))
+            await asyncio.sleep(0)
+            await asyncio.sleep(0)
+            time.sleep(2.5)  # the loop stands still for longer than the patience
+            assert (await asked).taken
+
+    run(work())
+
+
+def test_a_server_that_ends_again_and_again_ends_the_core(config: Config) -> None:
+    async def work() -> None:
+        core = await Core.start(config_for(config.alarmd, config.plant, restarts=0))
+        working = asyncio.create_task(core.run())
+        await give(core, level=100)
+        await core.drain()
+        os.kill(server_pid(), signal.SIGKILL)
+        with pytest.raises(GatewayFault, match="SIGKILL") as fault:
+            await working
+        assert fault.value.status == 1
+        with pytest.raises(ServerGone):
+            await core.order(Order(Verb.ACK, 1, "LAL-101"))
+
+    run(work())
+
+
+def test_the_next_start_goes_on_from_the_record(config: Config) -> None:
+    async def work() -> None:
+        async with served(config) as core:
+            await busy(core)
+            before = core.state.listing()
+            stopped = core.state.stopped
+        async with served(config) as core:
+            assert core.state.listing() == before
+            assert core.state.stopped == stopped
+            assert core.last is not None
+            assert core.last.answer[0] == "REPLY OK"
+            kinds = [trouble.kind for trouble in core.troubles]
+            assert kinds == [TroubleKind.STOPPED]
+            assert "control.st, line 21" in list(core.troubles)[0].text
+            assert (await core.order(Order(Verb.RESTART, 1, "DOSE"))).taken
+            assert list(core.troubles) == []
+
+    run(work())

@@ -1,0 +1,368 @@
+"""`gateway serve` as a process: its input and its output, its ends, its questions at the start."""
+
+from __future__ import annotations
+
+import os
+import pty
+import re
+import resource
+import shutil
+import signal
+import subprocess
+import time
+from pathlib import Path
+
+import pytest
+from around import LIMIT, ROOT, Gateway, config_file, plant_copy, run
+
+pytestmark = pytest.mark.server
+
+
+@pytest.fixture
+def plant(tmp_path: Path) -> Path:
+    return plant_copy("tank", tmp_path)
+
+
+@pytest.fixture
+def config(alarmd: Path, plant: Path) -> Path:
+    return config_file(alarmd, plant)
+
+
+def server_lines(lines: list[str]) -> list[str]:
+    return [line for line in lines if line.startswith("SERVER ")]
+
+
+def commands(config: Path) -> list[str]:
+    lines = (config.parent / "record").read_text().splitlines()
+    return [re.sub(r"^scan \d+", "scan", line) for line in lines if not line.startswith("#")]
+
+
+@pytest.mark.parametrize("end", ["\n", ""])
+def test_samples_before_the_end_of_input_are_taken(config: Path, end: str) -> None:
+    status, out, err = run(config, f"running=TRUE level=250{end}")
+    assert status == 0
+    assert commands(config)[0] == "scan running=TRUE level=250"
+    assert [line.split()[0::2][0] for line in out] == ["FAULT", "ALARM", "OUT"]
+    assert server_lines(err) == err
+
+
+def test_an_order_without_its_line_end_is_taken(config: Path) -> None:
+    status, out, _ = run(config, "running=1 level=250\nlevel=251\nlevel=252\nack 1 LAL-101")
+    assert status == 0
+    assert "REPLY OK" in out
+    assert commands(config)[-1] == "ack 1 LAL-101"
+
+
+def test_the_last_commands_answer_is_shown_at_the_start(config: Path) -> None:
+    run(config, "running=1 level=250\nlevel=251\nlevel=252\nack 1 LAL-101\n")
+    status, out, _ = run(config, "", "--yes")
+    assert status == 0
+    assert out[0] == "REPLY OK"
+    assert re.fullmatch(r"ALARM \d+ LAL-101 UNACK ACKED", out[1])
+
+
+@pytest.mark.parametrize(
+    ("line", "answer"),
+    [
+        ("akc 1 LAL-101", r"REFUSED L1: no command is called 'akc'; did you mean 'ack'"),
+        ("foo", r"REFUSED L1: no command is called 'foo'; `help` tells all"),
+        ("ack LAL-101 1", r"REFUSED L1: ack wants another form: ack CONSOLE TAG"),
+        ("ack 1", r"REFUSED L1: ack wants another form"),
+        ("shelve 1 LAL-101 5s", r"REFUSED L1: shelve wants another form: shelve CONSOLE TAG MS"),
+        ("journal x", r"REFUSED L1: journal wants another form"),
+        ("list all", r"REFUSED L1: list wants another form"),
+        ("scan 5 level=5", r"REFUSED L1: no command is called 'scan'"),
+        ("level=5 running", r"REFUSED L1: samples are NAME=VALUE .., and 'running' has no '='"),
+        ("levl=5", r"REFUSED sample: 'levl' is no input of the plant"),
+        ("level=abc", r"REFUSED sample: level takes a whole number"),
+        ("ack 1 LAL-10", r"# there is no alarm 'LAL-10'; did you mean 'LAL-101'\?"),
+        ("ack 7 LAL-101", r"# there is no console 7; there are 1, 2"),
+        ("ack 2 LAL-101", r"# console 2 isn't for the area tank"),
+        ("reset 1 LAL-101", r"# the alarm's state doesn't take this order"),
+        ("shelve 1 LAL-101 0", r"# it may be shelved for 1 to 3600000 ms"),
+        ("shelve 1 TAHH-102 5", r"# it may not be shelved"),
+        ("restart 1 dos", r"# there is no program 'dos'; did you mean 'dose'\?"),
+        ("restart 1 fill", r"# the program hasn't stopped"),
+        ("confirm 1 3", r"REFUSED L1: no question 3 waits"),
+        ("yes", r"REFUSED L1: not one question waits"),
+        ("help", r"# shelve CONSOLE TAG MS"),
+        ("list", r"END 4"),
+        ("journal", r"END 0"),
+        ("\xff\x00", r"REFUSED L1: no command"),
+    ],
+)
+def test_each_line_is_answered(config: Path, line: str, answer: str) -> None:
+    status, out, _ = run(config, f"# nothing\n\n \t\n{line}\n")
+    assert status == 0
+    assert any(re.search(answer, one) for one in out), out
+
+
+def test_a_line_that_is_too_long(config: Path) -> None:
+    status, out, _ = run(config, "x" * 1_100_000 + "\nhelp\n" + "y" * 1_100_000)
+    assert status == 0
+    assert out[0] == out[-1] == "REFUSED L1: a line has at most 1048576 bytes"
+    assert "# help" in out
+
+
+@pytest.mark.parametrize("number", [signal.SIGTERM, signal.SIGINT, signal.SIGHUP])
+def test_a_signal_ends_in_order(config: Path, number: signal.Signals) -> None:
+    gateway = Gateway(config)
+    gateway.give("running=TRUE level=250\n")
+    gateway.wait_for("ALARM .* LAL-101 NORM UNACK")
+    pid = gateway.server_pid()
+    gateway.process.send_signal(number)
+    assert gateway.wait() == 0
+    assert server_lines(gateway.err) == gateway.err
+    assert not Path(f"/proc/{pid}").exists()
+    assert (config.parent / "record").read_bytes().endswith(b"\n")
+
+
+def test_a_signal_while_the_record_is_played(config: Path) -> None:
+    run(config, "running=1 level=250\n")
+    with open(config.parent / "record", "a") as file:
+        moment = 10**12
+        file.write("".join(f"scan {moment + number} level={number}\n" for number in range(60_000)))
+    gateway = Gateway(config, "--yes")
+    gateway.server_pid()
+    gateway.process.terminate()
+    assert gateway.wait() == 0
+
+
+def test_a_reader_that_does_not_read_is_no_fault(alarmd: Path, plant: Path) -> None:
+    config = config_file(alarmd, plant, patience_ms=2000, restarts=0)
+    reading, writing = os.pipe()
+    gateway = Gateway(config, stdout=writing)
+    os.close(writing)
+    gateway.give("help\n" * 8000)  # more than a pipe holds
+    gateway.give("running=TRUE level=250\n")
+    gateway.wait_for("program dose has stopped", gateway.err)
+    record = config.parent / "record"
+    size, end = record.stat().st_size, time.monotonic() + LIMIT
+    begin = time.monotonic()
+    while time.monotonic() < begin + 3 or record.stat().st_size < size + 500:
+        assert time.monotonic() < end
+        time.sleep(0.05)
+    assert gateway.process.poll() is None
+    gateway.process.terminate()
+    assert gateway.wait() == 0
+    os.close(reading)
+
+
+def test_a_reader_that_has_gone(config: Path) -> None:
+    reading, writing = os.pipe()
+    gateway = Gateway(config, stdout=writing)
+    os.close(writing)
+    os.close(reading)
+    gateway.give("help\n")
+    assert gateway.wait() == 1
+    assert gateway.err == ["SERVER standard output: Broken pipe"]
+
+
+def test_output_to_a_full_disk(config: Path) -> None:
+    with open("/dev/full", "wb") as full:
+        gateway = Gateway(config, stdout=full.fileno())
+        gateway.give("help\n")
+        assert gateway.wait() == 1
+    assert gateway.err == ["SERVER standard output: No space left on device"]
+
+
+def limited(config: Path, size: int) -> subprocess.CompletedProcess[bytes]:
+    """A gateway whose files may have so many bytes."""
+    return subprocess.run(
+        [ROOT / "gateway" / "gateway", "serve", str(config)],
+        input=b"running=TRUE level=250 flow=10\nlevel=251\nlevel=252\nlevel=253\n" * 20,
+        capture_output=True,
+        timeout=LIMIT,
+        check=False,
+        preexec_fn=lambda: resource.setrlimit(resource.RLIMIT_FSIZE, (size, size)),
+    )
+
+
+@pytest.mark.parametrize("size", [10, 700, 1000, 1003])
+def test_a_full_disk_under_the_record(config: Path, size: int) -> None:
+    done = limited(config, size)
+    err = done.stderr.decode().splitlines()
+    assert done.returncode == 1, err
+    assert err[-1] == f"SERVER the record {config.parent / 'record'}: File too large"
+    assert server_lines(err) == err
+    status, out, err = run(config, "list\n")
+    assert (status, out[-1]) == (0, "END 4")
+    assert (config.parent / "record").read_bytes().endswith(b"\n")
+
+
+def test_a_plant_that_is_not_there(config: Path, plant: Path) -> None:
+    plant.unlink()
+    status, out, err = run(config, "")
+    assert (status, out) == (3, [])
+    assert server_lines(err) == [f"SERVER alarmd refuses the plant: FILE {plant}"]
+    assert "No such file" in "\n".join(err)
+
+
+def test_a_plant_that_is_refused_is_told_at_the_start(config: Path, plant: Path) -> None:
+    for name in ("c5.toml", "c5.st", "alarms.csv"):
+        shutil.copy(ROOT / "examples" / "refused" / name, plant.parent)
+    shutil.copy(ROOT / "examples" / "refused" / "c5.toml", plant)
+    gateway = Gateway(config)
+    assert gateway.wait() == 3
+    assert gateway.err[-1] == "SERVER alarmd refuses the plant: CONFIG C5 c5.st 9 1"
+    assert "c5.st:9:1: found 'END_PROGRAM'" in gateway.err[0]
+    assert not (config.parent / "record").exists()
+
+
+def test_an_alarmd_that_is_not_there(config: Path, alarmd: Path, tmp_path: Path) -> None:
+    text = config.read_text()
+    config.write_text(text.replace(str(alarmd), str(tmp_path / "nothing")))
+    status, _, err = run(config, "")
+    assert (status, len(err)) == (2, 1)
+    assert err[0].startswith("SERVER alarmd can't be started: ")
+    assert err[0].endswith("No such file or directory")
+    config.write_text(text.replace(str(alarmd), "/bin/false"))
+    status, _, err = run(config, "")
+    assert (status, err) == (1, ["SERVER alarmd has ended, status 1"])
+
+
+@pytest.mark.parametrize(
+    ("words", "told"),
+    [
+        ([], "SERVER a command is wanted: "),
+        (["sevre"], "SERVER no command is called 'sevre': "),
+        (["serve"], "SERVER gateway serve: the following arguments are required: config"),
+        (["serve", "/nowhere/gateway.toml"], "SERVER /nowhere/gateway.toml: No such file"),
+        (["serve", "/dev/null", "--what"], "SERVER gateway serve: unrecognized arguments: --what"),
+        (["serve", "/dev/null"], "SERVER the configuration lacks 'alarmd'"),
+        (["state"], "SERVER gateway state: the following arguments are required: config"),
+    ],
+)
+def test_words_that_are_wrong(words: list[str], told: str) -> None:
+    done = subprocess.run(
+        [ROOT / "gateway" / "gateway", *words], capture_output=True, timeout=LIMIT, check=False
+    )
+    assert done.returncode == 2
+    lines = done.stderr.decode().splitlines()
+    assert len(lines) == 1
+    assert lines[0].startswith(told)
+
+
+@pytest.mark.parametrize(
+    ("line", "told"),
+    [
+        ("period_ms = 0", "'period_ms' has to be a whole number from 1"),
+        ("period_ms = true", "'period_ms' has to be a whole number from 1"),
+        ("yes = 1", "'yes' has to be true or false"),
+        ("colour = 1", "has 'colour', unknown"),
+        ("period_ms =", "no TOML"),
+    ],
+)
+def test_a_configuration_that_is_wrong(config: Path, line: str, told: str) -> None:
+    config.write_text(f"{line}\n" + re.sub("period_ms.*", "", config.read_text()))
+    status, _, err = run(config, "")
+    assert (status, len(err)) == (2, 1)
+    assert told in err[0]
+
+
+def test_another_plants_record(config: Path, plant: Path) -> None:
+    run(config, "level=5\n")
+    with open(plant.parent / "control.st", "a") as file:
+        file.write("\n")
+    status, _, err = run(config, "")
+    assert (status, len(err)) == (2, 1)
+    assert "control.st has changed since it began" in err[0]
+
+
+def test_two_gateways_with_one_record(config: Path) -> None:
+    first = Gateway(config)
+    first.give("level=5\nlist\n")
+    first.wait_for("^END")
+    status, _, err = run(config, "")
+    assert (status, len(err)) == (2, 1)
+    assert "another gateway has the record" in err[0]
+    first.end_input()
+    assert first.wait() == 0
+
+
+def test_an_epoch_in_the_future_is_asked_about(alarmd: Path, tmp_path: Path) -> None:
+    config = config_file(alarmd, plant_copy("tank", tmp_path, "2399-01-01T00:00:00Z"))
+    status, out, err = run(config, "level=5\n")
+    assert (status, out, len(err)) == (2, [], 2)
+    assert "epoch, 2399-01-01T00:00:00.000Z, is in the future" in err[-1]
+    assert "nobody to ask" in err[-1]
+    assert commands(config) == []
+    status, _, _ = run(config, "level=5\n", "--yes")
+    assert status == 0
+    assert (config.parent / "record").read_text().splitlines()[1] == "scan 0 level=5"
+
+
+DAYS = 5 * 86_400_000
+
+
+@pytest.mark.parametrize("ahead", [-DAYS, DAYS])
+def test_a_first_moment_days_from_the_last_one_is_asked_about(config: Path, ahead: int) -> None:
+    run(config, "level=5\n")
+    record = config.parent / "record"
+    head, scan = record.read_text().splitlines()[:2]
+    moment = int(scan.split()[1]) + ahead
+    record.write_text(f"{head}\nscan {moment} level=5\n")
+    status, _, err = run(config, "level=6\n")
+    assert status == 2
+    assert "5.0 days " + ("before" if ahead > 0 else "later") in err[-1]
+    assert len(commands(config)) == 1
+    status, _, _ = run(config, "level=6\n", "--yes")
+    assert status == 0
+    first = int(record.read_text().splitlines()[2].split()[1])
+    assert first - moment < 60_000 if ahead > 0 else first - moment > DAYS - 60_000
+
+
+def on_a_terminal(config: Path, answer: str) -> tuple[int, str]:
+    """A gateway whose standard input is a terminal, at which this is typed once it has asked."""
+    ours, theirs = pty.openpty()
+    process = subprocess.Popen(
+        [ROOT / "gateway" / "gateway", "serve", str(config)],
+        stdin=theirs,
+        stdout=subprocess.PIPE,
+        stderr=subprocess.DEVNULL,
+    )
+    os.close(theirs)
+    assert process.stdout is not None
+    text = ""
+    while "`yes` or `no`" not in text:
+        line = process.stdout.readline().decode()
+        assert line, text
+        text += line
+    os.write(ours, f"level=100 running=1\n{answer}\n".encode())
+    while answer == "yes" and "ALARM" not in text:
+        line = process.stdout.readline().decode()
+        assert line, text
+        text += line
+    if answer == "yes":
+        process.terminate()
+    text += process.stdout.read().decode()
+    os.close(ours)
+    return process.wait(LIMIT), text
+
+
+def test_the_question_on_a_terminal(alarmd: Path, tmp_path: Path) -> None:
+    config = config_file(alarmd, plant_copy("tank", tmp_path, "2399-01-01T00:00:00Z"))
+    status, text = on_a_terminal(config, "no")
+    assert (status, commands(config)) == (2, [])
+    status, text = on_a_terminal(config, "yes")
+    assert status == 0
+    assert "ALARM 0 LAL-101 NORM UNACK" in text
+
+
+def test_state_and_journal_by_the_record(config: Path) -> None:
+    gateway = Gateway(config)
+    gateway.give("running=1 level=250 temperature=850\nshelve 1 LAL-101 600000\n")
+    gateway.wait_for("UNACK SHELVED")
+    words = [str(ROOT / "gateway" / "gateway")]
+    state = subprocess.check_output([*words, "state", str(config)], timeout=LIMIT).decode()
+    assert re.search(r"(?m)^SHELVED 3  LAL-101  Tank level low, since .*, until ", state)
+    assert "stopped    dose: DIVZERO in control.st, line 21" in state
+    assert "value      pump TRUE" in state
+    rows = subprocess.check_output(
+        [*words, "journal", str(config), "--from", "3", "--count", "2"], timeout=LIMIT
+    ).decode()
+    assert [line.split()[0] for line in rows.splitlines()] == ["3", "4"]
+    table = subprocess.check_output([*words, "journal", str(config), "--csv"], timeout=LIMIT)
+    assert table.decode().splitlines()[0].startswith("number,time,kind,tag,from,to")
+    gateway.end_input()
+    assert gateway.wait() == 0
