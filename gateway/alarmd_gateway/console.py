@@ -64,9 +64,7 @@ class Console:
             return
         self._output.put(reply.lines[0])
         if not reply.taken:
-            self._output.put(
-                f"# {reply.why}. {why(reply.code, order, self._core.plant)}".rstrip(". ")
-            )
+            self._output.put(f"# {why(reply.code, order, self._core.plant) or reply.why}")
 
     async def _ask(self, ask: Ask) -> None:
         if ask.word in ("confirm", "decline"):

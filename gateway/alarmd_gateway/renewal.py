@@ -63,6 +63,7 @@ class Renewal:
         self._announced = trial.grave
         events = self._link.book.state.events
         text = f"a new record is due, after {events:,} events. What stands below is lost by it. Begin it now?"
+        tell(f"{text} {'; '.join(trial.lost)}")
         self._questions.ask(_SUBJECT, text, trial.lost, self._answered)
 
     def _answered(self, answer: Answer) -> None:

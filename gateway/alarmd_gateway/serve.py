@@ -16,6 +16,7 @@ from .config import Config
 from .console import Console, told
 from .core import Core
 from .input import lines
+from .link import tell, tell_of_libraries
 from .model import GatewayFault
 from .output import Output
 from .words import Words
@@ -42,6 +43,7 @@ def main(words: list[str]) -> int:
     config = configs.read(given.config)
     if given.yes:
         config = dataclasses.replace(config, yes=True)
+    tell_of_libraries()
     asyncio.run(serve(config))
     return 0
 
@@ -129,6 +131,7 @@ class _Serving:
                 words = "there is nobody to ask, and neither --yes nor `yes = true` says so"
                 raise GatewayFault(f"{questions[0].text} {words}", 2)
         for question in questions:
+            tell(question.text)
             for line in told(question):
                 self._output.put(line)
 

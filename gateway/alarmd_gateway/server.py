@@ -3,6 +3,7 @@
 from __future__ import annotations
 
 import asyncio
+import contextlib
 import signal
 from collections import deque
 from collections.abc import Callable, Iterable
@@ -235,3 +236,8 @@ class Server:
                 pass
         await self._process.wait()
         self._errors.cancel()
+        stdin = self._process.stdin
+        if stdin is not None:  # what wasn't written is left, and its fault with it
+            stdin.transport.abort()
+            with contextlib.suppress(OSError):
+                await stdin.wait_closed()

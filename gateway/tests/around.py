@@ -3,7 +3,6 @@
 from __future__ import annotations
 
 import asyncio
-import os
 import re
 import shutil
 import subprocess
@@ -106,7 +105,7 @@ class Gateway:
         path = Path(f"/proc/{self.process.pid}/task/{self.process.pid}/children")
         while time.monotonic() < end:
             for word in path.read_text().split():
-                if os.path.basename(os.readlink(f"/proc/{word}/exe")).startswith("alarmd"):
+                if "\0run\0" in Path(f"/proc/{word}/cmdline").read_text():
                     return int(word)
             time.sleep(0.01)
         raise AssertionError("no alarmd runs")
