@@ -238,6 +238,6 @@ class Server:
         self._errors.cancel()
         stdin = self._process.stdin
         if stdin is not None:  # what wasn't written is left, and its fault with it
-            stdin.transport.abort()
-            with contextlib.suppress(OSError):
-                await stdin.wait_closed()
+            stdin.close()
+            with contextlib.suppress(OSError, asyncio.TimeoutError):
+                await asyncio.wait_for(stdin.wait_closed(), 1)
