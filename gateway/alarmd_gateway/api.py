@@ -118,31 +118,31 @@ class Api:
 
     async def plant(self, request: web.Request) -> web.Response:
         """What doesn't change while the plant is served."""
-        response = answer(self.view(self.guard.session(request)).table())
+        response = answer(self.view(self.guard.reading(request)).table())
         response.enable_compression()
         return response
 
     async def state(self, request: web.Request) -> web.Response:
         """All that stands at one moment."""
-        view = self.view(self.guard.session(request))
+        view = self.view(self.guard.reading(request))
         response = answer(view.snapshot(self.core.snapshot(), normal=True))
         response.enable_compression()
         return response
 
     async def journal(self, request: web.Request) -> web.Response:
         """Rows of the journal from a number on; `next` is that of the row after them, null at the end."""
-        view = self.view(self.guard.session(request))
+        view = self.view(self.guard.reading(request))
         first = number(request, "from", 1, 1, 10**12)
         count = number(request, "count", 100, 1, MOST_ROWS)
         journal = self.core.journal
-        rows = list(view.rows(journal, first, count + 1))
+        rows = await asyncio.to_thread(lambda: list(view.rows(journal, first, count + 1)))
         shown: list[Json] = [one for row in rows[:count] for one in journal.json(row.number, 1)]
         after = rows[count].number if len(rows) > count else None
         return answer({"length": len(journal), "rows": shown, "next": after})
 
     async def journal_csv(self, request: web.Request) -> web.StreamResponse:
         """The journal as CSV, from a number on."""
-        view = self.view(self.guard.session(request))
+        view = self.view(self.guard.reading(request))
         first = number(request, "from", 1, 1, 10**12)
         count = number(request, "count", 10**9, 1, 10**9)
         response = web.StreamResponse(headers=download("journal.csv"))
@@ -202,7 +202,7 @@ class Api:
 
     async def make_report(self, request: web.Request) -> Report:
         """The figures of the last `hours` (0: from the journal's beginning), worked out in a thread, and kept for a while."""
-        session = self.guard.session(request)
+        session = self.guard.reading(request)
         hours = number(request, "hours", 24, 0, 24 * 366)
         key = session.consoles, hours
         async with self._reporting:

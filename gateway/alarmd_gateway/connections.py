@@ -52,9 +52,8 @@ class Connection(RequestHandler):
             keepalive_timeout=IDLE,
             max_line_size=LONGEST_LINE,
             max_field_size=LONGEST_LINE,
+            access_log=None,  # type: ignore[arg-type]
         )
-        self.access_log = None  # type: ignore[assignment]
-        self.access_logger = None
         self._limit = limit
         self._address: str | None = None
         self._timer: asyncio.TimerHandle | None = None

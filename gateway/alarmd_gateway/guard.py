@@ -18,6 +18,7 @@ Handler = Callable[[web.Request], Awaitable[web.StreamResponse]]
 
 LARGEST_BODY = 16_384  # bytes
 PATIENCE = 10.0  # seconds in which a body has to come
+COMPRESSED_ASIDE = 65_536  # bytes; what is larger is compressed by a thread
 TOKEN = "X-Alarmd-Token"
 THIS_MACHINE = ("localhost", "127.0.0.1", "[::1]")
 HEADERS = {
@@ -43,8 +44,12 @@ class Refused(Exception):
 
 def answer(data: Json, status: int = 200) -> web.Response:
     """JSON that no cache keeps."""
-    return web.json_response(
-        data, status=status, headers={"Cache-Control": "no-store"}, dumps=compact
+    return web.Response(
+        text=compact(data),
+        status=status,
+        content_type="application/json",
+        headers={"Cache-Control": "no-store"},
+        zlib_executor_size=COMPRESSED_ASIDE,
     )
 
 
@@ -80,6 +85,15 @@ class Guard:
         if session is None:
             raise Refused(401, "nobody is logged in")
         return session
+
+    def reading(self, request: web.Request) -> Session:
+        """The session of a request that only reads. Where nobody has to log in, it needs none. Raises Refused (401)."""
+        try:
+            return self.session(request)
+        except Refused:
+            if self.users is not None:
+                raise
+            return Session(None, self.consoles, "", 0.0)
 
     def changing(self, request: web.Request) -> Session:
         """The session of a request that changes something: it brings the session's token. Raises Refused (401, 403)."""

@@ -104,7 +104,7 @@ class Gatherer(Collector):
         orders = CounterMetricFamily(
             "alarmd_orders", "Orders given by the page and the API", labels=["order", "reply"]
         )
-        for (verb, reply), count in sorted(self._orders.items()):
+        for (verb, reply), count in sorted(dict(self._orders).items()):
             orders.add_metric([verb, reply], count)
         return orders
 

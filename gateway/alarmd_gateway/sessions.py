@@ -36,6 +36,7 @@ class Session:
     consoles: tuple[int, ...]
     token: str = field(repr=False)  # what each request that changes something has to bring
     ends: float  # by the sessions' clock
+    key: bytes = field(default=b"", repr=False)  # by which the sessions find it
 
     def owns(self, token: str | None) -> bool:
         """Whether this is the session's token."""
@@ -56,8 +57,9 @@ class Sessions:
     def begin(self, user: str | None, consoles: tuple[int, ...]) -> tuple[str, Session]:
         """A new session, and the value of its cookie."""
         cookie = secrets.token_urlsafe(32)
-        session = Session(user, consoles, secrets.token_urlsafe(32), self._clock() + self._life)
-        self._sessions[_kept(cookie)] = session
+        token, ends = secrets.token_urlsafe(32), self._clock() + self._life
+        session = Session(user, consoles, token, ends, _kept(cookie))
+        self._sessions[session.key] = session
         while len(self._sessions) > MOST_SESSIONS:
             self._sessions.popitem(last=False)
         return cookie, session
@@ -78,7 +80,7 @@ class Sessions:
 
     def lasts(self, session: Session) -> bool:
         """Whether a session that somebody has is still one of these."""
-        return self._clock() < session.ends and session in self._sessions.values()
+        return self._clock() < session.ends and self._sessions.get(session.key) is session
 
     def end(self, cookie: str | None) -> None:
         """Ends the session of a cookie; one that is none is fine."""

@@ -74,6 +74,7 @@ class Web:
         self.api = Api(core, self.guard)
         self.metrics = Metrics(core, self.api.orders, self._counts())
         self.port = config.port
+        self._gathering = asyncio.Lock()
         self._runner: web.AppRunner | None = None
         self._server: asyncio.Server | None = None
 
@@ -146,8 +147,10 @@ class Web:
         by_token = token is not None and same(given, token)
         if not by_token and self.config.users is not None:
             self.guard.session(request)
+        async with self._gathering:  # by a thread: a long journal takes seconds the first time
+            text = await asyncio.to_thread(self.metrics.text)
         return web.Response(
-            body=self.metrics.text(),
+            body=text,
             headers={"Content-Type": "text/plain; version=0.0.4; charset=utf-8"},
         )
 

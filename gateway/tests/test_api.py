@@ -56,7 +56,13 @@ def test_without_users_a_session_begins_by_itself(open_plant: Served) -> None:
     assert client.order("ack", "A1").json == {"reply": "OK", "taken": True, "why": "done"}
     assert open_plant.core.orders == [(Order(Verb.ACK, 1, "A1"), None, None)]
     assert client.enter().json["token"] == client.token  # the same session
-    assert Client(open_plant.url).post("/api/login", {"name": "a", "password": "b"}).status == 400
+    stranger = Client(open_plant.url)
+    assert stranger.post("/api/login", {"name": "a", "password": "b"}).status == 400
+    # who only reads needs no session, who orders does
+    for path in ("plant", "state", "journal", "journal.csv", "report", "report.csv"):
+        assert stranger.ask(f"/api/{path}").status == 200, path
+    assert stranger.order("ack", "A0").status == 401 and stranger.ask("/api/live").status == 401
+    assert len(open_plant.core.orders) == 1
 
 
 def test_with_users_nothing_is_told_to_who_isnt_logged_in(guarded_plant: Served) -> None:

@@ -4,6 +4,7 @@ from __future__ import annotations
 
 import json
 import os
+import shutil
 import signal
 import socket
 import statistics
@@ -165,6 +166,48 @@ def test_a_stopped_program_is_shown_with_file_and_line(tank: Gateway, page: Page
     page.click("[data-restart=dose]")
     page.click("#confirm-yes")
     until(lambda: page.text("#troubles") == "")
+
+
+def test_a_question_at_the_start_is_answered_on_the_page(
+    tmp_path: Path, alarmd: Path, examples: Path, page: Page
+) -> None:
+    plant = tmp_path / "later"
+    shutil.copytree(examples / "tank", plant)
+    text = (plant / "plant.toml").read_text()
+    (plant / "plant.toml").write_text(text.replace("2026-11-23", "2399-11-23"))
+    with gateway(tmp_path / "served", alarmd, plant, users=True) as served:
+        served.give("level=200 running=TRUE")
+        page.open(served.url)
+        page.login("anna")
+        until(lambda: page.text("#troubles"))
+        until(lambda: page.text("#link") == "✕ no scans")
+        assert served.record() == []
+        page.click("#troubles [data-question]")
+        page.click("#confirm-yes")
+        page.until_live()
+        until(lambda: page.rows() == [("LAL-101", "UNACK")])
+
+
+def test_a_new_record_is_confirmed_on_the_page(
+    tmp_path: Path, alarmd: Path, examples: Path, page: Page
+) -> None:
+    settings = "rotate_at = 30"
+    with gateway(tmp_path, alarmd, examples / "tank", users=True, settings=settings) as served:
+        served.give(QUIET)
+        enter(page, served)
+        served.give("level=200")
+        until(lambda: page.rows() == [("LAL-101", "UNACK")])
+        served.give("temperature=900")
+        until(lambda: page.rows()[0] == ("TAHH-102", "UNACK"))
+        served.give("temperature=600")
+        until(lambda: page.rows()[0] == ("TAHH-102", "LATUN"))  # no order makes it wait again
+        until(lambda: "a new record is due" in page.text("#troubles"))
+        page.click("#troubles [data-question]")
+        until(lambda: "TAHH-102" in page.text("#confirm .subject"))
+        page.click("#confirm-yes")
+        until(lambda: page.rows() == [("LAL-101", "UNACK")])
+        served.wait(lambda: len(list(served.folder.glob("record*"))) >= 2)
+        until(lambda: page.live() and "a new record is due" not in page.text("#troubles"))
 
 
 def test_two_thousand_of_twenty_thousand_alarms_at_once(

@@ -24,6 +24,7 @@ plant = "plant/plant.toml"
 record = "record"
 period_ms = {period}
 console = true
+{settings}
 [web]
 listen = "127.0.0.1:{port}"
 {more}
@@ -33,8 +34,11 @@ listen = "127.0.0.1:{port}"
 class Gateway:
     """A folder with a plant, a record and users, and the process that serves it."""
 
-    def __init__(self, folder: Path, alarmd: Path, plant: Path, period: int = 200) -> None:
+    def __init__(
+        self, folder: Path, alarmd: Path, plant: Path, period: int = 200, settings: str = ""
+    ) -> None:
         self.folder = folder
+        self.settings = settings
         self.alarmd = alarmd
         self.period = period
         self.port = 0
@@ -56,7 +60,13 @@ class Gateway:
     def start(self) -> None:
         """Starts it, on the port of the last start, and waits until the page is there."""
         more = 'users = "users.toml"' if (self.folder / "users.toml").exists() else ""
-        text = CONFIG.format(alarmd=self.alarmd, period=self.period, port=self.port, more=more)
+        text = CONFIG.format(
+            alarmd=self.alarmd,
+            period=self.period,
+            settings=self.settings,
+            port=self.port,
+            more=more,
+        )
         (self.folder / "gateway.toml").write_text(text)
         self._process = subprocess.Popen(
             [sys.executable, "-B", "-m", "alarmd_gateway", "serve", "gateway.toml"],
@@ -135,10 +145,15 @@ class Gateway:
 
 @contextmanager
 def gateway(
-    folder: Path, alarmd: Path, plant: Path, period: int = 200, users: bool = False
+    folder: Path,
+    alarmd: Path,
+    plant: Path,
+    period: int = 200,
+    users: bool = False,
+    settings: str = "",
 ) -> Iterator[Gateway]:
     """Serves a plant, and ends."""
-    found = Gateway(folder, alarmd, plant, period)
+    found = Gateway(folder, alarmd, plant, period, settings)
     if users:
         found.users()
     found.start()

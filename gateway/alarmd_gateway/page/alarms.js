@@ -85,7 +85,9 @@ export class AlarmScreen {
     }
     this.bar = bar;
     this.above = el("div", { class: "above", role: "status", hidden: true });
-    this.more = el("p", { class: "more" });
+    this.subject = el("b");
+    this.details = el("span");
+    this.more = el("p", { class: "more two" }, this.subject, el("br"), this.details);
     this.list.body.addEventListener("scroll", () => this.refresh());
     this.panel.append(bar, el("div", { class: "holder" }, this.list.grid, this.above), this.more);
     extra?.(this);
@@ -99,7 +101,8 @@ export class AlarmScreen {
   refresh() {
     const alarm = this.list.current();
     for (const [verb, button] of this.buttons) button.disabled = !this.store.live || !takes(verb, alarm);
-    setText(this.more, alarm ? this.tellOf(alarm) : "No alarm is selected: arrow keys, or a click.");
+    setText(this.subject, alarm ? `${alarm.tag}  ${alarm.text}` : "");
+    setText(this.details, alarm ? this.tellOf(alarm) : "No alarm is selected: arrow keys, or a click.");
     if (this.all) {
       const seen = this.list.seen().filter((one) => WAITING.has(one.code)).length;
       setText(this.allText, seen ? `Acknowledge those on screen (${seen})` : "Acknowledge those on screen");
@@ -117,7 +120,7 @@ export class AlarmScreen {
   }
 
   tellOf(alarm) {
-    const parts = [`${alarm.tag}: ${STATES[alarm.code]}${alarm.sinceTime ? ` since ${longTime(alarm.sinceTime)}` : ""}`, `priority ${alarm.priority}`, `area ${alarm.area}`];
+    const parts = [`${STATES[alarm.code]}${alarm.sinceTime ? ` since ${longTime(alarm.sinceTime)}` : ""}`, `priority ${alarm.priority}`, `area ${alarm.area}`];
     if (alarm.until) parts.push(`shelved until ${longTime(alarm.until)}`);
     if (alarm.user) parts.push(`by ${alarm.user}`);
     if (alarm.reason) parts.push(`because: ${alarm.reason}`);

@@ -4,7 +4,7 @@ const SILENCE = 2200; // ms without a message, after which the connection counts
 const WAITS = [300, 600, 1000, 2000, 3000]; // ms before the next try
 
 export class Live {
-  // `told` has the functions snapshot(data), changes(list), heard(time), lost(since), ended()
+  // `told` has the functions snapshot(data), changes(list), alive(), lost(), and ready(), which promises whether to connect
   constructor(told) {
     this.told = told;
     this.socket = null;
@@ -14,7 +14,6 @@ export class Live {
     this.number = null; // of the last change
     this.stopped = false;
     this.watch = setInterval(() => this.look(), 100);
-    this.begun = performance.now();
     this.connect();
   }
 
@@ -42,8 +41,6 @@ export class Live {
     } else if (message.type === "changes") {
       this.told.changes(message.changes);
       this.number = message.upto;
-    } else if (message.type === "beat") {
-      this.told.heard(message.time);
     }
     if (!this.alive && this.number !== null) {
       this.alive = true;
@@ -69,12 +66,17 @@ export class Live {
     this.number = null;
     this.alive = false;
     this.told.lost();
+    this.later();
+  }
+
+  // Tries again in a while, once the gateway answers and the plant is known anew: it may be another one.
+  later() {
     const wait = WAITS[Math.min(this.tries, WAITS.length - 1)];
     this.tries += 1;
     setTimeout(async () => {
       if (this.stopped) return;
-      if (await this.told.ended()) this.stop();
-      else this.connect();
+      if (await this.told.ready()) this.connect();
+      else this.later();
     }, wait);
   }
 }

@@ -95,7 +95,6 @@ async function begin(who) {
   setToken(who.token);
   document.body.className = "";
   $("login").hidden = true;
-  setText($("plant-name"), who.plant);
   setText($("user-name"), who.user ?? "");
   $("log-out").hidden = !who.users;
   let table;
@@ -106,10 +105,7 @@ async function begin(who) {
     setTimeout(() => begin(who), 2000);
     return undefined;
   }
-  store.takeTable(table);
-  const kept = store.areas.includes(store.area) ? store.area : "";
-  $("area").replaceChildren(el("option", { value: "" }, "All areas"), ...store.areas.map((area) => el("option", { value: area }, area)));
-  $("area").value = store.area = kept;
+  takeTable(who, table);
   if (!screens.alarms) makeScreens();
   for (const id of ["top", "tabs", "screens", "bottom"]) $(id).hidden = false;
   showScreen(shown);
@@ -119,31 +115,32 @@ async function begin(who) {
     changes: (list) => {
       store.takeChanges(list);
       for (const change of list) if (change.kind === "alarm") settled(change.data.tag);
-      if (list.some((change) => change.kind === "anew")) refreshTable();
     },
-    heard: () => {},
     alive: () => setLost(null),
     lost: () => setLost(lostAt ?? new Date()),
-    ended,
+    ready,
   });
 }
 
-// Whether the session has ended, so that trying again is in vain.
-async function ended() {
+// Whether the gateway answers and the plant is known anew. A session that has ended asks for the password.
+async function ready() {
   try {
-    setToken((await get("/api/session")).token);
-    return false;
-  } catch (fault) {
-    if (fault.status !== 401) return false;
-    askLogin("The session has ended.");
+    const who = await get("/api/session");
+    setToken(who.token);
+    takeTable(who, await get("/api/plant"));
     return true;
+  } catch (fault) {
+    if (fault.status === 401) askLogin("The session has ended.");
+    return false;
   }
 }
 
-async function refreshTable() {
-  try {
-    store.takeTable(await get("/api/plant"));
-  } catch { /* the next snapshot brings it */ }
+function takeTable(who, table) {
+  setText($("plant-name"), who.plant);
+  store.takeTable(table);
+  const kept = store.areas.includes(store.area) ? store.area : "";
+  $("area").replaceChildren(el("option", { value: "" }, "All areas"), ...store.areas.map((area) => el("option", { value: area }, area)));
+  $("area").value = store.area = kept;
 }
 
 function setLost(since) {
