@@ -39,6 +39,10 @@ class Entry:
     reason: str | None = None
 
 
+class Unsure(GatewayFault):
+    """A new record has begun, but it may not outlast a loss of power: nothing may go on."""
+
+
 class Log(Protocol):
     """What the core wants of a record."""
 
@@ -50,7 +54,8 @@ class Log(Protocol):
 
     async def succeed(self, entries: Sequence[Entry]) -> str:
         """A new record takes the place of this one, at once and whole, with these commands in it. Gives the name under which
-        the old one is kept. Raises GatewayFault (status 1)."""
+        the old one is kept. Raises GatewayFault where the old one goes on, and Unsure where that isn't known.
+        """
 
     def close(self) -> None:
         """No more is appended. Another gateway may have the record."""
@@ -181,12 +186,20 @@ class FileRecord:
         kept, fresh = _archive(self.path), self.path.with_name(f"{self.path.name}.new")
         fresh.unlink(missing_ok=True)
         file = _locked(fresh)
-        commands = "".join(f"{_remark(entry)}{entry.line}\n" for entry in entries)
-        _write(file, f"{head(self._plant, kept.name)}\n{commands}")
-        os.replace(fresh, self.path)  # at each moment there is one of the two, whole
-        _sync_folder(self.path)
+        try:
+            commands = "".join(f"{_remark(entry)}{entry.line}\n" for entry in entries)
+            _write(file, f"{head(self._plant, kept.name)}\n{commands}")
+            os.replace(fresh, self.path)  # at each moment there is one of the two, whole
+        except BaseException:
+            file.close()
+            fresh.unlink(missing_ok=True)
+            raise
         old, self._file = self._file, file
         old.close()
+        try:
+            _sync_folder(self.path)
+        except OSError as fault:
+            raise Unsure(f"the record {self.path}: {fault.strerror}", 1) from None
         return kept.name
 
     def close(self) -> None:

@@ -6,7 +6,9 @@ from . import rotation
 from .clock import Clock
 from .config import Config
 from .link import Link, tell
+from .model import GatewayFault
 from .questions import Answer, Questions
+from .record import Unsure
 from .troubles import TroubleKind
 
 _SUBJECT = "record"
@@ -46,18 +48,36 @@ class Renewal:
 
     async def _begin(self, answer: Answer | None) -> None:
         """Tries the new run. It becomes the run where it loses nothing grave that wasn't announced and confirmed; else that is
-        asked."""
-        trial = await rotation.attempt(self._config, self._link.book.state, self._clock.now())
+        asked. Where it can't be tried or recorded, the old run goes on, and that is a trouble. Raises Unsure.
+        """
+        try:
+            trial = await rotation.attempt(self._config, self._link.book.state, self._clock.now())
+        except GatewayFault as fault:
+            self._failed(fault)
+            return
         if trial.lost if answer is None else trial.grave - self._announced:
             await trial.server.kill()
             self._ask(trial)
             return
         entries = [rotation.remark(answer), *trial.entries]
-        kept = await self._link.renew(trial.server, trial.book, entries)
+        try:
+            kept = await self._link.renew(trial.server, trial.book, entries)
+        except GatewayFault as fault:
+            await trial.server.kill()
+            if isinstance(fault, Unsure):
+                raise
+            self._failed(fault)
+            return
         self._due.begun()
+        self._link.troubles.clear(TroubleKind.RECORD, "")
         who = "" if answer is None else f", confirmed by {answer.user or 'an operator'}"
         tell(f"a new record has begun{who}; the old one is kept as {kept}")
         self.look_at_history()
+
+    def _failed(self, fault: GatewayFault) -> None:
+        self._due.declined(self._link.book.state.events)
+        words = f"a new record couldn't be begun: {fault.words}"
+        self._link.troubles.raises(TroubleKind.RECORD, "", words)
 
     def _ask(self, trial: rotation.Trial) -> None:
         self._announced = trial.grave
