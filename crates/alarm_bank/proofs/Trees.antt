@@ -4,13 +4,13 @@ use Rattle.std.proofs.lemmas.Bool.{cases_lt}
 use Rattle.std.proofs.lemmas.List.{get_or-drop}
 use Rattle.alarm_bank.specs.Shelves.{IsTree, IsLeastOf}
 
-parity : (j : ℕ) → (j ≡ 2 * (j / 2)) ⊎ (j ≡ 2 * (j / 2) + 1)
+pub parity : (j : ℕ) → (j ≡ 2 * (j / 2)) ⊎ (j ≡ 2 * (j / 2) + 1)
 parity j = elim (cases_lt (j % 2) 1) [ inl h ↦ inl (omega arith) | inr h ↦ inr (omega arith) ]
 
-left : (tree : List ℕ) (count i j : ℕ) → IsTree tree count → j ≡ 2 * i → 1 ≤ i → i < count → slice_index tree i ≤ slice_index tree j
+pub left : (tree : List ℕ) (count i j : ℕ) → IsTree tree count → j ≡ 2 * i → 1 ≤ i → i < count → slice_index tree i ≤ slice_index tree j
 left tree count i j t e low high = let n = t.nodes i low high in rw e (omega (arith, n))
 
-right : (tree : List ℕ) (count i j : ℕ) → IsTree tree count → j ≡ 2 * i + 1 → 1 ≤ i → i < count → slice_index tree i ≤ slice_index tree j
+pub right : (tree : List ℕ) (count i j : ℕ) → IsTree tree count → j ≡ 2 * i + 1 → 1 ≤ i → i < count → slice_index tree i ≤ slice_index tree j
 right tree count i j t e low high = let n = t.nodes i low high in rw e (omega (arith, n))
 
 pub below : (tree : List ℕ) (count fuel j : ℕ) → IsTree tree count → j ≤ fuel → 1 ≤ j → j < 2 * count → slice_index tree 1 ≤ slice_index tree j

@@ -15,5 +15,6 @@ mod summary;
 pub use bank::Bank;
 pub use event::BankEvent;
 pub use rows::{Counted, Site};
+pub use shelf::Shelf;
 pub use signals::Signals;
 pub use summary::Summary;

@@ -1,7 +1,7 @@
-//! The ends of shelves, and the least of them.
+//! Moments of alarms, as the ends of their shelves, and the least of them.
 
-ghost use Rattle.std.specs.Prelude.{◌≡◌, ℕ, ◌+◌, ◌*◌, ◌≤◌, ◌^◌, ◌<◌, length, drop, slice_set, slice_index, replicate, IfOk};
-ghost use Rattle.alarm_bank.specs.Shelves.{IsTree, IsTreeBut, IsLeastOf};
+ghost use Rattle.std.specs.Prelude.{◌≡◌, ℕ, ◌+◌, ◌*◌, ◌≤◌, ◌^◌, ◌<◌, length, drop, slice_set, slice_index, slice_get, replicate, IfOk, Some, false};
+ghost use Rattle.alarm_bank.specs.Shelves.{IsTree, IsTreeBut, IsLeastOf, IsUnder};
 
 use std::alloc::{AllocError, Global};
 use std::marker::Model;
@@ -48,6 +48,27 @@ fn mend(tree: &mut [u64], count: usize, place: usize)
     }
 }
 
+/// Marks the places below a node that have at most a number. It looks only at nodes below which there is such a place, and at those beside them.
+fn mark_below(tree: &[u64], count: usize, node: usize, most: u64, marks: &mut [bool])
+    requires tree { IsTree tree.now count }
+    requires node { (1 ≤ node) × (node < 2 * count) }
+    requires few { count < 2 ^ 32 }
+    requires marks { length marks.old ≡ count }
+    ensures kept { (n : ℕ) → slice_get marks.new n ≡ Some false → slice_get marks.old n ≡ Some false }
+    ensures marked { (k n : ℕ) → n < count → IsUnder k node (count + n) → slice_index tree.now (count + n) ≤ most → slice_get marks.new n ≡ Some false → ⊥ }
+    ensures others { (n : ℕ) → n < count → most < slice_index tree.now (count + n) → slice_get marks.new n ≡ slice_get marks.old n }
+{
+    if tree[node] > most {
+        return;
+    }
+    if node >= count {
+        marks[node - count] = true;
+        return;
+    }
+    mark_below(tree, count, 2 * node, most, marks);
+    mark_below(tree, count, 2 * node + 1, most, marks);
+}
+
 impl Shelf {
     /// The greatest number of 64 bits at each of so many places. Fails if allocation fails.
     pub fn new(alloc: Global, count: usize) -> Result<Shelf, AllocError>
@@ -80,6 +101,20 @@ impl Shelf {
             u64::MAX
         } else {
             self.tree[1]
+        }
+    }
+
+    /// Marks the places that have at most a number, of marks for all places, and leaves the others as they are. It looks only at the places that it
+    /// marks, and at the nodes on the way to them.
+    pub fn mark_most(&self, most: u64, marks: &mut [bool])
+        requires few { length self.now < 2 ^ 32 }
+        requires marks { length marks.old ≡ length self.now }
+        ensures kept { (n : ℕ) → slice_get marks.new n ≡ Some false → slice_get marks.old n ≡ Some false }
+        ensures marked { (n : ℕ) → n < length self.now → slice_index self.now n ≤ most → slice_get marks.new n ≡ Some false → ⊥ }
+        ensures others { (n : ℕ) → n < length self.now → most < slice_index self.now n → slice_get marks.new n ≡ slice_get marks.old n }
+    {
+        if self.count > 0 {
+            mark_below(self.tree.as_slice(), self.count, 1, most, marks);
         }
     }
 }
