@@ -14,6 +14,7 @@ mod summary;
 
 pub use bank::Bank;
 pub use event::BankEvent;
+pub use marks::next_mark;
 pub use rows::{Counted, Site};
 pub use shelf::Shelf;
 pub use signals::Signals;

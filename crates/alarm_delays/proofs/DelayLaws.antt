@@ -1,0 +1,302 @@
+-- Delays from scan to scan.
+use Rattle.std.proofs.Common.{◌≡◌, ◌≢◌, ℕ, zero, suc, ◌++◌, ◌+◌, ◌-◌, ◌<◌, ◌≤◌, ◌⊎◌, inl, inr, Bool, true, false, not, Option, Some, None, List, [], ◌∷◌, length, slice_get, slice_set, slice_index, slice_index_or, replicate, arith, refl, ap, sym, ◌∙◌, length-set, nat_lt, is_some, fold, map, take, drop, subst, ℤ, ◌^◌}
+use Rattle.std.proofs.lemmas.Bool.{cases_lt}
+use Rattle.std.proofs.lemmas.List.{length-replicate, set_at, get_or_at, length_push, append_assoc, drop_more}
+use Rattle.std.proofs.lemmas.Bool.Decides.{nat_tests}
+use Rattle.std.proofs.lemmas.Option.{slice_get-get_or, slice_get_within, get_or_from_slice_get, same_Some}
+use Rattle.std_blocks.specs.Calls.{Call}
+use Rattle.std_blocks.specs.States.{PlainTonState}
+use Rattle.std_blocks.proofs.Steps.{ton_steps, ton_shows}
+use Rattle.alarm_machine.specs.Alarms.{PlainAlarm, after_scan}
+use Rattle.alarm_bank.specs.Banks.{scan_each}
+use Rattle.alarm_machine.specs.declared.limits.TheConstants.{LAST_MOMENT}
+use Rattle.alarm_bank.specs.Moves.{UnmarkedStay}
+use Rattle.alarm_delays.specs.Delays.{PlainDelays, IsDelays, Wakes, ArePast, delayed, delayed_each, has_come, since_after, since_each, put_since, AreMet, ConditionsStay, RawStay, FollowsOn, scan_of, scans_each, since_of, counts}
+
+pub past_on : (last t : ℕ) (since : List (Option ℕ)) → last ≤ t → ArePast last since → ArePast t since
+past_on last t since h past n r at = let p = past n r at in omega (arith, h, p)
+
+pub wakes_on : (last t : ℕ) (delays : List ℕ) (since : List (Option ℕ)) (due : List ℕ) → last ≤ t → Wakes last delays since due → Wakes t delays since due
+wakes_on last t delays since due h wakes n delay r d s early = wakes n delay r d s (omega (arith, h, early))
+
+pub delays_on : (delays : List ℕ) (since : List (Option ℕ)) (last t : ℕ) (due : List ℕ) → last ≤ t → t ≤ LAST_MOMENT → IsDelays delays since last due → IsDelays delays since t due
+delays_on delays since last t due h range is = record {
+  each = is.each;
+  places = is.places;
+  few = is.few;
+  in_range = range;
+  past = past_on last t since h is.past;
+  wakes = wakes_on last t delays since due h is.wakes;
+}
+
+pub none_since : (count n r : ℕ) → slice_get (replicate {A = Option ℕ} count None) n ≡ Some (Some r) → ⊥
+none_since zero n r e = cc e
+none_since (suc count) zero r e = cc e
+none_since (suc count) (suc n) r e = none_since count n r e
+
+set_cases : (xs : List (Option ℕ)) (at n : ℕ) (v x : Option ℕ) → slice_get (slice_set xs at v) n ≡ Some x → ((n ≡ at) × (x ≡ v)) ⊎ ((n ≢ at) × (slice_get xs n ≡ Some x))
+set_cases [] at n v x e = absurd (cc e)
+set_cases (y ∷ xs) zero zero v x e = inl (refl, cc e)
+set_cases (y ∷ xs) zero (suc n) v x e = inr (λ h. absurd (omega (arith, h)), e)
+set_cases (y ∷ xs) (suc at) zero v x e = inr (λ h. absurd (omega (arith, h)), e)
+set_cases (y ∷ xs) (suc at) (suc n) v x e = elim (set_cases xs at n v x e) [ inl p ↦ inl (ap suc p.0, p.1) | inr p ↦ inr (λ h. p.0 (omega (arith, h)), p.1) ]
+
+index_same : (due : List ℕ) (at key : ℕ) → at < length due → slice_index (slice_set due at key) at ≡ key
+index_same [] at key h = absurd (omega arith)
+index_same (y ∷ due) zero key h = refl
+index_same (y ∷ due) (suc at) key h = index_same due at key (omega arith)
+
+index_other : (due : List ℕ) (at n key : ℕ) → n ≢ at → slice_index (slice_set due at key) n ≡ slice_index due n
+index_other [] at n key h = refl
+index_other (y ∷ due) zero zero key h = absurd (h refl)
+index_other (y ∷ due) zero (suc n) key h = refl
+index_other (y ∷ due) (suc at) zero key h = refl
+index_other (y ∷ due) (suc at) (suc n) key h = index_other due at n key (λ e. h (ap suc e))
+
+module _ (delays : List ℕ) (since : List (Option ℕ)) (last : ℕ) (due : List ℕ) (at : ℕ) (v : Option ℕ) (key : ℕ) (is : IsDelays delays since last due) (within : at < length delays)
+    (past : (r : ℕ) → v ≡ Some r → r ≤ last) (wakes : (delay r : ℕ) → slice_get delays at ≡ Some delay → v ≡ Some r → last - r < delay → key ≤ r + delay) where
+  put_past : ArePast last (slice_set since at v)
+  put_past n r e = elim (set_cases since at n v (Some r) e) [ inl p ↦ past r (sym p.1) | inr p ↦ is.past n r p.1 ]
+
+  put_wakes : Wakes last delays (slice_set since at v) (slice_set due at key)
+  put_wakes n delay r d e early = elim (set_cases since at n v (Some r) e) [
+    | inl p ↦ let same = p.0 in let k = wakes delay r (ap (slice_get delays) (sym same) ∙ d) (sym p.1) early in
+        let index = ap (slice_index (slice_set due at key)) same ∙ index_same due at key (omega (arith, within, is.places)) in omega (arith, k, index)
+    | inr p ↦ let k = is.wakes n delay r d p.1 early in let index = index_other due at n key p.0 in omega (arith, k, index)
+  ]
+
+  pub put_delays : IsDelays delays (slice_set since at v) last (slice_set due at key)
+  put_delays = record {
+    each = length-set since at v ∙ is.each;
+    places = length-set due at key ∙ is.places;
+    few = is.few;
+    in_range = is.in_range;
+    past = put_past;
+    wakes = put_wakes;
+  }
+
+-- since when a condition is met after a scan is no later than that
+pub after_past : (c : Bool) (t : ℕ) (before : Option ℕ) (r : ℕ) → ((q : ℕ) → before ≡ Some q → q ≤ t) → since_after c t before ≡ Some r → r ≤ t
+after_past false t before r past e = absurd (cc e)
+after_past true t None r past e = let same : t ≡ r = cc e in omega (arith, same)
+after_past true t (Some q) r past e = past r e
+
+-- ---- the conditions that count
+
+pub each_within : (cs : List Bool) (t : ℕ) (ds : List ℕ) (rs : List (Option ℕ)) (n : ℕ) → n < length (delayed_each cs t ds rs) → (n < length cs) × (n < length ds) × (n < length rs)
+each_within [] t ds rs n h = absurd (omega arith)
+each_within (c ∷ cs) t [] rs n h = absurd (omega arith)
+each_within (c ∷ cs) t (d ∷ ds) [] n h = absurd (omega arith)
+each_within (c ∷ cs) t (d ∷ ds) (r ∷ rs) zero h = (omega arith, omega arith, omega arith)
+each_within (c ∷ cs) t (d ∷ ds) (r ∷ rs) (suc n) h = let p = each_within cs t ds rs n (omega arith) in let p0 = p.0 in let p1 = p.1 in let p2 = p.2 in (omega (arith, p0), omega (arith, p1), omega (arith, p2))
+
+pub each_length : (cs : List Bool) (t : ℕ) (ds : List ℕ) (rs : List (Option ℕ)) → length cs ≡ length ds → length rs ≡ length ds → length (delayed_each cs t ds rs) ≡ length ds
+each_length [] t ds rs p q = p
+each_length (c ∷ cs) t [] rs p q = absurd (omega arith)
+each_length (c ∷ cs) t (d ∷ ds) [] p q = absurd (omega arith)
+each_length (c ∷ cs) t (d ∷ ds) (r ∷ rs) p q = ap suc (each_length cs t ds rs (omega arith) (omega arith))
+
+pub each_at : (cs : List Bool) (t : ℕ) (ds : List ℕ) (rs : List (Option ℕ)) (n : ℕ) (c : Bool) (d : ℕ) (r : Option ℕ) → slice_get cs n ≡ Some c → slice_get ds n ≡ Some d → slice_get rs n ≡ Some r
+    → slice_get (delayed_each cs t ds rs) n ≡ Some (delayed c d t r)
+each_at [] t ds rs n c d r ce de re = absurd (cc ce)
+each_at (x ∷ cs) t [] rs n c d r ce de re = absurd (cc de)
+each_at (x ∷ cs) t (y ∷ ds) [] n c d r ce de re = absurd (cc re)
+each_at (x ∷ cs) t (y ∷ ds) (z ∷ rs) zero c d r ce de re =
+    let c_is : x ≡ c = cc ce in let d_is : y ≡ d = cc de in let r_is : z ≡ r = cc re in
+    (λ i. Some (delayed (c_is i) (d_is i) t (r_is i)))
+each_at (x ∷ cs) t (y ∷ ds) (z ∷ rs) (suc n) c d r ce de re = each_at cs t ds rs n c d r ce de re
+
+-- a condition that has been met since then counts from some moment on
+not_yet : (delay t r : ℕ) → t - r < delay → has_come delay t (Some r) ≡ false
+not_yet delay t r h = ap not (step (nat_lt (t - r) delay) h)
+  where
+    step : (v : Bool) → t - r < delay → nat_lt (t - r) delay ≡ true
+    step v h = grind (arith, nat_tests)
+
+come : (delay t r : ℕ) → delay ≤ t - r → has_come delay t (Some r) ≡ true
+come delay t r h = ap not (step h)
+  where
+    step : delay ≤ t - r → nat_lt (t - r) delay ≡ false
+    step h = grind (arith, nat_tests)
+
+-- an alarm whose condition stays as it was, and doesn't come to count by time alone
+stays : (delay last t : ℕ) (r : Option ℕ) → ((q : ℕ) → r ≡ Some q → q ≤ last) → last ≤ t → ((q : ℕ) → r ≡ Some q → last - q < delay → t < q + delay) → delayed (is_some r) delay t r ≡ has_come delay last r
+stays delay last t None past h early = refl
+stays delay last t (Some q) past h early =
+    elim (cases_lt (last - q) delay) [
+      | inl waits ↦ let e = early q refl waits in let p = past q refl in not_yet delay t q (omega (arith, e, p, h)) ∙ sym (not_yet delay last q waits)
+      | inr came ↦ come delay t q (omega (arith, came, h)) ∙ sym (come delay last q (omega (arith, came)))
+    ]
+
+pub unmarked_stay : (d : PlainDelays) (due : List ℕ) (marks marks' cs ss : List Bool) (t : ℕ) (alarms : List PlainAlarm) → IsDelays d.delays d.since d.last due → d.last ≤ t → length alarms ≡ length d.delays
+    → ((n : ℕ) → slice_get marks' n ≡ Some false → slice_get marks n ≡ Some false) → ((n : ℕ) → n < length due → slice_index due n ≤ t → slice_get marks' n ≡ Some false → ⊥)
+    → RawStay marks cs ss d alarms → UnmarkedStay marks' (delayed_each cs t d.delays d.since) ss alarms
+unmarked_stay d due marks marks' cs ss t alarms is later each kept marked raw n a unmarked at =
+    let within = slice_get_within alarms n a at in
+    let delay : ℕ = slice_index_or d.delays n 0 in
+    let r : Option ℕ = slice_index_or d.since n None in
+    let d_at : slice_get d.delays n ≡ Some delay = slice_get-get_or d.delays n 0 (omega (arith, within, each)) in
+    let r_at : slice_get d.since n ≡ Some r = slice_get-get_or d.since n None (omega (arith, within, each, is.each)) in
+    let was = kept n unmarked in
+    let c_at = raw.conditions n r was r_at in
+    let same = stays delay d.last t r (λ q e. is.past n q (r_at ∙ ap Some e)) later (λ q e waits. early n delay q r d_at r_at e waits within unmarked) in
+    (each_at cs t d.delays d.since n (is_some r) delay r c_at d_at r_at ∙ ap Some (same ∙ sym (raw.counted n was a delay r at d_at r_at)), raw.suppressions n a was at)
+  where
+    early : (m delay q : ℕ) (r : Option ℕ) → slice_get d.delays m ≡ Some delay → slice_get d.since m ≡ Some r → r ≡ Some q → d.last - q < delay → m < length alarms → slice_get marks' m ≡ Some false → t < q + delay
+    early m delay q r d_at r_at e waits within clear =
+        let wakes = is.wakes m delay q d_at (r_at ∙ ap Some e) waits in
+        elim (cases_lt t (slice_index due m)) [
+          | inl sooner ↦ omega (arith, sooner, wakes)
+          | inr due_now ↦ absurd (marked m (omega (arith, within, each, is.places)) (omega (arith, due_now)) clear)
+        ]
+
+pub none_more : (n : ℕ) → replicate {A = Option ℕ} n None ++ None ∷ [] ≡ replicate {A = Option ℕ} (suc n) None
+none_more zero = refl
+none_more (suc n) = ap (λ (xs : List (Option ℕ)). None ∷ xs) (none_more n)
+
+pub delays_none : (delays : List ℕ) (n m : ℕ) → n ≡ length delays → m ≡ length delays → length delays < 2 ^ 32 → IsDelays delays (replicate {A = Option ℕ} n None) 0 (replicate m 18446744073709551615)
+delays_none delays n m n_is m_is few = record {
+  each = length-replicate n None ∙ n_is;
+  places = length-replicate m 18446744073709551615 ∙ m_is;
+  few = few;
+  in_range = omega arith;
+  past = λ k r e. absurd (none_since n k r e);
+  wakes = λ k delay r d e early. absurd (none_since n k r e);
+}
+
+-- ---- the conditions of some alarms
+
+-- a condition that stays as it was changes nothing
+stays_since : (t : ℕ) (r : Option ℕ) → since_after (is_some r) t r ≡ r
+stays_since t None = refl
+stays_since t (Some q) = refl
+
+put_after : (t n : ℕ) (before : List (Option ℕ)) (cs : List Bool) (rs : List (Option ℕ)) (met : List (ℕ × Bool)) → length before ≡ n → AreMet n cs rs met → fold (put_since t) (before ++ rs) met ≡ before ++ since_each cs t rs
+put_after t n before [] [] met e h = rw h refl
+put_after t n before [] (r ∷ rs) met e h = absurd h
+put_after t n before (c ∷ cs) [] met e h = absurd h
+put_after t n before (c ∷ cs) (r ∷ rs) met e h =
+    elim h [
+      | inl rests ↦
+          let step : fold (put_since t) ((before ++ r ∷ []) ++ rs) met ≡ (before ++ r ∷ []) ++ since_each cs t rs = put_after t (n + 1) (before ++ r ∷ []) cs rs met (length_push before r ∙ ap (λ k. k + 1) e) rests.1 in
+          let same : since_after c t r ≡ r = ap (λ (b : Bool). since_after b t r) rests.0 ∙ stays_since t r in
+          ap (λ l. fold (put_since t) l met) (sym (append_assoc before (r ∷ []) rs)) ∙ step ∙ append_assoc before (r ∷ []) (since_each cs t rs) ∙ ap (λ x. before ++ x ∷ since_each cs t rs) (sym same)
+      | inr met' ↦
+          let v = since_after c t r in
+          let step : fold (put_since t) ((before ++ v ∷ []) ++ rs) met'.0 ≡ (before ++ v ∷ []) ++ since_each cs t rs = put_after t (n + 1) (before ++ v ∷ []) cs rs met'.0 (length_push before v ∙ ap (λ k. k + 1) e) met'.2 in
+          let found : slice_index_or (before ++ r ∷ rs) n None ≡ r = get_or_at before r rs None n e in
+          let first : put_since t (before ++ r ∷ rs) (n, c) ≡ before ++ v ∷ rs = ap (λ x. slice_set (before ++ r ∷ rs) n (since_after c t x)) found ∙ set_at before r rs v n e in
+          rw met'.1 (ap (λ l. fold (put_since t) l met'.0) (first ∙ sym (append_assoc before (v ∷ []) rs)) ∙ step ∙ append_assoc before (v ∷ []) (since_each cs t rs))
+    ]
+
+pub put_all : (t : ℕ) (cs : List Bool) (rs : List (Option ℕ)) (met : List (ℕ × Bool)) → AreMet 0 cs rs met → fold (put_since t) rs met ≡ since_each cs t rs
+put_all t cs rs met h = put_after t 0 [] cs rs met refl h
+
+pub past_set : (since : List (Option ℕ)) (at : ℕ) (v : Option ℕ) → length since ≤ at → slice_set since at v ≡ since
+past_set [] at v h = refl
+past_set (r ∷ since) zero v h = absurd (omega arith)
+past_set (r ∷ since) (suc at) v h = ap (λ (xs : List (Option ℕ)). r ∷ xs) (past_set since at v (omega arith))
+
+pub same_delays : (d old : PlainDelays) (since : List (Option ℕ)) (t : ℕ) → d.delays ≡ old.delays → d.since ≡ since → d.last ≡ t → d ≡ record old { since = since; last = t }
+same_delays d old since t a b e = λ i. record { delays = a i; since = b i; last = e i }
+
+-- ---- after a scan
+
+-- what counts in a scan is what has come by its moment, by since when the condition is met then
+counts_after : (c : Bool) (delay t : ℕ) (r : Option ℕ) → delayed c delay t r ≡ has_come delay t (since_after c t r)
+counts_after false delay t r = refl
+counts_after true delay t None = refl
+counts_after true delay t (Some q) = refl
+
+pub follows_at : (t : ℕ) (cs ss : List Bool) (ds : List ℕ) (rs : List (Option ℕ)) (xs : List PlainAlarm) (n : ℕ) (a : PlainAlarm) (delay : ℕ) (r : Option ℕ) → length cs ≡ length xs → length ss ≡ length xs
+    → slice_get (scan_each (delayed_each cs t ds rs) ss t xs) n ≡ Some a → slice_get ds n ≡ Some delay → slice_get (since_each cs t rs) n ≡ Some r → a.condition ≡ has_come delay t r
+follows_at t [] ss ds rs [] n a delay r p q ae de re = absurd (cc ae)
+follows_at t [] ss ds rs (x ∷ xs) n a delay r p q ae de re = absurd (omega arith)
+follows_at t (c ∷ cs) ss [] rs xs n a delay r p q ae de re = absurd (cc de)
+follows_at t (c ∷ cs) ss (d ∷ ds) [] xs n a delay r p q ae de re = absurd (cc re)
+follows_at t (c ∷ cs) [] (d ∷ ds) (y ∷ rs) [] n a delay r p q ae de re = absurd (omega arith)
+follows_at t (c ∷ cs) [] (d ∷ ds) (y ∷ rs) (x ∷ xs) n a delay r p q ae de re = absurd (omega arith)
+follows_at t (c ∷ cs) (s ∷ ss) (d ∷ ds) (y ∷ rs) [] n a delay r p q ae de re = absurd (omega arith)
+follows_at t (c ∷ cs) (s ∷ ss) (d ∷ ds) (y ∷ rs) (x ∷ xs) zero a delay r p q ae de re =
+    let a_is : after_scan (delayed c d t y) s t x ≡ a = cc ae in
+    let d_is : d ≡ delay = cc de in
+    let r_is : since_after c t y ≡ r = cc re in
+    ap (λ (b : PlainAlarm). b.condition) (sym a_is) ∙ counts_after c d t y ∙ (λ i. has_come (d_is i) t (r_is i))
+follows_at t (c ∷ cs) (s ∷ ss) (d ∷ ds) (y ∷ rs) (x ∷ xs) (suc n) a delay r p q ae de re = follows_at t cs ss ds rs xs n a delay r (omega arith) (omega arith) ae de re
+
+-- after a scan the last condition of each alarm is the one that counted
+pub follows_on : FollowsOn
+follows_on d cs ss t alarms p q n a delay r ae de re = follows_at t cs ss d.delays d.since alarms n a delay r p q ae de re
+
+-- what one scan more makes of one alarm's scans
+after_scan_since : (c : Bool) (delay t : ℕ) (scans : List Call) → since_of (scan_of c delay t ∷ scans) ≡ since_after c t (since_of scans)
+after_scan_since true delay t scans = ap (λ (s : PlainTonState). s.start) (sym (ton_steps (scan_of true delay t) scans))
+after_scan_since false delay t scans = refl
+
+after_scan_counts : (c : Bool) (delay t : ℕ) (scans : List Call) → counts (scan_of c delay t ∷ scans) ≡ delayed c delay t (since_of scans)
+after_scan_counts c delay t scans = ap (λ (q : Bool × ℤ). q.0) (sym (ton_shows (scan_of c delay t) scans))
+
+-- what is kept from scan to scan is what the lists of scans have
+pub since_scans : (cs : List Bool) (t : ℕ) (ds : List ℕ) (scans : List (List Call)) → length cs ≡ length ds → length scans ≡ length ds → map since_of (scans_each cs t ds scans) ≡ since_each cs t (map since_of scans)
+since_scans [] t ds scans p q = refl
+since_scans (c ∷ cs) t [] scans p q = absurd (omega (arith, p))
+since_scans (c ∷ cs) t (d ∷ ds) [] p q = absurd (omega (arith, q))
+since_scans (c ∷ cs) t (d ∷ ds) (s ∷ scans) p q =
+    (λ i. after_scan_since c d t s i ∷ since_scans cs t ds scans (omega (arith, p)) (omega (arith, q)) i)
+
+pub counts_scans : (cs : List Bool) (t : ℕ) (ds : List ℕ) (scans : List (List Call)) → map counts (scans_each cs t ds scans) ≡ delayed_each cs t ds (map since_of scans)
+counts_scans [] t ds scans = refl
+counts_scans (c ∷ cs) t [] scans = refl
+counts_scans (c ∷ cs) t (d ∷ ds) [] = refl
+counts_scans (c ∷ cs) t (d ∷ ds) (s ∷ scans) = (λ i. after_scan_counts c d t s i ∷ counts_scans cs t ds scans i)
+
+pub length_scans : (cs : List Bool) (t : ℕ) (ds : List ℕ) (scans : List (List Call)) → length cs ≡ length ds → length scans ≡ length ds → length (scans_each cs t ds scans) ≡ length ds
+length_scans [] t ds scans p q = p
+length_scans (c ∷ cs) t [] scans p q = absurd (omega (arith, p))
+length_scans (c ∷ cs) t (d ∷ ds) [] p q = absurd (omega (arith, q))
+length_scans (c ∷ cs) t (d ∷ ds) (s ∷ scans) p q = ap suc (length_scans cs t ds scans (omega (arith, p)) (omega (arith, q)))
+
+-- ---- the marked alarms
+
+-- what the list has of the alarms from one number on, when those up to another are passed over
+pub passed_over : (gap at to : ℕ) (marks cs : List Bool) (since : List (Option ℕ)) (met : List (ℕ × Bool)) → to ≡ at + gap → length cs ≡ length since → to ≤ length since → ConditionsStay marks cs since
+    → ((n : ℕ) → at ≤ n → n < to → slice_get marks n ≡ Some false) → AreMet to (drop to cs) (drop to since) met → AreMet at (drop at cs) (drop at since) met
+passed_over zero at to marks cs since met is each within stay clear h =
+    let same : to ≡ at = omega (arith, is) in
+    subst (λ k. AreMet k (drop k cs) (drop k since) met) same h
+passed_over (suc gap) at to marks cs since met is each within stay clear h =
+    let rest = passed_over gap (at + 1) to marks cs since met (omega (arith, is)) each within stay (λ n low high. clear n (omega (arith, low)) high) h in
+    let r : Option ℕ = slice_index_or since at None in
+    let c : Bool = slice_index_or cs at false in
+    let r_at : slice_get since at ≡ Some r = slice_get-get_or since at None (omega (arith, is, within)) in
+    let c_at : slice_get cs at ≡ Some c = slice_get-get_or cs at false (omega (arith, is, within, each)) in
+    let stays_is : Some c ≡ Some (is_some r) = sym c_at ∙ stay at r (clear at (omega arith) (omega (arith, is))) r_at in
+    subst (λ l. AreMet at l (drop at since) met) (sym (drop_more cs at false (omega (arith, is, within, each))))
+    (subst (λ l. AreMet at (c ∷ drop (at + 1) cs) l met) (sym (drop_more since at None (omega (arith, is, within)))) (inl (same_Some c (is_some r) stays_is, rest)))
+
+-- and when the first of them is listed
+pub listed_one : (at : ℕ) (c : Bool) (cs : List Bool) (since : List (Option ℕ)) (met : List (ℕ × Bool)) → length cs ≡ length since → at < length since → slice_get cs at ≡ Some c
+    → AreMet (at + 1) (drop (at + 1) cs) (drop (at + 1) since) met → AreMet at (drop at cs) (drop at since) ((at, c) ∷ met)
+listed_one at c cs since met each within c_at h =
+    let c_is : slice_index_or cs at false ≡ c = get_or_from_slice_get cs at c false c_at in
+    subst (λ l. AreMet at l (drop at since) ((at, c) ∷ met)) (sym (drop_more cs at false (omega (arith, within, each)) ∙ ap (λ x. x ∷ drop (at + 1) cs) c_is))
+    (subst (λ l. AreMet at (c ∷ drop (at + 1) cs) l ((at, c) ∷ met)) (sym (drop_more since at None within)) (inr (met, refl, h)))
+
+-- ---- conditions, of which those before a place tell what counts
+
+pub get_counted : (i : ℕ) (cs : List Bool) (t : ℕ) (ds : List ℕ) (rs : List (Option ℕ)) → i < length cs → length cs ≡ length ds → length rs ≡ length ds
+    → slice_index_or (delayed_each (take i cs) t ds rs ++ drop i cs) i false ≡ slice_index_or cs i false
+get_counted i [] t ds rs within p q = absurd (omega (arith, within))
+get_counted i (c ∷ cs) t [] rs within p q = absurd (omega (arith, p))
+get_counted i (c ∷ cs) t (d ∷ ds) [] within p q = absurd (omega (arith, q))
+get_counted zero (c ∷ cs) t (d ∷ ds) (r ∷ rs) within p q = refl
+get_counted (suc i) (c ∷ cs) t (d ∷ ds) (r ∷ rs) within p q = get_counted i cs t ds rs (omega (arith, within)) (omega (arith, p)) (omega (arith, q))
+
+pub set_counted : (i : ℕ) (cs : List Bool) (t : ℕ) (ds : List ℕ) (rs : List (Option ℕ)) (v : Bool) → i < length cs → length cs ≡ length ds → length rs ≡ length ds
+    → ((d : ℕ) (r : Option ℕ) → slice_get ds i ≡ Some d → slice_get rs i ≡ Some r → v ≡ delayed (slice_index_or cs i false) d t r)
+    → slice_set (delayed_each (take i cs) t ds rs ++ drop i cs) i v ≡ delayed_each (take (suc i) cs) t ds rs ++ drop (suc i) cs
+set_counted i [] t ds rs v within p q is = absurd (omega (arith, within))
+set_counted i (c ∷ cs) t [] rs v within p q is = absurd (omega (arith, p))
+set_counted i (c ∷ cs) t (d ∷ ds) [] v within p q is = absurd (omega (arith, q))
+set_counted zero (c ∷ cs) t (d ∷ ds) (r ∷ rs) v within p q is = ap (λ (x : Bool). x ∷ cs) (is d r refl refl)
+set_counted (suc i) (c ∷ cs) t (d ∷ ds) (r ∷ rs) v within p q is = ap (λ (l : List Bool). delayed c d t r ∷ l) (set_counted i cs t ds rs v (omega (arith, within)) (omega (arith, p)) (omega (arith, q)) is)

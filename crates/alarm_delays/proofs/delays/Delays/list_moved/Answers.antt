@@ -1,0 +1,15 @@
+use Rattle.std.proofs.Common.{sym, ◌∙◌, subst}
+use Rattle.alarm_delays.specs.Delays.{PlainDelays, IsDelays}
+use Rattle.alarm_delays.proofs.DelayLaws.{each_length, unmarked_stay}
+use Rattle.alarm_delays.proofs.delays.Delays.list_moved.Goals as goal
+
+pub list_moved_among-requires-clause-unmarked : goal.list_moved_among-requires-clause-unmarked
+list_moved_among-requires-clause-unmarked g c =
+    let is : IsDelays c.args.self.now.delays c.args.self.now.since c.args.self.now.last c.self.inside.due = subst (λ (d : PlainDelays). IsDelays d.delays d.since d.last c.self.inside.due) c.self.view_is c.self.invariant in
+    unmarked_stay c.args.self.now c.self.inside.due c.args.marks.now c.mark_most.new.marks (g.S.Signals.conditions c.args.raw.now) (g.S.Signals.suppressions c.args.raw.now) c.args.moment c.args.bank.now.alarms
+    is c.requires.later c.requires.each c.mark_most.ensures.kept c.mark_most.ensures.marked c.requires.unmarked
+
+pub list_moved_among-requires-clause-conditions : goal.list_moved_among-requires-clause-conditions
+list_moved_among-requires-clause-conditions g c =
+    let is : IsDelays c.args.self.now.delays c.args.self.now.since c.args.self.now.last c.self.inside.due = subst (λ (d : PlainDelays). IsDelays d.delays d.since d.last c.self.inside.due) c.self.view_is c.self.invariant in
+    each_length _ c.args.moment c.args.self.now.delays c.args.self.now.since c.requires.conditions is.each ∙ sym c.requires.each

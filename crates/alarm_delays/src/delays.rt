@@ -1,0 +1,277 @@
+//! The delays of alarms, and since when their conditions have been met.
+
+ghost use Rattle.std.specs.Prelude.{◌≡◌, ◌<◌, ◌≤◌, ◌^◌, ◌+◌, ◌-◌, ℕ, Bool, List, Some, None, Option, true, false, length, map, replicate, slice_get, slice_set, IfOk, OnOk};
+ghost use Rattle.alarm_machine.specs.declared.limits.TheConstants.{LAST_MOMENT};
+ghost use Rattle.alarm_bank.specs.Banks.{scan_each};
+ghost use Rattle.alarm_bank.specs.Moves.{AreMovesOf};
+ghost use Rattle.alarm_delays.specs.Delays.{AreMet, ConditionsStay, DelaysAgree, FollowsOn, RawStay, after_conditions, after_met, delayed, delayed_each, put_since, since_after};
+
+use alarm_bank::{Bank, Shelf, Signals, next_mark};
+use alarm_machine::{Alarm, Change};
+use std::alloc::{AllocError, Global};
+use std::marker::Model;
+
+/// The delay of each alarm in milliseconds, since when its condition has been met, and the moment of the last scan. Beside them stands an index
+/// of the moments at which conditions come to count by time alone.
+pub struct Delays {
+    delays: Vec<u32>,
+    since: Vec<Option<u64>>,
+    last: u64,
+    due: Shelf,
+}
+
+impl Drop for Delays {
+    fn drop(self) {
+        let Delays {
+            delays: _,
+            since: _,
+            last: _,
+            due: _,
+        } = self;
+    }
+}
+
+impl Model for Delays {
+    ghost use Rattle.alarm_delays.specs.Delays.{PlainDelays, IsDelays};
+
+    ghost Value = { PlainDelays };
+
+    ghost view = { λ d. record { delays = d.delays.items; since = d.since.items; last = d.last } };
+
+    ghost invariant = { λ d. IsDelays d.delays.items d.since.items d.last d.due };
+}
+
+/// Whether a condition counts in a scan, by since when it had been met before.
+fn delayed(condition: bool, delay: u32, moment: u64, since: Option<u64>) -> bool
+    ensures { result ≡ delayed condition delay moment since }
+{
+    if !condition {
+        return false;
+    }
+    match since {
+        Some(start) => u64::from(delay) <= moment.saturating_sub(start),
+        None => delay == 0,
+    }
+}
+
+/// Of so many conditions none is met. Fails if allocation fails.
+fn none_yet(alloc: Global, count: usize) -> Result<Vec<Option<u64>>, AllocError>
+    ensures { IfOk result (λ since. since.items ≡ replicate count None) }
+{
+    let mut since = Vec::new(alloc);
+    for at in 0..count {
+        let _ = at;
+        since.push(None)?;
+    }
+    Ok(since)
+}
+
+/// Since when a condition has been met after a scan, if it is.
+fn since_after(condition: bool, moment: u64, since: Option<u64>) -> Option<u64>
+    ensures { result ≡ since_after condition moment since }
+{
+    if !condition {
+        return None;
+    }
+    match since {
+        Some(start) => Some(start),
+        None => Some(moment),
+    }
+}
+
+/// A moment before which a condition doesn't come to count by time alone, where it doesn't count at a last moment; else one that doesn't matter.
+fn due_at(last: u64, delay: u32, since: Option<u64>) -> u64
+    requires { (r : ℕ) → since ≡ Some r → r ≤ LAST_MOMENT }
+    ensures { (r : ℕ) → since ≡ Some r → last - r < delay → result ≤ r + delay }
+{
+    match since {
+        Some(start) => {
+            let delay = u64::from(delay);
+            if last.saturating_sub(start) < delay {
+                start + delay
+            } else {
+                u64::MAX
+            }
+        }
+        None => u64::MAX,
+    }
+}
+
+/// What counts in a scan, by the conditions that its programs leave.
+pub struct Counting<'a, S: Signals> {
+    raw: &'a S,
+    delays: &'a Delays,
+    moment: u64,
+}
+
+impl<'a, S: Signals> Drop for Counting<'a, S> {
+    fn drop(self) {
+        let Counting {
+            raw: _,
+            delays: _,
+            moment: _,
+        } = self;
+    }
+}
+
+impl<'a, S: Signals> Signals for Counting<'a, S> {
+    ghost use Rattle.alarm_delays.specs.Delays.{delayed_each};
+
+    ghost conditions = { λ d. delayed_each (S.conditions d.raw.now) d.moment d.delays.now.delays d.delays.now.since };
+
+    ghost suppressions = { λ d. S.suppressions d.raw.now };
+
+    fn condition(&self, alarm: u32) -> bool {
+        let delays: &Delays = self.delays;
+        delays.counts(alarm as usize, self.raw.condition(alarm), self.moment)
+    }
+
+    fn suppression(&self, alarm: u32) -> bool {
+        self.raw.suppression(alarm)
+    }
+}
+
+impl Delays {
+    /// The delays of alarms before the first scan. Fails if allocation fails.
+    pub fn new(alloc: Global, delays: Vec<u32>) -> Result<Delays, AllocError>
+        requires { length delays.items < 2 ^ 32 }
+        ensures { IfOk result (λ made. made ≡ record { delays = delays.items; since = replicate (length delays.items) None; last = 0 }) }
+    {
+        let since = none_yet(alloc, delays.len())?;
+        let due = Shelf::new(alloc, delays.len())?;
+        Ok(Delays {
+            delays,
+            since,
+            last: 0,
+            due,
+        })
+    }
+
+    /// Whether the condition of an alarm counts in a scan.
+    fn counts(&self, at: usize, condition: bool, moment: u64) -> bool
+        requires { at < length self.now.delays }
+        ensures { (delay : ℕ) (r : Option ℕ) → slice_get self.now.delays at ≡ Some delay → slice_get self.now.since at ≡ Some r → result ≡ delayed condition delay moment r }
+    {
+        delayed(condition, self.delays[at], moment, self.since[at])
+    }
+
+    /// Goes on to a scan's moment.
+    fn go_on(&mut self, moment: u64)
+        requires later { self.old.last ≤ moment }
+        requires range { moment ≤ LAST_MOMENT }
+        ensures { self.new ≡ record self.old { last = moment } }
+    {
+        self.last = moment;
+    }
+
+    /// Takes the condition of one alarm in the scan of the last moment. It allocates nothing.
+    fn put(&mut self, at: usize, condition: bool)
+        requires { at < length self.old.delays }
+        ensures { self.new ≡ record self.old { since = put_since self.old.last self.old.since (at, condition) } }
+    {
+        let since = since_after(condition, self.last, self.since[at]);
+        let due = due_at(self.last, self.delays[at], since);
+        self.since[at] = since;
+        self.due.put(at, due);
+    }
+
+    /// Takes the condition of the alarm of a number in the scan of the last moment. A number that isn't there changes nothing.
+    fn put_at(&mut self, number: u32, condition: bool)
+        ensures { self.new ≡ record self.old { since = put_since self.old.last self.old.since (number, condition) } }
+    {
+        let at = number as usize;
+        if at < self.delays.len() {
+            self.put(at, condition);
+        }
+    }
+
+    /// Puts in the place of each condition that a scan leaves whether it counts.
+    pub fn which_count(&self, conditions: &mut [bool], moment: u64)
+        requires { length conditions.old ≡ length self.now.delays }
+        ensures { conditions.new ≡ delayed_each conditions.old moment self.now.delays self.now.since }
+    {
+        for at in 0..self.delays.len() {
+            conditions[at] = self.counts(at, conditions[at], moment);
+        }
+    }
+
+    /// Takes a scan by the alarms whose conditions it changed, or may have, each by its number with its condition, in order; it takes no memory and
+    /// looks at no other alarm. Then all are what the scan makes of them.
+    pub fn apply(&mut self, met: &[(u32, bool)], moment: u64)
+        requires later { self.old.last ≤ moment }
+        requires range { moment ≤ LAST_MOMENT }
+        ensures put { self.new ≡ after_met met.now moment self.old }
+        ensures scanned { (cs : List Bool) → AreMet 0 cs self.old.since met.now → self.new ≡ after_conditions cs moment self.old }
+    {
+        self.go_on(moment);
+        for (number, condition) in met {
+            self.put_at(*number, *condition);
+        }
+    }
+
+    /// Lists the marked alarms, in order, each by its number with its condition, in place of what was listed before. Fails if allocation fails.
+    fn list_met<S: Signals>(
+        &self,
+        raw: &S,
+        marks: &[bool],
+        met: &mut Vec<(u32, bool)>,
+    ) -> Result<(), AllocError>
+        requires few { length self.now.since < 2 ^ 32 }
+        requires each { length (S.conditions raw.now) ≡ length self.now.since }
+        requires marks { length marks.now ≡ length self.now.since }
+        requires unmarked { ConditionsStay marks.now (S.conditions raw.now) self.now.since }
+        ensures { OnOk result (AreMet 0 (S.conditions raw.now) self.now.since met.new.items) }
+    {
+        met.clear();
+        let mut at = next_mark(marks, 0);
+        while at < marks.len() {
+            let number = at as u32;
+            met.push((number, raw.condition(number)))?;
+            at = next_mark(marks, at + 1);
+        }
+        Ok(())
+    }
+
+    /// Lists the alarms of a bank that a scan moves, and the changes of their codes, as `Bank::list_moved` does, by the conditions that count; and for
+    /// `apply` the alarms whose conditions may have changed. It looks at the marked alarms, and marks and looks at those whose conditions may come to
+    /// count by time alone. Fails if allocation fails.
+    pub fn list_moved<S: Signals>(
+        &self,
+        bank: &Bank,
+        raw: &S,
+        moment: u64,
+        marks: &mut [bool],
+        met: &mut Vec<(u32, bool)>,
+        moved: &mut Vec<(u32, Alarm)>,
+        changes: &mut Vec<(u32, Change)>,
+    ) -> Result<(), AllocError>
+        requires later { self.now.last ≤ moment }
+        requires each { length bank.now.alarms ≡ length self.now.delays }
+        requires marks { length marks.old ≡ length self.now.delays }
+        requires conditions { length (S.conditions raw.now) ≡ length self.now.delays }
+        requires suppressions { length (S.suppressions raw.now) ≡ length self.now.delays }
+        requires unmarked { RawStay marks.old (S.conditions raw.now) (S.suppressions raw.now) self.now bank.now.alarms }
+        ensures moved { OnOk result (AreMovesOf bank.now.alarms (scan_each (delayed_each (S.conditions raw.now) moment self.now.delays self.now.since) (S.suppressions raw.now) moment bank.now.alarms) moved.new.items changes.new.items) }
+        ensures met { OnOk result (AreMet 0 (S.conditions raw.now) self.now.since met.new.items) }
+    {
+        self.due.mark_most(moment, marks);
+        self.list_met(raw, marks, met)?;
+        let counted = Counting {
+            raw,
+            delays: self,
+            moment,
+        };
+        bank.list_moved_among(marks, &counted, moment, moved, changes)
+    }
+}
+
+/// Law: since when a condition has been met, kept from scan to scan, tells whether it counts, by the list of all scans. (It does nothing when it
+/// is called.)
+pub fn delays_agree()
+    ensures { DelaysAgree }
+{}
+
+/// Law: alarms that take their scans by the conditions that count go on following the delays. (It does nothing when it is called.)
+pub fn alarms_follow()
+    ensures { FollowsOn }
+{}
