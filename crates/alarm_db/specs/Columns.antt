@@ -1,12 +1,21 @@
--- The columns of an alarm database, and the fields of a record by their columns.
-use Rattle.std.specs.Prelude.{ℕ, List, [], ◌∷◌, codes, unwrap_or}
+-- The columns of an alarm database, by the versions of its table, and the fields of a record by their columns.
+use Rattle.std.specs.Prelude.{ℕ, List, [], ◌∷◌, codes, unwrap_or, Option, None, Some, position}
+use Rattle.std.specs.Str.{bytes_eq}
 use Rattle.csv.specs.Records.{field_at}
 use Rattle.alarm_db.specs.declared.column.Column.{Column}
 use Rattle.alarm_db.specs.declared.column.Column.TheVariants as column
+use Rattle.alarm_db.specs.declared.column.Version.{Version}
+use Rattle.alarm_db.specs.declared.column.Version.TheVariants as version
 
--- the columns, in order
-abbrev pub columns : List Column
-columns = column.Tag ∷ column.Area ∷ column.Priority ∷ column.Condition ∷ column.Suppress ∷ column.Latch ∷ column.MaxShelveMs ∷ column.Text ∷ []
+-- the columns of each version of the table, in order
+abbrev pub columns : Version → List Column
+columns version.First = column.Tag ∷ column.Area ∷ column.Priority ∷ column.Condition ∷ column.Suppress ∷ column.Latch ∷ column.MaxShelveMs ∷ column.Text ∷ []
+columns version.Second =
+    column.Tag ∷ column.Area ∷ column.Priority ∷ column.Condition ∷ column.Suppress ∷ column.Latch ∷ column.MaxShelveMs ∷ column.OnDelayMs ∷ column.Text ∷ []
+
+-- the versions, in order
+abbrev pub versions : List Version
+versions = version.First ∷ version.Second ∷ []
 
 -- a column's name, as the header has it
 abbrev pub column_name : Column → List ℕ
@@ -17,19 +26,18 @@ column_name column.Condition = codes "condition"
 column_name column.Suppress = codes "suppress"
 column_name column.Latch = codes "latch"
 column_name column.MaxShelveMs = codes "max_shelve_ms"
+column_name column.OnDelayMs = codes "on_delay_ms"
 column_name column.Text = codes "text"
 
--- the place of a column's field in a record, from 0
-abbrev pub column_place : Column → ℕ
-column_place column.Tag = 0
-column_place column.Area = 1
-column_place column.Priority = 2
-column_place column.Condition = 3
-column_place column.Suppress = 4
-column_place column.Latch = 5
-column_place column.MaxShelveMs = 6
-column_place column.Text = 7
+-- the place of a column's field in a record, from 0; none where the version doesn't have the column
+abbrev pub column_place : Version → Column → Option ℕ
+column_place v c = position (λ d. bytes_eq (column_name c) (column_name d)) (columns v)
 
--- the field of a column; empty where a record is too short for it
-abbrev pub field_of : List (List ℕ) → Column → List ℕ
-field_of fields c = unwrap_or (field_at fields (column_place c)) []
+-- the field at a place; empty at none, and where a record is too short for it
+abbrev pub field_in : List (List ℕ) → Option ℕ → List ℕ
+field_in fields None = []
+field_in fields (Some n) = unwrap_or (field_at fields n) []
+
+-- the field of a column; empty where the version doesn't have the column
+abbrev pub field_of : Version → List (List ℕ) → Column → List ℕ
+field_of v fields c = field_in fields (column_place v c)

@@ -41,6 +41,10 @@ latches_not field = same_word field (codes "false") || bytes_eq field (codes "0"
 abbrev pub is_shelve_time : List ℕ → Bool
 is_shelve_time field = has_digits 10 field && nat_le (digits_value 10 field) 2592000000
 
+-- whether a field is an on-delay: 1 to 10 digits, at most a day in milliseconds
+abbrev pub is_delay : List ℕ → Bool
+is_delay field = has_digits 10 field && nat_le (digits_value 10 field) 86400000
+
 -- whether a text may have a byte: no control character of ASCII
 abbrev pub is_text_byte : ℕ → Bool
 is_text_byte b = nat_le 32 b && not (b == 127)
@@ -58,4 +62,5 @@ has_form column.Condition field = is_name field
 has_form column.Suppress field = is_empty field || is_name field
 has_form column.Latch field = latches field || latches_not field
 has_form column.MaxShelveMs field = is_shelve_time field
+has_form column.OnDelayMs field = is_delay field
 has_form column.Text field = is_text field

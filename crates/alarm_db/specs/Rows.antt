@@ -6,28 +6,30 @@ use Rattle.plant_types.specs.Words.{is_name}
 use Rattle.alarm_db.specs.declared.column.Column.{Column}
 use Rattle.alarm_db.specs.declared.column.Column.TheVariants as column
 use Rattle.alarm_db.specs.declared.row.DatabaseRow.{DatabaseRow}
+use Rattle.alarm_db.specs.declared.column.Version.{Version}
 use Rattle.alarm_db.specs.Columns.{columns, field_of}
 use Rattle.alarm_db.specs.Forms.{has_form, is_tag, is_text, is_empty, latches}
 
--- the first column whose field in a record doesn't have its form
-unfoldable pub wrong_column : List (List ℕ) → Option Column
-wrong_column fields = find (λ c. not (has_form c (field_of fields c))) columns
+-- the first column of a version whose field in a record doesn't have its form
+unfoldable pub wrong_column : Version → List (List ℕ) → Option Column
+wrong_column v fields = find (λ c. not (has_form c (field_of v fields c))) (columns v)
 
 -- the word in a field; none in an empty one
 abbrev pub word_of : List ℕ → Option (List ℕ)
 word_of field = if is_empty field then None else Some field
 
--- the row of a record whose fields have their forms
-abbrev pub row_of : List (List ℕ) → DatabaseRow
-row_of fields = record {
-  tag = field_of fields column.Tag;
-  area = field_of fields column.Area;
-  priority = digits_value 10 (field_of fields column.Priority);
-  condition = field_of fields column.Condition;
-  suppress = word_of (field_of fields column.Suppress);
-  latching = latches (field_of fields column.Latch);
-  max_shelve_ms = digits_value 10 (field_of fields column.MaxShelveMs);
-  text = field_of fields column.Text;
+-- the row of a record whose fields have their forms; a delay of no digits, where the version has none, is 0
+abbrev pub row_of : Version → List (List ℕ) → DatabaseRow
+row_of v fields = record {
+  tag = field_of v fields column.Tag;
+  area = field_of v fields column.Area;
+  priority = digits_value 10 (field_of v fields column.Priority);
+  condition = field_of v fields column.Condition;
+  suppress = word_of (field_of v fields column.Suppress);
+  latching = latches (field_of v fields column.Latch);
+  max_shelve_ms = digits_value 10 (field_of v fields column.MaxShelveMs);
+  on_delay_ms = digits_value 10 (field_of v fields column.OnDelayMs);
+  text = field_of v fields column.Text;
 }
 
 -- what holds of each row
@@ -39,4 +41,5 @@ pub record IsDatabaseRow (row : DatabaseRow) : Type 0 where
   pub condition : is_name row.condition ≡ true
   pub suppress : IfSome row.suppress (λ word. is_name word ≡ true)
   pub shelve : row.max_shelve_ms ≤ 2592000000
+  pub delay : row.on_delay_ms ≤ 86400000
   pub text : is_text row.text ≡ true

@@ -1,8 +1,8 @@
-//! The columns of an alarm database.
+//! The columns of an alarm database, by the versions of its table.
 
-ghost use Rattle.std.specs.Prelude.{◌≡◌, option_map};
-ghost use Rattle.csv.specs.Records.{fields_of};
-ghost use Rattle.alarm_db.specs.Columns.{columns, column_name, column_place, field_of};
+ghost use Rattle.std.specs.Prelude.{◌≡◌, [], unwrap_or};
+ghost use Rattle.csv.specs.Records.{field_at, fields_of};
+ghost use Rattle.alarm_db.specs.Columns.{columns, column_name, column_place, field_of, versions};
 
 use csv::ByteRecord;
 
@@ -16,26 +16,75 @@ pub enum Column {
     Suppress,
     Latch,
     MaxShelveMs,
+    OnDelayMs,
     Text,
 }
 
-impl Column {
-    /// All columns, in their order.
-    pub fn all() -> [Column; 8]
-        ensures { result ≡ columns }
+/// A version of the table: the second has the column of on-delays. The header tells which it is.
+#[derive(Clone, Copy, Drop)]
+pub enum Version {
+    First,
+    Second,
+}
+
+impl Version {
+    /// All versions, in their order.
+    pub(crate) fn all() -> [Version; 2]
+        ensures { result ≡ versions }
     {
-        [
-            Column::Tag,
-            Column::Area,
-            Column::Priority,
-            Column::Condition,
-            Column::Suppress,
-            Column::Latch,
-            Column::MaxShelveMs,
-            Column::Text,
-        ]
+        [Version::First, Version::Second]
     }
 
+    /// Its columns, in their order.
+    pub fn columns(self) -> &'static [Column]
+        ensures { result.now ≡ columns self }
+    {
+        match self {
+            Version::First => &[
+                Column::Tag,
+                Column::Area,
+                Column::Priority,
+                Column::Condition,
+                Column::Suppress,
+                Column::Latch,
+                Column::MaxShelveMs,
+                Column::Text,
+            ],
+            Version::Second => &[
+                Column::Tag,
+                Column::Area,
+                Column::Priority,
+                Column::Condition,
+                Column::Suppress,
+                Column::Latch,
+                Column::MaxShelveMs,
+                Column::OnDelayMs,
+                Column::Text,
+            ],
+        }
+    }
+
+    /// The place of a column's field in a row, from 0; `None` where this version doesn't have the column.
+    pub fn place(self, column: Column) -> Option<usize>
+        ensures { result ≡ column_place self column }
+    {
+        match (self, column) {
+            (_, Column::Tag) => Some(0),
+            (_, Column::Area) => Some(1),
+            (_, Column::Priority) => Some(2),
+            (_, Column::Condition) => Some(3),
+            (_, Column::Suppress) => Some(4),
+            (_, Column::Latch) => Some(5),
+            (_, Column::MaxShelveMs) => Some(6),
+            (Version::First, Column::OnDelayMs) => None,
+            (Version::First, Column::Text) => Some(7),
+            (Version::Second, Column::OnDelayMs) => Some(7),
+            (Version::Second, Column::Text) => Some(8),
+        }
+    }
+}
+
+impl Column {
     /// Its name, as it stands in the header.
     pub fn name(self) -> &'static str
         ensures { result.now ≡ column_name self }
@@ -48,32 +97,27 @@ impl Column {
             Column::Suppress => "suppress",
             Column::Latch => "latch",
             Column::MaxShelveMs => "max_shelve_ms",
+            Column::OnDelayMs => "on_delay_ms",
             Column::Text => "text",
-        }
-    }
-
-    /// The place of its field in a row, from 0.
-    fn place(self) -> usize
-        ensures { result ≡ column_place self }
-    {
-        match self {
-            Column::Tag => 0,
-            Column::Area => 1,
-            Column::Priority => 2,
-            Column::Condition => 3,
-            Column::Suppress => 4,
-            Column::Latch => 5,
-            Column::MaxShelveMs => 6,
-            Column::Text => 7,
         }
     }
 }
 
-/// The field of a column; empty where the row is too short for it.
-pub(crate) fn field(row: &ByteRecord, column: Column) -> &[u8]
-    ensures { result.now ≡ field_of (fields_of row.now) column }
+/// The field of a column; empty where the version doesn't have the column.
+pub(crate) fn field(row: &ByteRecord, version: Version, column: Column) -> &[u8]
+    ensures { result.now ≡ field_of version (fields_of row.now) column }
 {
-    match row.get(column.place()) {
+    match version.place(column) {
+        Some(place) => field_at(row, place),
+        None => b"",
+    }
+}
+
+/// The field at a place, from 0; empty where the row is too short for it.
+fn field_at(row: &ByteRecord, place: usize) -> &[u8]
+    ensures { result.now ≡ unwrap_or (field_at (fields_of row.now) place) [] }
+{
+    match row.get(place) {
         Some(field) => field,
         None => b"",
     }

@@ -12,6 +12,9 @@ use alarm_machine::LONGEST_SHELVE_MS;
 use plant_types::{is_name, same_word};
 use std::str;
 
+/// The longest on-delay: a day.
+pub const LONGEST_DELAY_MS: u64 = 86_400_000;
+
 /// Whether a tag may have this byte: a letter, a digit, `_`, `-` or `.`.
 fn is_tag_byte(byte: u8) -> bool
     ensures { result ≡ is_tag_byte byte }
@@ -108,6 +111,7 @@ pub(crate) fn has_form(column: Column, field: &[u8]) -> bool
         Column::Suppress => field.is_empty() || is_name(field),
         Column::Latch => latches(field) || latches_not(field),
         Column::MaxShelveMs => matches!(number(field, 10), Some(0..=LONGEST_SHELVE_MS)),
+        Column::OnDelayMs => matches!(number(field, 10), Some(0..=LONGEST_DELAY_MS)),
         Column::Text => is_text(field),
     }
 }

@@ -2,12 +2,14 @@
 
 ghost use Rattle.std.specs.Prelude.{◌≡◌, ◌++◌, ◌∷◌, [], ℕ, List, None, Some, MatchResult, OnOk, map};
 ghost use Rattle.csv.specs.Records.{fields_of};
+ghost use Rattle.alarm_db.specs.declared.column.Version.{Version};
 ghost use Rattle.alarm_db.specs.Rows.{row_of};
 ghost use Rattle.alarm_db.specs.Databases.{records_of, rows_in, Refuses};
 ghost use Rattle.alarm_db.specs.Gathering.{early_fault, forms_fault, HasGathered};
 
+use crate::column::Version;
 use crate::fault::DbFault;
-use crate::records::{is_even, is_headed, next_record, reader_of};
+use crate::records::{is_even, next_record, reader_of, version_of};
 use crate::row::{DatabaseRow, row_of, wrong_column};
 use csv::ByteRecord;
 use std::alloc::{AllocError, Global};
@@ -27,8 +29,13 @@ pub(crate) struct Gathered {
 }
 
 /// Adds the row of a record, of which so many come before it, or notes its fault. Fails if allocation fails.
-fn add_row(alloc: Global, gathered: &mut Gathered, row: &ByteRecord) -> Result<(), AllocError>
-    ensures { OnOk result ((rows : List (List (List ℕ))) → HasGathered rows gathered.old → HasGathered (rows ++ fields_of row.now ∷ []) gathered.new) }
+fn add_row(
+    alloc: Global,
+    version: Version,
+    gathered: &mut Gathered,
+    row: &ByteRecord,
+) -> Result<(), AllocError>
+    ensures { OnOk result ((rows : List (List (List ℕ))) → HasGathered version rows gathered.old → HasGathered version (rows ++ fields_of row.now ∷ []) gathered.new) }
 {
     if gathered.count >= MOST_ROWS {
         gathered.fault = Some(DbFault::TooMany);
@@ -38,7 +45,7 @@ fn add_row(alloc: Global, gathered: &mut Gathered, row: &ByteRecord) -> Result<(
     if gathered.fault.is_some() {
         return Ok(());
     }
-    match wrong_column(row) {
+    match wrong_column(row, version) {
         Some(column) => {
             gathered.fault = Some(DbFault::Field {
                 row: gathered.count as u32,
@@ -46,7 +53,7 @@ fn add_row(alloc: Global, gathered: &mut Gathered, row: &ByteRecord) -> Result<(
             });
         }
         None => {
-            let alarm = row_of(alloc, row)?;
+            let alarm = row_of(alloc, row, version)?;
             gathered.rows.push(alarm)?;
         }
     }
@@ -55,7 +62,7 @@ fn add_row(alloc: Global, gathered: &mut Gathered, row: &ByteRecord) -> Result<(
 
 /// The rows that were gathered, or the fault.
 fn finished(gathered: Gathered) -> Result<Vec<DatabaseRow>, DbFault>
-    ensures { (rows : List (List (List ℕ))) → HasGathered rows gathered → MatchResult result (λ found. (forms_fault rows ≡ None) × (found.items ≡ map row_of rows)) (λ fault. forms_fault rows ≡ Some fault) }
+    ensures { (v : Version) (rows : List (List (List ℕ))) → HasGathered v rows gathered → MatchResult result (λ found. (forms_fault v rows ≡ None) × (found.items ≡ map (row_of v) rows)) (λ fault. forms_fault v rows ≡ Some fault) }
 {
     match gathered.fault {
         Some(fault) => Err(fault),
@@ -75,9 +82,10 @@ pub(crate) fn rows_in(alloc: Global, text: &[u8]) -> Result<Vec<DatabaseRow>, Db
     if !found {
         return Err(DbFault::Header);
     }
-    if !is_headed(&row) {
-        return Err(DbFault::Header);
-    }
+    let version = match version_of(&row) {
+        Some(version) => version,
+        None => return Err(DbFault::Header),
+    };
     let mut gathered = Gathered {
         count: 0,
         fault: None,
@@ -89,10 +97,10 @@ pub(crate) fn rows_in(alloc: Global, text: &[u8]) -> Result<Vec<DatabaseRow>, Db
         if !more {
             return finished(gathered);
         }
-        if !is_even(&row) {
+        if !is_even(&row, version) {
             return Err(DbFault::Header);
         }
-        add_row(alloc, &mut gathered, &row)?;
+        add_row(alloc, version, &mut gathered, &row)?;
     }
     Err(DbFault::Memory)
 }

@@ -12,8 +12,9 @@ mod records;
 mod row;
 mod tags;
 
-pub use column::Column;
+pub use column::{Column, Version};
 pub use database::{AlarmDatabase, read};
 pub use fault::DbFault;
+pub use forms::LONGEST_DELAY_MS;
 pub use row::DatabaseRow;
 pub use tags::Tags;

@@ -1,36 +1,47 @@
 //! The records of an alarm database's text.
 
-ghost use Rattle.std.specs.Prelude.{◌≡◌, ◌++◌, ◌&&◌, ◌∷◌, [], ℕ, List, IfErr, IfOk, MatchBool};
+ghost use Rattle.std.specs.Prelude.{◌≡◌, ◌++◌, ◌∷◌, [], ℕ, List, IfErr, IfOk, MatchBool};
 ghost use Rattle.csv.specs.Records.{fields_of};
-ghost use Rattle.alarm_db.specs.Databases.{is_even, is_header, records_of};
+ghost use Rattle.std.specs.List.{list_all};
+ghost use Rattle.std.specs.Str.{bytes_eq};
+ghost use Rattle.alarm_db.specs.Columns.{columns, column_name, field_of};
+ghost use Rattle.alarm_db.specs.Databases.{is_even, is_header, records_of, version_of};
 ghost use Rattle.alarm_db.specs.Gathering.{HasRead};
 
-use crate::column::{Column, field};
+use crate::column::{Version, field};
 use crate::fault::DbFault;
 use csv::{ByteRecord, Reader, ReaderBuilder};
 use std::alloc::Global;
 
-/// Whether a record has a field for each column, and no other.
-pub(crate) fn is_even(row: &ByteRecord) -> bool
-    ensures { result ≡ is_even (fields_of row.now) }
+/// Whether a record has a field for each column of a version, and no other.
+pub(crate) fn is_even(row: &ByteRecord, version: Version) -> bool
+    ensures { result ≡ is_even version (fields_of row.now) }
 {
-    row.len() == 8
+    row.len() == version.columns().len()
 }
 
-/// Whether a record has the names of the columns.
-fn is_header(row: &ByteRecord) -> bool
-    ensures { result ≡ is_header (fields_of row.now) }
+/// Whether a record has the names of the columns of a version.
+fn are_names(row: &ByteRecord, version: Version) -> bool
+    ensures { result ≡ list_all (λ c. bytes_eq (field_of version (fields_of row.now) c) (column_name c)) (columns version) }
 {
-    Column::all()
+    version.columns().iter().all(|column| field(row, version, *column) == column.name().as_bytes())
+}
+
+/// Whether a record is the header of a version: it has the names of the columns, and no other field.
+fn is_header(row: &ByteRecord, version: Version) -> bool
+    ensures { result ≡ is_header (fields_of row.now) version }
+{
+    is_even(row, version) && are_names(row, version)
+}
+
+/// The version that a header tells; `None` if it has not the columns of any.
+pub(crate) fn version_of(header: &ByteRecord) -> Option<Version>
+    ensures { result ≡ version_of (fields_of header.now) }
+{
+    Version::all()
         .iter()
-        .all(|column| field(row, *column) == column.name().as_bytes())
-}
-
-/// Whether a record has the names of the columns and no other field.
-pub(crate) fn is_headed(row: &ByteRecord) -> bool
-    ensures { result ≡ (is_even (fields_of row.now) && is_header (fields_of row.now)) }
-{
-    is_even(row) && is_header(row)
+        .copied()
+        .find(|version| is_header(header, *version))
 }
 
 /// A reader of the records of a text.

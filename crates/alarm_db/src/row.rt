@@ -1,15 +1,15 @@
 //! The rows of an alarm database.
 
-ghost use Rattle.std.specs.Prelude.{◌≡◌, IfOk, None, not, true};
+ghost use Rattle.std.specs.Prelude.{◌≡◌, ◌||◌, IfOk, None, not, true};
 ghost use Rattle.std.specs.List.{find};
 ghost use Rattle.std.specs.Str.{IsUtf8};
 ghost use Rattle.std.specs.Str.Parse.{digits_value};
 ghost use Rattle.csv.specs.Records.{fields_of};
 ghost use Rattle.alarm_db.specs.Columns.{field_of};
-ghost use Rattle.alarm_db.specs.Forms.{has_digits, has_form};
+ghost use Rattle.alarm_db.specs.Forms.{has_digits, has_form, is_delay, is_empty};
 ghost use Rattle.alarm_db.specs.Rows.{row_of, word_of, wrong_column};
 
-use crate::column::{Column, field};
+use crate::column::{Column, Version, field};
 use crate::forms::{has_form, latches, number};
 use csv::ByteRecord;
 use plant_types::Text;
@@ -33,26 +33,28 @@ pub struct DatabaseRow {
     pub latching: bool,
     /// For how many milliseconds it can be shelved at most, up to 2,592,000,000 (30 days); 0 where it can't be (ISA-18.2, shelving).
     pub max_shelve_ms: u64,
+    /// For how many milliseconds its condition has to hold before it counts, up to 86,400,000 (a day); 0: at once (ISA-18.2, on-delay).
+    pub on_delay_ms: u32,
     /// What it says to an operator.
     pub text: Text,
 }
 
 /// The first of the columns whose field doesn't have its form; `None` if all have.
-fn wrong_among(columns: &[Column], row: &ByteRecord) -> Option<Column>
-    ensures { result ≡ find (λ c. not (has_form c (field_of (fields_of row.now) c))) columns.now }
+fn wrong_among(columns: &[Column], row: &ByteRecord, version: Version) -> Option<Column>
+    ensures { result ≡ find (λ c. not (has_form c (field_of version (fields_of row.now) c))) columns.now }
 {
     columns
         .iter()
         .copied()
-        .find(|column| !has_form(*column, field(row, *column)))
+        .find(|column| !has_form(*column, field(row, version, *column)))
 }
 
-/// The first column whose field doesn't have its form; `None` if all have.
+/// The first column of a version whose field doesn't have its form; `None` if all have.
 #[tactic(auto, unfolding(crate::specs::Rows::wrong_column))]
-pub(crate) fn wrong_column(row: &ByteRecord) -> Option<Column>
-    ensures { result ≡ wrong_column (fields_of row.now) }
+pub(crate) fn wrong_column(row: &ByteRecord, version: Version) -> Option<Column>
+    ensures { result ≡ wrong_column version (fields_of row.now) }
 {
-    wrong_among(&Column::all(), row)
+    wrong_among(version.columns(), row, version)
 }
 
 /// Copies a field as a text. Fails if allocation fails.
@@ -88,19 +90,35 @@ fn digits(field: &[u8]) -> u64
     }
 }
 
+/// The delay in a field: 0 in an empty one.
+fn delay(field: &[u8]) -> u32
+    requires { (is_empty field.now || is_delay field.now) ≡ true }
+    ensures { result ≡ digits_value 10 field.now }
+{
+    match number(field, 10) {
+        Some(n) => n as u32,
+        None => 0,
+    }
+}
+
 /// The alarm of a row whose fields have their forms. Fails if allocation fails.
-pub(crate) fn row_of(alloc: Global, row: &ByteRecord) -> Result<DatabaseRow, AllocError>
-    requires { wrong_column (fields_of row.now) ≡ None }
-    ensures { IfOk result (λ alarm. alarm ≡ row_of (fields_of row.now)) }
+pub(crate) fn row_of(
+    alloc: Global,
+    row: &ByteRecord,
+    version: Version,
+) -> Result<DatabaseRow, AllocError>
+    requires { wrong_column version (fields_of row.now) ≡ None }
+    ensures { IfOk result (λ alarm. alarm ≡ row_of version (fields_of row.now)) }
 {
     Ok(DatabaseRow {
-        tag: text(alloc, field(row, Column::Tag))?,
-        area: text(alloc, field(row, Column::Area))?,
-        priority: digits(field(row, Column::Priority)) as u32,
-        condition: text(alloc, field(row, Column::Condition))?,
-        suppress: word(alloc, field(row, Column::Suppress))?,
-        latching: latches(field(row, Column::Latch)),
-        max_shelve_ms: digits(field(row, Column::MaxShelveMs)),
-        text: text(alloc, field(row, Column::Text))?,
+        tag: text(alloc, field(row, version, Column::Tag))?,
+        area: text(alloc, field(row, version, Column::Area))?,
+        priority: digits(field(row, version, Column::Priority)) as u32,
+        condition: text(alloc, field(row, version, Column::Condition))?,
+        suppress: word(alloc, field(row, version, Column::Suppress))?,
+        latching: latches(field(row, version, Column::Latch)),
+        max_shelve_ms: digits(field(row, version, Column::MaxShelveMs)),
+        on_delay_ms: delay(field(row, version, Column::OnDelayMs)),
+        text: text(alloc, field(row, version, Column::Text))?,
     })
 }

@@ -1,6 +1,6 @@
 //! How a plant is refused, as the table says it.
 
-use alarm_db::Column;
+use alarm_db::{Column, Version};
 use plant_config::{ConfigFault, Limit};
 use plant_types::Text;
 use std::alloc::{AllocError, Global};
@@ -25,9 +25,9 @@ fn row_number(word: &str) -> u32 {
 
 /// The column of a name; for another word the first.
 fn column(word: &str) -> Column {
-    for column in Column::all() {
+    for column in Version::Second.columns() {
         if column.name() == word {
-            return column;
+            return *column;
         }
     }
     Column::Tag

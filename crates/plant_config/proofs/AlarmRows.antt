@@ -91,6 +91,7 @@ row_is plant row is k = record {
   condition = known_bool plant.source.globals (bool_number plant.source.globals row.condition) (λ n e. bool_of plant.source.globals (find_global plant.source.globals row.condition) n e) k.condition;
   suppress = known_suppress plant.source.globals row.suppress k.suppress;
   shelve = is.shelve;
+  delay = is.delay;
 }
 
 first_none : (n : ℕ) (o : Option Column) (rest : Option (ℕ × Column)) → option_or (option_map (λ c. (n, c)) o) rest ≡ None → (o ≡ None) × (rest ≡ None)

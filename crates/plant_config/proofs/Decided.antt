@@ -25,9 +25,10 @@ use Rattle.plant_sources.proofs.Decided as sources
 use Rattle.plant_logic.specs.Units.{source_in}
 use Rattle.plant_limits.specs.declared.fault.LimitFault.{LimitFault}
 use Rattle.plant_limits.specs.declared.fault.LimitFault.TheVariants as limit_fault
-use Rattle.alarm_db.specs.Databases.{is_among, is_even, is_header, first_wrong, first_twice, tags_of, rows_fault, records_fault, records_of, first_fault, rows_of}
+use Rattle.alarm_db.specs.Databases.{is_among, is_even, version_of, first_wrong, first_twice, tags_of, rows_fault, records_fault, records_of, first_fault, rows_of}
 use Rattle.alarm_db.specs.Rows.{wrong_column, row_of}
 use Rattle.alarm_db.specs.declared.column.Column.{Column}
+use Rattle.alarm_db.specs.declared.column.Version.{Version}
 use Rattle.alarm_db.specs.declared.fault.DbFault.{DbFault}
 use Rattle.alarm_db.specs.declared.fault.DbFault.TheVariants as db_fault
 use Rattle.plant_config.specs.declared.fault.ConfigFault.{ConfigFault}
@@ -91,22 +92,28 @@ field : (n : ℕ) (o : Option Column) → NotMemory (option_map (λ c. db_fault.
 field n None = λ e. cc e
 field n (Some c) = λ e. cc e
 
-wrong_row : (n : ℕ) (rows : List (List (List ℕ))) → NotMemory (first_wrong n rows)
-wrong_row n [] = λ e. cc e
-wrong_row n (fields ∷ rest) = first_or (option_map (λ c. db_fault.Field n c) (wrong_column fields)) (first_wrong (n + 1) rest) (field n (wrong_column fields)) (wrong_row (n + 1) rest)
+wrong_row : (v : Version) (n : ℕ) (rows : List (List (List ℕ))) → NotMemory (first_wrong v n rows)
+wrong_row v n [] = λ e. cc e
+wrong_row v n (fields ∷ rest) = first_or (option_map (λ c. db_fault.Field n c) (wrong_column v fields)) (first_wrong v (n + 1) rest) (field n (wrong_column v fields)) (wrong_row v (n + 1) rest)
 
 twice : (earlier tags : List (List ℕ)) → NotMemory (first_twice earlier tags)
 twice earlier [] = λ e. cc e
 twice earlier (tag ∷ tags) = either (is_among earlier tag) (Some (db_fault.Twice (length earlier + 1))) (first_twice (earlier ++ tag ∷ []) tags) (λ e. cc e) (twice (earlier ++ tag ∷ []) tags)
 
-wrong_rows : (rows : List (List (List ℕ))) → NotMemory (rows_fault rows)
-wrong_rows rows =
-    either (nat_lt 20000 (length rows)) (Some db_fault.TooMany) (option_or (first_wrong 1 rows) (first_twice [] (tags_of (map row_of rows)))) (λ e. cc e)
-    (first_or (first_wrong 1 rows) (first_twice [] (tags_of (map row_of rows))) (wrong_row 1 rows) (twice [] (tags_of (map row_of rows))))
+wrong_rows : (rows : List (List (List ℕ))) (v : Version) → NotMemory (rows_fault rows v)
+wrong_rows rows v =
+    let tags = tags_of (map (row_of v) rows) in
+    let forms = option_or (first_wrong v 1 rows) (first_twice [] tags) in
+    either (not (list_all (is_even v) rows)) (Some db_fault.Header) (if nat_lt 20000 (length rows) then Some db_fault.TooMany else forms) (λ e. cc e)
+    (either (nat_lt 20000 (length rows)) (Some db_fault.TooMany) forms (λ e. cc e) (first_or (first_wrong v 1 rows) (first_twice [] tags) (wrong_row v 1 rows) (twice [] tags)))
 
 wrong_records : (records : List (List (List ℕ))) → NotMemory (records_fault records)
 wrong_records [] = λ e. cc e
-wrong_records (header ∷ rows) = either (not (list_all is_even (header ∷ rows)) || not (is_header header)) (Some db_fault.Header) (rows_fault rows) (λ e. cc e) (wrong_rows rows)
+wrong_records (header ∷ rows) = by_version (version_of header)
+  where
+    by_version : (o : Option Version) → NotMemory (elim o [ None ↦ Some db_fault.Header | Some v ↦ rows_fault rows v ])
+    by_version None = λ e. cc e
+    by_version (Some v) = wrong_rows rows v
 
 module _ (t : Texts) where
   -- they are refused, and not for want of memory

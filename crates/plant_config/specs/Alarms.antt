@@ -62,6 +62,7 @@ alarm_of areas globals row = record {
   suppress = option_and_then (bool_number globals) row.suppress;
   latching = row.latching;
   max_shelve_ms = row.max_shelve_ms;
+  on_delay_ms = row.on_delay_ms;
   text = row.text;
 }
 

@@ -36,6 +36,7 @@ pub record IsAlarmRow (plant : PlainPlant) (row : AlarmRow) : Type 0 where
   pub condition : IsBoolGlobal plant.source.globals row.condition
   pub suppress : IfSome row.suppress (IsBoolGlobal plant.source.globals)
   pub shelve : row.max_shelve_ms ≤ 2592000000
+  pub delay : row.on_delay_ms ≤ 86400000
 
 -- the tags of alarms
 abbrev pub tags_of : List AlarmRow → List (List ℕ)

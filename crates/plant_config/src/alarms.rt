@@ -136,6 +136,7 @@ fn alarm_of(areas: &[Text], logic: &Framed, row: DatabaseRow) -> Result<AlarmRow
             suppress,
             latching: row.latching,
             max_shelve_ms: row.max_shelve_ms,
+            on_delay_ms: row.on_delay_ms,
             text: row.text,
         }),
         Err(column) => {

@@ -21,6 +21,8 @@ pub struct AlarmRow {
     pub latching: bool,
     /// For how many milliseconds it can be shelved at most, up to 2,592,000,000 (30 days); 0 where it can't be (ISA-18.2, shelving).
     pub max_shelve_ms: u64,
+    /// For how many milliseconds its condition has to hold before it counts, up to 86,400,000 (a day); 0: at once (ISA-18.2, on-delay).
+    pub on_delay_ms: u32,
     /// What it says to an operator.
     pub text: Text,
 }
@@ -35,6 +37,7 @@ impl Drop for AlarmRow {
             suppress: _,
             latching: _,
             max_shelve_ms: _,
+            on_delay_ms: _,
             text: _,
         } = self;
     }
@@ -53,6 +56,7 @@ impl AlarmRow {
             suppress: self.suppress,
             latching: self.latching,
             max_shelve_ms: self.max_shelve_ms,
+            on_delay_ms: self.on_delay_ms,
             text: self.text.copy(alloc)?,
         })
     }

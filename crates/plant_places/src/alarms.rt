@@ -4,7 +4,7 @@ use crate::fields::{Field, field_at, first_field, first_uneven, next_field};
 use crate::keys::unblanked;
 use crate::place::place_at;
 use crate::texts::{WIDE, is_wide};
-use alarm_db::Column;
+use alarm_db::{Column, Version};
 use plant_folder::PlantTexts;
 use std::alloc::{AllocError, Global};
 use std::str;
@@ -18,18 +18,33 @@ fn mark_of(field: Field) -> (usize, usize) {
     (field.from, field.until)
 }
 
-/// The number of a column, from 0.
-fn number_of(column: Column) -> usize {
-    match column {
-        Column::Tag => 0,
-        Column::Area => 1,
-        Column::Priority => 2,
-        Column::Condition => 3,
-        Column::Suppress => 4,
-        Column::Latch => 5,
-        Column::MaxShelveMs => 6,
-        Column::Text => 7,
+/// Whether a field of the header has the name of a column.
+fn is_named(text: &[u8], field: Field, column: Column) -> bool {
+    part(text, field.from, field.until) == column.name().as_bytes()
+}
+
+/// Whether a field of the header is one that the table's second version alone has: the name of on-delays, or a ninth one that is the name of texts.
+fn is_of_second(text: &[u8], field: Field) -> bool {
+    is_named(text, field, Column::OnDelayMs)
+        || (field.number == 8 && is_named(text, field, Column::Text))
+}
+
+/// The version that the header tells, or is meant to tell.
+fn version_meant(text: &[u8]) -> Version {
+    let mut field = first_field(text);
+    for _ in 0..text.len() {
+        if field.record > 0 {
+            return Version::First;
+        }
+        if is_of_second(text, field) {
+            return Version::Second;
+        }
+        match next_field(text, field) {
+            Some(next) => field = next,
+            None => return Version::First,
+        }
     }
+    Version::First
 }
 
 /// A field as it stands in the text; empty where it isn't UTF-8.
@@ -61,12 +76,12 @@ fn misheaded(alloc: Global, text: &[u8]) -> Result<Cause, AllocError> {
         )?;
         return Ok(cause_at(mark_of(first), said, ALARMS));
     }
-    for column in Column::all() {
-        let Some(field) = field_at(text, 0, number_of(column)) else {
+    for (number, column) in version_meant(text).columns().iter().enumerate() {
+        let Some(field) = field_at(text, 0, number) else {
             break;
         };
-        let name = column.name();
-        if part(text, field.from, field.until) != name.as_bytes() {
+        if !is_named(text, field, *column) {
+            let name = column.name();
             let said = format!(in alloc;
                 "the header has '{name}' in this place, and commas between its names"
             )?;
@@ -75,7 +90,7 @@ fn misheaded(alloc: Global, text: &[u8]) -> Result<Cause, AllocError> {
     }
     let said = String::from_str(
         alloc,
-        "the header is tag,area,priority,condition,suppress,latch,max_shelve_ms,text, and nothing more or less",
+        "the header is tag,area,priority,condition,suppress,latch,max_shelve_ms,text, or the same with on_delay_ms before text, and nothing more or less",
     )?;
     Ok(cause_of(said, ALARMS))
 }
@@ -89,31 +104,37 @@ fn no_row(line: &[u8]) -> &'static str {
     }
 }
 
-/// What is said of a row of another number of fields than eight, by its last field.
-fn uneven_row(alloc: Global, text: &[u8], last: Field) -> Result<String, AllocError> {
+/// What is said of a row of another number of fields than is wanted, by its last field.
+fn uneven_row(
+    alloc: Global,
+    text: &[u8],
+    last: Field,
+    wanted: usize,
+) -> Result<String, AllocError> {
     let count = last.number.saturating_add(1);
     let unmeant = no_row(part(text, last.from, last.until));
     if count == 1 && !unmeant.is_empty() {
         return String::from_str(alloc, unmeant);
     }
-    if count > 8 {
+    if count > wanted {
         return format!(in alloc;
-            "this row has {count} fields, and 8 are wanted (a text with a comma stands in double quotes)"
+            "this row has {count} fields, and {wanted} are wanted (a text with a comma stands in double quotes)"
         );
     }
     format!(in alloc;
-        "fields of this row: {count}, and 8 are wanted (a comma left out, or a tab or a ';' in its place?)"
+        "fields of this row: {count}, and {wanted} are wanted (a comma left out, or a tab or a ';' in its place?)"
     )
 }
 
-/// The cause of a header that isn't right, or of a row that hasn't eight fields.
+/// The cause of a header that isn't right, or of a row that hasn't as many fields as the header.
 pub fn uneven(alloc: Global, text: &[u8]) -> Result<Cause, AllocError> {
     if is_wide(text) {
         return Ok(cause_of(String::from_str(alloc, WIDE)?, ALARMS));
     }
-    match first_uneven(text, 8) {
+    let wanted = version_meant(text).columns().len();
+    match first_uneven(text, wanted) {
         Some(field) if field.record > 0 => {
-            let said = uneven_row(alloc, text, field)?;
+            let said = uneven_row(alloc, text, field, wanted)?;
             Ok(cause_at(mark_of(field), said, ALARMS))
         }
         _ => misheaded(alloc, text),
@@ -130,13 +151,15 @@ fn form_of(column: Column) -> &'static str {
         Column::Suppress => "is empty, or the name of a global",
         Column::Latch => "is TRUE or FALSE",
         Column::MaxShelveMs => "is a number of milliseconds, at most 2592000000, without a unit",
+        Column::OnDelayMs => "is a number of milliseconds, at most 86400000, without a unit",
         Column::Text => "has at most 200 bytes of UTF-8, without tabs and line breaks",
     }
 }
 
 /// The field of a row, from 1, and a column; `None` if there is none.
 pub fn field_of(text: &[u8], row: u32, column: Column) -> Option<Field> {
-    field_at(text, row as usize, number_of(column))
+    let number = version_meant(text).place(column)?;
+    field_at(text, row as usize, number)
 }
 
 /// The cause of a field without its column's form.

@@ -10,7 +10,7 @@ use Rattle.plant_system.specs.System.{opening_alarm, alarms_after}
 
 -- an alarm on a global, suppressed by another or by none
 abbrev row : ℕ → Option ℕ → AlarmRow
-row condition suppress = record { tag = []; area = 0; priority = 1; condition = condition; suppress = suppress; latching = false; max_shelve_ms = 0; text = [] }
+row condition suppress = record { tag = []; area = 0; priority = 1; condition = condition; suppress = suppress; latching = false; max_shelve_ms = 0; on_delay_ms = 0; text = [] }
 
 -- one on the first global, one on the second and suppressed by the third, one on the second
 abbrev rows : List AlarmRow

@@ -10,30 +10,30 @@ returns-then-not-found c =
     let none = rw c.if-not-found.true at (c.in_ok-found.ensures.read c.args.text.now [] c.reader_of-reader.ensures) in
     ap early_fault (sym none)
 
-pub returns-then-not-is_headed : goal.returns-then-not-is_headed
-returns-then-not-is_headed c =
+pub returns-in-None : goal.returns-in-None
+returns-in-None c =
     let has = rw c.if-not-found.false at (c.in_ok-found.ensures.read c.args.text.now [] c.reader_of-reader.ensures) in
-    unheaded c.args.text.now (fields_of c.next_record.new.row) c.next_record.new.reader has (sym c.is_headed.ensures ∙ c.if-not-is_headed.true)
+    unheaded c.args.text.now (fields_of c.next_record.new.row) c.next_record.new.reader has (sym c.version_of.ensures ∙ c.in-None.is)
 
 pub records-init : goal.records-init
 records-init c =
     let has = rw c.if-not-found.false at (c.in_ok-found.ensures.read c.args.text.now [] c.reader_of-reader.ensures) in
-    (fields_of c.next_record.new.row, [], sym c.is_headed.ensures ∙ c.if-not-is_headed.false, refl, has, none_gathered _ refl refl c.new.ensures.items)
+    (fields_of c.next_record.new.row, [], sym c.version_of.ensures ∙ c.in-Some.is, refl, has, none_gathered c.in-Some.version _ refl refl c.new.ensures.items)
 
 pub records-preserved : goal.records-preserved
 records-preserved c =
     let inv = c.records.invariant in
     let has = rw c.if-not-more.false at (c.in_ok-more.ensures.read c.args.text.now (inv.0 ∷ inv.1) inv.4) in
-    (inv.0, inv.1 ++ fields_of c.next_record-in-records.new.row ∷ [], inv.2, even_more inv.1 (fields_of c.next_record-in-records.new.row) inv.3 (sym c.is_even.ensures ∙ c.if-not-is_even.false), has, c.in_ok-add_row.ensures inv.1 inv.5)
+    (inv.0, inv.1 ++ fields_of c.next_record-in-records.new.row ∷ [], inv.2, even_more c.in-Some.version inv.1 (fields_of c.next_record-in-records.new.row) inv.3 (sym c.is_even.ensures ∙ c.if-not-is_even.false), has, c.in_ok-add_row.ensures inv.1 inv.5)
 
 pub returns-then-not-more : goal.returns-then-not-more
 returns-then-not-more c =
     let inv = c.records.invariant in
     let all = rw c.if-not-more.true at (c.in_ok-more.ensures.read c.args.text.now (inv.0 ∷ inv.1) inv.4) in
-    told _ c.finished.result (records_of c.args.text.now) inv.1 (ended c.args.text.now inv.0 inv.1 all inv.2 inv.3) (c.finished.ensures inv.1 inv.5)
+    told _ c.finished.result c.in-Some.version (records_of c.args.text.now) inv.1 (ended c.in-Some.version c.args.text.now inv.0 inv.1 all inv.2 inv.3) (c.finished.ensures c.in-Some.version inv.1 inv.5)
 
 pub returns-then-not-is_even : goal.returns-then-not-is_even
 returns-then-not-is_even c =
     let inv = c.records.invariant in
     let has = rw c.if-not-more.false at (c.in_ok-more.ensures.read c.args.text.now (inv.0 ∷ inv.1) inv.4) in
-    uneven c.args.text.now (inv.0 ∷ inv.1) (fields_of c.next_record-in-records.new.row) c.next_record-in-records.new.reader has (sym c.is_even.ensures ∙ c.if-not-is_even.true)
+    uneven c.in-Some.version c.args.text.now inv.0 inv.1 (fields_of c.next_record-in-records.new.row) c.next_record-in-records.new.reader has inv.2 (sym c.is_even.ensures ∙ c.if-not-is_even.true)
