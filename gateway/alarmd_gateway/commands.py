@@ -16,7 +16,8 @@ END_MARK: Final = "scan 4000000000001"
 END_ANSWER: Final = "REFUSED E2"
 
 _NUMBER: Final = re.compile(r"-?[0-9]{1,19}", re.ASCII)
-_WORD: Final = re.compile(r"[!-~\x80-\U0010ffff]+")
+_WORD: Final = re.compile(r"[!-~]{1,1000}")
+_BLANKS: Final = re.compile(r"[ \t]+")
 _RANGES: Final = {
     Kind.BOOL: (0, 1),
     Kind.DINT: (-(2**31), 2**31 - 1),
@@ -81,8 +82,8 @@ def _value(kind: Kind, value: Value | str) -> Value | None:
 
 
 def read(plant: Plant, line: str) -> Scan | Order | None:
-    """The command of a record's line; None where the line is none that has an effect."""
-    words = line.split()
+    """The command of a record's line; None where the line is none, or one that the server refuses."""
+    words = _BLANKS.split(line.strip(" \t"))
     if len(words) > 1 and words[0] == "scan":
         return _scan(plant, words)
     if words and words[0] in VERBS:
@@ -119,8 +120,8 @@ def _digits(word: str, most: int) -> bool:
 
 def check(order: Order) -> None:
     """Raises ValueError where a word of the order can't stand in a line of the protocol."""
-    if not _WORD.fullmatch(order.target) or len(order.target) > 1000:
-        raise ValueError("a tag or a program's name is one word")
+    if not _WORD.fullmatch(order.target):
+        raise ValueError("a tag or a program's name is one word of at most 1000 letters of ASCII")
     if not 0 <= order.console <= 999_999_999:
         raise ValueError("a console is a number of 1 to 9 digits")
     if (order.milliseconds is None) is (order.verb is Verb.SHELVE):

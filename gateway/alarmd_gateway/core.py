@@ -149,6 +149,8 @@ class Core:
         while self._queue.full and not self._closing:
             self._taken.clear()
             await self._taken.wait()
+        if self._closing:
+            return
         self._queue.put(variable.name, value)
         if self._queue.pressed or self._draining:
             self._wake.set()

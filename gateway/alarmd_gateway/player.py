@@ -7,7 +7,7 @@ from dataclasses import dataclass
 
 from .commands import Scan, read
 from .journal import Journal
-from .model import Order, Plant
+from .model import GatewayFault, Order, Plant
 from .record import Entry
 from .server import Server
 from .state import Happening, State
@@ -44,26 +44,28 @@ class Book:
 
 async def play(server: Server, plant: Plant, entries: Iterable[Entry]) -> tuple[Book, Taken | None]:
     """Gives a record to a server. The last command is handed back with its answer, and not yet taken into the book, as nobody
-    may have seen its answer. Lines that are no commands are passed over: they have no effect. Raises ServerGone.
-    """
+    may have seen its answer. Raises ServerGone, and GatewayFault (status 2) where the server takes a line that the gateway
+    doesn't know."""
     book = Book(plant)
     held: Taken | None = None
 
-    def took(payload: tuple[Scan | Order, Entry], answer: list[str]) -> None:
+    def took(entry: Entry, answer: list[str]) -> None:
         nonlocal held
+        command = read(plant, entry.line)
+        if command is None:
+            _without_effect(entry, answer)
+            return
         if held is not None:
             book.take(held)
-        command, entry = payload
         held = Taken(command, answer, entry.user, entry.reason)
 
-    await server.play(
-        ((entry.line, (command, entry)) for entry, command in _known(plant, entries)), took
-    )
+    await server.play(((entry.line, entry) for entry in entries), took)
     return book, held
 
 
-def _known(plant: Plant, entries: Iterable[Entry]) -> Iterable[tuple[Entry, Scan | Order]]:
-    for entry in entries:
-        command = read(plant, entry.line)
-        if command is not None:
-            yield entry, command
+def _without_effect(entry: Entry, answer: list[str]) -> None:
+    """What isn't known as a command is answered with nothing, with a refusal, or with a listing: it is no event."""
+    if answer and answer[-1].split(" ")[0] not in ("REFUSED", "END"):
+        raise GatewayFault(
+            f"the record has a line that the gateway doesn't know: {entry.line[:80]!r}", 2
+        )

@@ -32,7 +32,12 @@ def _order(chance: random.Random, plant: Plant) -> Order:
     tag = chance.choice([*[row.tag for row in plant.alarms] * 5, "NONE-1"])
     if verb is not Verb.SHELVE:
         return Order(verb, console, tag)
-    return Order(verb, console, tag, chance.choice((0, 1, 1500, 4000, 50_000, 600_000, 2**62)))
+    return Order(
+        verb,
+        console,
+        tag,
+        chance.choice((0, 1, 1500, 4000, 50_000, 600_000, 2**62, 10**19 - 1)),
+    )
 
 
 def session(plant: Plant, seed: int, count: int) -> Iterator[Scan | Order]:

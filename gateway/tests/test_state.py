@@ -67,6 +67,15 @@ def by_answers(state: State) -> dict[str, object]:
     }
 
 
+def told_values(line: str, answer: list[str]) -> dict[str, str]:
+    """The values that a command and its answer tell, as they are spelled."""
+    told = {}
+    if answer[-1].startswith("DONE") and line.startswith("scan"):
+        told = dict(pair.split("=") for pair in line.split()[2:])
+    told |= {line.split()[2]: line.split()[3] for line in answer if line.startswith("OUT ")}
+    return told
+
+
 async def compare(alarmd: Path, path: Path, seed: int, count: int, every: int) -> int:
     """Compares after each `every`th command with a second server that has the same commands, and at the end with a third one
     that was given the record anew."""
@@ -75,11 +84,16 @@ async def compare(alarmd: Path, path: Path, seed: int, count: int, every: int) -
     state, journal = State(plant), Journal(plant)
     record: list[str] = []
     looks = 0
+    values: dict[str, str] = {}
     for number, command in enumerate(session(plant, seed, count), 1):
         answer = await live.ask(command.line())
         take(state, journal, command, answer)
+        values |= told_values(command.line(), answer)
         record.append(command.line())
         await second.ask(command.line())
+        for variable in (*plant.inputs.values(), *plant.outputs.values()):
+            found = (state.inputs | state.outputs)[variable.name]
+            assert spelled(found) == values.get(variable.name, spelled(variable.initial))
         if number % every == 0:
             await look(second, state, journal)
             looks += 1
