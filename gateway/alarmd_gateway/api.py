@@ -94,9 +94,7 @@ class Api:
         wait = self._tries.wait(address, name)
         if wait:
             raise Refused(429, f"too many wrong passwords: again in {int(wait) + 1} seconds", wait)
-        self._tries.failed(
-            address, name
-        )  # until it is known to be right, so that many at once are counted
+        self._tries.failed(address, name)  # until it is known to be right: many at once count
         async with self._scrypts:
             user = await asyncio.to_thread(self.guard.users.check, name, password)
         if user is None:

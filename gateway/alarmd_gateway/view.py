@@ -106,16 +106,16 @@ class Texts:
 
     def __init__(self, room: int = 2000) -> None:
         self._room = room
-        self._kept: OrderedDict[int, tuple[Change, str]] = OrderedDict()
+        self._kept: OrderedDict[int, str] = OrderedDict()
 
     def of(self, change: Change) -> str:
-        """A change with its `number`, `kind` and `time`, and its fields in `data`."""
+        """A change with its `number`, by which it is known again, `kind` and `time`, and its fields in `data`."""
         kept = self._kept.get(change.number)
-        if kept is not None and kept[0] is change:
-            return kept[1]
+        if kept is not None:
+            return kept
         fields = {"number": change.number, "kind": change.kind.value, "time": change.time}
         text = json.dumps({**fields, "data": dict(change.data)}, separators=(",", ":"))
-        self._kept[change.number] = change, text
+        self._kept[change.number] = text
         while len(self._kept) > self._room:
             self._kept.popitem(last=False)
         return text

@@ -308,6 +308,8 @@ def test_a_long_journal_as_csv(open_plant: Served) -> None:
     client.enter()
     rows = list(csv.DictReader(io.StringIO(text(client, "journal.csv"))))
     assert [int(row["number"]) for row in rows] == list(range(1, 2003))
+    some = list(csv.DictReader(io.StringIO(text(client, "journal.csv?from=100&count=1100"))))
+    assert [int(row["number"]) for row in some] == list(range(100, 1200))
     assert text(client, "report.csv?hours=0").startswith("figure,of,value,recommended\r\n")
     assert client.ask("/api/report?hours=0").json["rates"][0]["count"] == 1002
 
@@ -437,6 +439,22 @@ def test_who_brings_no_request_is_closed(monkeypatch: pytest.MonkeyPatch) -> Non
                 except ConnectionError:
                     pass
         assert Client(site.url).enter().status == 200
+
+
+def test_the_limit_of_connections() -> None:
+    limit = connections.Limit(4)
+    assert [limit.enter(address) for address in "aaabbbc"] == [
+        True,
+        True,
+        False,
+        True,
+        True,
+        False,
+        False,
+    ]
+    assert len(limit) == 4 and limit.refused == 3
+    limit.leave("a")
+    assert limit.enter("c") and not limit.enter("a")
 
 
 def test_a_thousand_connections(open_plant: Served) -> None:

@@ -4,7 +4,8 @@ The plant has four alarms: A (area north, priority 1), B (north, 2), C (south, 3
 Two days are 172,800,000 ms, which is 288 times ten minutes.
 
 - A comes at 0, is acknowledged after 30 s and goes. On the second day it comes at 100,000,000, is shelved for an hour after a minute, comes
-  again when the hour is over (103,660,000), and is shelved for ten minutes at 172,700,000: until 173,300,000.
+  again when the hour is over (103,660,000), and is shelved for ten minutes at 172,700,000, and for ten again 50 s later: until 173,350,000.
+  A further shelving is refused.
 - B comes at 3,600,000, 3,620,000 and 3,640,000: three times within a minute. It is acknowledged at 3,650,000, 50 s after it came first.
 - C comes eleven times, each 30 s from 7,200,000 to 7,500,000, and is acknowledged at 7,520,000, when it has gone: 320 s. Three of these take
   60 s, and that is no minute of three. The eleventh makes the flood, which lasts until ten minutes after the first: 300,000 ms.
@@ -101,6 +102,8 @@ def two_days() -> list[Row]:
         "103660000 ALARM A SHELVED UNACK",
         "172700000 ORDER 1 shelve A 600000 OK",
         "172700000 ALARM A UNACK SHELVED",
+        "172750000 ORDER 1 shelve A 600000 OK",
+        "172760000 ORDER 1 shelve A 3600001 O4",
     )
 
 
@@ -130,7 +133,7 @@ def test_the_two_days() -> None:
     assert made.acknowledgements == Acknowledgements(
         3, 50_000, 400_000 / 3, 320_000, 2, 1, 162_800_000
     )
-    assert made.shelved == (Shelved("A", 172_700_000, 173_300_000, 1),)
+    assert made.shelved == (Shelved("A", 172_700_000, 173_350_000, 1),)
 
 
 def test_a_console_sees_its_own_areas_alone() -> None:
@@ -162,6 +165,18 @@ def test_the_end_isnt_in_the_time() -> None:
         Shelved("A", 100_060_000, 103_660_000, 1),
     )
     assert report(plant(), rows, 0, 103_660_001).shelved == ()
+
+
+def test_what_stands_is_stale_whatever_becomes_of_it() -> None:
+    rows = journal(
+        "0 ALARM A NORM UNACK",
+        "50000000 ALARM A UNACK RTNUN",
+        "86000000 ALARM A RTNUN UNACK",
+        "0 ALARM B NORM UNACK",
+        "50000000 ALARM B UNACK SHELVED",
+        "86000000 ALARM B SHELVED UNACK",
+    )
+    assert report(plant(), rows, 0, 86_400_001).stale == (Stale("A", 0, "UNACK"),)
 
 
 def test_a_short_time_isnt_extrapolated() -> None:
@@ -216,7 +231,7 @@ def test_the_figures_as_a_table() -> None:
     assert ["chattering", "B", "3", "none"] in lines
     assert ["share", "priority 4 (low)", "5.56 %", "80 %"] in lines
     assert ["longest time to acknowledgement, ms", "", "320000", ""] in lines
-    assert ["shelved until", "A", "2026-11-25T00:08:20.000Z", ""] in lines
+    assert ["shelved until", "A", "2026-11-25T00:09:10.000Z", ""] in lines
     assert all(len(line) == 4 for line in lines)
 
 
@@ -229,8 +244,8 @@ def test_the_figures_as_json() -> None:
             "tag": "A",
             "since": 172_700_000,
             "since_time": "2026-11-24T23:58:20.000Z",
-            "until": 173_300_000,
-            "until_time": "2026-11-25T00:08:20.000Z",
+            "until": 173_350_000,
+            "until_time": "2026-11-25T00:09:10.000Z",
             "console": 1,
         }
     ]
