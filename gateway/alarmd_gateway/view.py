@@ -97,8 +97,8 @@ class View:
 
 
 def alarm_json(row: AlarmRow) -> list[Json]:
-    """An alarm as the table has it: tag, area, priority, text, and for how many ms it may be shelved."""
-    return [row.tag, row.area, row.priority, row.text, row.max_shelve_ms]
+    """An alarm as the table has it: tag, area, priority, text, for how many ms it may be shelved, and its on-delay in ms."""
+    return [row.tag, row.area, row.priority, row.text, row.max_shelve_ms, row.on_delay_ms]
 
 
 class Texts:

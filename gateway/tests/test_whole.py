@@ -235,6 +235,7 @@ def test_two_thousand_of_twenty_thousand_alarms_at_once(
         page.driver.refresh()
         page.until_live()
         until(lambda: page.run("return document.title").startswith("(1999)"))
+        assert not [line for line in served.told if "arning" in line or "Traceback" in line]
 
 
 def test_what_is_wrong_or_too_much_changes_nothing(tank: Gateway, page: Page) -> None:

@@ -125,6 +125,7 @@ export class AlarmScreen {
     if (alarm.user) parts.push(`by ${alarm.user}`);
     if (alarm.reason) parts.push(`because: ${alarm.reason}`);
     if (!ASIDE.has(alarm.code)) parts.push(alarm.longest ? `may be shelved for ${duration(alarm.longest)}` : "may not be shelved");
+    if (alarm.delay) parts.push(`comes after ${duration(alarm.delay)}`);
     return parts.join(" · ");
   }
 

@@ -48,9 +48,9 @@ export class Store {
     this.inputs = table.inputs;
     this.outputs = table.outputs;
     this.alarms = new Map(
-      table.alarms.map(([tag, area, priority, text, longest], order) => [
+      table.alarms.map(([tag, area, priority, text, longest, delay], order) => [
         tag,
-        { tag, area, priority, text, longest, order, code: "NORM", since: null, sinceTime: null },
+        { tag, area, priority, text, longest, delay, order, code: "NORM", since: null, sinceTime: null },
       ]),
     );
     this.changed();
