@@ -155,6 +155,11 @@ class Core:
         if self._queue.pressed or self._draining:
             self._wake.set()
 
+    @property
+    def has_room(self) -> bool:
+        """Whether `offer` takes a sample without waiting."""
+        return not self._queue.full
+
     def subscribe(self, room: int = 1000) -> Subscription:
         """The changes from now on. Make it before the snapshot, and pass over changes up to the snapshot's number."""
         return self._announcer.board.subscribe(room)

@@ -32,7 +32,7 @@ class Field:
         self._intake = Intake(core, Ages(dict(map.limits), time.monotonic()))
         self._sources = sources(map, self._intake, core)
         running = [source.run(self._current) for source in self._sources]
-        watches = [self._watch_outputs(), self._watch_ages()]
+        watches = [self._watch_outputs(), self._watch_samples()]
         self._tasks = [asyncio.create_task(one) for one in (*running, *watches)]
 
     async def close(self) -> None:
@@ -70,9 +70,9 @@ class Field:
         for source in self._sources:
             source.put_output(name, value)
 
-    async def _watch_ages(self) -> None:
+    async def _watch_samples(self) -> None:
         while True:
-            self._intake.check_ages()
+            self._intake.look()
             await asyncio.sleep(CHECK_SECONDS)
 
 

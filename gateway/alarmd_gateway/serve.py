@@ -19,6 +19,7 @@ from .input import lines
 from .link import tell, tell_of_libraries
 from .model import GatewayFault
 from .output import Output
+from .troubles import TroubleKind
 from .words import Words
 
 PARTS: tuple[str, ...] = ("field", "simulate", "web")
@@ -141,6 +142,9 @@ class _Serving:
         if not self._parts:
             await self._core.drain()
             stop.set()
+        elif not _terminal():
+            words = "standard input has ended: it brings nothing any more"
+            self._core.troubles.raises(TroubleKind.SOURCE, "standard input", words)
 
 
 def _terminal() -> bool:

@@ -155,7 +155,7 @@ class Simulation:
         for name, mine in self._outputs.items():
             self._model.given[mine.name] = self._core.state.outputs[plant.outputs[name].name]
         outputs = await self._model.step(moment)
-        for name in self._inputs:
+        for name in self._inputs if self._core.has_room else ():
             value = outputs[self._model.plant.outputs[name].name]
             await self._core.offer(Sample(name, value, SOURCE))
 

@@ -8,8 +8,9 @@ from pathlib import Path
 
 from alarmd_gateway import plant as plants
 from alarmd_gateway.fields.lines import LineSource
-from alarmd_gateway.fields.source import Backoff
+from alarmd_gateway.fields.source import Backoff, Intake
 from alarmd_gateway.mapping import LinesSource, Retry
+from alarmd_gateway.samples import Ages
 from field_help import Kept, Running, until
 
 SOON = Retry(0.02, 0.1)
@@ -85,10 +86,10 @@ def test_mistakes_are_answered(examples: Path, tmp_path: Path) -> None:
             assert all(line.startswith("REFUSED L1") for line in it.page.lines[:5])
             assert "level takes a whole number" in it.page.lines[6]
             subjects = [subject for _, subject in it.kept.standing()]
-            assert subjects == ["fifo levl", "fifo level", "fifo pump"]
+            assert subjects == ["fifo ?", "fifo level"]  # "?" stands for all names that are none
             write(it.path, "level=5\n")
             await until(lambda: len(it.kept.samples) == 2)
-            assert [subject for _, subject in it.kept.standing()] == ["fifo levl", "fifo pump"]
+            assert it.kept.standing() == [("source", "fifo ?")]
 
     asyncio.run(body())
 
@@ -145,6 +146,31 @@ def test_where_it_is_not_held_the_last_writer_is_the_source(examples: Path, tmp_
                 await until(it.kept.standing)
                 # what stands before the end of input counts, with its line's end or without
                 assert it.kept.samples[-2:] == [("level", number), ("flow", number)]
+
+    asyncio.run(body())
+
+
+def test_a_bad_sample_is_a_trouble_for_a_minute(examples: Path) -> None:
+    now = 0.0
+    kept = Kept(plants.read(examples / "tank" / "plant.toml"))
+    intake = Intake(kept, Ages({}, 0.0), lambda: now)
+
+    async def body() -> None:
+        nonlocal now
+        await intake.give("fifo", "levl", "5")
+        await intake.give("fifo", "level", "x")
+        intake.fails("fifo", "pump", "it can't be written")
+        assert len(kept.standing()) == 3
+        now = 59.0
+        await intake.give("fifo", "LEVEL", "x")
+        now = 61.0
+        intake.look()
+        assert kept.standing() == [("source", "fifo level"), ("source", "fifo pump")]
+        now = 120.0
+        intake.look()
+        assert kept.standing() == [("source", "fifo pump")]
+        intake.good("fifo", "pump")
+        assert not kept.standing()
 
     asyncio.run(body())
 

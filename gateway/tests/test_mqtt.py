@@ -177,6 +177,16 @@ def test_a_broker_that_is_not_there_is_a_trouble(examples: Path) -> None:
     asyncio.run(body())
 
 
+def test_a_topic_that_may_not_be_read_is_a_trouble(examples: Path) -> None:
+    kept = Kept(tank(examples))
+    client = MqttClient(source(kept.plant, 1883), kept.intake())
+    client._subscribed((1, 128))  # what a broker answers: mosquitto's own lists of rules never do
+    assert kept.standing() == [("source", "broker running")]
+    assert "lets nobody of this name read tank/running" in kept.texts()
+    client._subscribed((1, 1))
+    assert not kept.standing()
+
+
 def test_a_payload_that_is_no_value_is_a_trouble_until_one_comes(
     examples: Path, broker: Broker
 ) -> None:

@@ -148,7 +148,7 @@ class ModbusClient(Source):
                 raw = await loop.run_in_executor(self._thread, device.read, block)
             except Refusal as fault:
                 for point in block.points:
-                    self.intake.bad(self.name, point.variable.name, str(fault))
+                    self.intake.fails(self.name, point.variable.name, str(fault))
                 continue
             for point in block.points:
                 await self._give(point, raw[point.address - block.address :][: point.length])
@@ -181,7 +181,7 @@ class ModbusClient(Source):
         try:
             await loop.run_in_executor(self._thread, device.write, point, point.write(value))
         except (Refusal, BadRaw) as fault:
-            self.intake.bad(self.name, name, str(fault))
+            self.intake.fails(self.name, name, str(fault))
         else:
             self.intake.good(self.name, name)
 

@@ -21,6 +21,7 @@ from ..model import Kind, Value
 from .source import Intake, Lost, Source
 
 CONNECT_SECONDS: Final = 10.0
+NOT_GRANTED: Final = 128
 PAYLOAD_BYTES: Final = 4096
 TRUTHS: Final = {"true": True, "1": True, "on": True, "false": False, "0": False, "off": False}
 NUMBER: Final = re.compile(r"[+-]?[0-9]{1,30}(\.[0-9]{1,30})?")
@@ -153,9 +154,21 @@ class MqttClient(Source):
             except Exception as fault:  # the core doesn't take it now
                 tell(f"{message.topic}: {fault}")
 
+        def on_subscribe(client: paho.Client, _: Any, mid: int, granted: tuple[int, ...]) -> None:
+            loop.call_soon_threadsafe(self._subscribed, granted)
+
         client.on_connect, client.on_disconnect = on_connect, on_disconnect
-        client.on_message = on_message
+        client.on_message, client.on_subscribe = on_message, on_subscribe
         return client
+
+    def _subscribed(self, granted: tuple[int, ...]) -> None:
+        """What the broker says to the subscriptions, in order."""
+        for topic, quality in zip(self._topics.values(), granted):
+            if quality == NOT_GRANTED:
+                words = f"the broker lets nobody of this name read {topic.topic}"
+                self.intake.fails(self.name, topic.variable.name, words)
+            else:
+                self.intake.good(self.name, topic.variable.name)
 
     async def _take(self, name: str, payload: bytes) -> None:
         """Takes a message; the next one isn't read before."""

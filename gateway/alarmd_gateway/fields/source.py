@@ -6,12 +6,15 @@ import abc
 import asyncio
 import time
 from collections.abc import Callable
-from typing import Protocol
+from typing import Final, Protocol
 
 from ..mapping import Retry
 from ..model import BadSample, Plant, Sample, Value
 from ..samples import Ages
 from ..troubles import TroubleKind, Troubles
+
+BAD_SECONDS: Final = 60.0  # for so long a bad sample is a trouble
+UNKNOWN: Final = "?"  # stands for all names that are no input's
 
 
 class Lost(Exception):
@@ -34,7 +37,8 @@ class Taker(Protocol):
 
 
 class Intake:
-    """Gives samples to the core. A sample that doesn't fit is a trouble of its source and its input, until one that fits comes."""
+    """Gives samples to the core. A sample that can't be taken is a trouble of its source and its input, until one that can comes,
+    or for a minute after the last one."""
 
     def __init__(self, taker: Taker, ages: Ages, clock: Callable[[], float] = time.monotonic):
         """`clock` gives seconds."""
@@ -42,37 +46,50 @@ class Intake:
         self.troubles = taker.troubles
         self._ages = ages
         self._clock = clock
+        self._bad: dict[str, float] = {}  # when the last bad sample came, by the trouble's subject
 
     async def give(self, source: str, name: str, value: Value | str) -> str | None:
         """Gives a sample. Returns why it isn't taken, where it isn't."""
-        subject = f"{source} {name}"
+        variable = self.taker.plant.inputs.get(name.lower())
+        known = (
+            UNKNOWN if variable is None else variable.name
+        )  # one trouble for all names that are none
         try:
             await self.taker.offer(Sample(name, value, source))
         except BadSample as fault:
-            self.bad(source, name, str(fault))
+            self.bad(source, known, str(fault))
             return str(fault)
-        self.troubles.clear(TroubleKind.SOURCE, subject)
-        variable = self.taker.plant.inputs[name.lower()]
-        self._ages.saw(variable.name, self._clock())
+        self.good(source, known)
+        self._ages.saw(known, self._clock())
         return None
 
     def bad(self, source: str, name: str, words: str) -> None:
-        """A value of an input or output can't be taken from this source, or written there."""
+        """A value of an input can't be taken from this source: a trouble for a minute, unless a good one comes."""
+        self._bad[f"{source} {name}"] = self._clock()
+        self.fails(source, name, words)
+
+    def fails(self, source: str, name: str, words: str) -> None:
+        """An input can't be had from this source, or an output not be written there: a trouble until `good`."""
         self.troubles.raises(TroubleKind.SOURCE, f"{source} {name}", f"{source}: {words}")
 
     def good(self, source: str, name: str) -> None:
         """It can now."""
+        self._bad.pop(f"{source} {name}", None)
         self.troubles.clear(TroubleKind.SOURCE, f"{source} {name}")
 
-    def check_ages(self) -> None:
-        """Raises and clears the troubles of inputs that are stale."""
-        stale = {it.name: it for it in self._ages.stale(self._clock())}
+    def look(self) -> None:
+        """Raises and clears the troubles of inputs that are stale, and clears those of bad samples after a while."""
+        now = self._clock()
+        stale = {it.name: it for it in self._ages.stale(now)}
         for name in self._ages.names():
             if name in stale:
                 words = f"no sample of {name} for more than {stale[name].limit:g} s: its last value is used"
                 self.troubles.raises(TroubleKind.STALE, name, words)
             else:
                 self.troubles.clear(TroubleKind.STALE, name)
+        for subject in [it for it, came in self._bad.items() if now - came > BAD_SECONDS]:
+            del self._bad[subject]
+            self.troubles.clear(TroubleKind.SOURCE, subject)
 
 
 class Backoff:
