@@ -3,6 +3,7 @@
 from __future__ import annotations
 
 import asyncio
+import contextlib
 import re
 import shutil
 import subprocess
@@ -23,6 +24,13 @@ def plant_copy(name: str, folder: Path, epoch: str = "2020-01-01T00:00:00Z") -> 
     shutil.copytree(ROOT / "examples" / name, folder / "plant")
     path = folder / "plant" / "plant.toml"
     path.write_text(re.sub(r'(?m)^epoch = ".*"$', f'epoch = "{epoch}"', path.read_text()))
+    return path
+
+
+def without_programs(folder: Path) -> Path:
+    """A plant of alarms on inputs alone."""
+    path = plant_copy("built_in", folder)
+    (path.parent / "p.st").write_text("VAR_GLOBAL a AT %ID0 : DINT; c AT %IX0.0 : BOOL; END_VAR\n")
     return path
 
 
@@ -105,8 +113,9 @@ class Gateway:
         path = Path(f"/proc/{self.process.pid}/task/{self.process.pid}/children")
         while time.monotonic() < end:
             for word in path.read_text().split():
-                if "\0run\0" in Path(f"/proc/{word}/cmdline").read_text():
-                    return int(word)
+                with contextlib.suppress(OSError):  # it may end meanwhile
+                    if "\0run\0" in Path(f"/proc/{word}/cmdline").read_text():
+                        return int(word)
             time.sleep(0.01)
         raise AssertionError("no alarmd runs")
 

@@ -19,6 +19,7 @@ from alarmd_gateway.config import Config
 from alarmd_gateway.core import Core
 from alarmd_gateway.model import BadSample, Code, GatewayFault, Order, Sample, ServerGone, Verb
 from alarmd_gateway.record import peek
+from alarmd_gateway.server import Server
 from alarmd_gateway.troubles import TroubleKind
 
 pytestmark = pytest.mark.server
@@ -322,3 +323,31 @@ def test_the_next_start_goes_on_from_the_record(config: Config) -> None:
             assert list(core.troubles) == []
 
     run(work())
+
+
+def test_a_command_is_on_the_disk_before_it_is_sent(
+    config: Config, monkeypatch: pytest.MonkeyPatch
+) -> None:
+    seen: list[str] = []
+    sync, ask = os.fsync, Server.ask
+
+    def fsync(descriptor: int) -> None:
+        sync(descriptor)
+        seen.append(f"disk {config.record.read_text().splitlines()[-1]}")
+
+    async def asked(server: Server, command: str) -> list[str]:
+        seen.append(f"sent {command}")
+        return await ask(server, command)
+
+    async def work() -> None:
+        async with served(config) as core:
+            monkeypatch.setattr(os, "fsync", fsync)
+            monkeypatch.setattr(Server, "ask", asked)
+            await give(core, running=1, level=100)
+            await core.drain()
+            await core.order(Order(Verb.ACK, 1, "LAL-101"), "anna")
+
+    run(work())
+    assert len(seen) > 3
+    for disk, sent in zip(seen[::2], seen[1::2], strict=True):
+        assert (disk[:5], sent[:5], disk[5:]) == ("disk ", "sent ", sent[5:])

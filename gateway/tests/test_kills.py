@@ -2,6 +2,7 @@
 
 from __future__ import annotations
 
+import contextlib
 import os
 import random
 import signal
@@ -10,7 +11,7 @@ import time
 from pathlib import Path
 
 import pytest
-from around import LIMIT, Gateway, config_file, plant_copy
+from around import LIMIT, Gateway, config_file, plant_copy, without_programs
 
 pytestmark = pytest.mark.server
 
@@ -73,23 +74,51 @@ def compare(gateway: Gateway, alarmd: Path, plant: Path, record: Path) -> None:
         time.sleep(0.2)
 
 
-def trial(alarmd: Path, folder: Path, kills: int, seed: int) -> int:
-    """So many kills on one record. Gives how many commands the record has at the end."""
-    chance = random.Random(seed)
-    plant = plant_copy("tank", folder)
-    config = config_file(alarmd, plant, period_ms=3_600_000)
-    record = folder / "record"
+class Load:
+    """Lines that are given to a gateway, by chance."""
+
+    one_server = True
+
+    def __init__(self, chance: random.Random) -> None:
+        self.chance = chance
+
+    def line(self) -> str:
+        """Samples, or an order."""
+        return line(self.chance)
+
+    def pressing(self) -> str:
+        """Samples that make a scan come at once."""
+        return "running=TRUE\nrunning=FALSE\nrunning=TRUE\n"
+
+
+class NoPrograms(Load):
+    """Lines for a plant without programs, whose new records begin by themselves, each with a server of its own."""
+
+    one_server = False
+
+    def line(self) -> str:
+        return f"a={self.chance.randint(0, 9)} c={self.chance.choice(('TRUE', 'FALSE'))}"
+
+    def pressing(self) -> str:
+        return "a=1\na=2\na=3\n"
+
+
+def trial(alarmd: Path, config: Path, plant: Path, load: Load, kills: int) -> Gateway:
+    """So many kills on one record, of the server and the gateway in turn."""
+    chance, record = load.chance, config.parent / "record"
     gateway = Gateway(config, "--yes")
     listed(gateway)
     for number in range(kills):
         end = time.monotonic() + chance.uniform(0.2, 0.8)
         while time.monotonic() < end:
-            gateway.give(line(chance) + "\n")
+            gateway.give(load.line() + "\n")
             time.sleep(0.004)
         if number % 2 == 0:
-            os.kill(gateway.server_pid(), signal.SIGKILL)
-            gateway.give("running=TRUE\nrunning=FALSE\nrunning=TRUE\n")
-            gateway.wait_for("started again", gateway.err)
+            with contextlib.suppress(ProcessLookupError):  # a new record has its server anew
+                os.kill(gateway.server_pid(), signal.SIGKILL)
+            gateway.give(load.pressing())
+            if load.one_server:
+                gateway.wait_for("started again", gateway.err)
         else:
             gateway.kill()
             if chance.random() < 0.5:
@@ -99,15 +128,54 @@ def trial(alarmd: Path, folder: Path, kills: int, seed: int) -> int:
         compare(gateway, alarmd, plant, record)
         assert gateway.process.poll() is None
         del gateway.err[:]
+    return gateway
+
+
+def on_the_tank(alarmd: Path, folder: Path, kills: int, seed: int) -> int:
+    """Gives how many commands the record has at the end."""
+    plant = plant_copy("tank", folder)
+    config = config_file(alarmd, plant, period_ms=3_600_000)
+    gateway = trial(alarmd, config, plant, Load(random.Random(seed)), kills)
     gateway.process.terminate()
     assert gateway.wait() == 0
-    return len([line for line in record.read_text().splitlines() if not line.startswith("#")])
+    lines = (folder / "record").read_text().splitlines()
+    return len([line for line in lines if not line.startswith("#")])
 
 
 def test_six_kills_on_one_record(alarmd: Path, tmp_path: Path) -> None:
-    assert trial(alarmd, tmp_path, 6, 66) > 50
+    assert on_the_tank(alarmd, tmp_path, 6, 66) > 50
 
 
 @pytest.mark.long
 def test_sixty_kills_on_one_record(alarmd: Path, tmp_path: Path) -> None:
-    assert trial(alarmd, tmp_path, 60, 6600) > 500
+    assert on_the_tank(alarmd, tmp_path, 60, 6600) > 500
+
+
+def with_new_records(alarmd: Path, folder: Path, kills: int, seed: int) -> None:
+    """The same while new records begin: what was carried into each is there still."""
+    plant = without_programs(folder)
+    config = config_file(alarmd, plant, period_ms=3_600_000, rotate_at=20)
+    first = Gateway(config, "--yes")
+    first.give("a=5\na=6\na=7\nremove 1 T1\n")
+    first.wait_for("REPLY OK")
+    first.kill()
+    gateway = trial(alarmd, config, plant, NoPrograms(random.Random(seed)), kills)
+    assert "STATE T1 OOS 2" in listed(gateway)
+    gateway.process.terminate()
+    assert gateway.wait() == 0
+    old = sorted(path.name for path in folder.iterdir() if path.name.startswith("record."))
+    assert len(old) > 3
+    for number in range(1, len(old) + 1):
+        whole = (folder / f"record.{number}").read_bytes()
+        assert whole.endswith(b"\n")
+        follows = f'"follows": "record.{number - 1}"'.encode()
+        assert number == 1 or follows in whole.splitlines()[0]
+
+
+def test_six_kills_while_new_records_begin(alarmd: Path, tmp_path: Path) -> None:
+    with_new_records(alarmd, tmp_path, 6, 77)
+
+
+@pytest.mark.long
+def test_forty_kills_while_new_records_begin(alarmd: Path, tmp_path: Path) -> None:
+    with_new_records(alarmd, tmp_path, 40, 7700)

@@ -10,7 +10,7 @@ from pathlib import Path
 from typing import Any
 
 import pytest
-from around import config_for, plant_copy, until
+from around import config_for, plant_copy, until, without_programs
 from test_core import busy, give, served
 
 from alarmd_gateway import core as cores
@@ -142,13 +142,6 @@ def test_one_that_is_declined_is_asked_for_again(config: Config) -> None:
                 await core.answer((await asked(core)).number, True, 7)
 
     run(work())
-
-
-def without_programs(folder: Path) -> Path:
-    """A plant of alarms on inputs alone."""
-    path = plant_copy("built_in", folder)
-    (path.parent / "p.st").write_text("VAR_GLOBAL a AT %ID0 : DINT; c AT %IX0.0 : BOOL; END_VAR\n")
-    return path
 
 
 @pytest.mark.server
