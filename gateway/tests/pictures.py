@@ -106,7 +106,7 @@ def main(alarmd: Path) -> None:
         with gateway(folder / "tank", alarmd, ROOT / "examples" / "tank", users=True) as served:
             tank(page, served)
         plant = large_plant(folder / "large", 20_000, 2_000)
-        with gateway(folder / "flood", alarmd, plant) as served:
+        with gateway(folder / "flood", alarmd, plant, settings="patience_ms = 120000") as served:
             flood(page, served)
 
 

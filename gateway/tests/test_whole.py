@@ -214,7 +214,8 @@ def test_two_thousand_of_twenty_thousand_alarms_at_once(
     tmp_path: Path, alarmd: Path, page: Page
 ) -> None:
     plant = large_plant(tmp_path / "large", 20_000, 2_000)
-    with gateway(tmp_path / "served", alarmd, plant, users=True) as served:
+    slow = "patience_ms = 120000"  # a program with checks of memory on a busy machine reads long
+    with gateway(tmp_path / "served", alarmd, plant, users=True, settings=slow) as served:
         served.give("trip=FALSE")
         served.wait(lambda: len(served.record()) >= 1)
         enter(page, served)
