@@ -8,12 +8,11 @@ from __future__ import annotations
 
 import asyncio
 from collections import deque
-from collections.abc import Awaitable, Callable, Mapping
+from collections.abc import Awaitable, Callable
 from dataclasses import dataclass, field
-from datetime import datetime, timezone
 from typing import Protocol
 
-from . import commands
+from . import commands, snapshots
 from .announcer import Announcer
 from .changes import Change, ChangeKind, CutOff, Subscription
 from .clock import Clock, clocks
@@ -25,34 +24,20 @@ from .link import Link
 from .model import (
     MOST_EVENTS,
     GatewayFault,
-    Json,
     Order,
     Reply,
     Sample,
     ServerGone,
     Value,
     Variable,
-    civil,
 )
 from .questions import Answer, Question, Questions
 from .renewal import Renewal
 from .samples import SampleQueue
+from .snapshots import Snapshot
 from .state import State
 
 __all__ = ["Change", "ChangeKind", "Core", "CutOff", "Question", "Snapshot", "Subscription"]
-
-
-@dataclass(frozen=True)
-class Snapshot:
-    """All that a display wants, at one moment. The next change has the number `number` + 1."""
-
-    number: int
-    data: Mapping[str, Json]
-
-    def json(self) -> dict[str, Json]:
-        """`number`, `plant` (`name`, `epoch`, `areas`, `consoles`, `sources`), `now` (civil), the fields of State.json,
-        `journal` (how many rows), `troubles`, `questions`."""
-        return {"number": self.number, **self.data}
 
 
 class Disturbances(Protocol):
@@ -90,9 +75,7 @@ class Core:
         self.config = config
         self.plant = link.plant
         self.troubles = link.troubles
-        self.last = (
-            link.last
-        )  # the record's last command with its answer, which nobody may have seen
+        self.last = link.last  # the record's last command with its answer
         self._link = link
         self._announcer = Announcer(link)
         self._questions = Questions(self._announcer.asked)
@@ -166,26 +149,8 @@ class Core:
 
     def snapshot(self) -> Snapshot:
         """All that a display wants, at one moment."""
-        plant = self.plant
-        consoles: list[Json] = [
-            {"number": row.number, "areas": list(row.areas)} for row in plant.consoles
-        ]
-        about: dict[str, Json] = {
-            "name": plant.name,
-            "epoch": civil(plant.epoch),
-            "areas": list(plant.areas),
-            "sources": list(plant.sources),
-            "consoles": consoles,
-        }
-        data: dict[str, Json] = {
-            "plant": about,
-            "now": civil(datetime.now(timezone.utc)),
-            **self.state.json(),
-            "journal": len(self.journal),
-            "troubles": [trouble.json() for trouble in self.troubles],
-            "questions": [question.json() for question in self._questions],
-        }
-        return Snapshot(self._announcer.board.number, data)
+        number = self._announcer.board.number
+        return snapshots.take(number, self._link.book, self.troubles, self._questions)
 
     @property
     def questions(self) -> tuple[Question, ...]:
