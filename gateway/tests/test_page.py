@@ -2,6 +2,8 @@
 
 from __future__ import annotations
 
+import asyncio
+import threading
 import time
 from collections.abc import Iterator
 from datetime import datetime, timezone
@@ -13,7 +15,7 @@ from http_help import two_users
 from served import Served, served
 
 from alarmd_gateway.core import Question
-from alarmd_gateway.model import Code, Order, Verb
+from alarmd_gateway.model import Code, Order, Reply, Verb
 from alarmd_gateway.troubles import TroubleKind
 
 pytestmark = pytest.mark.browser
@@ -104,6 +106,26 @@ def test_acknowledge_one(site: Served, page: Page) -> None:
     page.keys("a")
     until(lambda: "acknowledged: the order isn't for that" in page.text("#message"))
     assert len(site.core.orders) == 1
+
+
+def test_an_order_that_is_under_way_isnt_given_again(site: Served, page: Page) -> None:
+    core, door = site.core, threading.Event()
+
+    async def slow(order: Order, user: str | None = None, reason: str | None = None) -> Reply:
+        core.orders.append((order, user, reason))
+        await asyncio.to_thread(door.wait, 60)
+        return Reply("OK", ())
+
+    site.do(lambda: setattr(core, "order", slow))
+    page.choose("A1")
+    page.keys("a", "a", "a")
+    until(lambda: "an order for it is under way" in page.text("#message"))
+    time.sleep(0.5)  # until the rows have been there for long enough
+    page.keys("v")  # A5, A1 and A2, one after another
+    until(lambda: len(core.orders) == 2)
+    door.set()
+    until(lambda: page.text("#message").startswith("2 acknowledged, 1 not: A1"))
+    assert [order.target for order, _, _ in core.orders] == ["A1", "A5", "A2"]
 
 
 def test_shelve_with_a_time_and_a_reason(site: Served, page: Page) -> None:
@@ -353,7 +375,11 @@ def test_a_lost_connection_is_told_and_comes_back(page: Page) -> None:
         page.open(site.url)
         page.until_live()
         until(lambda: page.rows() == [("A1", "UNACK")])
+        page.choose("A1")
+        page.keys("o")
+        until(lambda: page.text("#remove .subject"))
     until(lambda: "CONNECTION LOST" in page.text("#lost"))
+    assert not page.run("return document.querySelector('dialog[open]')")  # it would hide that
     assert page.text("#link") == "✕ not live"
     assert "NOT LIVE" in page.run(
         "return getComputedStyle(document.querySelector('main'), '::after').content"
