@@ -173,6 +173,19 @@ def test_a_whole_map(tmp_path: Path) -> None:
     assert map.limits == (("level", 2.5),)
 
 
+def test_how_long_a_lost_source_is_left_alone(tmp_path: Path) -> None:
+    fifo = '[[lines]]\nname = "fifo"\npath = "commands"\n'
+    for more, wanted in (
+        ("", (0.5, 30.0)),
+        ("retry_ms = 60000", (60.0, 60.0)),
+        ("retry_ms = 100\nretry_most_ms = 100", (0.1, 0.1)),
+    ):
+        retry = map_of(tmp_path, fifo + more).lines[0].retry
+        assert (retry.first, retry.most) == wanted
+    with pytest.raises(GatewayFault):
+        map_of(tmp_path, fifo + "retry_ms = 100\nretry_most_ms = 99")
+
+
 def test_an_empty_map(tmp_path: Path) -> None:
     assert map_of(tmp_path, "") == Map()
 
