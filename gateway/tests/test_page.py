@@ -187,6 +187,14 @@ def test_out_of_service_return_and_the_lists(site: Served, page: Page) -> None:
     assert [order.verb.value for order, _, _ in site.core.orders] == ["remove", "reset", "return"]
 
 
+def test_a_new_record_is_shown_as_it_is(site: Served, page: Page) -> None:
+    site.do(site.core.anew)
+    until(lambda: page.rows() == [])
+    site.do(lambda: site.core.scan(1000, {"A3": Code.UNACK}))
+    until(lambda: page.rows() == [("A3", "UNACK")])
+    assert page.live()
+
+
 def test_the_area_filter_says_what_it_hides(site: Served, page: Page) -> None:
     page.keys("f")
     page.keys("d", Keys.ENTER)  # dosing
