@@ -4,7 +4,7 @@ ghost use Rattle.plant_logic.specs.Blocks.{AreBelow};
 ghost use Rattle.plant_logic.specs.Source.{source_of};
 
 use crate::runs::push_judged;
-use plant_limits::{LimitFault, costs, limits};
+use plant_limits::{LimitFault, limits};
 use plant_logic::{BlockRef, Logic, Routine, logic_of, order_is_of_source};
 use plant_sources::units;
 use row_text::Page;
@@ -50,15 +50,13 @@ fn push_costs(alloc: Global, page: &mut Page, logic: &Logic, order: &[usize])
     requires { AreBelow (source_of logic.now).blocks order.now }
 {
     match limits(alloc, logic, order) {
-        Ok(()) => {}
-        Err(LimitFault::Memory) => return page.refuse(),
-        Err(_) => return page.add("?"),
-    }
-    let Ok(costs) = costs(alloc, logic, order) else {
-        return page.refuse();
-    };
-    for cost in &costs {
-        page.number(i128::from(*cost));
+        Ok(costs) => {
+            for cost in &costs {
+                page.number(i128::from(*cost));
+            }
+        }
+        Err(LimitFault::Memory) => page.refuse(),
+        Err(_) => page.add("?"),
     }
 }
 

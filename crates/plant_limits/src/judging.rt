@@ -5,7 +5,7 @@ ghost use Rattle.std.specs.List.{sum_by, list_any};
 ghost use Rattle.plant_logic.specs.Source.{source_of};
 ghost use Rattle.plant_logic.specs.Blocks.{AreBelow};
 ghost use Rattle.plant_limits.specs.Counts.{program_costs};
-ghost use Rattle.plant_limits.specs.Limits.{capped, KeepsCost, KeepsLimits, IsLimitFault};
+ghost use Rattle.plant_limits.specs.Limits.{KeepsLimits, IsLimitFault};
 
 use crate::counting::count_programs;
 use crate::fault::LimitFault;
@@ -48,14 +48,26 @@ fn some_costly(programs: &[Counts]) -> bool
     false
 }
 
-/// Judges the limits on slots, size and cost. The order lists the block types, each after those that it declares. An instance that is never
-/// called has its slots, a block type that no program uses counts for nothing. Each body is gone
-/// through once for its size and once for its cost, whatever the number of its instances.
+/// The costs among counts, in order. Fails if allocation fails.
+fn costs_of(alloc: Global, programs: &[Counts]) -> Result<Vec<u64>, AllocError>
+    ensures { IfOk result (λ costs. costs.items ≡ map (λ program. program.cost) programs.now) }
+{
+    let mut costs = Vec::new(alloc);
+    for program in programs {
+        costs.push(program.cost)?;
+    }
+    Ok(costs)
+}
+
+/// Judges the limits on slots, size and cost, and tells what each program costs, in order. `order` lists the block types, each after those
+/// that it declares. An instance that is never called has its slots, a block type that no program uses counts for nothing. Each body is
+/// gone through once for its size and once for its cost, whatever the number of its instances.
 ///
 /// The error is the first limit that the source is past, or `Memory` where allocation failed.
-pub fn limits(alloc: Global, logic: &Logic, order: &[usize]) -> Result<(), LimitFault>
+pub fn limits(alloc: Global, logic: &Logic, order: &[usize]) -> Result<Vec<u64>, LimitFault>
     requires { AreBelow (source_of logic.now).blocks order.now }
-    ensures { MatchResult result (λ _. KeepsLimits (source_of logic.now)) (IsLimitFault (source_of logic.now)) }
+    ensures kept { MatchResult result (λ _. KeepsLimits (source_of logic.now)) (IsLimitFault (source_of logic.now)) }
+    ensures costs { IfOk result (λ costs. costs.items ≡ program_costs (source_of logic.now)) }
 {
     let programs = count_programs(alloc, logic, order)?;
     let slots = all_slots(logic, &programs);
@@ -69,19 +81,6 @@ pub fn limits(alloc: Global, logic: &Logic, order: &[usize]) -> Result<(), Limit
     if some_costly(&programs) {
         return Err(LimitFault::Cost);
     }
-    Ok(())
-}
-
-/// What each program costs, in order; 2,000,001 for one that costs more than 2,000,000. Fails if allocation fails.
-pub fn costs(alloc: Global, logic: &Logic, order: &[usize]) -> Result<Vec<u64>, AllocError>
-    requires { AreBelow (source_of logic.now).blocks order.now }
-    ensures stopped { IfOk result (λ costs. costs.items ≡ map (capped 2000000) (program_costs (source_of logic.now))) }
-    ensures kept { IfOk result (λ costs. KeepsCost (source_of logic.now) → costs.items ≡ program_costs (source_of logic.now)) }
-{
-    let programs = count_programs(alloc, logic, order)?;
-    let mut costs = Vec::new(alloc);
-    for program in &programs {
-        costs.push(program.cost)?;
-    }
+    let costs = costs_of(alloc, &programs)?;
     Ok(costs)
 }

@@ -22,5 +22,5 @@ mod stopping;
 mod weighing;
 
 pub use fault::LimitFault;
-pub use judging::{costs, limits};
+pub use judging::limits;
 pub use laws::block_type_counts;

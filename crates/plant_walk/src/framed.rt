@@ -31,7 +31,7 @@ use block_frames::{
 };
 use block_walk::{Frame, copy_frames, push_path, start_frame, walk_frame};
 use plant_cells::{Cells, Standard, Stop};
-use plant_limits::{LimitFault, block_type_counts, costs, limits};
+use plant_limits::{LimitFault, block_type_counts, limits};
 use plant_logic::{Logic, Routine, Variable, logic_of, order_is_of_source};
 use plant_types::Place;
 use program_codes::{Stack, codes_of, copied_frames_have_codes, copy_codes, run_code_counted};
@@ -127,10 +127,11 @@ fn tables_of(
     Ok((frames_of(alloc, logic, order)?, start))
 }
 
-/// What is made of a sound source. Fails if allocation fails.
-fn made_of(alloc: Global, logic: &Logic, order: &[usize]) -> Result<Made, AllocError>
+/// What is made of a sound source, by what its programs cost. Fails if allocation fails.
+fn made_of(alloc: Global, logic: &Logic, order: &[usize], costs: &[u64]) -> Result<Made, AllocError>
     requires sound { IsSound (source_of logic.now) }
     requires below { AreBelow (source_of logic.now).blocks order.now }
+    requires costs { costs.now ≡ program_costs (source_of logic.now) }
     ensures { IfOk result (λ m. IsFramed (source_of logic.now) order.now m.frames.items m.start.items m.names m.standards.list.items m.values.items m.standards.bases.items m.paths.items m.codes.items) }
 {
     block_type_counts();
@@ -139,7 +140,6 @@ fn made_of(alloc: Global, logic: &Logic, order: &[usize]) -> Result<Made, AllocE
     let (frames, start) = tables_of(alloc, logic, order)?;
     let paths = path_bases(alloc, logic, order, &frames)?;
     let standards = standards_of(alloc, logic, order, &frames)?;
-    let costs = costs(alloc, logic, order)?;
     let codes = codes_of(
         alloc,
         &frames,
@@ -147,7 +147,7 @@ fn made_of(alloc: Global, logic: &Logic, order: &[usize]) -> Result<Made, AllocE
         order.len(),
         &values,
         &standards.bases,
-        &costs,
+        costs,
     )?;
     Ok(Made {
         names: global_names(alloc, &logic.globals)?,
@@ -160,10 +160,16 @@ fn made_of(alloc: Global, logic: &Logic, order: &[usize]) -> Result<Made, AllocE
     })
 }
 
-/// A sound source made ready to run. Fails if allocation fails.
-fn ready(alloc: Global, logic: Logic, order: Vec<usize>) -> Result<Framed, AllocError>
+/// A sound source made ready to run, by what its programs cost. Fails if allocation fails.
+fn ready(
+    alloc: Global,
+    logic: Logic,
+    order: Vec<usize>,
+    costs: &[u64],
+) -> Result<Framed, AllocError>
     requires sound { IsSound (source_of logic) }
     requires below { AreBelow (source_of logic).blocks order.items }
+    requires costs { costs.now ≡ program_costs (source_of logic) }
     ensures { IfOk result (λ framed. framed ≡ source_of logic) }
 {
     let Made {
@@ -174,7 +180,7 @@ fn ready(alloc: Global, logic: Logic, order: Vec<usize>) -> Result<Framed, Alloc
         values,
         paths,
         codes,
-    } = made_of(alloc, &logic, &order)?;
+    } = made_of(alloc, &logic, &order, costs)?;
     Ok(Framed {
         logic,
         order,
@@ -196,8 +202,8 @@ fn judged(alloc: Global, logic: Logic, order: Vec<usize>) -> Result<Framed, Limi
     ensures made { MatchResult result (λ framed. (framed ≡ source_of logic) × KeepsLimits (source_of logic)) (IsLimitFault (source_of logic)) }
     ensures sound { IfOk result IsSound }
 {
-    limits(alloc, &logic, &order)?;
-    Ok(ready(alloc, logic, order)?)
+    let costs = limits(alloc, &logic, &order)?;
+    Ok(ready(alloc, logic, order, &costs)?)
 }
 
 /// How a run of the program whose first path has a number ends, by how the run of its frame ended.

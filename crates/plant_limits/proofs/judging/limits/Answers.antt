@@ -1,17 +1,18 @@
-use Rattle.std.proofs.Common.{◌∙◌, sym, arith}
+use Rattle.std.proofs.Common.{◌∙◌, ap, map, sym, arith}
 use Rattle.plant_logic.specs.Source.{source_of}
+use Rattle.plant_limits.specs.declared.measures.Counts.{Counts}
 use Rattle.plant_limits.specs.Counts.{program_costs}
-use Rattle.plant_limits.proofs.Totals.{slots_are, size_is, costly_is, one_past, none_past}
+use Rattle.plant_limits.proofs.Totals.{slots_are, size_is, costly_is, one_past, none_past, costs_stop, costs_kept}
 use Rattle.plant_limits.proofs.judging.limits.Goals as goal
 
-pub returns-then-slots-ge-LAST_SLOTS : goal.returns-then-slots-ge-LAST_SLOTS
-returns-then-slots-ge-LAST_SLOTS c =
+pub returns-then-slots-ge-LAST_SLOTS-clause-kept : goal.returns-then-slots-ge-LAST_SLOTS-clause-kept
+returns-then-slots-ge-LAST_SLOTS-clause-kept c =
     let slots = slots_are (source_of c.args.logic.now) c.deref.result.now c.in_ok-programs.programs.items c.all_slots-slots.result c.deref.ensures.value c.in_ok-programs.ensures c.all_slots-slots.ensures in
     let past = c.if-slots-ge-LAST_SLOTS.true in
     omega arith
 
-pub returns-then-size-ge-LAST_SIZE : goal.returns-then-size-ge-LAST_SIZE
-returns-then-size-ge-LAST_SIZE c =
+pub returns-then-size-ge-LAST_SIZE-clause-kept : goal.returns-then-size-ge-LAST_SIZE-clause-kept
+returns-then-size-ge-LAST_SIZE-clause-kept c =
     let source = source_of c.args.logic.now in
     let programs = c.in_ok-programs.programs.items in
     let slots = slots_are source c.deref.result.now programs c.all_slots-slots.result c.deref.ensures.value c.in_ok-programs.ensures c.all_slots-slots.ensures in
@@ -22,8 +23,8 @@ returns-then-size-ge-LAST_SIZE c =
       omega arith,
     )
 
-pub returns-then-some_costly : goal.returns-then-some_costly
-returns-then-some_costly c =
+pub returns-then-some_costly-clause-kept : goal.returns-then-some_costly-clause-kept
+returns-then-some_costly-clause-kept c =
     let source = source_of c.args.logic.now in
     let programs = c.in_ok-programs.programs.items in
     let slots = slots_are source c.deref.result.now programs c.all_slots-slots.result c.deref.ensures.value c.in_ok-programs.ensures c.all_slots-slots.ensures in
@@ -36,8 +37,8 @@ returns-then-some_costly c =
       one_past 2000000 (program_costs source) (sym costly ∙ c.if-some_costly.true),
     )
 
-pub returns : goal.returns
-returns c =
+pub returns-clause-kept : goal.returns-clause-kept
+returns-clause-kept c =
     let source = source_of c.args.logic.now in
     let programs = c.in_ok-programs.programs.items in
     let slots = slots_are source c.deref.result.now programs c.all_slots-slots.result c.deref.ensures.value c.in_ok-programs.ensures c.all_slots-slots.ensures in
@@ -50,3 +51,11 @@ returns c =
       size = omega arith;
       cost = none_past 2000000 (program_costs source) (sym costly ∙ c.if-some_costly.false);
     }
+
+pub returns-clause-costs : goal.returns-clause-costs
+returns-clause-costs c =
+    let source = source_of c.args.logic.now in
+    let programs = c.in_ok-programs.programs.items in
+    let costly = costly_is source c.deref-3.result.now programs c.some_costly.result c.deref-3.ensures.value c.in_ok-programs.ensures c.some_costly.ensures in
+    let keeps = none_past 2000000 (program_costs source) (sym costly ∙ c.if-some_costly.false) in
+    c.in_ok-costs.ensures ∙ ap (map (λ (p : Counts). p.cost)) c.deref-4.ensures.value ∙ costs_stop source programs c.in_ok-programs.ensures ∙ costs_kept source keeps

@@ -54,8 +54,8 @@ codes_of-requires-clause-named c =
     let globals_ok = c.args.logic.now.globals.ok in
     let globals_len = c.len.ensures in
     let globals_are : c.len.result ≡ length source.globals = omega (arith, globals_ok.0, globals_len) in
-    names_same frames c.deref-3.result.now (length source.globals) c.len.result (length order) values c.deref-4.result.now clocks c.deref-5.result.now (program_costs source) c.deref-6.result.now
-    (sym c.deref-3.ensures.value) (sym globals_are) (sym c.deref-4.ensures.value) (sym c.deref-5.ensures.value) (sym (c.deref-6.ensures.value ∙ c.in_ok-costs.ensures.kept sound.limits.cost)) fit
+    names_same frames c.deref-3.result.now (length source.globals) c.len.result (length order) values c.deref-4.result.now clocks c.deref-5.result.now (program_costs source) c.args.costs.now
+    (sym c.deref-3.ensures.value) (sym globals_are) (sym c.deref-4.ensures.value) (sym c.deref-5.ensures.value) (sym c.requires.costs) fit
 
 pub codes_of-requires-clause-small : goal.codes_of-requires-clause-small
 codes_of-requires-clause-small c =
@@ -69,9 +69,7 @@ codes_of-requires-clause-small c =
 pub codes_of-requires-clause-costs : goal.codes_of-requires-clause-costs
 codes_of-requires-clause-costs c =
     let source = source_of c.args.logic.now in
-    let costs = c.in_ok-costs.costs.items in
-    let are : costs ≡ program_costs source = c.in_ok-costs.ensures.kept c.requires.sound.limits.cost in
-    let told = ap length (c.deref-6.ensures.value ∙ are) in
+    let told = ap length c.requires.costs in
     let many = length-map source.programs (routine_cost (type_cost source.blocks)) in
     let rows = ap length c.deref-4.ensures.value in
     let long = c.in_ok-values.ensures.long in
@@ -83,13 +81,12 @@ codes_of-requires-clause-enough c =
     let sound = c.requires.sound in
     let frames = c.in_ok-frames.frames.items in
     let order = c.args.order.now in
-    let are : c.in_ok-costs.costs.items ≡ program_costs source = c.in_ok-costs.ensures.kept sound.limits.cost in
     let names : HasAllNames source = subst HasAllNames (sym sound.are_theirs) (c.typed_names_are_known.ensures sound.units sound.typed) in
     let enough : CostNoMore frames (length order) (program_costs source) = costs_listed source order frames c.in_ok-frames.ensures.frames c.requires.below (sound_types source sound) names (c.block_type_counts.ensures.cost source.blocks order) in
-    subst (λ fs. CostNoMore fs (length order) c.deref-6.result.now) (sym c.deref-3.ensures.value) (subst (CostNoMore frames (length order)) (sym (c.deref-6.ensures.value ∙ are)) enough)
+    subst (λ fs. CostNoMore fs (length order) c.args.costs.now) (sym c.deref-3.ensures.value) (subst (CostNoMore frames (length order)) (sym c.requires.costs) enough)
 
 pub global_names-requires : goal.global_names-requires
-global_names-requires c = ap (λ l. repeats (global_words l)) c.deref-7.ensures.value ∙ (sound_named (source_of c.args.logic.now) c.requires.sound).globals_apart
+global_names-requires c = ap (λ l. repeats (global_words l)) c.deref-6.ensures.value ∙ (sound_named (source_of c.args.logic.now) c.requires.sound).globals_apart
 
 pub returns : goal.returns
 returns c =
@@ -106,12 +103,12 @@ returns c =
       below = c.requires.below;
       are_frames = c.in_ok-frames.ensures.frames;
       has_start = c.in_ok-frames.ensures.start;
-      names_are = c.in_ok-global_names.ensures ∙ ap global_names c.deref-7.ensures.value;
+      names_are = c.in_ok-global_names.ensures ∙ ap global_names c.deref-6.ensures.value;
       standards_are = c.in_ok-standards.ensures.list;
       values_begin = c.in_ok-values.ensures;
       clocks_begin = c.in_ok-standards.ensures.bases;
       paths_begin = c.in_ok-paths.ensures.bases;
       paths_fit = c.in_ok-paths.ensures.fit;
-      codes_are = codes_same c.deref-3.result.now frames c.len.result (length source.globals) (length order) (length order) c.deref-4.result.now values c.deref-5.result.now c.in_ok-standards.standards.bases.items c.deref-6.result.now (program_costs source) c.in_ok-codes.codes.items
-          c.deref-3.ensures.value globals_are refl c.deref-4.ensures.value c.deref-5.ensures.value (c.deref-6.ensures.value ∙ c.in_ok-costs.ensures.kept c.requires.sound.limits.cost) c.in_ok-codes.ensures;
+      codes_are = codes_same c.deref-3.result.now frames c.len.result (length source.globals) (length order) (length order) c.deref-4.result.now values c.deref-5.result.now c.in_ok-standards.standards.bases.items c.args.costs.now (program_costs source) c.in_ok-codes.codes.items
+          c.deref-3.ensures.value globals_are refl c.deref-4.ensures.value c.deref-5.ensures.value c.requires.costs c.in_ok-codes.ensures;
     }
