@@ -1,12 +1,25 @@
 -- What is known of a station's archive, which other threads may have: that there is a book under its lock.
-use Rattle.std.specs.Prelude.{◌≡◌, ℕ, List, length}
+use Rattle.std.specs.Prelude.{◌≡◌, ℕ, ◌≤◌, List, length}
 use Rattle.plant_types.specs.Pairs.{PlainPair}
 use Rattle.plant_system.specs.declared.event.EngineFault.{EngineFault}
 use Rattle.plant_system.specs.System.{scan_event}
 use Rattle.engine.specs.Engines.{PlainEngine, state_of}
+use Rattle.event_history.specs.declared.event.Event.{Event}
+use Rattle.boards.specs.declared.writer.BoardWriter.{BoardWriter}
+use Rattle.boards.specs.Readers.{laid, published}
+use Rattle.archive.specs.declared.recorder.Refusal.{Refusal}
 use Rattle.archive.specs.Refusals.{IsDueInBoth}
 
 -- a scan is refused as the engine refuses it, or by the book of the archive, which has as many events if the station has the whole share
 abbrev pub IsScanDue : Type 0 → EngineFault → PlainEngine → List PlainPair → ℕ → Type 0
 IsScanDue whole e engine pairs t =
     (book : PlainEngine) × (whole → length book.history ≡ length engine.history) × IsDueInBoth e (scan_event (state_of engine) pairs t) (scan_event (state_of book) pairs t)
+
+-- readers take as many entries as the history has events: as what they take is a beginning of what was laid by for it, they take all
+abbrev pub ShowsAll : List Event → BoardWriter → Type 0
+ShowsAll history board = length (published board).1 ≡ length history
+
+-- all that was laid by is shown, unless one refusal more was counted
+pub record ShowsUnlessRefused (board : BoardWriter) (before now : List Refusal) : Type 0 where
+  pub counted : length before ≤ length now
+  pub shown : length now ≡ length before → published board ≡ laid board

@@ -21,4 +21,4 @@ mod recorder;
 pub use book::Book;
 pub use both::{ReadyOrder, ReadyScan, commit_order, commit_scan, ready_order, ready_scan};
 pub use lock::Archive;
-pub use recorder::Recorder;
+pub use recorder::{Recorder, Refusal};

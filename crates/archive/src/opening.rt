@@ -10,6 +10,7 @@ use engine::{Engine, Plant};
 use std::alloc::{AllocError, Global};
 use std::sync::ledger::{Blank, Ledger, Share};
 use std::sync::{Arc, Wait};
+use trace::Trace;
 
 /// The archive of a plant before the first event, and the whole share of its ledger. Fails if memory was refused.
 fn open_archive<L: Ledger>(
@@ -64,6 +65,7 @@ impl<L: Ledger> Recorder<L> {
                 share,
                 archive,
                 board,
+                refusals: Trace::new(),
             }),
             Err(refused) => {
                 drop(archive);
@@ -83,6 +85,7 @@ impl<L: Ledger> Recorder<L> {
             share,
             archive,
             board,
+            refusals: _,
         } = self;
         drop(share);
         drop(archive);

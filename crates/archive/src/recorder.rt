@@ -1,11 +1,12 @@
 //! The recorder: the engine of a station, whose events are recorded in its archive too, and shown on a board.
 
-ghost use Rattle.std.specs.Prelude.{◌≡◌, ◌<◌, length, IfOk, IfErr, OnErr};
+ghost use Rattle.std.specs.Prelude.{◌≡◌, ◌↔◌, IsTrue, ◌<◌, ◌≤◌, length, IfOk, IfErr, OnOk, OnErr};
 ghost use Rattle.plant_system.specs.Faults.{faults_by};
 ghost use Rattle.engine.specs.Engines.{TakesScan};
-ghost use Rattle.boards.specs.Readers.{laid, log_kept};
+ghost use Rattle.boards.specs.Readers.{laid, published, log_kept};
 ghost use Rattle.board_entries.specs.Showing.{HasHistory};
-ghost use Rattle.archive.specs.Records.{IsScanDue};
+ghost use Rattle.archive.specs.Records.{IsScanDue, ShowsUnlessRefused, ShowsAll};
+ghost use Rattle.order_taking.specs.Turns.{UnlessRefused};
 
 use crate::both::{commit_order, commit_scan, ready_order, ready_scan};
 use crate::lock::Archive;
@@ -16,6 +17,11 @@ use order_taking::{NotTaken, Recording};
 use std::alloc::Global;
 use std::sync::ledger::{Ledger, Share};
 use std::sync::{Arc, Wait};
+use trace::Trace;
+
+/// That an order was no event, or that an event isn't shown: memory was refused, or the history is full.
+#[derive(Drop)]
+pub struct Refusal;
 
 /// An engine, its archive, the share of the ledger that counts the events of both, and the board that shows them. Who owns it takes it apart to end it.
 ///
@@ -25,19 +31,31 @@ pub struct Recorder<L: Ledger> {
     pub share: Share<L>,
     pub archive: Arc<Archive<L>>,
     pub board: BoardWriter,
+    /// Each time that it refused an order, or to show an event, for contracts alone.
+    pub refusals: Trace<Refusal>,
     pub ghost counted: { length engine.history ≡ share.amount },
     pub ghost part: { 0 < share.parts },
     pub ghost has: { HasHistory engine.plant engine.history board },
 }
 
-/// Shows readers what was laid by. Where memory is refused for that, the board is late: the next event shows it.
-fn show<R: Wait>(rt: &R, board: &mut BoardWriter)
-    ensures { (laid board.new ≡ laid board.old) × (log_kept board.new ≡ log_kept board.old) }
+/// Shows readers what was laid by. Where memory is refused for that, the board is late, which is counted: the next event shows it.
+fn show<R: Wait>(rt: &R, board: &mut BoardWriter, refusals: &mut Trace<Refusal>)
+    ensures same { (laid board.new ≡ laid board.old) × (log_kept board.new ≡ log_kept board.old) }
+    ensures shown { ShowsUnlessRefused board.new refusals.old refusals.new }
 {
-    let _late = board.publish(rt);
+    if board.publish(rt).is_err() {
+        *refusals = refusals.then(&Refusal);
+    }
 }
 
 impl<L: Ledger> Recorder<L> {
+    /// Whether the board lacks events: memory was refused to show them.
+    pub fn is_late(&self) -> bool
+        ensures { IsTrue result ↔ ¬ (ShowsAll self.now.engine.history self.now.board) }
+    {
+        self.board.published().events() != self.engine.events()
+    }
+
     /// A scan: it is made ready in both engines, and its entry laid by for the board; then it is committed in both, under the archive's lock, and
     /// shown, or the board is late.
     pub fn scan<C, H: Wait>(
@@ -58,12 +76,15 @@ impl<L: Ledger> Recorder<L> {
         ensures crew { C.faulted crew.new ≡ faults_by (C.faulted crew.old) result }
         ensures share { self.new.share.parts ≡ self.old.share.parts }
         ensures log { log_kept self.new.board ≡ log_kept self.old.board }
+        ensures counted { length self.old.refusals ≤ length self.new.refusals }
+        ensures shown { OnOk result (length self.new.refusals ≡ length self.old.refusals → ShowsAll self.new.engine.history self.new.board) }
     {
         let Recorder {
             engine,
             share,
             archive,
             board,
+            refusals,
         } = self;
         let mut book = archive.lock(rt);
         book.audit(share);
@@ -81,13 +102,13 @@ impl<L: Ledger> Recorder<L> {
         };
         let report = commit_scan(engine, &mut *book, share, ready);
         drop(book);
-        show(rt, board);
+        show(rt, board, refusals);
         Ok(report)
     }
 }
 
 /// An order of a console is made ready in both engines, and its entry laid by for the board; then it is committed in both, under the archive's lock, and
-/// shown.
+/// shown. Where memory is refused, or the history is full, that is counted.
 impl<L: Ledger, H: Wait> Recording<H> for Recorder<L> {
     ghost plant_of = { λ r. r.engine.plant };
 
@@ -96,6 +117,10 @@ impl<L: Ledger, H: Wait> Recording<H> for Recorder<L> {
     ghost parts_of = { λ r. r.share.parts };
 
     ghost log_of = { λ r. log_kept r.board };
+
+    ghost refusals_of = { λ r. length r.refusals };
+
+    ghost shows_all = { λ r. ShowsAll r.engine.history r.board };
 
     fn order(
         &mut self,
@@ -109,23 +134,26 @@ impl<L: Ledger, H: Wait> Recording<H> for Recorder<L> {
             share,
             archive,
             board,
+            refusals,
         } = self;
         let mut book = archive.lock(rt);
         let ready = match ready_order(alloc, engine, &mut *book, console, order) {
             Ok(ready) => ready,
             Err(_) => {
                 drop(book);
+                *refusals = refusals.then(&Refusal);
                 return Err(NotTaken);
             }
         };
         let Ok(()) = lay_order(board, engine, &ready.own) else {
             drop(ready);
             drop(book);
+            *refusals = refusals.then(&Refusal);
             return Err(NotTaken);
         };
         let reply = commit_order(engine, &mut *book, share, ready);
         drop(book);
-        show(rt, board);
+        show(rt, board, refusals);
         Ok(reply)
     }
 }

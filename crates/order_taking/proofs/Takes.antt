@@ -1,5 +1,5 @@
 -- Orders that are taken one after another.
-use Rattle.std.proofs.Common.{◌≡◌, ℕ, ◌+◌, Bool, true, false, List, [], ◌∷◌, ◌++◌, fold, length, MatchBool, ap, refl, sym, ◌∙◌, subst, arith, append_assoc, append-nil}
+use Rattle.std.proofs.Common.{◌≡◌, ℕ, ◌+◌, Bool, true, false, List, [], ◌∷◌, ◌++◌, ◌≤◌, fold, length, MatchBool, ap, refl, sym, ◌∙◌, subst, arith, append_assoc, append-nil}
 use mathlib.Core.List.{IsPrefix}
 use Rattle.std.proofs.lemmas.List.{map-append}
 use Rattle.console_link.specs.declared.answer.Answer.{Answer}
@@ -12,7 +12,7 @@ use Rattle.plant_config.specs.Plants.{PlainPlant}
 use Rattle.plant_system.specs.declared.event.Reply.{Reply}
 use Rattle.plant_system.specs.System.{system, after_event, reply_to}
 use Rattle.order_taking.specs.Parts.{answer_to, answers_in, answers_from, events_by}
-use Rattle.order_taking.specs.Turns.{Took, TookPart, TookParts}
+use Rattle.order_taking.specs.Turns.{Took, TookPart, TookParts, UnlessRefused}
 use Rattle.order_taking.proofs.Parts.{system_more, answers_more, one_answer}
 
 abbrev L : Type 0
@@ -128,3 +128,18 @@ pub parts_moved : (p q : PlainPlant) (ls ms bs : List L) (old before new : List 
 parts_moved p q ls ms bs old before new taken stopped plants lanes histories t =
     subst (λ (x : PlainPlant). TookParts x ms bs before new taken stopped) plants
     (subst (λ (xs : List L). TookParts p xs bs before new taken stopped) lanes (subst (λ (es : List Event). TookParts p ls bs es new taken stopped) histories t))
+
+-- nothing was asked
+pub refused_none : (all : Type 0) (count : ℕ) → UnlessRefused all all count count false
+refused_none all count = record { counted = omega arith; goes_on = λ same. refl; shows = λ same has. has }
+
+-- one thing and then another, where the first wasn't stopped
+pub refused_on : (all middle all' : Type 0) (before between now : ℕ) (stopped : Bool) → UnlessRefused all middle before between false → UnlessRefused middle all' between now stopped → UnlessRefused all all' before now stopped
+refused_on all middle all' before between now stopped h k =
+    let low : before ≤ between = h.counted in
+    let high : between ≤ now = k.counted in
+    record {
+      counted = omega arith;
+      goes_on = λ same. k.goes_on (omega arith);
+      shows = λ same has. k.shows (omega arith) (h.shows (omega arith) has);
+    }

@@ -1,5 +1,5 @@
 -- What a turn does with the orders that wait, console by console.
-use Rattle.std.specs.Prelude.{◌≡◌, ◌⊎◌, ℕ, ◌+◌, ◌<◌, ◌≤◌, Bool, true, false, List, [], ◌∷◌, ◌++◌, length, Result, MatchBool, MatchResult}
+use Rattle.std.specs.Prelude.{◌≡◌, ◌⊎◌, ℕ, ◌+◌, ◌<◌, ◌≤◌, Bool, true, false, List, [], ◌∷◌, ◌++◌, length, Result, Ok, Err, MatchBool, MatchResult}
 use Rattle.console_link.specs.declared.lane.Lane.{Lane}
 use Rattle.console_link.specs.Seats.{orders_taken, orders_known, answers_given, answer_room, SameLane}
 use Rattle.event_history.specs.declared.event.Event.{Event}
@@ -54,3 +54,14 @@ TookParts plant (a ∷ ds) [] old new taken stopped = ⊥
 TookParts plant (a ∷ ds) (b ∷ bs) old new taken stopped =
     (middle : List Event) × (here : ℕ) × (rest : ℕ) × (ends : Bool) × TookPart plant a b old middle here ends × (taken ≡ here + rest)
     × MatchBool ends ((bs ≡ ds) × (new ≡ middle) × (rest ≡ 0) × (stopped ≡ true)) (TookParts plant ds bs middle new rest stopped)
+
+-- whether an order was refused as an event
+abbrev pub is_refused : {A : Type 0} → Result A NotTaken → Bool
+is_refused (Ok a) = false
+is_refused (Err e) = true
+
+-- between two counts of refusals: unless one more was counted, nothing was stopped, and a board that showed all events shows them all again
+pub record UnlessRefused (all all' : Type 0) (before now : ℕ) (stopped : Bool) : Type 0 where
+  pub counted : before ≤ now
+  pub goes_on : now ≡ before → stopped ≡ false
+  pub shows : now ≡ before → all → all'

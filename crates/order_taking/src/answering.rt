@@ -1,7 +1,7 @@
 //! How the orders that wait are taken and answered.
 
 ghost use Rattle.std.specs.Prelude.{◌≡◌, ◌≤◌, ◌*◌, length};
-ghost use Rattle.order_taking.specs.Turns.{TookOne, TookPart, TookParts};
+ghost use Rattle.order_taking.specs.Turns.{TookOne, TookPart, TookParts, UnlessRefused, is_refused};
 
 use crate::recording::{NotTaken, Recording};
 use console_link::Lane;
@@ -33,6 +33,7 @@ fn take_order<T: Recording<H>, H>(
     ensures share { T.parts_of recorder.new ≡ T.parts_of recorder.old }
     ensures log { T.log_of recorder.new ≡ T.log_of recorder.old }
     ensures took { TookOne (T.plant_of recorder.old) lane.old lane.new (T.history_of recorder.old) (T.history_of recorder.new) result }
+    ensures refused { UnlessRefused (T.shows_all recorder.old) (T.shows_all recorder.new) (T.refusals_of recorder.old) (T.refusals_of recorder.new) (is_refused result) }
 {
     let Some(order) = lane.waiting() else {
         return Ok(false);
@@ -53,6 +54,7 @@ fn take_part<T: Recording<H>, H>(
     ensures share { T.parts_of recorder.new ≡ T.parts_of recorder.old }
     ensures log { T.log_of recorder.new ≡ T.log_of recorder.old }
     ensures part { TookPart (T.plant_of recorder.old) lane.old lane.new (T.history_of recorder.old) (T.history_of recorder.new) result.taken result.stopped }
+    ensures refused { UnlessRefused (T.shows_all recorder.old) (T.shows_all recorder.new) (T.refusals_of recorder.old) (T.refusals_of recorder.new) result.stopped }
 {
     let mut taken = 0u32;
     for _ in 0..MOST_ORDERS {
@@ -90,6 +92,7 @@ pub fn take_parts<T: Recording<H>, H>(
     ensures share { T.parts_of recorder.new ≡ T.parts_of recorder.old }
     ensures log { T.log_of recorder.new ≡ T.log_of recorder.old }
     ensures parts { TookParts (T.plant_of recorder.old) lanes.old lanes.new (T.history_of recorder.old) (T.history_of recorder.new) result.taken result.stopped }
+    ensures refused { UnlessRefused (T.shows_all recorder.old) (T.shows_all recorder.new) (T.refusals_of recorder.old) (T.refusals_of recorder.new) result.stopped }
     ensures most { result.taken ≤ 64 * length lanes.old }
 {
     let Some((lane, others)) = lanes.split_first_mut() else {

@@ -1,6 +1,7 @@
 //! Where orders become events.
 
 ghost use Rattle.std.specs.Prelude.{◌≡◌, ℕ, List, ◌++◌, [], ◌∷◌, IfOk, OnOk, OnErr};
+ghost use Rattle.order_taking.specs.Turns.{UnlessRefused, is_refused};
 ghost use Rattle.event_history.specs.declared.event.Event.{Event};
 ghost use Rattle.event_history.specs.declared.event.Event.TheVariants as event;
 ghost use Rattle.plant_config.specs.Plants.{PlainPlant};
@@ -30,8 +31,14 @@ pub trait Recording<H> {
     /// The log in which the boards are marked that show the events. No order changes which it is.
     ghost log_of: { Self → Book };
 
+    /// How often it refused an order as an event, or to show one on the boards.
+    ghost refusals_of: { Self → ℕ };
+
+    /// Whether the boards show all events.
+    ghost shows_all: { Self → Type 0 };
+
     /// Makes an order of the console of a number the next event, and gives its reply. It is refused where memory is, and where the history is full; that leaves
-    /// the history as it was.
+    /// the history as it was, and is counted. An order whose reply refuses it is an event.
     fn order(
         &mut self,
         rt: &H,
@@ -44,5 +51,6 @@ pub trait Recording<H> {
         ensures reply { IfOk result (λ r. r ≡ reply_to (system (plant_of self.old) (history_of self.old)) console order) }
         ensures kept { OnErr result (history_of self.new ≡ history_of self.old) }
         ensures parts { parts_of self.new ≡ parts_of self.old }
-        ensures log { log_of self.new ≡ log_of self.old };
+        ensures log { log_of self.new ≡ log_of self.old }
+        ensures refused { UnlessRefused (shows_all self.old) (shows_all self.new) (refusals_of self.old) (refusals_of self.new) (is_refused result) };
 }

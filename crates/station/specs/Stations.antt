@@ -1,5 +1,5 @@
 -- What a contract sees of a station: its engine, and its lanes, each of which agrees with the history.
-use Rattle.std.specs.Prelude.{◌≡◌, ℕ, ◌≤◌, Bool, List, [], ◌∷◌, ◌++◌, length, map, Option, Some, None, Ok, All, refl}
+use Rattle.std.specs.Prelude.{◌≡◌, ℕ, ◌≤◌, Bool, false, List, [], ◌∷◌, ◌++◌, length, map, Option, Some, None, Ok, All, refl}
 use Rattle.std.specs.Coded.{Coded, code_by, coded×, coded_list, coded_ℕ}
 use mathlib.Core.List.{IsPrefix}
 use Rattle.logbook.specs.Pages.{Book}
@@ -28,12 +28,14 @@ use Rattle.order_taking.specs.Turns.{TookParts}
 use Rattle.operator_console.specs.declared.console.Finished.{Finished as Ended}
 use Rattle.station.specs.Lanes.{numbers_of, numbers_in, HasNoTwin, IsOfLog}
 
--- its engine, its share of the parts of its ledger, its crew, and the owner's ends of its consoles' rings
+-- its engine, its share of the parts of its ledger, its crew, the owner's ends of its consoles' rings, how many events of the history its board shows, the first ones, and how often it refused an order or to show an event
 pub record PlainStation (C : Type 0) : Type 0 where
   pub engine : PlainEngine
   pub parts : ℕ
   pub crew : C
   pub lanes : List (Lane Order Reply)
+  pub shown : ℕ
+  pub refusals : ℕ
 
 -- a station that was closed has these left
 pub record PlainClosing (C : Type 0) : Type 0 where
@@ -47,8 +49,8 @@ lanes_code = coded_list (lane_row.the_row order_row.the_row reply_row.the_row).c
 
 abbrev pub station_code : {C : Type 0} → Coded C → Coded (PlainStation C)
 station_code {C} code =
-    code_by (PlainEngine × (ℕ × (C × List (Lane Order Reply)))) (coded× engine_code (coded× coded_ℕ (coded× code lanes_code)))
-    (λ s. (s.engine, (s.parts, (s.crew, s.lanes)))) (λ p. record { engine = p.0; parts = p.1.0; crew = p.1.1.0; lanes = p.1.1.1 }) (λ _. refl)
+    code_by (PlainEngine × (ℕ × (C × (List (Lane Order Reply) × (ℕ × ℕ))))) (coded× engine_code (coded× coded_ℕ (coded× code (coded× lanes_code (coded× coded_ℕ coded_ℕ)))))
+    (λ s. (s.engine, (s.parts, (s.crew, (s.lanes, (s.shown, s.refusals)))))) (λ p. record { engine = p.0; parts = p.1.0; crew = p.1.1.0; lanes = p.1.1.1.0; shown = p.1.1.1.1.0; refusals = p.1.1.1.1.1 }) (λ _. refl)
 
 abbrev pub closing_code : {C : Type 0} → Coded C → Coded (PlainClosing C)
 closing_code {C} code =
@@ -77,6 +79,10 @@ module _ {C : Type 0} where
     pub report_is : IsReport (state_of old.engine) scan report
     pub plant_is : new.engine.plant ≡ old.engine.plant
     pub parts : TookParts old.engine.plant old.lanes new.lanes (old.engine.history ++ scan ∷ []) new.engine.history taken stopped
+
+  -- and unless one refusal more was counted, a turn wasn't stopped, and the board shows all events
+  abbrev pub IsWhole : PlainStation C → PlainStation C → Bool → Type 0
+  IsWhole old new stopped = (old.refusals ≤ new.refusals) × (new.refusals ≡ old.refusals → (stopped ≡ false) × (new.shown ≡ length new.engine.history))
 
   -- a refused turn changes neither the history nor a lane
   pub record SameButRoom (old new : PlainStation C) : Type 0 where

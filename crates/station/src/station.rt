@@ -1,11 +1,11 @@
 //! The station: its public calls.
 
-ghost use Rattle.std.specs.Prelude.{◌≡◌, ◌<◌, ℕ, [], true, length, map, All, Some, IfOk, IfErr, OnErr};
+ghost use Rattle.std.specs.Prelude.{◌≡◌, ◌≢◌, ◌<◌, ◌↔◌, IsTrue, ℕ, [], true, length, map, All, Some, IfOk, IfErr, OnErr};
 ghost use Rattle.plant_system.specs.Faults.{faults_by};
 ghost use Rattle.order_taking.specs.Parts.{answers_of};
 ghost use Rattle.archive.specs.Records.{IsScanDue};
 ghost use Rattle.station.specs.Lanes.{numbers_of, links_of, links_in, left_in, finished_of, ended_of, is_within, has_seen_within, IsConsoleIn, IsEndIn, IsFresh, HasNotLooked, KeepsConsoles};
-ghost use Rattle.station.specs.Stations.{IsTurn, IsClosed, SameButRoom, AreBeginnings};
+ghost use Rattle.station.specs.Stations.{IsTurn, IsWhole, IsClosed, SameButRoom, AreBeginnings};
 ghost use mathlib.Core.List.{IsPrefix};
 ghost use Rattle.event_history.specs.declared.event.Order.{Order};
 ghost use Rattle.plant_system.specs.declared.event.Reply.{Reply};
@@ -33,6 +33,8 @@ pub struct Turn {
     pub taken: u32,
     /// Whether memory was refused for an order, or the history is full. That order stays in its ring, and no other was taken after it.
     pub stopped: bool,
+    /// Whether the board lacks events: memory was refused to show them. The next event that is shown shows them too.
+    pub late: bool,
 }
 
 impl Drop for Turn {
@@ -41,6 +43,7 @@ impl Drop for Turn {
             report: _,
             taken: _,
             stopped: _,
+            late: _,
         } = self;
     }
 }
@@ -56,14 +59,15 @@ pub struct Station<L: Ledger, C> {
 }
 
 impl<L: Ledger, C> Model for Station<L, C> {
-    ghost use Rattle.boards.specs.Readers.{log_kept};
+    ghost use Rattle.std.specs.Prelude.{length};
+    ghost use Rattle.boards.specs.Readers.{log_kept, published};
     ghost use Rattle.station.specs.Stations.{PlainStation, IsStation, station_code};
 
     ghost Value = { PlainStation C };
 
     ghost coded = { station_code C.code };
 
-    ghost view = { λ s. record { engine = s.recorder.engine; parts = s.recorder.share.parts; crew = s.crew; lanes = s.lanes.items } };
+    ghost view = { λ s. record { engine = s.recorder.engine; parts = s.recorder.share.parts; crew = s.crew; lanes = s.lanes.items; shown = length (published s.recorder.board).1; refusals = length s.recorder.refusals } };
 
     ghost invariant = { λ s. IsStation s.recorder.engine.plant s.recorder.engine.history (log_kept s.recorder.board) s.lanes.items };
 }
@@ -128,7 +132,9 @@ impl<L: Ledger, C: Drop> Station<L, C> {
     ///
     /// Each order that is taken is an event of the history, also where it is refused by its reply, and its answer goes into its console's ring. A
     /// console's part ends where no order is known to wait or no place for an answer is known to be free. An order for which memory is
-    /// refused, or which finds the history full, stays in its ring, unanswered and no event; then the turn is over, and `stopped`.
+    /// refused, or which finds the history full, stays in its ring, unanswered and no event; then the turn is over, and `stopped`. That is counted, as is
+    /// each event that isn't shown since memory is refused for that. Unless one such refusal more was counted, a turn isn't `stopped`, and
+    /// the board shows all events.
     pub fn turn<H: Wait>(
         &mut self,
         rt: &H,
@@ -140,6 +146,8 @@ impl<L: Ledger, C: Drop> Station<L, C> {
         C: Crew<Job, Start, Done, H>,
         requires asked { C.asks }
         ensures ok { IfOk result (λ t. IsTurn self.old self.new pairs.now moment t.report t.taken t.stopped) }
+        ensures whole { IfOk result (λ t. IsWhole self.old self.new t.stopped) }
+        ensures late { IfOk result (λ t. IsTrue t.late ↔ (self.new.shown ≢ length self.new.engine.history)) }
         ensures err { IfErr result (λ e. IsScanDue (self.old.parts ≡ L.parts) e self.old.engine pairs.now moment) }
         ensures kept { OnErr result (SameButRoom self.old self.new) }
         ensures crew { C.faulted self.new.crew ≡ faults_by (C.faulted self.old.crew) result }
@@ -150,10 +158,12 @@ impl<L: Ledger, C: Drop> Station<L, C> {
             .recorder
             .scan(rt, alloc, &mut self.crew, pairs, moment)?;
         let part = take_parts(rt, alloc, &mut self.recorder, self.lanes.as_mut_slice());
+        let late = self.recorder.is_late();
         Ok(Turn {
             report,
             taken: part.taken,
             stopped: part.stopped,
+            late,
         })
     }
 

@@ -1,8 +1,8 @@
-use Rattle.std.proofs.Common.{◌∷◌, [], ◌++◌, ◌∙◌, subst, arith, length-append}
+use Rattle.std.proofs.Common.{false, ◌∷◌, [], ◌++◌, ◌∙◌, subst, arith, length-append}
 use Rattle.plant_config.specs.Plants.{PlainPlant}
 use Rattle.event_history.specs.declared.event.Order.{Order}
 use Rattle.order_taking.specs.Turns.{Took, HasNoneToTake}
-use Rattle.order_taking.proofs.Takes.{took_more, chosen}
+use Rattle.order_taking.proofs.Takes.{took_more, chosen, refused_on}
 use Rattle.order_taking.proofs.answering.take_part.Goals as goal
 
 pub loop-preserved : goal.loop-preserved
@@ -19,4 +19,5 @@ loop-preserved g c =
       c.take_order.ensures.plant ∙ h.4,
       c.take_order.ensures.share ∙ h.5,
       c.take_order.ensures.log ∙ h.6,
+      refused_on _ _ _ _ _ _ false h.7 c.in-Ok-true.ensures.refused,
     )

@@ -1,6 +1,6 @@
-use Rattle.std.proofs.Common.{◌≡◌, List, length}
+use Rattle.std.proofs.Common.{◌≡◌, List, length, false}
 use Rattle.event_history.specs.declared.event.Order.{Order}
-use Rattle.order_taking.specs.Turns.{Took}
+use Rattle.order_taking.specs.Turns.{Took, UnlessRefused}
 use Rattle.order_taking.proofs.answering.take_part.Given as goal
 
 abbrev pub invariant-loop : goal.invariant-loop
@@ -9,3 +9,4 @@ invariant-loop g l =
     × ((g.T.Recording.plant_of l.recorder) ≡ (g.T.Recording.plant_of l.fn.recorder))
     × ((g.T.Recording.parts_of l.recorder) ≡ (g.T.Recording.parts_of l.fn.recorder))
     × ((g.T.Recording.log_of l.recorder) ≡ (g.T.Recording.log_of l.fn.recorder))
+    × UnlessRefused (g.T.Recording.shows_all l.fn.recorder) (g.T.Recording.shows_all l.recorder) (g.T.Recording.refusals_of l.fn.recorder) (g.T.Recording.refusals_of l.recorder) false

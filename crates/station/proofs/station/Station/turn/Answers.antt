@@ -1,9 +1,10 @@
-use Rattle.std.proofs.Common.{◌≡◌, ◌∷◌, [], ◌++◌, ◌∙◌, length, refl, arith}
+use Rattle.std.proofs.Common.{◌≡◌, ◌∷◌, [], ◌++◌, ◌∙◌, ◌≤◌, length, refl, ap, arith}
 use Rattle.std.proofs.lemmas.List.{with_items_is}
 use Rattle.engine.specs.Engines.{state_of}
 use Rattle.boards.specs.Readers.{log_kept}
 use Rattle.order_taking.specs.Turns.{TookParts}
 use Rattle.order_taking.proofs.Takes.{parts_moved}
+use Rattle.station.specs.Stations.{PlainStation}
 use Rattle.station.proofs.Agrees.{scan_orders_nothing}
 use Rattle.station.proofs.Ends.{keeps, same_parts}
 use Rattle.station.proofs.Turning.{station_kept, station_turned}
@@ -40,3 +41,16 @@ returns-clause-consoles g c =
     let long : length lanes ≡ s.lanes.len = omega (arith, c.take_parts-part.auto.lanes, c.as_mut_slice.ensures.len) in
     rw (with_items_is s.lanes lanes long, ← c.self.view_is)
     (keeps s.lanes.items lanes (same_parts old.plant s.lanes.items lanes before e.history c.take_parts-part.result.taken c.take_parts-part.result.stopped parts))
+
+pub returns-clause-whole : goal.returns-clause-whole
+returns-clause-whole g c =
+    let s = c.self.inside in
+    let refused = c.take_parts-part.ensures.refused in
+    let old = ap (λ (x : PlainStation _). x.refusals) c.self.view_is in
+    let low : length s.recorder.refusals ≤ length c.scan.new.self.refusals = c.scan.ensures.counted in
+    let high : length c.scan.new.self.refusals ≤ length c.take_parts-part.new.recorder.refusals = refused.counted in (
+      omega (arith, old, low, high),
+      λ same.
+          let still : length c.take_parts-part.new.recorder.refusals ≡ length c.scan.new.self.refusals = omega (arith, old, low, high, same) in
+          (refused.goes_on still, refused.shows still (c.in_ok-report.ensures.shown (omega (arith, old, low, high, same)))),
+    )
