@@ -37,6 +37,9 @@ from .samples import SampleQueue
 from .snapshots import Snapshot
 from .state import State
 
+LOOK_SECONDS = 1.0
+"""At most so long passes between two looks at the server, the clock and the history."""
+
 __all__ = ["Change", "ChangeKind", "Core", "CutOff", "Question", "Snapshot", "Subscription"]
 
 
@@ -215,7 +218,7 @@ class Core:
         period = self.config.period_ms / 1000
         left = max(0.0, self._due - loop.time()) if self._may_scan() else period
         try:
-            await asyncio.wait_for(self._wake.wait(), min(left, period))
+            await asyncio.wait_for(self._wake.wait(), min(left, period, LOOK_SECONDS))
         except asyncio.TimeoutError:
             pass
 

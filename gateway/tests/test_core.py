@@ -243,6 +243,25 @@ def test_a_server_that_is_killed_is_started_again_with_the_same_state(config: Co
     run(work())
 
 
+def test_a_server_that_is_killed_while_nothing_is_asked_of_it(config: Config) -> None:
+    async def work() -> None:
+        async with served(config_for(config.alarmd, config.plant, period_ms=3_600_000)) as core:
+            await busy(core)
+            before, rows, events = (
+                core.state.listing(),
+                list(core.journal.lines()),
+                core.state.events,
+            )
+            old = core.state
+            os.kill(server_pid(), signal.SIGKILL)
+            await until(lambda: core.state is not old and not len(core.troubles) > 1)
+            assert core.state.listing() == before
+            assert list(core.journal.lines()) == rows
+            assert core.state.events == events
+
+    run(work())
+
+
 def test_an_order_under_way_when_the_server_ends_is_answered(config: Config) -> None:
     async def work() -> None:
         config_slow = config_for(config.alarmd, config.plant, period_ms=60_000)

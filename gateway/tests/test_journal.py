@@ -112,3 +112,25 @@ def test_the_state_after_it(book: Book) -> None:
     }
     assert state.by_tag["RAH-104"].since == 3000
     assert state.by_tag["LAH-101"].since is None
+
+
+def test_who_put_an_alarm_aside_is_told_while_it_is_aside(book: Book) -> None:
+    alarm = book.state.by_tag["LAL-101"]
+
+    def give(line: str, change: str, user: str) -> None:
+        command = commands.read(book.plant, line)
+        assert isinstance(command, Order)
+        answer = ["REPLY OK", f"ALARM 3000 LAL-101 {change}"] if change else ["REPLY OK"]
+        book.take(Taken(command, answer, user, f"why {user}"))
+
+    give("shelve 1 LAL-101 500", "NORM SHELVED", "anna")
+    assert (alarm.user, alarm.reason, alarm.shelved_until) == ("anna", "why anna", 3500)
+    give("shelve 1 LAL-101 900", "", "bob")
+    assert (alarm.user, alarm.shelved_until, alarm.since) == ("bob", 3900, 3000)
+    give("remove 1 LAL-101", "SHELVED OOS", "carla")
+    assert (alarm.user, alarm.shelved_until) == ("carla", None)
+    give("return 1 LAL-101", "OOS NORM", "dora")
+    assert (alarm.user, alarm.reason) == (None, None)
+    give("shelve 1 LAL-101 500", "NORM SHELVED", "anna")
+    book.take(Taken(Scan(3500, {}), ["ALARM 3500 LAL-101 SHELVED NORM", "DONE 3500 1"]))
+    assert (alarm.user, alarm.reason, alarm.shelved_until) == (None, None, None)
