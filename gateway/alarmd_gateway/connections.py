@@ -53,6 +53,7 @@ class Connection(RequestHandler):
             max_line_size=LONGEST_LINE,
             max_field_size=LONGEST_LINE,
             access_log=None,  # type: ignore[arg-type]
+            auto_decompress=False,  # a small body stays small
         )
         self._limit = limit
         self._address: str | None = None

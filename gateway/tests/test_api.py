@@ -3,6 +3,7 @@
 from __future__ import annotations
 
 import csv
+import gzip
 import io
 import socket
 from collections.abc import Iterator
@@ -208,6 +209,10 @@ def test_a_large_body_and_another_kind_of_body(open_plant: Served) -> None:
     headers = {"Content-Type": "application/json", "X-Alarmd-Token": client.token}
     large = b'{"order":"ack","target":"A1"' + b" " * 20_000 + b"}"
     assert client.ask("/api/order", large, headers).status == 413
+    packed = gzip.compress(b'{"order":"ack","target":"A1"' + b" " * 10_000_000 + b"}")
+    assert len(packed) < 16_384
+    packed_headers = {**headers, "Content-Encoding": "gzip"}
+    assert client.ask("/api/order", packed, packed_headers).status == 400
     headers["Content-Type"] = "text/plain"
     assert client.ask("/api/order", b'{"order":"ack","target":"A1"}', headers).status == 415
     assert client.ask("/api/order", headers=headers).status == 405

@@ -229,15 +229,19 @@ def test_troubles_stand_above_and_the_worst_first(site: Served, page: Page) -> N
     )
     assert page.run(kinds) == ["source", "stale", "stale"]
     assert len(page.rows()) >= 4 and page.live()
+    page.choose("A5")
     # the server is silent: then nothing that is shown is live
     site.do(lambda: troubles.raises(TroubleKind.SILENCE, "", "no answer for 10 s"))
     until(lambda: page.text("#link") == "✕ no scans")
     assert page.run(kinds)[0] == "silence"
     assert page.run("return document.body.classList.contains('lost')")
-    page.keys("a", "v")
+    page.keys("a", "v", "o")
+    assert not page.run("return document.querySelector('dialog[open]')")
     site.do(lambda: troubles.clear(TroubleKind.SILENCE, ""))
     page.until_live()
     assert site.core.orders == []
+    page.keys("a")  # and now it is taken
+    until(lambda: ("A5", "ACKED") in page.rows())
 
 
 def test_a_question_is_shown_and_answered(site: Served, page: Page) -> None:

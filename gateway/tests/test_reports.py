@@ -153,6 +153,12 @@ def test_the_second_day_counts_what_came_in_it_and_what_stood_before_it() -> Non
     assert made.acknowledgements == Acknowledgements(0, None, None, None, 2, 1, 162_800_000)
 
 
+def test_a_flood_that_began_before_the_time_goes_on_in_it() -> None:
+    # until 7,800,000: 250,000 of 400,000 ms, though nothing is annunciated in them
+    made = report(plant(), two_days(), 7_550_000, 7_950_000)
+    assert made.rates[0] == Rate(0, 0, 0.0, 0.0, 0, None, 0.625)
+
+
 def test_the_end_isnt_in_the_time() -> None:
     rows = two_days()
     assert report(plant(), rows, 0, 100_000_000).rates[0].count == 16

@@ -113,7 +113,7 @@ export class FiguresScreen {
     this.csv.href = `/api/report.csv?hours=${hours}`;
     setText(this.where, "working it out …");
     try {
-      const report = await get(`/api/report?hours=${hours}`);
+      const report = await get(`/api/report?hours=${hours}`, 180000);
       this.body.replaceChildren(rates(report), priorities(report), waits(report), frequent(report), chattering(report), stale(report), shelved(report), days(report));
       setText(this.where, `${longTime(report.begin_time)} to ${longTime(report.end_time)}`);
     } catch (fault) {

@@ -14,10 +14,10 @@ export function setToken(given) {
   token = given;
 }
 
-async function ask(path, options) {
+async function ask(path, options, patience = 20000) {
   let response;
   try {
-    response = await fetch(path, { credentials: "same-origin", signal: AbortSignal.timeout(20000), ...options });
+    response = await fetch(path, { credentials: "same-origin", signal: AbortSignal.timeout(patience), ...options });
   } catch {
     throw new Refused(0, "the gateway doesn't answer");
   }
@@ -31,7 +31,8 @@ async function ask(path, options) {
   return data;
 }
 
-export const get = (path) => ask(path, {});
+// `patience` is in ms.
+export const get = (path, patience) => ask(path, {}, patience);
 
 export const post = (path, body) =>
   ask(path, {

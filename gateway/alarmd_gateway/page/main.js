@@ -241,7 +241,7 @@ document.addEventListener("keydown", (event) => {
 // All signs that flash do so together, slowly; where movement isn't wanted, none does.
 const still = matchMedia("(prefers-reduced-motion: reduce)");
 setInterval(() => {
-  const off = !still.matches && lostAt === null && Math.floor(Date.now() / 600) % 2 === 1;
+  const off = !still.matches && store.live && Math.floor(Date.now() / 600) % 2 === 1;
   document.body.classList.toggle("off", off);
 }, 100);
 
