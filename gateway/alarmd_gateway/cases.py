@@ -5,7 +5,6 @@ refused."""
 
 from __future__ import annotations
 
-import argparse
 import difflib
 import subprocess
 from collections.abc import Iterator
@@ -19,6 +18,7 @@ from .config import WORDS_STATUS
 from .model import GatewayFault, Plant
 from .programs import find_alarmd
 from .state import State
+from .words import Words
 
 
 @dataclass(frozen=True)
@@ -143,9 +143,11 @@ def beside(wanted: list[str], got: list[str]) -> Iterator[tuple[str, str]]:
 def test_file(alarmd: Path, plant: Plant, path: Path, seconds: float) -> tuple[int, int]:
     """Runs the cases of a file and prints what differs. Gives how many cases there are, and how many differ."""
     try:
-        text = path.read_text()
-    except (OSError, UnicodeDecodeError) as fault:
-        raise GatewayFault(f"{path}: {fault}", WORDS_STATUS) from None
+        text = path.read_text(encoding="utf-8-sig")
+    except OSError as fault:
+        raise GatewayFault(f"{path}: {fault.strerror}", WORDS_STATUS) from None
+    except UnicodeDecodeError as fault:
+        raise GatewayFault(f"{path} is no UTF-8: {fault.reason}", WORDS_STATUS) from None
     cases = Cases(str(path), plant).read(text)
     differ = 0
     for case in cases:
@@ -158,9 +160,7 @@ def test_file(alarmd: Path, plant: Plant, path: Path, seconds: float) -> tuple[i
 
 def main(words: list[str]) -> int:
     """`test PLANT CASES ..`."""
-    parser = argparse.ArgumentParser(
-        "gateway test", description="Runs cases of a plant, and prints what differs."
-    )
+    parser = Words(prog="gateway test", description="Runs cases, and prints what differs.")
     parser.add_argument("plant", type=Path, metavar="PLANT")
     parser.add_argument("cases", type=Path, metavar="CASES", nargs="+")
     parser.add_argument(

@@ -170,6 +170,35 @@ def test_a_refused_plant_is_status_3(alarmd: Path, examples: Path) -> None:
         assert found.value.status == 3
 
 
+@pytest.mark.parametrize(
+    ("cases", "words"),
+    [
+        (None, "No such file"),
+        (b"case \xff", "is no UTF-8"),
+        (b"\xef\xbb\xbfcase a\r\nscan 0 a=5\r\nexpect T1 UNACK\r\n", ""),
+    ],
+)
+@pytest.mark.server
+def test_a_file_that_cannot_be_read(
+    alarmd: Path, examples: Path, tmp_path: Path, cases: bytes | None, words: str
+) -> None:
+    path, plant = tmp_path / "cases", examples / "built_in" / "plant.toml"
+    if cases is not None:
+        path.write_bytes(cases)
+    if words:
+        with pytest.raises(GatewayFault) as found:
+            run(alarmd, plant, path)
+        assert found.value.status == 2 and words in found.value.words
+    else:
+        assert run(alarmd, plant, path) == 0
+
+
+def test_words_that_are_wrong_are_a_line() -> None:
+    with pytest.raises(GatewayFault) as found:
+        main(["test", "plant.toml"])
+    assert found.value.status == 2 and "CASES" in found.value.words
+
+
 def test_no_alarmd_is_status_2(examples: Path, tmp_path: Path) -> None:
     tank = examples / "tank"
     with pytest.raises(GatewayFault) as found:

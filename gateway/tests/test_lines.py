@@ -4,12 +4,16 @@ from __future__ import annotations
 
 import asyncio
 import os
+from collections.abc import Callable
 from pathlib import Path
+
+import pytest
 
 from alarmd_gateway import plant as plants
 from alarmd_gateway.fields.lines import LineSource
-from alarmd_gateway.fields.source import Backoff, Intake
+from alarmd_gateway.fields.source import Backoff, Intake, Lost, Source
 from alarmd_gateway.mapping import LinesSource, Retry
+from alarmd_gateway.model import Value
 from alarmd_gateway.samples import Ages
 from field_help import Kept, Running, until
 
@@ -180,3 +184,51 @@ def test_tries_come_later_and_later() -> None:
     assert [backoff.wait() for _ in range(5)] == [0.5, 1.0, 2.0, 3.0, 3.0]
     backoff.reset()
     assert backoff.wait() == 0.5
+
+
+def test_a_source_that_was_there_is_tried_again_soon(
+    examples: Path, monkeypatch: pytest.MonkeyPatch
+) -> None:
+    kept = Kept(plants.read(examples / "tank" / "plant.toml"))
+    waits: list[float] = []
+
+    async def sleep(seconds: float) -> None:
+        waits.append(seconds)
+
+    class Scripted(Source):
+        """Comes and goes as it is told: `up` before it is lost, or not."""
+
+        script = ["", "", "up", "", ""]
+
+        async def session(self, current: Callable[[], dict[str, Value]]) -> None:
+            self.put_output("pump", True)
+            assert not self.waiting_outputs()  # while it is lost nothing is kept for it
+            if not self.script:
+                return
+            if self.script.pop(0) == "up":
+                self.up()
+                self.put_output("pump", False)
+                assert self.waiting_outputs() == [("pump", False)]
+            raise Lost("away")
+
+    monkeypatch.setattr(asyncio, "sleep", sleep)
+    asyncio.run(Scripted("it", Retry(0.5, 60.0), kept.intake()).run(dict))
+    assert waits == [0.5, 1.0, 0.5, 1.0, 2.0]
+
+
+def test_whatever_a_source_raises_is_a_loss(examples: Path) -> None:
+    kept = Kept(plants.read(examples / "tank" / "plant.toml"))
+
+    class Wrong(Source):
+        """A library that raises what nobody expects."""
+
+        async def session(self, current: Callable[[], dict[str, Value]]) -> None:
+            raise ZeroDivisionError("by a library")
+
+    async def body() -> None:
+        running = Running(Wrong("it", SOON, kept.intake()), kept)
+        await until(kept.standing)
+        assert kept.texts() == "it is lost: ZeroDivisionError: by a library"
+        await running.close()
+
+    asyncio.run(body())

@@ -136,6 +136,33 @@ def test_samples_outputs_loss_and_return(examples: Path, broker: Broker) -> None
     asyncio.run(body())
 
 
+def test_a_document_may_have_several_inputs_and_an_output_several_topics(
+    examples: Path, broker: Broker
+) -> None:
+    async def body() -> None:
+        kept = Kept(tank(examples), outputs={"pump": True})
+        given, inputs = source(kept.plant, broker.port), kept.plant.inputs
+        level = Topic(inputs["level"], "tank/all", ("level",), Scale(), False)
+        flow = Topic(inputs["flow"], "tank/all", ("flows", "1"), Scale(), False)
+        pump, other = given.outputs[0], replace(given.outputs[0], topic="tank/other/set")
+        given = replace(given, inputs=(level, flow), outputs=(pump, other))
+        client = MqttClient(given, kept.intake())
+        running, field = Running(client, kept), Field(broker.port)
+        try:
+            await until(lambda: client.is_up)
+            await field.publish(("tank/all", '{"level": 5, "flows": [1, 2]}'))
+            await until(lambda: kept.samples == [("level", 5), ("flow", 2)])
+            await field.publish(("tank/all", '{"level": 6}'))
+            await until(lambda: kept.standing() == [("source", "broker flow")])
+            assert kept.samples[-1] == ("level", 6)
+            await until(lambda: {"tank/pump/set", "tank/other/set"} <= dict(field.heard).keys())
+        finally:
+            await field.close()
+            await running.close()
+
+    asyncio.run(body())
+
+
 def test_what_is_published_while_the_gateway_is_away_comes_later(
     examples: Path, broker: Broker
 ) -> None:

@@ -119,7 +119,6 @@ class ModbusClient(Source):
         super().__init__(given.name, given.retry, intake)
         self._given = given
         self._blocks = list(blocks(given.inputs))
-        self._points = {point.variable.name: point for point in given.outputs}
         self._thread = ThreadPoolExecutor(1, given.name)
 
     async def session(self, current: Callable[[], dict[str, Value]]) -> None:
@@ -174,10 +173,13 @@ class ModbusClient(Source):
             await self._write(device, name, value)
 
     async def _write(self, device: Device, name: str, value: Value) -> None:
-        point = self._points.get(name)
-        if point is None:
-            return
-        loop = asyncio.get_running_loop()
+        """Writes an output wherever the map has it."""
+        for point in self._given.outputs:
+            if point.variable.name == name:
+                await self._write_point(device, point, value)
+
+    async def _write_point(self, device: Device, point: Point, value: Value) -> None:
+        loop, name = asyncio.get_running_loop(), point.variable.name
         try:
             await loop.run_in_executor(self._thread, device.write, point, point.write(value))
         except (Refusal, BadRaw) as fault:

@@ -69,8 +69,9 @@ class MqttClient(Source):
     def __init__(self, given: MqttSource, intake: Intake) -> None:
         super().__init__(given.name, given.retry, intake)
         self._given = given
-        self._topics = {topic.topic: topic for topic in given.inputs}
-        self._outputs_by_name = {topic.variable.name: topic for topic in given.outputs}
+        self._topics: dict[str, list[Topic]] = {}  # one document may have several inputs
+        for topic in given.inputs:
+            self._topics.setdefault(topic.topic, []).append(topic)
 
     async def session(self, current: Callable[[], dict[str, Value]]) -> None:
         """Connects, and takes what comes until the connection is lost."""
@@ -117,10 +118,10 @@ class MqttClient(Source):
             lost.cancel()
 
     def _publish(self, client: paho.Client, name: str, value: Value) -> None:
-        topic = self._outputs_by_name.get(name)
-        if topic is not None:
-            payload = payload_of(topic.scale, value)
-            client.publish(topic.topic, payload, self._given.quality, topic.retain)
+        for topic in self._given.outputs:
+            if topic.variable.name == name:
+                payload = payload_of(topic.scale, value)
+                client.publish(topic.topic, payload, self._given.quality, topic.retain)
 
     def _client(self, loop: asyncio.AbstractEventLoop, events: asyncio.Queue[str]) -> paho.Client:
         """A client whose callbacks, which come in its own thread, are handed to the loop."""
@@ -163,21 +164,20 @@ class MqttClient(Source):
 
     def _subscribed(self, granted: tuple[int, ...]) -> None:
         """What the broker says to the subscriptions, in order."""
-        for topic, quality in zip(self._topics.values(), granted):
-            if quality == NOT_GRANTED:
-                words = f"the broker lets nobody of this name read {topic.topic}"
-                self.intake.fails(self.name, topic.variable.name, words)
-            else:
-                self.intake.good(self.name, topic.variable.name)
+        for topics, quality in zip(self._topics.values(), granted):
+            for topic in topics:
+                if quality == NOT_GRANTED:
+                    words = f"the broker lets nobody of this name read {topic.topic}"
+                    self.intake.fails(self.name, topic.variable.name, words)
+                else:
+                    self.intake.good(self.name, topic.variable.name)
 
     async def _take(self, name: str, payload: bytes) -> None:
-        """Takes a message; the next one isn't read before."""
-        topic = self._topics.get(name)
-        if topic is None:
-            return  # from an earlier map: the broker remembers the subscription
-        try:
-            value = value_of(topic, payload)
-        except BadRaw as fault:
-            self.intake.bad(self.name, topic.variable.name, str(fault))
-            return
-        await self.intake.give(self.name, topic.variable.name, value)
+        """Takes a message; the next one isn't read before. A topic of an earlier map, which the broker remembers, has no input."""
+        for topic in self._topics.get(name, []):
+            try:
+                value = value_of(topic, payload)
+            except BadRaw as fault:
+                self.intake.bad(self.name, topic.variable.name, str(fault))
+                continue
+            await self.intake.give(self.name, topic.variable.name, value)
