@@ -3,7 +3,9 @@
 from __future__ import annotations
 
 import asyncio
+import resource
 from collections import Counter
+from contextlib import suppress
 from typing import cast
 
 from aiohttp import web
@@ -12,6 +14,19 @@ from aiohttp.web_protocol import RequestHandler
 FIRST_REQUEST = 20.0  # seconds in which a connection has to bring a whole request
 IDLE = 75.0  # seconds that a connection may rest between two requests
 LONGEST_LINE = 8190  # bytes of a request's first line, or of a header
+
+
+HANDSHAKE = 10.0  # seconds in which TLS has to begin
+DESCRIPTORS = 65_536
+
+
+def more_descriptors() -> None:
+    """Lets this process open as many files as it may. With TLS a connection is counted only once it has begun to speak."""
+    soft, hard = resource.getrlimit(resource.RLIMIT_NOFILE)
+    wanted = DESCRIPTORS if hard == resource.RLIM_INFINITY else min(hard, DESCRIPTORS)
+    if soft != resource.RLIM_INFINITY and soft < wanted:
+        with suppress(ValueError, OSError):
+            resource.setrlimit(resource.RLIMIT_NOFILE, (wanted, hard))
 
 
 class Limit:

@@ -12,7 +12,7 @@ from aiohttp import web
 
 from .api import Api
 from .config import WORDS_STATUS, Config
-from .connections import Connection, Limit
+from .connections import HANDSHAKE, Connection, Limit, more_descriptors
 from .core import Core
 from .disturbing import Disturbing
 from .guard import LARGEST_BODY, Guard, Refused
@@ -80,6 +80,7 @@ class Web:
 
     async def start(self) -> None:
         """Listens. Raises GatewayFault where the address isn't to be had."""
+        more_descriptors()
         app = web.Application(middlewares=[self.guard.middleware], client_max_size=LARGEST_BODY)
         app.on_response_prepare.append(self.guard.headers)
         pages = Pages()
@@ -103,6 +104,7 @@ class Web:
                 self.config.host,
                 self.config.port,
                 ssl=self.config.tls,
+                ssl_handshake_timeout=HANDSHAKE if self.config.tls else None,
                 backlog=128,
             )
         except OSError as fault:

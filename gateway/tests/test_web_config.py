@@ -4,6 +4,7 @@ from __future__ import annotations
 
 import http.client
 import io
+import socket
 import ssl
 import subprocess
 import sys
@@ -111,6 +112,13 @@ def test_tls(certificate: Path) -> None:
         assert cookie.startswith("__Host-alarmd_") and "Secure" in cookie
         assert answer.headers["Strict-Transport-Security"]
         answer.read()
+        connection.close()
+        # a thousand that never begin to speak hold nobody up
+        idle = [socket.create_connection(("127.0.0.1", site.web.port), 60) for _ in range(1000)]
+        connection.request("GET", "/api/session", headers={"Cookie": cookie.partition(";")[0]})
+        assert connection.getresponse().status == 200
+        for channel in idle:
+            channel.close()
         connection.close()
         plain = http.client.HTTPConnection("127.0.0.1", site.web.port, timeout=60)
         with pytest.raises((ConnectionError, http.client.HTTPException)):
