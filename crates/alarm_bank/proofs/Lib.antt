@@ -1,6 +1,7 @@
 pub mod BankLaws
 mod MarkLaws
 pub mod MoveLaws
+pub mod OrderLaws
 mod Tallies
 mod Trees
 mod Under

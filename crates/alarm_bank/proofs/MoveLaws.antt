@@ -173,7 +173,7 @@ same_code_self : (c : Code) → same_code c c ≡ true
 same_code_self c = grind (arith, nat_tests)
 
 -- an alarm that rests has the same code
-no_change : (a : PlainAlarm) → change_between (code_of a.state) (code_of a.state) ≡ None
+pub no_change : (a : PlainAlarm) → change_between (code_of a.state) (code_of a.state) ≡ None
 no_change a = rw (same_code_self (code_of a.state), change_between) refl
 
 -- a change, if there is one, is put before others

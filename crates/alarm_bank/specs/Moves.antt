@@ -1,5 +1,6 @@
 -- What a scan moves: the alarms that it leaves otherwise than they were, and the changes of their codes.
-use Rattle.std.specs.Prelude.{◌≡◌, ◌≢◌, ℕ, ◌+◌, ◌<◌, ◌⊎◌, Bool, false, Option, Some, None, List, [], ◌∷◌, ◌++◌, fold, slice_get, slice_set}
+use Rattle.std.specs.Prelude.{◌≡◌, ◌≢◌, ℕ, ◌+◌, ◌<◌, ◌⊎◌, Bool, false, Option, Some, None, Result, Ok, Err, List, [], ◌∷◌, ◌++◌, fold, slice_get, slice_set}
+use Rattle.alarm_machine.specs.declared.states.OrderFault.{OrderFault}
 use Rattle.alarm_machine.specs.Codes.{PlainChange, code_of, change_between}
 use Rattle.alarm_machine.specs.Alarms.{PlainAlarm, after_scan, end_of}
 
@@ -75,3 +76,9 @@ AreMovesOf old new moved changes = record {
   moved : AreMoved 0 old new moved;
   changes : changes ≡ changes_from 0 old new;
 }
+
+-- the change that an order of the alarm of a number makes which is answered so: none if it is refused, or changes no code
+abbrev pub told_change : ℕ → Result (Option PlainChange) OrderFault → List (ℕ × PlainChange)
+told_change n (Ok None) = []
+told_change n (Ok (Some change)) = (n, change) ∷ []
+told_change n (Err fault) = []

@@ -379,3 +379,5 @@ impl Bank {
         self.moment = moment;
     }
 }
+
+mod parallel;

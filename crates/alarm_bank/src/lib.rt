@@ -1,7 +1,7 @@
 //! The alarms of a plant: each takes its step by itself, their codes are counted, and the least end of their shelves is known at once.
 //!
 //! An event changes the alarms by the table of `alarm_machine` and takes no memory. A scan may also be made ready as the list of the
-//! alarms that it moves, while the bank stays.
+//! alarms that it moves, while the bank stays; and its steps may be shared out among threads.
 #![tactic(auto)]
 
 mod bank;
