@@ -72,6 +72,7 @@ class Core:
 
     disturbances: Disturbances | None = None  # of a simulation
     before_scan: Callable[[int], Awaitable[None]] | None = None  # told of its moment
+    sampled: Callable[[str], None] | None = None  # told of each input of which a sample has come
 
     def __init__(self, config: Config, link: Link) -> None:
         """`start` makes one."""
@@ -132,6 +133,8 @@ class Core:
         """Takes a sample of an input; waits while too many wait. Raises BadSample where its name or its value doesn't fit the
         plant; the text says why."""
         variable, value = commands.fit(self.plant, sample.name, sample.value)
+        if self.sampled is not None:
+            self.sampled(variable.name)
         while self._queue.full and not self._closing:
             self._taken.clear()
             await self._taken.wait()

@@ -30,6 +30,7 @@ class Field:
     def __init__(self, core: Core, map: Map) -> None:
         self._core = core
         self._intake = Intake(core, Ages(dict(map.limits), time.monotonic()))
+        core.sampled = self._intake.sampled
         self._sources = sources(map, self._intake, core)
         running = [source.run(self._current) for source in self._sources]
         watches = [self._watch_outputs(), self._watch_samples()]
@@ -37,6 +38,7 @@ class Field:
 
     async def close(self) -> None:
         """Ends all sources."""
+        self._core.sampled = None
         for task in self._tasks:
             task.cancel()
         await asyncio.gather(*self._tasks, return_exceptions=True)

@@ -13,7 +13,7 @@ import pytest
 from alarmd_gateway.config import Config
 from alarmd_gateway.core import Core
 from alarmd_gateway.field import attach
-from alarmd_gateway.model import Code, GatewayFault
+from alarmd_gateway.model import Code, GatewayFault, Sample
 from core_help import Served, by_core, by_record, config_of
 from field_help import free_port, until
 from test_modbus import Device
@@ -107,6 +107,9 @@ def test_samples_become_alarms_and_outputs_are_written(
             await until(lambda: ("stale", "level") in troubles())
             assert ("stale", "flow") not in troubles()  # read again and again
             await field.publish(("tank/level", "400"))  # an equal value will do
+            await until(lambda: ("stale", "level") not in troubles())
+            await until(lambda: ("stale", "level") in troubles())
+            await core.offer(Sample("level", 400, "somebody"))  # whoever brings it
             await until(lambda: ("stale", "level") not in troubles())
             # a pulse between two scans, and a hundred values at once: each is in some scan
             values = [str(401 + number % 7) for number in range(100)]

@@ -60,8 +60,11 @@ class Intake:
             self.bad(source, known, str(fault))
             return str(fault)
         self.good(source, known)
-        self._ages.saw(known, self._clock())
         return None
+
+    def sampled(self, name: str) -> None:
+        """A sample of an input has come to the core, from whatever source."""
+        self._ages.saw(name, self._clock())
 
     def bad(self, source: str, name: str, words: str) -> None:
         """A value of an input can't be taken from this source: a trouble for a minute, unless a good one comes."""
