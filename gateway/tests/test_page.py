@@ -138,6 +138,8 @@ def test_shelve_with_a_time_and_a_reason(site: Served, page: Page) -> None:
     page.keys("2.5", Keys.ENTER)
     assert page.run("return document.querySelector('#shelve').open")  # a reason is wanted
     page.run("document.querySelector('#shelve-reason').focus()")
+    page.keys("  ", Keys.ENTER)
+    assert page.text("#shelve .fault") == "A reason is wanted."
     page.keys("sensor <b>cleaned</b>", Keys.ENTER)
     until(lambda: ("A2", "UNACK") not in page.rows())
     reason = "sensor <b>cleaned</b>"
@@ -145,6 +147,14 @@ def test_shelve_with_a_time_and_a_reason(site: Served, page: Page) -> None:
     page.click("#tab-aside")
     assert page.rows("#aside") == [("A2", "SHELVED")]
     assert page.text("#aside .row[data-tag='A2'] .until") == "06:03:31"
+    short = "const w = await import('/page/words.js'); return arguments[0].map((time) => w.shortTime(time, '2026-11-23T06:00'))"
+    times = [
+        "2026-11-23T05:59:59.999Z",
+        "2026-11-24T00:16:00.000Z",
+        "2027-01-01T00:00:00.000Z",
+        None,
+    ]
+    assert page.run(short, times) == ["05:59:59", "11-24 00:16", "2027-01-01", ""]
     assert page.text("#aside .row[data-tag='A2'] .why") == reason
     page.choose("A2", "#aside")
     page.click("#aside [data-order=unshelve]")

@@ -36,11 +36,13 @@ export const DONE = {
 };
 export const TRAPS = { DIVZERO: "division by zero", OVERFLOW: "overflow" };
 
-// A civil time as short as it can be beside another one: the time of day, with the date where that is another.
-export function shortTime(time, now) {
+// A civil time as short as it can be beside another one: the time of day, where that is another day the date and minutes, and the date
+// alone where it is another year.
+export function shortTime(time, now = "") {
   if (!time) return "";
-  const [day, clock] = [time.slice(0, 10), time.slice(11, 19)];
-  return now && now.slice(0, 10) === day ? clock : `${day} ${clock}`;
+  if (now?.slice(0, 10) === time.slice(0, 10)) return time.slice(11, 19);
+  if (now?.slice(0, 4) === time.slice(0, 4)) return `${time.slice(5, 10)} ${time.slice(11, 16)}`;
+  return time.slice(0, 10);
 }
 
 export function longTime(time) {
