@@ -106,12 +106,16 @@ class Board:
     def __init__(self, plant: Plant) -> None:
         self._plant = plant
         self._subscriptions: set[Subscription] = set()
+        self._closed = False
         self.number = 0  # of the last change
 
     def subscribe(self, room: int) -> Subscription:
         """A new subscriber; `room` is how many changes may wait."""
         subscription = Subscription(self, room)
-        self._subscriptions.add(subscription)
+        if self._closed:
+            subscription.end()
+        else:
+            self._subscriptions.add(subscription)
         return subscription
 
     def leave(self, subscription: Subscription) -> None:
@@ -143,7 +147,8 @@ class Board:
             self.put(ChangeKind.RESTARTED, moment, {"program": happening.program})
 
     def close(self) -> None:
-        """All subscribers have all changes now."""
+        """All subscribers have all changes now, and so has whoever subscribes later."""
+        self._closed = True
         for subscription in self._subscriptions:
             subscription.end()
         self._subscriptions.clear()

@@ -10,6 +10,8 @@ from pathlib import Path
 
 import pytest
 
+from alarmd_gateway import plant as plants
+from alarmd_gateway.changes import Board
 from alarmd_gateway.config import Config
 from alarmd_gateway.core import Core
 from alarmd_gateway.field import attach
@@ -217,3 +219,12 @@ def test_a_map_that_is_not_there_is_status_2(alarmd: Path, examples: Path, tmp_p
         await served.close()
 
     asyncio.run(body())
+
+
+def test_who_subscribes_after_the_end_has_all_changes(examples: Path) -> None:
+    async def body() -> None:
+        board = Board(plants.read(examples / "tank" / "plant.toml"))
+        board.close()
+        assert [change async for change in board.subscribe(10)] == []
+
+    asyncio.run(asyncio.wait_for(body(), 60))

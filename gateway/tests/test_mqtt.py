@@ -8,6 +8,7 @@ from collections.abc import Iterator
 from dataclasses import replace
 from fractions import Fraction
 from pathlib import Path
+from typing import Any
 
 import paho.mqtt.client as paho
 import pytest
@@ -56,14 +57,20 @@ class Field:
 
     def __init__(self, port: int) -> None:
         self.heard: list[tuple[str, str]] = []
+        self.qualities: set[int] = set()
+        self.kept: set[str] = set()  # topics of which the broker has kept a message
         self._client = paho.Client()
         self._client.on_connect = lambda client, *_: client.subscribe("tank/+/set", 1)
-        self._client.on_message = lambda _, __, message: self.heard.append(
-            (message.topic, message.payload.decode())
-        )
+        self._client.on_message = self._hear
         self._client.reconnect_delay_set(1, 1)
         self._client.connect_async("127.0.0.1", port)
         self._client.loop_start()
+
+    def _hear(self, client: Any, _: Any, message: Any) -> None:
+        self.heard.append((message.topic, message.payload.decode()))
+        self.qualities.add(message.qos)
+        if message.retain:
+            self.kept.add(message.topic)
 
     async def publish(self, *messages: tuple[str, str]) -> None:
         await until(self._client.is_connected)
@@ -118,6 +125,10 @@ def test_samples_outputs_loss_and_return(examples: Path, broker: Broker) -> None
             ]
             await until(lambda: field.heard[-3:] == wanted[-3:])
             assert field.heard == wanted[-len(field.heard) :]
+            assert field.qualities == {1}
+            late = Field(broker.port)
+            await until(lambda: late.kept == {"tank/pump/set", "tank/ratio/set"})
+            await late.close()
             broker.stop()
             await until(lambda: kept.standing() == [("source", "broker")])
             client.put_output("pump", True)  # it is written when the broker is back, as it is then
