@@ -107,7 +107,8 @@ class Link:
 
     async def _again(self, gone: ServerGone) -> Taken | None:
         """Starts the server again, and plays the record; its last command is handed back. Raises ServerGone when that was tried
-        as often in a row as is set."""
+        as often in a row as is set, and GatewayFault where another start can't help: the plant's files have changed.
+        """
         while True:
             self._starts += 1
             if self._starts > self._config.restarts:
@@ -118,16 +119,18 @@ class Link:
             await self._server.kill()
             try:
                 self._server = await start_server(self._config)
+                self._log.check()
                 self.book, held = await play(self._server, self.plant, self._log.replay())
             except ServerGone as again:
                 gone = again
                 continue
-            except GatewayFault as fault:
-                gone = ServerGone(fault.words, fault.status)
-                continue
             self.troubles.clear(TroubleKind.SERVER, "")
             self.anew()
             return held
+
+    def check(self) -> None:
+        """Raises GatewayFault (status 2) where the plant's files are no longer those that the record is of."""
+        self._log.check()
 
     async def note(self, remark: str) -> None:
         """A remark in the record, which no server sees."""

@@ -52,6 +52,9 @@ class Log(Protocol):
     async def append(self, entry: Entry) -> None:
         """The command will outlast a loss of power once this has returned. Raises GatewayFault (status 1)."""
 
+    def check(self) -> None:
+        """Raises GatewayFault (status 2) where the plant's files are no longer those that the record is of."""
+
     async def succeed(self, entries: Sequence[Entry]) -> str:
         """A new record takes the place of this one, at once and whole, with these commands in it. Gives the name under which
         the old one is kept. Raises GatewayFault where the old one goes on, and Unsure where that isn't known.
@@ -70,9 +73,9 @@ def sums(plant: Plant) -> dict[str, str]:
     }
 
 
-def head(plant: Plant, follows: str | None = None) -> str:
-    """The first line of a record of this plant. `follows` names the record before it."""
-    fields: dict[str, object] = {"files": sums(plant)}
+def head(files: dict[str, str], follows: str | None = None) -> str:
+    """The first line of a record of a plant whose files have these sums. `follows` names the record before it."""
+    fields: dict[str, object] = {"files": files}
     if follows is not None:
         fields["follows"] = follows
     return f"{_HEAD}{json.dumps(fields)}"
@@ -116,16 +119,19 @@ def judge_head(line: str, plant: Plant, path: Path) -> None:
     kept = _fields(line.removeprefix(_HEAD)).get("files") if line.startswith(_HEAD) else None
     if not isinstance(kept, dict):
         raise GatewayFault(f"{path} is no record of a gateway", 2)
-    now = sums(plant)
+    _compare(kept, sums(plant))
+
+
+def _compare(kept: dict[str, str], now: dict[str, str]) -> None:
+    """Raises GatewayFault (status 2) where the sums of the record's files aren't those of the plant's, with what differs."""
     for name in (*now, *kept):
         if name not in kept:
             raise GatewayFault(f"the record is of another plant: it knows no file {name}", 2)
         if name not in now:
             raise GatewayFault(f"the record is of another plant: the plant names no {name}", 2)
         if now[name] != kept[name]:
-            raise GatewayFault(
-                f"the record is of another plant: {name} has changed since it began", 2
-            )
+            words = f"the record is of another plant: {name} has changed since it began"
+            raise GatewayFault(words, 2)
 
 
 class FileRecord:
@@ -136,6 +142,7 @@ class FileRecord:
         it or it is another plant's, 1 where it can't be read or written."""
         self.path = path
         self._plant = plant
+        self._sums = sums(plant)
         self._thread = ThreadPoolExecutor(1, "record")
         try:
             self._file = _locked(path)
@@ -154,7 +161,7 @@ class FileRecord:
         if first:
             judge_head(first, self._plant, self.path)
         else:
-            _write(self._file, head(self._plant) + "\n")
+            _write(self._file, head(self._sums) + "\n")
             _sync_folder(self.path)
 
     def _fault(self, fault: OSError, status: int = 1) -> GatewayFault:
@@ -164,6 +171,13 @@ class FileRecord:
         """All commands, in order, read as they are wanted."""
         with open(self.path, "rb", buffering=1 << 20) as file:
             yield from entries(iter(file))
+
+    def check(self) -> None:
+        """Compares the sums of the plant's files with those at the opening of the record."""
+        try:
+            _compare(self._sums, sums(self._plant))
+        except OSError as fault:
+            raise GatewayFault(f"FILE {fault.filename}: {fault.strerror}", 2) from None
 
     async def append(self, entry: Entry) -> None:
         """Appends, flushes and waits for the disk, in a thread of its own: meanwhile displays are served."""
@@ -188,7 +202,7 @@ class FileRecord:
         file = _locked(fresh)
         try:
             commands = "".join(f"{_remark(entry)}{entry.line}\n" for entry in entries)
-            _write(file, f"{head(self._plant, kept.name)}\n{commands}")
+            _write(file, f"{head(self._sums, kept.name)}\n{commands}")
             os.replace(fresh, self.path)  # at each moment there is one of the two, whole
         except BaseException:
             file.close()

@@ -50,8 +50,9 @@ class Renewal:
         """Tries the new run. It becomes the run where it loses nothing grave that wasn't announced and confirmed; else that is
         asked. Where it can't be tried or recorded, the old run goes on, and that is a trouble. Raises Unsure.
         """
+        state, now = self._link.book.state, self._clock.now()
         try:
-            trial = await rotation.attempt(self._config, self._link.book.state, self._clock.now())
+            trial = await rotation.attempt(self._config, state, now, self._link.check)
         except GatewayFault as fault:
             self._failed(fault)
             return

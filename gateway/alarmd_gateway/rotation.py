@@ -6,7 +6,7 @@ The new run is tried on a second server before anything is lost, so what is anno
 from __future__ import annotations
 
 import json
-from collections.abc import Iterator
+from collections.abc import Callable, Iterator
 from dataclasses import dataclass
 
 from .commands import Scan, spelled
@@ -60,10 +60,12 @@ def _carrying(plant: Plant, alarm: AlarmState, moment: int) -> Order | None:
     return None
 
 
-async def attempt(config: Config, state: State, moment: int) -> Trial:
-    """Tries the new run on a server of its own, which the caller takes over or ends. Raises GatewayFault."""
+async def attempt(config: Config, state: State, moment: int, check: Callable[[], None]) -> Trial:
+    """Tries the new run on a server of its own, which the caller takes over or ends. Raises GatewayFault, also what `check`
+    raises once the server has read the plant."""
     server = await start_server(config)
     try:
+        check()
         book, entries = Book(state.plant), []
         for command, entry in carried(state, moment):
             answer = await server.ask(entry.line)

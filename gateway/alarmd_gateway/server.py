@@ -4,6 +4,7 @@ from __future__ import annotations
 
 import asyncio
 import contextlib
+import errno
 import signal
 from collections import deque
 from collections.abc import Callable, Iterable
@@ -15,6 +16,7 @@ from .model import GatewayFault, ServerGone
 
 Payload = TypeVar("Payload")
 
+_NO_PROGRAM: Final = (errno.ENOENT, errno.ENOTDIR, errno.EACCES, errno.EISDIR, errno.ENOEXEC)
 _SLICES: Final = 10  # patience is counted in so many parts, of which one counts however long our own loop was held up
 _BLOCK: Final = 512  # commands that are written at once
 _AHEAD: Final = 4096  # commands that may be on their way, so that memory is bounded
@@ -40,7 +42,7 @@ class Server:
         cls, alarmd: Path, plant: Path, patience_ms: int = 10_000, workers: int = 1
     ) -> Server:
         """Starts a server, and waits until its plant is accepted. Raises GatewayFault with alarmd's own words and its status: 3
-        where the plant is refused, 2 where alarmd can't be started."""
+        where the plant is refused, 2 where there is no alarmd; and ServerGone where it ends."""
         words = [str(alarmd), "run", str(plant)]
         words += ["--workers", str(workers)] if workers > 1 else []
         pipe = asyncio.subprocess.PIPE
@@ -49,7 +51,10 @@ class Server:
                 *words, stdin=pipe, stdout=pipe, stderr=pipe, process_group=0
             )
         except OSError as fault:
-            raise GatewayFault(f"alarmd can't be started: {alarmd}: {fault.strerror}", 2) from None
+            told = f"alarmd can't be started: {alarmd}: {fault.strerror}"
+            if fault.errno in _NO_PROGRAM:
+                raise GatewayFault(told, 2) from None
+            raise ServerGone(told, 1) from None
         server = cls(process, patience_ms)
         try:
             await server._accepted()
@@ -195,7 +200,7 @@ class Server:
             if line and gone.status == 3:
                 words = self._told().removeprefix(line).strip("\n")
                 raise GatewayFault(f"alarmd refuses the plant: {line}", 3, words) from None
-            raise GatewayFault(gone.words, gone.status) from None
+            raise
 
     async def _gone(self) -> ServerGone:
         """How the process has ended: its status, or the signal, and its own words."""

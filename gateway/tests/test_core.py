@@ -324,6 +324,22 @@ def test_a_server_that_ends_again_and_again_ends_the_core(config: Config) -> Non
     run(work())
 
 
+def test_how_often_a_server_is_started_again_is_counted_from_its_last_answer(
+    config: Config,
+) -> None:
+    async def work() -> None:
+        async with served(config_for(config.alarmd, config.plant, restarts=1)) as core:
+            for number in range(3):
+                await give(core, running=number % 2, level=100)
+                await core.drain()
+                old = core.state
+                os.kill(server_pid(), signal.SIGKILL)
+                await until(lambda: core.state is not old)
+                assert (await core.order(Order(Verb.ACK, 1, "NONE"))).code == "O1"
+
+    run(work())
+
+
 def test_the_next_start_goes_on_from_the_record(config: Config) -> None:
     async def work() -> None:
         async with served(config) as core:
@@ -370,3 +386,19 @@ def test_a_command_is_on_the_disk_before_it_is_sent(
     assert len(seen) > 3
     for disk, sent in zip(seen[::2], seen[1::2], strict=True):
         assert (disk[:5], sent[:5], disk[5:]) == ("disk ", "sent ", sent[5:])
+
+
+def test_a_server_is_not_started_again_with_other_files(config: Config) -> None:
+    async def work() -> None:
+        core = await Core.start(config)
+        working = asyncio.create_task(core.run())
+        await give(core, running=1, level=100)
+        await core.drain()
+        with open(config.plant.parent / "control.st", "a") as file:
+            file.write("\n")
+        os.kill(server_pid(), signal.SIGKILL)
+        with pytest.raises(GatewayFault, match="control.st has changed since it began") as fault:
+            await working
+        assert fault.value.status == 2
+
+    run(work())

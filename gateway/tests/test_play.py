@@ -55,6 +55,34 @@ def test_many_commands_in_bounded_memory(plant: Plant) -> None:
     assert (last.answer, last.user) == (["REPLY O3"], "anna")
 
 
+def test_few_commands_are_on_their_way_where_no_answer_comes(
+    plant: Plant, monkeypatch: pytest.MonkeyPatch
+) -> None:
+    async def work() -> int:
+        server = await Server.start(QUICK, plant.path, 60_000)
+        given = 0
+
+        def entries() -> Iterator[Entry]:
+            nonlocal given
+            for entry in many(100_000):
+                given += 1
+                yield entry
+
+        async def nothing(_: str) -> None:
+            """The server never sees what is written."""
+
+        monkeypatch.setattr(server, "_write", nothing)
+        playing = asyncio.create_task(play(server, plant, entries()))
+        for _ in range(200):
+            await asyncio.sleep(0.001)
+        playing.cancel()
+        await asyncio.gather(playing, return_exceptions=True)
+        await server.kill()
+        return given
+
+    assert 1000 < asyncio.run(asyncio.wait_for(work(), 100)) < 6000
+
+
 @pytest.mark.long
 def test_a_million_commands(plant: Plant) -> None:
     book, _ = played(QUICK, plant, many(1_000_000))

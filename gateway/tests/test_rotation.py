@@ -203,6 +203,23 @@ def test_a_new_record_that_cannot_be_written(config: Config) -> None:
     run(work())
 
 
+@pytest.mark.server
+def test_no_new_record_begins_with_other_files(config: Config) -> None:
+    async def work() -> None:
+        async with served(config) as core:
+            await give(core, running=1, level=400, flow=100)
+            question = await asked(core)
+            (config.plant.parent / "watch.st").write_text("PROGRAM watch END_PROGRAM")
+            await core.answer(question.number, True, 1)
+            await until(lambda: any(one.kind is TroubleKind.RECORD for one in core.troubles))
+            assert any("watch.st has changed" in one.text for one in core.troubles)
+            events = core.state.events
+            await until(lambda: core.state.events > events + 3)
+        assert not Path(f"{config.record}.1").exists()
+
+    run(work())
+
+
 def test_a_record_that_was_being_kept_when_the_gateway_ended(
     config: Config, tmp_path: Path
 ) -> None:
