@@ -1,3 +1,4 @@
 pub mod Accesses
+pub mod Conflicts
 pub mod Plans
 pub mod Programs

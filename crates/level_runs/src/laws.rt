@@ -1,6 +1,6 @@
 //! Laws of programs in levels. These functions do nothing: each has a law as its contract, for the crates above.
 
-ghost use Rattle.std.specs.Prelude.{◌≡◌, ℕ, List, length};
+ghost use Rattle.std.specs.Prelude.{◌≡◌, ℕ, ◌≤◌, List, length, slice_index};
 ghost use Rattle.plant_types.specs.declared.values.Trap.{Trap};
 ghost use Rattle.st_tree.specs.Meaning.{Spot};
 ghost use Rattle.plant_cells.specs.Cells.{PlainCells};
@@ -10,6 +10,7 @@ ghost use Rattle.level_order.specs.Programs.{AreKnownBySlots, AreLocal, in_order
 ghost use Rattle.level_order.specs.Levels.{AreLevels, IsAsInOrder, Midway, RunsLevels};
 ghost use Rattle.level_plan.specs.Plans.{last_of};
 ghost use Rattle.level_runs.specs.Accesses.{HaveOwnCells};
+ghost use Rattle.level_runs.specs.Conflicts.{AreTightFor, IsLevellingOf, AreAsLowFor, EndBy};
 ghost use Rattle.level_runs.specs.Plans.{IsPlanOf};
 ghost use Rattle.level_runs.specs.Programs.{programs_at};
 
@@ -33,4 +34,17 @@ pub fn planned_levels_run_as_in_order()
         → (start end : Midway PlainCells) (faults : List (ℕ × (Spot × Trap))) → length start.faulted ≡ length codes
         → RunsLevels (programs_at moment paths codes levels) start (last_of levels) end faults
         → IsAsInOrder (in_order (programs_at moment paths codes levels).run 0 start.faulted start.store) end faults }
+{}
+
+/// Each program above level 1 conflicts with an earlier one of the level just below: one of the two writes a global that the other reads or
+/// writes.
+pub fn planned_levels_are_tight()
+    ensures { (globals : ℕ) (codes : List PlainCode) (levels : List ℕ) → IsPlanOf globals codes levels → AreTightFor globals codes (slice_index levels) }
+{}
+
+/// In no levels from 1 on in which of two programs that conflict the earlier stands lower does a program stand lower than in the plan, and none
+/// are fewer.
+pub fn planned_levels_are_fewest()
+    ensures each { (globals : ℕ) (codes : List PlainCode) (levels : List ℕ) (other : ℕ → ℕ) → IsPlanOf globals codes levels → IsLevellingOf globals codes other → AreAsLowFor codes (slice_index levels) other }
+    ensures last { (globals : ℕ) (codes : List PlainCode) (levels : List ℕ) (other : ℕ → ℕ) (last : ℕ) → IsPlanOf globals codes levels → IsLevellingOf globals codes other → EndBy last codes other → last_of levels ≤ last }
 {}

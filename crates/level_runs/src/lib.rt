@@ -7,5 +7,8 @@
 mod laws;
 mod planning;
 
-pub use laws::{codes_are_local, plan_gives_levels, planned_levels_run_as_in_order};
+pub use laws::{
+    codes_are_local, plan_gives_levels, planned_levels_are_fewest, planned_levels_are_tight,
+    planned_levels_run_as_in_order,
+};
 pub use planning::plan_of;

@@ -22,4 +22,4 @@ returns c =
     let all : c.loop-part.part-index ≡ length parts = omega (arith, c.loop-part-test.false, c.loop-part.auto.part-index-end) in
     let are : AreRead globals parts (length parts) accesses = subst (λ (n : ℕ). AreRead globals parts n accesses) all c.loop-part.invariant in
     IfOk-weaker c.plan.result (λ levels. IsPlan c.as_slice.result.now levels) (λ levels. (codes : List PlainCode) → ArePartsOf codes parts → IsPlanOf globals codes levels)
-    (λ levels plan codes of. record { accesses = accesses; are = read_all globals parts accesses codes are of; plan = subst (λ (xs : List PlainAccess). IsPlan xs levels) c.as_slice.ensures.value plan }) c.plan.ensures
+    (λ levels plan codes of. record { accesses = accesses; are = read_all globals parts accesses codes are of; within = are.within; plan = subst (λ (xs : List PlainAccess). IsPlan xs levels) c.as_slice.ensures.value plan }) c.plan.ensures
