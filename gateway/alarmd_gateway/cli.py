@@ -28,6 +28,7 @@ def usage() -> str:
 def main(words: list[str]) -> int:
     """Runs the command that the words name, and gives the status of the process. Whatever is wrong with the server or the
     gateway is one line on standard error that begins with SERVER."""
+    _hold_descriptors()
     try:
         return _run(words)
     except GatewayFault as fault:
@@ -43,6 +44,14 @@ def main(words: list[str]) -> int:
         where = f"{os.path.basename(last.filename)}, line {last.lineno}"
         tell(f"a fault of the gateway itself: {type(fault).__name__}: {fault} ({where})")
         return 1
+
+
+def _hold_descriptors() -> None:
+    """Where one of the first three descriptors was closed, none of our own files may get its number."""
+    descriptor = os.open(os.devnull, os.O_RDWR)
+    while descriptor <= 2:
+        descriptor = os.dup(descriptor)
+    os.close(descriptor)
 
 
 def _run(words: list[str]) -> int:

@@ -83,7 +83,9 @@ def _value(kind: Kind, value: Value | str) -> Value | None:
 
 def read(plant: Plant, line: str) -> Scan | Order | None:
     """The command of a record's line; None where the line is none, or one that the server refuses."""
-    words = _BLANKS.split(line.strip(" \t"))
+    words = line.split(" ")
+    if "" in words or "\t" in line:  # it isn't as the gateway writes it
+        words = _BLANKS.split(line.strip(" \t"))
     if len(words) > 1 and words[0] == "scan":
         return _scan(plant, words)
     if words and words[0] in VERBS:

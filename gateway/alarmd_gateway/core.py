@@ -207,6 +207,8 @@ class Core:
         self._first.look()
         if self._first.refused is not None:
             raise self._first.refused
+        if (remark := self._first.remark()) is not None:
+            await self._link.note(remark)
         if scan := self._scan_is_due():
             await self._scan()
         if job := bool(self._jobs):

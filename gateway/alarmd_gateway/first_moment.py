@@ -21,6 +21,7 @@ class FirstMoment:
         self._troubles = troubles
         self._yes = yes
         self._asked = ""
+        self._confirmed: Answer | None = None
         self.refused: GatewayFault | None = None
 
     def look(self) -> None:
@@ -43,8 +44,14 @@ class FirstMoment:
     def _answered(self, answer: Answer) -> None:
         if answer.yes:
             self._clock.start()
+            self._confirmed = answer
         else:
             self.refused = GatewayFault(f"{self._asked}. The answer was no", 2)
+
+    def remark(self) -> str | None:
+        """Who has confirmed the first moment, once after that has been done: a remark for the record."""
+        answer, self._confirmed = self._confirmed, None
+        return None if answer is None else f"the first moment, confirmed by {answer.told()}"
 
     def _look_at_drift(self) -> None:
         drift = self._clock.drift_ms()

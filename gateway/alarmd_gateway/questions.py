@@ -2,6 +2,7 @@
 
 from __future__ import annotations
 
+import json
 from collections.abc import Callable, Iterator
 from dataclasses import dataclass
 from datetime import datetime, timezone
@@ -37,6 +38,10 @@ class Answer:
     yes: bool
     console: int | None = None
     user: str | None = None
+
+    def told(self) -> str:
+        """Who has answered, as JSON, for a remark."""
+        return json.dumps({"console": self.console, "user": self.user})
 
 
 class Questions:

@@ -5,7 +5,6 @@ The new run is tried on a second server before anything is lost, so what is anno
 
 from __future__ import annotations
 
-import json
 from collections.abc import Callable, Iterator
 from dataclasses import dataclass
 
@@ -99,8 +98,7 @@ def remark(answer: Answer | None) -> Entry:
     """Who has confirmed the new record, as a remark of it."""
     if answer is None:
         return Entry("# begun by the gateway: nothing was lost")
-    fields = {"console": answer.console, "user": answer.user}
-    return Entry(f"# begun, confirmed by {json.dumps(fields)}")
+    return Entry(f"# begun, confirmed by {answer.told()}")
 
 
 class Due:

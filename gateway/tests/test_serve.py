@@ -199,6 +199,21 @@ def test_a_full_disk_under_the_record(config: Path, size: int) -> None:
     assert (config.parent / "record").read_bytes().endswith(b"\n")
 
 
+def test_closed_descriptors_are_nobody_elses(config: Path) -> None:
+    command = f"exec {ROOT / 'gateway' / 'gateway'} serve {config}"
+    for closed in ("<&-", "<&- >&-", "<&- >&- 2>&-", ">&- 2>&-"):
+        status = subprocess.run(
+            ["sh", "-c", f"{command} {closed}"],
+            input=b"running=1 level=100\nhelp\n",
+            timeout=LIMIT,
+            check=False,
+        ).returncode
+        assert status == 0
+    lines = (config.parent / "record").read_text().splitlines()
+    assert [line.split()[0] for line in lines[1:]] == ["scan"] * (len(lines) - 1)
+    assert len(lines) > 1
+
+
 def test_a_plant_that_is_not_there(config: Path, plant: Path) -> None:
     plant.unlink()
     status, out, err = run(config, "")
@@ -356,7 +371,9 @@ def test_the_question_on_a_terminal(alarmd: Path, tmp_path: Path) -> None:
     assert (status, commands(config)) == (2, [])
     status, text = on_a_terminal(config, "yes")
     assert status == 0
-    assert "ALARM 0 LAL-101 NORM UNACK" in text
+    assert re.search(r"ALARM \d{1,5} LAL-101 NORM UNACK", text)
+    remark = '# the first moment, confirmed by {"console": null, "user": null}'
+    assert (config.parent / "record").read_text().splitlines()[1] == remark
 
 
 def test_state_and_journal_by_the_record(config: Path) -> None:
