@@ -1,5 +1,5 @@
 pub mod BankLaws
-mod MarkLaws
+pub mod MarkLaws
 pub mod MoveLaws
 pub mod OrderLaws
 mod Tallies

@@ -1,1 +1,2 @@
 pub mod DelayLaws
+mod Examples

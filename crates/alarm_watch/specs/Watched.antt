@@ -1,8 +1,9 @@
 -- What each alarm watches, and the step of all alarms by that.
-use Rattle.std.specs.Prelude.{◌≡◌, ℕ, ℤ, Bool, false, Option, Some, None, List, map}
+use Rattle.std.specs.Prelude.{◌≡◌, ℕ, ℤ, Bool, false, Option, Some, None, is_some, List, map}
 use Rattle.plant_types.specs.Values.{is_true}
 use Rattle.alarm_machine.specs.Alarms.{PlainAlarm}
 use Rattle.alarm_bank.specs.Banks.{scan_each}
+use Rattle.alarm_delays.specs.Delays.{PlainDelays, Follows, delayed_each}
 use Rattle.alarm_watch.specs.declared.watched.Watch.{Watch}
 
 -- whether an alarm is suppressed, by the globals' values; one without a suppressing global never is
@@ -18,11 +19,12 @@ watched_conditions now watches = map (λ watch. is_true (now watch.condition)) w
 abbrev pub watched_suppressions : (ℕ → ℤ) → List Watch → List Bool
 watched_suppressions now watches = map (λ watch. suppression now watch.suppress) watches
 
--- each alarm takes its step by what it watches
-abbrev pub alarms_watched : (ℕ → ℤ) → ℕ → List Watch → List PlainAlarm → List PlainAlarm
-alarms_watched now t watches alarms = scan_each (watched_conditions now watches) (watched_suppressions now watches) t alarms
+-- each alarm takes its step by whether the condition that it watches counts, and by its suppression
+abbrev pub alarms_watched : (ℕ → ℤ) → ℕ → List Watch → PlainDelays → List PlainAlarm → List PlainAlarm
+alarms_watched now t watches d alarms = scan_each (delayed_each (watched_conditions now watches) t d.delays d.since) (watched_suppressions now watches) t alarms
 
--- the condition and the suppression of each alarm's last scan are those that its globals have now
-pub record Follow (now : ℕ → ℤ) (watches : List Watch) (alarms : List PlainAlarm) : Type 0 where
-  pub conditions : map (λ a. a.condition) alarms ≡ watched_conditions now watches
+-- the condition and the suppression of each alarm's last scan are those that its globals have now, and its last condition is the one that counted then
+pub record Follow (now : ℕ → ℤ) (watches : List Watch) (d : PlainDelays) (alarms : List PlainAlarm) : Type 0 where
+  pub conditions : map is_some d.since ≡ watched_conditions now watches
   pub suppressions : map (λ a. a.suppressed) alarms ≡ watched_suppressions now watches
+  pub counted : Follows d alarms

@@ -9,4 +9,4 @@ mod watched;
 mod watches;
 
 pub use watched::{Watch, Watched, value_at};
-pub use watches::Watches;
+pub use watches::{LastScan, Watches};

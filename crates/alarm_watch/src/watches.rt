@@ -1,14 +1,16 @@
 //! What all alarms watch, and the alarms that a scan moves.
 
-ghost use Rattle.std.specs.Prelude.{◌≡◌, ◌<◌, ◌^◌, ℕ, true, false, Some, length, map, slice_get, IfOk, OnOk};
-ghost use Rattle.alarm_bank.specs.Moves.{AreMovesOf, UnmarkedStay};
+ghost use Rattle.std.specs.Prelude.{◌≡◌, ◌<◌, ◌≤◌, ◌^◌, ℕ, true, false, Some, length, map, slice_get, IfOk, OnOk};
+ghost use Rattle.alarm_bank.specs.Moves.{AreMovesOf};
 ghost use Rattle.plant_cells.specs.Cells.{value_at};
 ghost use Rattle.alarm_watch.specs.Chains.{condition_keys, suppress_keys, ChangesAreMarked};
-ghost use Rattle.alarm_watch.specs.Watched.{alarms_watched, Follow};
+ghost use Rattle.alarm_watch.specs.Watched.{alarms_watched, watched_conditions, Follow};
+ghost use Rattle.alarm_delays.specs.Delays.{AreMet};
 
 use crate::chains::{Chains, chains_of, mark_changed};
 use crate::watched::{Watch, Watched};
 use alarm_bank::Bank;
+use alarm_delays::Delays;
 use alarm_machine::{Alarm, Change};
 use plant_cells::Cells;
 use std::alloc::{AllocError, Global};
@@ -79,6 +81,32 @@ fn clear_marks(alloc: Global, marks: &mut Vec<bool>, count: usize) -> Result<(),
     Ok(())
 }
 
+/// Sets all marks, unless the alarms follow what they watch; then those that are set stay.
+fn mark_all_unless(follows: bool, marks: &mut [bool])
+    ensures kept { (n : ℕ) → slice_get marks.new n ≡ Some false → slice_get marks.old n ≡ Some false }
+    ensures all { follows ≡ false → (n : ℕ) → slice_get marks.new n ≡ Some false → ⊥ }
+{
+    if follows {
+        return;
+    }
+    for at in 0..marks.len() {
+        marks[at] = true;
+    }
+}
+
+/// What the last scan left.
+#[derive(Clone, Copy)]
+pub struct LastScan<'a> {
+    /// The alarms.
+    pub bank: &'a Bank,
+    /// Their delays, and since when their conditions have been met.
+    pub delays: &'a Delays,
+    /// Whether there was a scan: then the alarms follow the cells.
+    pub follows: bool,
+    /// The values of the variables, by number, and the clocks of standard blocks.
+    pub cells: &'a Cells,
+}
+
 impl Watches {
     /// Makes an index of what each alarm watches. Fails if allocation fails.
     pub fn new(alloc: Global, watches: Vec<Watch>) -> Result<Watches, AllocError>
@@ -105,36 +133,43 @@ impl Watches {
         mark_changed(&self.conditions, &self.suppressions, before, now, marks);
     }
 
-    /// Lists the alarms of a bank that a scan moves, and the changes of their codes, as `Bank::list_moved` does; `now` is what the scan's programs
-    /// leave. Where the alarms follow the cells `before`, it looks only at the alarms one of whose globals changed, or at all if a shelf ends. The
-    /// marks are for their room. Fails if allocation fails.
+    /// Lists the alarms that a scan moves, and the changes of their codes, as `Bank::list_moved` does, by the conditions that count; and the alarms whose
+    /// conditions may have changed, for `Delays::apply`. `now` is what the scan's programs leave. Where the alarms follow the cells, it looks only at
+    /// the alarms one of whose globals changed and at those that come to count by time alone, or at all if a shelf ends. The marks are for their
+    /// room. Fails if allocation fails.
     pub fn list_moved(
         &self,
         alloc: Global,
-        bank: &Bank,
-        follows: bool,
-        before: &Cells,
+        last: &LastScan<'_>,
         now: &Cells,
         moment: u64,
         marks: &mut Vec<bool>,
+        met: &mut Vec<(u32, bool)>,
         moved: &mut Vec<(u32, Alarm)>,
         changes: &mut Vec<(u32, Change)>,
     ) -> Result<(), AllocError>
-        requires each { length bank.now.alarms ≡ length self.now }
-        requires follow { follows ≡ true → Follow (value_at before.now) self.now bank.now.alarms }
-        ensures { OnOk result (AreMovesOf bank.now.alarms (alarms_watched (value_at now.now) moment self.now bank.now.alarms) moved.new.items changes.new.items) }
+        requires later { last.now.delays.now.last ≤ moment }
+        requires each { length last.now.bank.now.alarms ≡ length self.now }
+        requires delays { length last.now.delays.now.delays ≡ length self.now }
+        requires follow { last.now.follows ≡ true → Follow (value_at last.now.cells.now) self.now last.now.delays.now last.now.bank.now.alarms }
+        ensures moved { OnOk result (AreMovesOf last.now.bank.now.alarms (alarms_watched (value_at now.now) moment self.now last.now.delays.now last.now.bank.now.alarms) moved.new.items changes.new.items) }
+        ensures met { OnOk result (AreMet 0 (watched_conditions (value_at now.now) self.now) last.now.delays.now.since met.new.items) }
     {
+        let LastScan {
+            bank,
+            delays,
+            follows,
+            cells,
+        } = *last;
         let watches = self.watches.as_slice();
         let signals = Watched {
             watches,
             cells: now,
         };
-        if !follows {
-            return bank.list_moved(&signals, moment, moved, changes);
-        }
         clear_marks(alloc, marks, watches.len())?;
         let marks = marks.as_mut_slice();
-        self.mark(before, now, marks);
-        bank.list_moved_among(marks, &signals, moment, moved, changes)
+        self.mark(cells, now, marks);
+        mark_all_unless(follows, marks);
+        delays.list_moved(bank, &signals, moment, marks, met, moved, changes)
     }
 }
