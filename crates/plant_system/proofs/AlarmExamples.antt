@@ -6,7 +6,7 @@ use Rattle.alarm_machine.specs.declared.states.Code.{Code}
 use Rattle.alarm_machine.specs.declared.states.Code.TheVariants.{Norm, Unack, Suppr}
 use Rattle.plant_config.specs.declared.rows.AlarmRow.{AlarmRow}
 use Rattle.alarm_bank.specs.Moves.{changes_from}
-use Rattle.plant_system.specs.System.{opening_alarm, alarms_after}
+use Rattle.plant_system.specs.System.{no_scans, opening_alarm, alarms_after, scans_after}
 
 -- an alarm on a global, suppressed by another or by none
 abbrev row : ℕ → Option ℕ → AlarmRow
@@ -21,8 +21,10 @@ abbrev to : Code → PlainChange
 to code = record { from = Norm; to = code }
 
 -- their changes in the first scan, after which the three globals have these values
-abbrev changes : ℤ → ℤ → ℤ → List (ℕ × PlainChange)
-changes a b c = changes_from 0 (map opening_alarm rows) (alarms_after (λ n. slice_index_or (a ∷ b ∷ c ∷ []) n (pos 0)) 5 rows (map opening_alarm rows))
+abbrev pub changes : ℤ → ℤ → ℤ → List (ℕ × PlainChange)
+changes a b c =
+    let now : ℕ → ℤ = λ n. slice_index_or (a ∷ b ∷ c ∷ []) n (pos 0) in
+    changes_from 0 (map opening_alarm rows) (alarms_after now 5 rows (scans_after now 5 rows (map no_scans rows)) (map opening_alarm rows))
 
 no_condition : changes (pos 0) (pos 0) (pos 0) ≡ []
 no_condition = refl

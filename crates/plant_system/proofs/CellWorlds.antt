@@ -1,5 +1,5 @@
 -- Cells that stand for a world: inputs that are set, and values by number.
-use Rattle.std.proofs.Common.{◌≡◌, ℕ, ◌+◌, ◌<◌, ℤ, pos, if◌then◌else◌, List, [], ◌∷◌, All, length, refl, sym, ap, ◌∙◌, subst, arith, Option, Some, None, IfSome, inl, inr, fold}
+use Rattle.std.proofs.Common.{◌≡◌, ℕ, ◌+◌, ◌<◌, ℤ, pos, if◌then◌else◌, List, [], ◌∷◌, All, length, map, refl, sym, ap, ◌∙◌, subst, arith, Option, Some, None, IfSome, inl, inr, fold}
 use Rattle.std.specs.Ordering.{int_eq}
 use Rattle.std.specs.Option.{option_map_or}
 use Rattle.std.proofs.lemmas.Option.{slice_get_cases}
@@ -18,8 +18,10 @@ use Rattle.plant_config.specs.declared.rows.AlarmRow.{AlarmRow}
 use Rattle.plant_config.specs.Plants.{PlainPlant, IsAlarmRow, IsBoolGlobal}
 use Rattle.plant_system.specs.Programs.{global_in, with_input, with_inputs}
 use Rattle.alarm_bank.specs.Banks.{scan_each}
+use Rattle.std_blocks.specs.Calls.{Call}
+use Rattle.alarm_delays.specs.Delays.{counts, scans_each}
 use Rattle.alarm_watch.specs.Watched.{suppression}
-use Rattle.plant_system.specs.System.{conditions, suppressions, alarms_after, is_output, outputs_from, outs_from}
+use Rattle.plant_system.specs.System.{conditions, delays_of, suppressions, scans_after, alarms_after, is_output, outputs_from, outs_from}
 use Rattle.plant_system.specs.Steps.{with_cell}
 use Rattle.plant_system.proofs.Images.{has_number}
 
@@ -56,7 +58,7 @@ suppression_same : (source : Source) (f g : ℕ → ℤ) (suppress : Option ℕ)
 suppression_same source f g None same is = refl
 suppression_same source f g (Some n) same is = ap is_true (same n is.within)
 
-conditions_same : (plant : PlainPlant) (f g : ℕ → ℤ) (rows : List AlarmRow) → SameGlobals plant.source f g → All (IsAlarmRow plant) rows → conditions f rows ≡ conditions g rows
+pub conditions_same : (plant : PlainPlant) (f g : ℕ → ℤ) (rows : List AlarmRow) → SameGlobals plant.source f g → All (IsAlarmRow plant) rows → conditions f rows ≡ conditions g rows
 conditions_same plant f g [] same all = refl
 conditions_same plant f g (row ∷ rows) same all =
     let is = All-head (IsAlarmRow plant) row rows all in
@@ -70,11 +72,15 @@ suppressions_same plant f g (row ∷ rows) same all =
     ap (λ s. s ∷ suppressions f rows) (suppression_same plant.source f g row.suppress same is.suppress)
     ∙ ap (λ l. suppression g row.suppress ∷ l) (suppressions_same plant f g rows same (All-tail (IsAlarmRow plant) row rows all))
 
--- alarms look only at globals
-pub alarms_same : (plant : PlainPlant) (f g : ℕ → ℤ) (t : ℕ) (rows : List AlarmRow) (alarms : List PlainAlarm) → SameGlobals plant.source f g → All (IsAlarmRow plant) rows → alarms_after f t rows alarms ≡ alarms_after g t rows alarms
-alarms_same plant f g t rows alarms same all =
-    ap (λ cs. scan_each cs (suppressions f rows) t alarms) (conditions_same plant f g rows same all)
-    ∙ ap (λ ss. scan_each (conditions g rows) ss t alarms) (suppressions_same plant f g rows same all)
+-- scans as alarms see them, and alarms, look only at globals
+pub scans_same : (plant : PlainPlant) (f g : ℕ → ℤ) (t : ℕ) (rows : List AlarmRow) (scans : List (List Call)) → SameGlobals plant.source f g → All (IsAlarmRow plant) rows → scans_after f t rows scans ≡ scans_after g t rows scans
+scans_same plant f g t rows scans same all = ap (λ cs. scans_each cs t (delays_of rows) scans) (conditions_same plant f g rows same all)
+
+pub alarms_same : (plant : PlainPlant) (f g : ℕ → ℤ) (t : ℕ) (rows : List AlarmRow) (scans : List (List Call)) (alarms : List PlainAlarm) → SameGlobals plant.source f g → All (IsAlarmRow plant) rows
+    → alarms_after f t rows (scans_after f t rows scans) alarms ≡ alarms_after g t rows (scans_after g t rows scans) alarms
+alarms_same plant f g t rows scans alarms same all =
+    ap (λ s. alarms_after f t rows s alarms) (scans_same plant f g t rows scans same all)
+    ∙ ap (λ ss. scan_each (map counts (scans_after g t rows scans)) ss t alarms) (suppressions_same plant f g rows same all)
 
 -- so do outputs
 outputs_same : (f g : ℕ → ℤ) (n : ℕ) (globals : List Variable) → ((k : ℕ) → k < n + length globals → f k ≡ g k) → outputs_from n globals f ≡ outputs_from n globals g

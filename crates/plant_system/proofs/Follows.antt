@@ -2,14 +2,16 @@
 use Rattle.std.proofs.Common.{◌≡◌, ℕ, ℤ, Bool, true, false, if◌then◌else◌, List, map, Option, Some, None, Ok, Err, refl, ap, sym, ◌∙◌}
 use Rattle.std.specs.Prelude.{slice_get}
 use Rattle.std.specs.List.{list_any}
+use Rattle.std.specs.Option.{option_map}
 use Rattle.std.specs.declared.result.Result.{Result}
 use Rattle.std.proofs.Math.Seq.{map-set_same}
-use Rattle.std.proofs.lemmas.Option.{get_or_from_slice_get}
+use Rattle.std.proofs.lemmas.Option.{get_or_from_slice_get, same_Some, slice_get-map}
 use Rattle.alarm_machine.specs.declared.states.AlarmState.{AlarmState}
 use Rattle.alarm_machine.specs.declared.states.Verb.{Verb}
 use Rattle.alarm_machine.specs.declared.states.OrderFault.{OrderFault}
 use Rattle.alarm_machine.specs.declared.states.OrderFault.TheVariants as fault
 use Rattle.alarm_machine.specs.Alarms.{PlainAlarm, on_order}
+use Rattle.alarm_delays.specs.Delays.{PlainDelays, Follows, has_come}
 use Rattle.alarm_watch.specs.declared.watched.Watch.{Watch}
 use Rattle.alarm_watch.specs.Watched.{Follow}
 use Rattle.plant_config.specs.declared.rows.AlarmRow.{AlarmRow}
@@ -68,10 +70,24 @@ by_target f ignores plant alarms faulted last console verb (Some n) = by_verb f 
 order_keeps : (f : PlainAlarm → Bool) → IgnoresState f → (plant : PlainPlant) (alarms : List PlainAlarm) (faulted : List Bool) (last console : ℕ) (order : Order) → Keeps f alarms (order_outcome plant alarms faulted last console order)
 order_keeps f ignores plant alarms faulted last console order = by_target f ignores plant alarms faulted last console order.verb order.target
 
+-- alarms with the same last conditions follow the delays alike
+follows_same : (d : PlainDelays) (xs ys : List PlainAlarm) → map (λ (a : PlainAlarm). a.condition) xs ≡ map (λ (a : PlainAlarm). a.condition) ys → Follows d ys → Follows d xs
+follows_same d xs ys same follows n a delay r at d_at r_at = go (slice_get ys n) refl (sym (slice_get-map condition ys n) ∙ ap (λ l. slice_get l n) (sym same) ∙ slice_get-map condition xs n ∙ ap (option_map condition) at)
+  where
+    condition : PlainAlarm → Bool
+    condition x = x.condition
+
+    go : (o : Option PlainAlarm) → slice_get ys n ≡ o → option_map (λ (x : PlainAlarm). x.condition) (slice_get ys n) ≡ Some a.condition → a.condition ≡ has_come delay d.last r
+    go None none e = absurd (cc (sym (ap (option_map (λ (x : PlainAlarm). x.condition)) none) ∙ e))
+    go (Some b) there e =
+        let is : Some b.condition ≡ Some a.condition = sym (ap (option_map (λ (x : PlainAlarm). x.condition)) there) ∙ e in
+        sym (same_Some b.condition a.condition is) ∙ follows n b delay r there d_at r_at
+
 -- the alarms that followed follow after an order
-pub follow_order : (now : ℕ → ℤ) (watches : List Watch) (plant : PlainPlant) (alarms : List PlainAlarm) (faulted : List Bool) (last console : ℕ) (order : Order) (done : Result Effect OrderFault)
-    → done ≡ order_outcome plant alarms faulted last console order → Follow now watches alarms → Follow now watches (alarms_by done alarms)
-follow_order now watches plant alarms faulted last console order done is follow = record {
-  conditions = ap (λ d. map (λ (a : PlainAlarm). a.condition) (alarms_by d alarms)) is ∙ order_keeps (λ a. a.condition) (λ a s. refl) plant alarms faulted last console order ∙ follow.conditions;
-  suppressions = ap (λ d. map (λ (a : PlainAlarm). a.suppressed) (alarms_by d alarms)) is ∙ order_keeps (λ a. a.suppressed) (λ a s. refl) plant alarms faulted last console order ∙ follow.suppressions;
+pub follow_order : (now : ℕ → ℤ) (watches : List Watch) (d : PlainDelays) (plant : PlainPlant) (alarms : List PlainAlarm) (faulted : List Bool) (last console : ℕ) (order : Order) (done : Result Effect OrderFault)
+    → done ≡ order_outcome plant alarms faulted last console order → Follow now watches d alarms → Follow now watches d (alarms_by done alarms)
+follow_order now watches d plant alarms faulted last console order done is follow = record {
+  conditions = follow.conditions;
+  suppressions = ap (λ x. map (λ (a : PlainAlarm). a.suppressed) (alarms_by x alarms)) is ∙ order_keeps (λ a. a.suppressed) (λ a s. refl) plant alarms faulted last console order ∙ follow.suppressions;
+  counted = follows_same d (alarms_by done alarms) alarms (ap (λ x. map (λ (a : PlainAlarm). a.condition) (alarms_by x alarms)) is ∙ order_keeps (λ a. a.condition) (λ a s. refl) plant alarms faulted last console order) follow.counted;
 }

@@ -36,15 +36,20 @@ use Rattle.plant_config.specs.Names.{globals_of, programs_of, body_paths}
 use Rattle.scan_logic.specs.Scans.{Scanned, after_run, programs_from}
 use Rattle.plant_system.specs.Programs.{opening_faulted, with_inputs, global_in, world_after}
 use Rattle.plant_system.specs.Orders.{order_outcome, alarms_by, faulted_by}
-use Rattle.plant_system.specs.System.{System, system, after_event, taken_scan, scan_event, order_event, opening_system, opening_alarm, scanned_by, after_scan_event, after_order_event, ordered, conditions, suppressions, alarms_after, sites_of, outputs_from, out_at, outs_from}
+use Rattle.plant_system.specs.System.{System, system, after_event, taken_scan, scan_event, order_event, opening_system, opening_alarm, scanned_by, after_scan_event, after_order_event, ordered, conditions, delays_of, no_scans, suppressions, scans_after, alarms_after, sites_of, outputs_from, out_at, outs_from}
 use Rattle.alarm_watch.specs.declared.watched.Watch.{Watch}
-use Rattle.alarm_watch.specs.Watched.{Follow}
+use Rattle.alarm_watch.specs.Watched.{Follow, alarms_watched, watched_conditions}
+use Rattle.std_blocks.specs.Calls.{Call}
+use Rattle.alarm_delays.specs.Delays.{PlainDelays, after_conditions, after_met, counts}
+use Rattle.alarm_delays.proofs.DelayLaws.{length_scans}
+use Rattle.plant_types.specs.Values.{is_true}
+use Rattle.plant_system.proofs.Watches.{delays_by, kept_watched, step_watched}
 use Rattle.plant_system.specs.Watches.{watches_of}
 use Rattle.plant_system.specs.Reports.{PlainReport}
-use Rattle.plant_system.specs.States.{PlainState, PlainScanEffect, PlainPreparedOrder, after_effect, IsState, IsReport}
+use Rattle.plant_system.specs.States.{PlainState, PlainScanEffect, PlainPreparedOrder, after_effect, delays_in, IsState, IsReport}
 use Rattle.scan_logic.specs.Runs.{ProgramsRan}
 use Rattle.plant_system.specs.Steps.{ScanRan}
-use Rattle.plant_system.proofs.CellWorlds.{inputs_stand, values_stand, alarms_same, outputs_stand, outs_stand}
+use Rattle.plant_system.proofs.CellWorlds.{inputs_stand, values_stand, alarms_same, scans_same, outputs_stand, outs_stand}
 use Rattle.plant_system.proofs.Follows.{follow_order}
 use Rattle.plant_system.proofs.Images.{has_number}
 
@@ -79,9 +84,15 @@ module _ (P : System → Type 0) (keeps : (s : System) (e : Event) → P s → P
   unfolding system
   system_keeps plant history p = kept_from (opening_system plant) history p
 
-length-alarms_after : (now : ℕ → ℤ) (t : ℕ) (rows : List AlarmRow) (alarms : List PlainAlarm) → length alarms ≡ length rows → length (alarms_after now t rows alarms) ≡ length rows
-length-alarms_after now t rows alarms h =
-    scan_each_length (conditions now rows) (suppressions now rows) t alarms (length-map rows _ ∙ sym h) (length-map rows _ ∙ sym h) ∙ h
+pub length-scans_after : (now : ℕ → ℤ) (t : ℕ) (rows : List AlarmRow) (scans : List (List Call)) → length scans ≡ length rows → length (scans_after now t rows scans) ≡ length rows
+length-scans_after now t rows scans h =
+    let delays = length-map rows (λ (row : AlarmRow). row.on_delay_ms) in
+    let many = length-map rows (λ (row : AlarmRow). is_true (now row.condition)) in
+    length_scans (conditions now rows) t (delays_of rows) scans (omega (arith, many, delays)) (omega (arith, h, delays)) ∙ delays
+
+length-alarms_after : (now : ℕ → ℤ) (t : ℕ) (rows : List AlarmRow) (scans : List (List Call)) (alarms : List PlainAlarm) → length scans ≡ length rows → length alarms ≡ length rows → length (alarms_after now t rows scans alarms) ≡ length rows
+length-alarms_after now t rows scans alarms k h =
+    scan_each_length (map counts scans) (suppressions now rows) t alarms (length-map scans counts ∙ k ∙ sym h) (length-map rows _ ∙ sym h) ∙ h
 
 length-alarms_by : (done : Result Effect OrderFault) (alarms : List PlainAlarm) → length (alarms_by done alarms) ≡ length alarms
 length-alarms_by (Ok (effect.Changed n alarm)) alarms = length-set alarms n alarm
@@ -106,15 +117,25 @@ length-world_after : (plant : PlainPlant) (image : List (ℕ × Value)) (t : ℕ
 unfolding world_after
 length-world_after plant image t flags w = length-programs_from plant.source t 0 flags (with_inputs (globals_of plant) image w)
 
--- an alarm for each row of the database
+-- an alarm for each row of the database, and the scans that it saw
+abbrev pub HasAlarms : System → Type 0
+HasAlarms s = (length s.alarms ≡ length s.plant.alarms) × (length s.scans ≡ length s.plant.alarms)
+
+pub alarms_there : (plant : PlainPlant) (history : List Event) → HasAlarms (system plant history)
+alarms_there plant history = system_keeps HasAlarms keeps plant history (length-map plant.alarms opening_alarm, length-map plant.alarms no_scans)
+  where
+    keeps : (s : System) (e : Event) → HasAlarms s → HasAlarms (after_event s e)
+    keeps s (event.Scan image t) h =
+        let now = global_in (globals_of s.plant) (scanned_by s image t).world in
+        let scans = length-scans_after now t s.plant.alarms s.scans h.1 in
+        (length-alarms_after now t s.plant.alarms (scans_after now t s.plant.alarms s.scans) s.alarms scans h.0, scans)
+    keeps s (event.Order console order) h = (length-alarms_by (ordered s console order) s.alarms ∙ h.0, h.1)
+
 pub system_alarms : (plant : PlainPlant) (history : List Event) → length ((system plant history).alarms) ≡ length ((system plant history).plant.alarms)
-system_alarms plant history =
-    system_keeps (λ s. length s.alarms ≡ length s.plant.alarms)
-    (λ s. elim [
-      | event.Scan image t ↦ λ h. length-alarms_after (global_in (globals_of s.plant) (scanned_by s image t).world) t s.plant.alarms s.alarms h
-      | event.Order console order ↦ λ h. length-alarms_by (ordered s console order) s.alarms ∙ h
-    ])
-    plant history (length-map plant.alarms opening_alarm)
+system_alarms plant history = (alarms_there plant history).0
+
+pub system_scans : (plant : PlainPlant) (history : List Event) → length ((system plant history).scans) ≡ length ((system plant history).plant.alarms)
+system_scans plant history = (alarms_there plant history).1
 
 -- a flag for each program
 pub system_faulted : (plant : PlainPlant) (history : List Event) → length ((system plant history).faulted) ≡ length (programs_of (system plant history).plant)
@@ -161,9 +182,9 @@ runs_world sys old new image t r sound within held made =
     (made.programs w (inputs_stand source image old.cells sys.world sound within held.world_stands))
 
 -- what a scan leaves is the next system
-pub scan_agrees : (sys : System) (old new : PlainState) (image : List (ℕ × Value)) (t : ℕ) (r : PlainReport) → IsPlant sys.plant → All (has_number (length sys.plant.source.globals)) image → IsState sys old → ScanRan sys.plant old image t new r
+pub scan_agrees : (sys : System) (old new : PlainState) (image : List (ℕ × Value)) (t : ℕ) (r : PlainReport) → IsPlant sys.plant → length sys.scans ≡ length sys.plant.alarms → All (has_number (length sys.plant.source.globals)) image → IsState sys old → ScanRan sys.plant old image t new r
     → IsState (after_scan_event sys image t) new
-scan_agrees sys old new image t r is within held made =
+scan_agrees sys old new image t r is each within held made =
     let plant = sys.plant in
     let runs = runs_world sys old new image t r is.sound within held made in
     let look = global_in (globals_of plant) (scanned_by sys image t).world in
@@ -174,7 +195,14 @@ scan_agrees sys old new image t r is within held made =
       sites_are = made.sites_are ∙ held.sites_are;
       watches_are = made.watches_are ∙ held.watches_are;
       follow = λ _. made.follow;
-      alarms_are = made.alarms_are ∙ alarms_same plant (value_at new.cells) look t plant.alarms old.alarms now is.alarms ∙ ap (alarms_after look t plant.alarms) held.alarms_are;
+      alarms_are = made.alarms_are
+          ∙ (λ i. alarms_watched (value_at new.cells) t (held.watches_are i) (held.delays_are i) (held.alarms_are i))
+          ∙ step_watched (value_at new.cells) t sys.moment plant.alarms sys.scans sys.alarms
+          ∙ alarms_same plant (value_at new.cells) look t plant.alarms sys.scans sys.alarms now is.alarms;
+      delays_are = made.delays_are
+          ∙ (λ i. after_conditions (watched_conditions (value_at new.cells) (held.watches_are i)) t (held.delays_are i))
+          ∙ kept_watched (value_at new.cells) t sys.moment plant.alarms sys.scans each
+          ∙ ap (λ scans. delays_by plant.alarms scans t) (scans_same plant (value_at new.cells) look t plant.alarms sys.scans now is.alarms);
       outputs_are = made.outputs_are ∙ outputs_stand plant.source (value_at new.cells) look now;
       moment_is = made.moment_is;
       in_range = rw made.moment_is made.in_range;
@@ -210,12 +238,12 @@ as_many_paths : (plant : PlainPlant) → length (paths_of plant.source) ≡ leng
 as_many_paths plant = sym (length-map (paths_of plant.source) path_text)
 
 -- what a scan reports is what its event did
-pub scan_reports : (sys : System) (old new : PlainState) (image : List (ℕ × Value)) (t : ℕ) (r : PlainReport) → IsPlant sys.plant → All (has_number (length sys.plant.source.globals)) image → length old.alarms ≡ length sys.plant.alarms → IsState sys old → ScanRan sys.plant old image t new r
+pub scan_reports : (sys : System) (old new : PlainState) (image : List (ℕ × Value)) (t : ℕ) (r : PlainReport) → IsPlant sys.plant → length sys.scans ≡ length sys.plant.alarms → All (has_number (length sys.plant.source.globals)) image → length old.alarms ≡ length sys.plant.alarms → IsState sys old → ScanRan sys.plant old image t new r
     → IsReport sys (event.Scan image t) r
-scan_reports sys old new image t r is within each held made =
+scan_reports sys old new image t r is seen within each held made =
     let plant = sys.plant in
     let runs = runs_world sys old new image t r is.sound within held made in
-    let after = scan_agrees sys old new image t r is within held made in
+    let after = scan_agrees sys old new image t r is seen within held made in
     let look = global_in (globals_of plant) (scanned_by sys image t).world in
     let before = values_stand plant.source old.cells sys.world held.world_stands in
     let now = values_stand plant.source new.cells (scanned_by sys image t).world runs.world_stands in
@@ -244,9 +272,11 @@ effect_anywhere sys next old k effect held keeps after = record {
   sites_are = keeps.sites_are ∙ sym held.sites_are ∙ after.sites_are;
   watches_are = keeps.watches_are ∙ sym held.watches_are ∙ after.watches_are;
   follow = λ _.
-      subst (λ (watches : List Watch). Follow (value_at effect.cells) watches (put_all k.alarms effect.moved)) (held.watches_are ∙ sym keeps.watches_are)
-      (subst (λ (alarms : List PlainAlarm). Follow (value_at effect.cells) old.watches (put_all alarms effect.moved)) (held.alarms_are ∙ sym keeps.alarms_are) (after.follow refl));
+      subst (λ (watches : List Watch). Follow (value_at effect.cells) watches (after_met effect.met effect.moment k.delays) (put_all k.alarms effect.moved)) (held.watches_are ∙ sym keeps.watches_are)
+      (subst (λ (d : PlainDelays). Follow (value_at effect.cells) old.watches (after_met effect.met effect.moment d) (put_all k.alarms effect.moved)) (held.delays_are ∙ sym keeps.delays_are)
+      (subst (λ (alarms : List PlainAlarm). Follow (value_at effect.cells) old.watches (after_met effect.met effect.moment old.delays) (put_all alarms effect.moved)) (held.alarms_are ∙ sym keeps.alarms_are) (after.follow refl)));
   alarms_are = ap (λ l. put_all l effect.moved) (keeps.alarms_are ∙ sym held.alarms_are) ∙ after.alarms_are;
+  delays_are = ap (λ d. after_met effect.met effect.moment d) (keeps.delays_are ∙ sym held.delays_are) ∙ after.delays_are;
   outputs_are = after.outputs_are;
   moment_is = after.moment_is;
   in_range = after.in_range;
@@ -260,8 +290,9 @@ order_steps sys old console order done is held = record {
   faulted_is = ap (λ d. faulted_by d old.faulted) is ∙ ap (faulted_by (ordered sys console order)) held.faulted_is;
   sites_are = held.sites_are;
   watches_are = held.watches_are;
-  follow = λ followed. follow_order (value_at old.cells) old.watches sys.plant old.alarms sys.faulted sys.moment console order done (is ∙ ap (λ l. order_outcome sys.plant l sys.faulted sys.moment console order) (sym held.alarms_are)) (held.follow followed);
+  follow = λ followed. follow_order (value_at old.cells) old.watches old.delays sys.plant old.alarms sys.faulted sys.moment console order done (is ∙ ap (λ l. order_outcome sys.plant l sys.faulted sys.moment console order) (sym held.alarms_are)) (held.follow followed);
   alarms_are = ap (λ d. alarms_by d old.alarms) is ∙ ap (alarms_by (ordered sys console order)) held.alarms_are;
+  delays_are = held.delays_are;
   outputs_are = held.outputs_are;
   moment_is = held.moment_is;
   in_range = held.in_range;
@@ -284,14 +315,15 @@ sites_there plant is =
     (All-weaker (IsAlarmRow plant) (λ row. IsSite (length plant.areas) (site row)) (λ row there. record { area = there.area; lowest = there.lowest; highest = there.highest }) plant.alarms is.alarms)
 
 -- before the first event
-pub opening_agrees : (plant : PlainPlant) (k : PlainState) → StandFor plant.source k.cells (opening plant.source) → k.faulted ≡ opening_faulted (programs_of plant) → k.sites ≡ sites_of plant.alarms → k.watches ≡ watches_of plant.alarms → k.follows ≡ false → k.alarms ≡ map opening_alarm plant.alarms → k.outputs ≡ outputs_from 0 plant.source.globals (value_at k.cells) → k.moment ≡ 0 → IsState (opening_system plant) k
-opening_agrees plant k stands faulted sites watches never alarms outputs moment = record {
+pub opening_agrees : (plant : PlainPlant) (k : PlainState) → StandFor plant.source k.cells (opening plant.source) → k.faulted ≡ opening_faulted (programs_of plant) → k.sites ≡ sites_of plant.alarms → k.watches ≡ watches_of plant.alarms → k.follows ≡ false → k.alarms ≡ map opening_alarm plant.alarms → k.delays ≡ delays_in (opening_system plant) → k.outputs ≡ outputs_from 0 plant.source.globals (value_at k.cells) → k.moment ≡ 0 → IsState (opening_system plant) k
+opening_agrees plant k stands faulted sites watches never alarms delays outputs moment = record {
   world_stands = stands;
   faulted_is = faulted;
   sites_are = sites;
   watches_are = watches;
   follow = λ is. absurd (let both : true ≡ false = sym is ∙ never in cc);
   alarms_are = alarms;
+  delays_are = delays;
   outputs_are = outputs ∙ outputs_stand plant.source (value_at k.cells) (global_in (globals_of plant) (opening plant.source)) (values_stand plant.source k.cells (opening plant.source) stands);
   moment_is = moment;
   in_range = rw moment (omega arith);

@@ -9,6 +9,7 @@ use Rattle.alarm_machine.specs.declared.states.OrderFault.{OrderFault}
 use Rattle.alarm_machine.specs.declared.limits.TheConstants.{LAST_MOMENT}
 use Rattle.alarm_bank.specs.declared.rows.Site.{Site}
 use Rattle.alarm_bank.specs.Moves.{put_all}
+use Rattle.alarm_delays.specs.Delays.{PlainDelays, after_met, since_of}
 use Rattle.alarm_watch.specs.declared.watched.Watch.{Watch}
 use Rattle.alarm_watch.specs.Watched.{Follow}
 use Rattle.plant_config.specs.Names.{globals_of, body_paths}
@@ -17,10 +18,10 @@ use Rattle.event_history.specs.declared.event.Order.{Order}
 use Rattle.plant_system.specs.declared.event.Reply.{Reply}
 use Rattle.plant_system.specs.declared.state.Effect.{Effect}
 use Rattle.plant_system.specs.Reports.{PlainReport}
-use Rattle.plant_system.specs.System.{System, after_event, faults_of, changes_of, outs_of, outputs_of, sites_of}
+use Rattle.plant_system.specs.System.{System, after_event, faults_of, changes_of, delays_of, outs_of, outputs_of, sites_of}
 use Rattle.plant_system.specs.Watches.{watches_of}
 
--- what is kept of a system beside its plant: the cells of the variables and clocks, the faulted programs, the area and priority of each alarm and what it watches, whether there was a scan, so that the alarms follow the cells, the alarms, the outputs and the last moment
+-- what is kept of a system beside its plant: the cells of the variables and clocks, the faulted programs, the area and priority of each alarm and what it watches, whether there was a scan, so that the alarms follow the cells, the alarms, their delays, the outputs and the last moment
 pub record PlainState : Type 0 where
   pub cells : PlainCells
   pub faulted : List Bool
@@ -28,8 +29,13 @@ pub record PlainState : Type 0 where
   pub watches : List Watch
   pub follows : Bool
   pub alarms : List PlainAlarm
+  pub delays : PlainDelays
   pub outputs : List (ℕ × Value)
   pub moment : ℕ
+
+-- of all scans that a system's alarms saw, what tells which conditions count
+abbrev pub delays_in : System → PlainDelays
+delays_in sys = record { delays = delays_of sys.plant.alarms; since = map since_of sys.scans; last = sys.moment }
 
 -- what is kept is what the system has
 pub record IsState (sys : System) (k : PlainState) : Type 0 where
@@ -37,8 +43,9 @@ pub record IsState (sys : System) (k : PlainState) : Type 0 where
   pub faulted_is : k.faulted ≡ sys.faulted
   pub sites_are : k.sites ≡ sites_of sys.plant.alarms
   pub watches_are : k.watches ≡ watches_of sys.plant.alarms
-  pub follow : k.follows ≡ true → Follow (value_at k.cells) k.watches k.alarms
+  pub follow : k.follows ≡ true → Follow (value_at k.cells) k.watches k.delays k.alarms
   pub alarms_are : k.alarms ≡ sys.alarms
+  pub delays_are : k.delays ≡ delays_in sys
   pub outputs_are : k.outputs ≡ outputs_of sys
   pub moment_is : k.moment ≡ sys.moment
   pub in_range : k.moment ≤ LAST_MOMENT
@@ -53,18 +60,27 @@ pub record IsReport (sys : System) (e : Event) (r : PlainReport) : Type 0 where
   pub outs_are : r.outs ≡ outs_of sys e
   pub outs_within : All (λ o. o.0 < length (globals_of sys.plant)) r.outs
 
--- what a scan does to a state: the cells, the faulted programs and the outputs that it leaves, the alarms that it moves, and its moment
+-- what a scan does to a state: the cells, the faulted programs and the outputs that it leaves, the alarms whose conditions may have changed, those that it moves, and its moment
 pub record PlainScanEffect : Type 0 where
   pub cells : PlainCells
   pub faulted : List Bool
   pub outputs : List (ℕ × Value)
+  pub met : List (ℕ × Bool)
   pub moved : List (ℕ × PlainAlarm)
   pub moment : ℕ
 
 -- a state after that: the alarms that moved are put in their places, the others rest
 abbrev pub after_effect : PlainScanEffect → PlainState → PlainState
 after_effect effect k =
-    record k { cells = effect.cells; faulted = effect.faulted; follows = true; alarms = put_all k.alarms effect.moved; outputs = effect.outputs; moment = effect.moment }
+    record k {
+      cells = effect.cells;
+      faulted = effect.faulted;
+      follows = true;
+      alarms = put_all k.alarms effect.moved;
+      delays = after_met effect.met effect.moment k.delays;
+      outputs = effect.outputs;
+      moment = effect.moment;
+    }
 
 -- a scan that was made ready: its event, what it does and what it reports
 pub record PlainPrepared : Type 0 where

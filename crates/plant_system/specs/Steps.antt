@@ -20,11 +20,12 @@ use Rattle.event_history.specs.declared.event.Event.TheVariants as event
 use Rattle.plant_system.specs.Reports.{PlainReport}
 use Rattle.scan_logic.specs.Scans.{programs_from}
 use Rattle.scan_logic.specs.Runs.{ProgramsRan}
-use Rattle.plant_system.specs.System.{taken_scan, alarms_after, outputs_from, outs_from}
+use Rattle.plant_system.specs.System.{taken_scan, delays_of, outputs_from, outs_from}
 use Rattle.plant_system.specs.Watches.{watches_of}
 use Rattle.plant_system.specs.States.{PlainState, PlainPrepared, PlainPreparedOrder, after_effect}
 use Rattle.event_history.specs.declared.event.Order.{Order}
-use Rattle.alarm_watch.specs.Watched.{Follow}
+use Rattle.alarm_delays.specs.Delays.{after_conditions}
+use Rattle.alarm_watch.specs.Watched.{Follow, alarms_watched, watched_conditions}
 use Rattle.plant_system.specs.Orders.{order_outcome, reply_by}
 
 -- an output, with the value that it has now
@@ -51,7 +52,10 @@ pub record IsReady (plant : PlainPlant) (k : PlainState) : Type 0 where
   pub programs : length k.faulted ≡ length (programs_of plant)
   pub alarms : length k.alarms ≡ length plant.alarms
   pub watches : k.watches ≡ watches_of plant.alarms
-  pub follow : k.follows ≡ true → Follow (value_at k.cells) k.watches k.alarms
+  pub delays : k.delays.delays ≡ delays_of plant.alarms
+  pub since : length k.delays.since ≡ length plant.alarms
+  pub last : k.delays.last ≡ k.moment
+  pub follow : k.follows ≡ true → Follow (value_at k.cells) k.watches k.delays k.alarms
   pub outputs : k.outputs ≡ outputs_from 0 (globals_of plant) (value_at k.cells)
   pub values : StandInRange plant.source k.cells
 
@@ -69,8 +73,9 @@ pub record ScanRan (plant : PlainPlant) (old : PlainState) (image : List (ℕ ×
   pub faults_within : All (λ f. f.0.path < length (paths_of plant.source)) r.faults
   pub sites_are : new.sites ≡ old.sites
   pub watches_are : new.watches ≡ old.watches
-  pub follow : Follow (value_at new.cells) new.watches new.alarms
-  pub alarms_are : new.alarms ≡ alarms_after (value_at new.cells) t plant.alarms old.alarms
+  pub follow : Follow (value_at new.cells) new.watches new.delays new.alarms
+  pub alarms_are : new.alarms ≡ alarms_watched (value_at new.cells) t old.watches old.delays old.alarms
+  pub delays_are : new.delays ≡ after_conditions (watched_conditions (value_at new.cells) old.watches) t old.delays
   pub changes_are : r.changes ≡ changes_from 0 old.alarms new.alarms
   pub outputs_are : new.outputs ≡ outputs_from 0 (globals_of plant) (value_at new.cells)
   pub outs_are : r.outs ≡ outs_from 0 (globals_of plant) (value_at old.cells) (value_at new.cells)

@@ -13,6 +13,8 @@ use Rattle.plant_logic.specs.Worlds.{World, opening}
 use Rattle.alarm_machine.specs.declared.states.OrderFault.{OrderFault}
 use Rattle.alarm_machine.specs.Codes.{PlainChange}
 use Rattle.alarm_machine.specs.Alarms.{PlainAlarm, new_alarm}
+use Rattle.std_blocks.specs.Calls.{Call}
+use Rattle.alarm_delays.specs.Delays.{counts, scans_each}
 use Rattle.alarm_bank.specs.declared.rows.Site.{Site}
 use Rattle.alarm_bank.specs.declared.rows.Counted.{Counted}
 use Rattle.alarm_bank.specs.Banks.{scan_each, counted}
@@ -35,18 +37,23 @@ use Rattle.plant_system.specs.Programs.{opening_faulted, global_in, world_after}
 use Rattle.plant_system.specs.Image.{image_of}
 use Rattle.plant_system.specs.Orders.{order_outcome, alarms_by, faulted_by, reply_by}
 
--- the whole state: the plant, the variables' values and the calls of standard blocks, for each program whether it is faulted, the alarms, the last scan's moment, and how many events there were
+-- the whole state: the plant, the variables' values and the calls of standard blocks, for each program whether it is faulted, the alarms, the scans as each alarm saw them, the last scan's moment, and how many events there were
 pub record System : Type 0 where
   pub plant : PlainPlant
   pub world : World
   pub faulted : List Bool
   pub alarms : List PlainAlarm
+  pub scans : List (List Call)
   pub moment : ℕ
   pub events : ℕ
 
 -- an alarm before the first event
 abbrev pub opening_alarm : AlarmRow → PlainAlarm
 opening_alarm row = new_alarm row.latching row.max_shelve_ms
+
+-- before its first scan an alarm has seen none
+abbrev pub no_scans : AlarmRow → List Call
+no_scans row = []
 
 -- before the first event
 abbrev pub opening_system : PlainPlant → System
@@ -55,6 +62,7 @@ opening_system plant = record {
   world = opening plant.source;
   faulted = opening_faulted (programs_of plant);
   alarms = map opening_alarm plant.alarms;
+  scans = map no_scans plant.alarms;
   moment = 0;
   events = 0;
 }
@@ -67,9 +75,17 @@ conditions now rows = map (λ row. is_true (now row.condition)) rows
 abbrev pub suppressions : (ℕ → ℤ) → List AlarmRow → List Bool
 suppressions now rows = map (λ row. suppression now row.suppress) rows
 
--- each alarm takes its step by itself, by the values of its own two globals
-abbrev pub alarms_after : (ℕ → ℤ) → ℕ → List AlarmRow → List PlainAlarm → List PlainAlarm
-alarms_after now t rows alarms = scan_each (conditions now rows) (suppressions now rows) t alarms
+-- their delays
+abbrev pub delays_of : List AlarmRow → List ℕ
+delays_of rows = map (λ row. row.on_delay_ms) rows
+
+-- the scans as each alarm saw them, with one more at moment t: each sees its own condition
+abbrev pub scans_after : (ℕ → ℤ) → ℕ → List AlarmRow → List (List Call) → List (List Call)
+scans_after now t rows scans = scans_each (conditions now rows) t (delays_of rows) scans
+
+-- each alarm takes its step by itself, by whether its condition counts, after these scans, and by the value of the global that suppresses it
+abbrev pub alarms_after : (ℕ → ℤ) → ℕ → List AlarmRow → List (List Call) → List PlainAlarm → List PlainAlarm
+alarms_after now t rows scans alarms = scan_each (map counts scans) (suppressions now rows) t alarms
 
 -- what the programs make of a state's world
 abbrev pub scanned_by : System → List (ℕ × Value) → ℕ → Scanned
@@ -79,7 +95,9 @@ scanned_by sys image t = world_after sys.plant image t sys.faulted sys.world
 abbrev pub after_scan_event : System → List (ℕ × Value) → ℕ → System
 after_scan_event sys image t =
     let logic = scanned_by sys image t in
-    record sys { world = logic.world; faulted = logic.faulted; alarms = alarms_after (global_in (globals_of sys.plant) logic.world) t sys.plant.alarms sys.alarms; moment = t; events = sys.events + 1 }
+    let now = global_in (globals_of sys.plant) logic.world in
+    let scans = scans_after now t sys.plant.alarms sys.scans in
+    record sys { world = logic.world; faulted = logic.faulted; alarms = alarms_after now t sys.plant.alarms scans sys.alarms; scans = scans; moment = t; events = sys.events + 1 }
 
 -- what an order does in a state, or why it is refused
 abbrev pub ordered : System → ℕ → Order → Result Effect OrderFault

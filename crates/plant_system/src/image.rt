@@ -159,6 +159,7 @@ pub fn taken_image(
     moment: u64,
 ) -> Result<(), EngineFault>
     ensures ok { OnOk result (taken_scan (globals_of plant.now) last events pairs.now moment ≡ Ok (Scan room.new.image.items moment)) }
+    ensures forward { OnOk result (last ≤ moment) }
     ensures range { OnOk result (moment ≤ LAST_MOMENT) }
     ensures err { IfErr result (λ e. IsDue e (taken_scan (globals_of plant.now) last events pairs.now moment)) }
     ensures no_crew { IsNoCrews result }

@@ -132,6 +132,7 @@ fn run_scan<C: Crew<Job, Start, Done, H>, H>(
     requires asked { C.asks }
     requires ready { IsReady before.now.plant.now before.now.state.now }
     requires levels { IfSome before.now.levels.now (AreLevelsOf before.now.plant.now.source) }
+    requires later { before.now.state.now.moment ≤ moment }
     requires range { moment ≤ LAST_MOMENT }
     requires image { All (FitsGlobal (globals_of before.now.plant.now)) image.now }
     ensures ok { OnOk result (ScanRan before.now.plant.now before.now.state.now image.now moment (after_effect scan.new.effect before.now.state.now) scan.new.report) }
@@ -170,8 +171,10 @@ fn run_scan<C: Crew<Job, Start, Done, H>, H>(
         &mut report.faults,
     )?;
     let marks = &mut room.marks;
+    let met = &mut effect.met;
     let moved = &mut effect.moved;
-    step_alarms(alloc, old, cells, moment, marks, moved, &mut report.changes)?;
+    let changes = &mut report.changes;
+    step_alarms(alloc, old, cells, moment, marks, met, moved, changes)?;
     renew(old.outputs.as_slice(), cells, &mut effect.outputs)?;
     let outputs = effect.outputs.as_slice();
     list_changed(outputs, &old.cells, cells, &mut report.outs)?;

@@ -4,13 +4,14 @@ ghost use Rattle.std.specs.Prelude.{◌≡◌, ◌<◌, ◌≤◌, length, map, 
 ghost use Rattle.std.specs.Option.{option_map};
 ghost use Rattle.alarm_machine.specs.declared.limits.TheConstants.{LAST_MOMENT};
 ghost use Rattle.plant_config.specs.Plants.{IsPlant};
-ghost use Rattle.plant_system.specs.States.{IsState, after_effect};
+ghost use Rattle.plant_system.specs.States.{IsState, after_effect, delays_in};
 ghost use Rattle.plant_system.specs.Orders.{alarms_by, faulted_by};
 ghost use Rattle.plant_system.specs.System.{opening_alarm, opening_system, sites_of};
 ghost use Rattle.plant_system.specs.Watches.{watches_of};
 
-use crate::steps::{opening_alarms, opening_sites, outputs, watches_of};
+use crate::steps::{delays_of, opening_alarms, opening_sites, outputs, watches_of};
 use alarm_bank::Bank;
+use alarm_delays::Delays;
 use alarm_machine::{Alarm, AlarmState, OrderFault};
 use alarm_watch::Watches;
 use plant_cells::Cells;
@@ -29,9 +30,11 @@ pub struct State {
     pub faulted: Vec<bool>,
     /// The alarms, in the order of the database, and the moment of the last scan.
     pub bank: Bank,
+    /// The alarms' delays, and since when their conditions have been met.
+    pub delays: Delays,
     /// What each alarm watches.
     pub watches: Watches,
-    /// Whether there was a scan: then each alarm's last condition and suppression are what its globals hold in the cells.
+    /// Whether there was a scan: then the condition and the suppression of each alarm's last scan are what its globals hold in the cells.
     pub follows: bool,
     /// The outputs and their values, in order of declaration.
     pub outputs: Vec<(u32, Value)>,
@@ -42,7 +45,7 @@ impl Model for State {
 
     ghost Value = { PlainState };
 
-    ghost view = { λ s. record { cells = s.cells; faulted = s.faulted.items; sites = s.bank.sites; watches = s.watches; follows = s.follows; alarms = s.bank.alarms; outputs = s.outputs.items; moment = s.bank.moment } };
+    ghost view = { λ s. record { cells = s.cells; faulted = s.faulted.items; sites = s.bank.sites; watches = s.watches; follows = s.follows; alarms = s.bank.alarms; delays = s.delays; outputs = s.outputs.items; moment = s.bank.moment } };
 }
 
 /// What a scan does to a state.
@@ -54,6 +57,8 @@ pub struct ScanEffect {
     pub faulted: Vec<bool>,
     /// The outputs and the values that it leaves of them.
     pub outputs: Vec<(u32, Value)>,
+    /// The alarms whose conditions it may have changed, by number, with their conditions.
+    pub met: Vec<(u32, bool)>,
     /// The alarms that it moves, by number, as it leaves them.
     pub moved: Vec<(u32, Alarm)>,
     /// Its moment in milliseconds.
@@ -65,7 +70,7 @@ impl Model for ScanEffect {
 
     ghost Value = { PlainScanEffect };
 
-    ghost view = { λ s. record { cells = s.cells; faulted = s.faulted.items; outputs = s.outputs.items; moved = s.moved.items; moment = s.moment } };
+    ghost view = { λ s. record { cells = s.cells; faulted = s.faulted.items; outputs = s.outputs.items; met = s.met.items; moved = s.moved.items; moment = s.moment } };
 }
 
 /// What an order that isn't refused does to a state.
@@ -87,6 +92,14 @@ fn opening_bank(alloc: Global, plant: &Plant) -> Result<Bank, AllocError>
     Bank::new(alloc, plant.areas(), sites, alarms)
 }
 
+/// The delays of a plant's alarms before the first scan. Fails if allocation fails.
+fn opening_delays(alloc: Global, plant: &Plant) -> Result<Delays, AllocError>
+    ensures { IfOk result (λ delays. delays ≡ delays_in (opening_system plant.now)) }
+{
+    let delays = delays_of(alloc, plant.alarm_rows())?;
+    Delays::new(alloc, delays)
+}
+
 /// What the alarms of a plant watch. Fails if allocation fails.
 fn opening_watches(alloc: Global, plant: &Plant) -> Result<Watches, AllocError>
     ensures { IfOk result (λ watches. watches ≡ watches_of plant.now.alarms) }
@@ -105,12 +118,14 @@ pub fn opening_state(alloc: Global, plant: &Plant) -> Result<State, AllocError>
     let cells = logic.opening(alloc)?;
     let outputs = outputs(alloc, logic.globals(), &cells)?;
     let bank = opening_bank(alloc, plant)?;
+    let delays = opening_delays(alloc, plant)?;
     let watches = opening_watches(alloc, plant)?;
     let faulted = vec![in alloc; false; plant.programs() as usize]?;
     Ok(State {
         cells,
         faulted,
         bank,
+        delays,
         watches,
         follows: false,
         outputs,
@@ -123,6 +138,7 @@ pub fn empty_effect(alloc: Global) -> ScanEffect {
         cells: Cells::new(Vec::new(alloc), Vec::new(alloc)),
         faulted: Vec::new(alloc),
         outputs: Vec::new(alloc),
+        met: Vec::new(alloc),
         moved: Vec::new(alloc),
         moment: 0,
     }
@@ -158,9 +174,11 @@ pub fn alarm_state(state: &State, alarm: u32) -> AlarmState
 
 /// Does what a scan does, and leaves in its place what the state had, for its memory. It takes none.
 pub fn apply_scan(effect: &mut ScanEffect, state: &mut State)
-    requires { effect.old.moment ≤ LAST_MOMENT }
+    requires later { state.old.delays.last ≤ effect.old.moment }
+    requires range { effect.old.moment ≤ LAST_MOMENT }
     ensures { state.new ≡ after_effect effect.old state.old }
 {
+    state.delays.apply(effect.met.as_slice(), effect.moment);
     state.bank.apply(effect.moved.as_slice(), effect.moment);
     state.follows = true;
     swap(&mut state.cells, &mut effect.cells);

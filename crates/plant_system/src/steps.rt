@@ -4,16 +4,17 @@ ghost use Rattle.std.specs.Prelude.{◌≡◌, ◌<◌, ◌^◌, true, length, f
 ghost use Rattle.std.specs.List.{filter};
 ghost use Rattle.alarm_machine.specs.declared.limits.TheConstants.{LONGEST_SHELVE_MS};
 ghost use Rattle.plant_cells.specs.Cells.{value_at};
-ghost use Rattle.plant_system.specs.System.{opening_alarm, sites_of, is_output, outputs_from};
+ghost use Rattle.plant_system.specs.System.{delays_of, opening_alarm, sites_of, is_output, outputs_from};
 ghost use Rattle.plant_system.specs.Watches.{watches_of};
-ghost use Rattle.alarm_watch.specs.Watched.{alarms_watched, Follow};
+ghost use Rattle.alarm_delays.specs.Delays.{AreMet};
+ghost use Rattle.alarm_watch.specs.Watched.{alarms_watched, watched_conditions, Follow};
 ghost use Rattle.alarm_bank.specs.Moves.{put_all, changes_from};
 ghost use Rattle.plant_system.specs.Steps.{with_cell, output_in, differs, IsShowable, AreShowable};
 
 use crate::state::State;
 use alarm_bank::Site;
 use alarm_machine::{Alarm, Change};
-use alarm_watch::{Watch, value_at};
+use alarm_watch::{LastScan, Watch, value_at};
 use plant_cells::Cells;
 use plant_config::AlarmRow;
 use plant_logic::Variable;
@@ -58,6 +59,17 @@ pub fn opening_sites(alloc: Global, rows: &[AlarmRow]) -> Result<Vec<Site>, Allo
     Ok(sites)
 }
 
+/// The delay of each alarm, one for each row. Fails if allocation fails.
+pub fn delays_of(alloc: Global, rows: &[AlarmRow]) -> Result<Vec<u32>, AllocError>
+    ensures { IfOk result (λ delays. delays.items ≡ delays_of rows.now) }
+{
+    let mut delays = Vec::new(alloc);
+    for row in rows {
+        delays.push(row.on_delay_ms)?;
+    }
+    Ok(delays)
+}
+
 /// What each alarm watches, one for each row. Fails if allocation fails.
 pub fn watches_of(alloc: Global, rows: &[AlarmRow]) -> Result<Vec<Watch>, AllocError>
     ensures { IfOk result (λ watches. watches.items ≡ watches_of rows.now) }
@@ -72,33 +84,34 @@ pub fn watches_of(alloc: Global, rows: &[AlarmRow]) -> Result<Vec<Watch>, AllocE
     Ok(watches)
 }
 
-/// Lists the alarms of a state that a scan moves which leaves these cells, each as it leaves it, and the changes of their codes in the order of the
-/// database, both in place of what was listed before. The state stays. Fails if allocation fails.
+/// Lists the alarms of a state that a scan moves which leaves these cells, each as it leaves it, the changes of their codes in the order of the
+/// database, and the alarms whose conditions may have changed, all in place of what was listed before. The state stays. Fails if allocation fails.
 pub fn step_alarms(
     alloc: Global,
     old: &State,
     cells: &Cells,
     moment: u64,
     marks: &mut Vec<bool>,
+    met: &mut Vec<(u32, bool)>,
     moved: &mut Vec<(u32, Alarm)>,
     changes: &mut Vec<(u32, Change)>,
 ) -> Result<(), AllocError>
+    requires later { old.now.delays.last ≤ moment }
     requires each { length old.now.alarms ≡ length old.now.watches }
-    requires follow { old.now.follows ≡ true → Follow (value_at old.now.cells) old.now.watches old.now.alarms }
-    ensures alarms { OnOk result (put_all old.now.alarms moved.new.items ≡ alarms_watched (value_at cells.now) moment old.now.watches old.now.alarms) }
-    ensures changes { OnOk result (changes.new.items ≡ changes_from 0 old.now.alarms (alarms_watched (value_at cells.now) moment old.now.watches old.now.alarms)) }
+    requires delays { length old.now.delays.delays ≡ length old.now.watches }
+    requires follow { old.now.follows ≡ true → Follow (value_at old.now.cells) old.now.watches old.now.delays old.now.alarms }
+    ensures alarms { OnOk result (put_all old.now.alarms moved.new.items ≡ alarms_watched (value_at cells.now) moment old.now.watches old.now.delays old.now.alarms) }
+    ensures changes { OnOk result (changes.new.items ≡ changes_from 0 old.now.alarms (alarms_watched (value_at cells.now) moment old.now.watches old.now.delays old.now.alarms)) }
+    ensures met { OnOk result (AreMet 0 (watched_conditions (value_at cells.now) old.now.watches) old.now.delays.since met.new.items) }
 {
-    old.watches.list_moved(
-        alloc,
-        &old.bank,
-        old.follows,
-        &old.cells,
-        cells,
-        moment,
-        marks,
-        moved,
-        changes,
-    )?;
+    let last = LastScan {
+        bank: &old.bank,
+        delays: &old.delays,
+        follows: old.follows,
+        cells: &old.cells,
+    };
+    old.watches
+        .list_moved(alloc, &last, cells, moment, marks, met, moved, changes)?;
     Ok(())
 }
 

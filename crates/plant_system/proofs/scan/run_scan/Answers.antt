@@ -1,4 +1,4 @@
-use Rattle.std.proofs.Common.{◌≡◌, ◌∙◌, ap, sym, subst, fold, map, rules, arith}
+use Rattle.std.proofs.Common.{◌≡◌, ◌∙◌, ap, sym, subst, fold, map, length, rules, arith}
 use Rattle.std.proofs.lemmas.Grind.{common_steps}
 use Rattle.plant_cells.specs.Cells.{value_at}
 use Rattle.plant_system.specs.System.{outputs_from, outs_from}
@@ -9,7 +9,10 @@ use Rattle.plant_system.proofs.InRange.{inputs_have_cells, scan_stands}
 use Rattle.plant_system.proofs.Shown.{cells_showable, outputs_showable}
 use Rattle.plant_system.proofs.Outs.{outputs_renewed, outs_differ}
 use Rattle.alarm_watch.proofs.WatchLaws.{follow_after}
-use Rattle.plant_system.proofs.Watches.{step_watched, each_watched}
+use Rattle.alarm_delays.specs.Delays.{PlainDelays, after_conditions, after_met}
+use Rattle.alarm_delays.proofs.DelayLaws.{put_all}
+use Rattle.alarm_watch.specs.Watched.{Follow, alarms_watched, watched_conditions}
+use Rattle.plant_system.proofs.Watches.{each_watched, delays_many, watches_many}
 use Rattle.plant_system.proofs.scan.run_scan.Goals as goal
 
 pub returns-clause-ok : goal.returns-clause-ok
@@ -19,17 +22,22 @@ returns-clause-ok g c =
     let before = value_at old.cells in
     let now = value_at c.run_programs.new.cells in
     let made = c.in_ok-renew.ensures ∙ ap (map (output_in now)) (c.as_slice-2.ensures.value ∙ ap (λ (k : PlainState). k.outputs) c.old.view_is) in
-    let stepped = step_watched now c.args.moment plant.alarms old.watches old.alarms c.requires.ready.watches in
     let each = each_watched plant.alarms old.watches old.alarms c.requires.ready.watches c.requires.ready.alarms in
     let outputs : c.renew.new.renewed.items ≡ outputs_from 0 plant.source.globals now = outputs_renewed plant.source.globals before now old.outputs c.renew.new.renewed.items c.requires.ready.outputs made in
     let outs : c.list_changed.new.changed.items ≡ outs_from 0 plant.source.globals before now = outs_differ plant.source.globals before now c.renew.new.renewed.items c.list_changed.new.changed.items outputs (search rules) in
+    let many = watches_many plant.alarms old.watches c.requires.ready.watches in
+    let delays : length old.delays.delays ≡ length old.watches = ap length c.requires.ready.delays ∙ delays_many plant.alarms ∙ sym many in
+    let since : length old.delays.since ≡ length old.watches = c.requires.ready.since ∙ sym many in
+    let kept : after_met c.step_alarms.new.met.items c.args.moment old.delays ≡ after_conditions (watched_conditions now old.watches) c.args.moment old.delays =
+    ap (λ l. record old.delays { since = l; last = c.args.moment }) (put_all c.args.moment (watched_conditions now old.watches) old.delays.since c.step_alarms.new.met.items c.in_ok-step_alarms.ensures.met) in
     record {
       programs = search rules;
       faults_within = search rules;
       sites_are = search rules;
       watches_are = search rules;
-      follow = rw (c.in_ok-step_alarms.ensures.alarms) (follow_after now c.args.moment old.watches old.alarms each);
-      alarms_are = search rules ∙ stepped;
+      follow = rw c.in_ok-step_alarms.ensures.alarms (subst (λ (d : PlainDelays). Follow now old.watches d (alarms_watched now c.args.moment old.watches old.delays old.alarms)) (sym kept) (follow_after now c.args.moment old.watches old.delays old.alarms each delays since));
+      alarms_are = search rules;
+      delays_are = kept;
       changes_are = search rules;
       outputs_are = outputs;
       outs_are = outs;
@@ -65,3 +73,12 @@ returns-clause-crew g c = grind (arith, common_steps)
 
 pub run_programs-requires-clause-levels : goal.run_programs-requires-clause-levels
 run_programs-requires-clause-levels g c = grind (arith, common_steps)
+
+pub step_alarms-requires-clause-later : goal.step_alarms-requires-clause-later
+step_alarms-requires-clause-later g c = let last = c.requires.ready.last in let later = c.requires.later in omega (arith, last, later)
+
+pub step_alarms-requires-clause-delays : goal.step_alarms-requires-clause-delays
+step_alarms-requires-clause-delays g c =
+    let rows = c.args.before.now.plant.now.alarms in
+    let k = c.args.before.now.state.now in
+    ap length c.requires.ready.delays ∙ delays_many rows ∙ sym (watches_many rows k.watches c.requires.ready.watches)

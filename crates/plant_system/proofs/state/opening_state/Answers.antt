@@ -19,6 +19,7 @@ returns-clause-state c =
     c.in_ok-watches.ensures
     refl
     (ap (λ (b : PlainBank). b.alarms) c.in_ok-bank.ensures)
+    c.in_ok-delays.ensures
     (rw globals at c.in_ok-outputs.ensures)
     (ap (λ (b : PlainBank). b.moment) c.in_ok-bank.ensures)
 
