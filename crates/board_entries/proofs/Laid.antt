@@ -1,8 +1,11 @@
 -- The entry that is laid by is that of the event that was made ready.
-use Rattle.std.proofs.Common.{◌≡◌, Bool, true, List, [], ◌∷◌, ◌++◌, Result, Ok, Err, MatchResult, ap, sym, ◌∙◌, subst}
+use Rattle.std.proofs.Common.{◌≡◌, ℕ, ℤ, map, Bool, true, List, [], ◌∷◌, ◌++◌, Result, Ok, Err, MatchResult, ap, sym, ◌∙◌, subst}
 use Rattle.plant_cells.specs.Cells.{PlainCells, value_at}
 use Rattle.block_frames.specs.Stands.{StandFor}
+use Rattle.alarm_bank.specs.declared.event.BankEvent.{BankEvent}
 use Rattle.alarm_bank.specs.declared.event.BankEvent.TheVariants as bank_event
+use Rattle.alarm_delays.specs.Delays.{PlainDelays, delayed_each, since_of}
+use Rattle.alarm_delays.proofs.DelayLaws.{counts_scans}
 use Rattle.event_history.specs.declared.event.Event.{Event}
 use Rattle.event_history.specs.declared.event.Event.TheVariants as event
 use Rattle.plant_config.specs.declared.rows.AlarmRow.{AlarmRow}
@@ -10,9 +13,9 @@ use Rattle.plant_config.specs.Plants.{PlainPlant, IsPlant}
 use Rattle.plant_config.specs.Names.{globals_of}
 use Rattle.plant_system.specs.declared.event.Reply.{Reply}
 use Rattle.plant_system.specs.Programs.{global_in}
-use Rattle.plant_system.specs.States.{PlainPrepared, PlainPreparedOrder}
-use Rattle.plant_system.specs.System.{system, opening_system, after_event, conditions, suppressions, scanned_by}
-use Rattle.plant_system.proofs.CellWorlds.{SameGlobals, values_stand}
+use Rattle.plant_system.specs.States.{PlainPrepared, PlainPreparedOrder, delays_in}
+use Rattle.plant_system.specs.System.{system, opening_system, after_event, conditions, delays_of, suppressions, scanned_by}
+use Rattle.plant_system.proofs.CellWorlds.{SameGlobals, conditions_same, values_stand}
 use Rattle.engine.specs.Engines.{PlainEngine, state_of, Fits, FitsOrder, LeavesState}
 use Rattle.boards.specs.declared.entry.Entry.{Entry}
 use Rattle.boards.specs.declared.entry.Entry.TheVariants as entry
@@ -24,25 +27,29 @@ use Rattle.boards.specs.Replies.{after, allows}
 use Rattle.boards.specs.Readers.{laid}
 use Rattle.board_entries.specs.Entries.{board_reply, picture_of, entry_of, entries_of}
 use Rattle.board_entries.specs.Showing.{HasHistory}
-use Rattle.board_entries.proofs.Scans.{conditions_same, suppressions_same}
+use Rattle.board_entries.proofs.Scans.{suppressions_same}
 use Rattle.board_entries.proofs.Steps.{history_more, next_may, alarms_next}
 
-pub scan_entry : (e : PlainEngine) (p : PlainPrepared) (rows : List AlarmRow) → Fits e p → LeavesState e p → IsPlant ((state_of e).plant) → rows ≡ (state_of e).plant.alarms
-    → entry.Scan (bank_event.Scan p.report.moment (conditions (value_at p.effect.cells) rows) (suppressions (value_at p.effect.cells) rows)) ≡ entry_of (state_of e) p.event
-scan_entry e p rows fits leaves is same =
+-- what a scan gives, by the cells that it leaves and what is kept of the delays before it
+abbrev pub given_from : (ℕ → ℤ) → ℕ → List AlarmRow → PlainDelays → BankEvent
+given_from now t rows d = bank_event.Scan t (delayed_each (conditions now rows) t d.delays d.since) (suppressions now rows)
+
+pub scan_entry : (e : PlainEngine) (p : PlainPrepared) (rows : List AlarmRow) (d : PlainDelays) → Fits e p → LeavesState e p → IsPlant ((state_of e).plant) → rows ≡ (state_of e).plant.alarms → d ≡ delays_in (state_of e)
+    → entry.Scan (given_from (value_at p.effect.cells) p.report.moment rows d) ≡ entry_of (state_of e) p.event
+scan_entry e p rows d fits leaves is same kept =
     let sys = state_of e in
     let t = p.report.moment in
     let world = (scanned_by sys fits.image t).world in
     let f = value_at p.effect.cells in
     let g = global_in (globals_of sys.plant) world in
-    let kept : StandFor sys.plant.source leaves.state.cells world = subst (λ (x : Event). StandFor ((after_event sys x).plant.source) leaves.state.cells ((after_event sys x).world)) fits.event_is leaves.state_is.world_stands in
-    let stands : StandFor sys.plant.source p.effect.cells world = subst (λ (cells : PlainCells). StandFor sys.plant.source cells world) leaves.cells_are kept in
+    let left : StandFor sys.plant.source leaves.state.cells world = subst (λ (x : Event). StandFor ((after_event sys x).plant.source) leaves.state.cells ((after_event sys x).world)) fits.event_is leaves.state_is.world_stands in
+    let stands : StandFor sys.plant.source p.effect.cells world = subst (λ (cells : PlainCells). StandFor sys.plant.source cells world) leaves.cells_are left in
     let globals : SameGlobals sys.plant.source f g = values_stand sys.plant.source p.effect.cells world stands in
     let mine = sys.plant.alarms in
-    ap (λ (rs : List AlarmRow). entry.Scan (bank_event.Scan t (conditions f rs) (suppressions f rs))) same
-    ∙ (ap (λ (cs : List Bool). entry.Scan (bank_event.Scan t cs (suppressions f mine))) (conditions_same sys.plant f g mine globals is.alarms)
-    ∙ (ap (λ (ss : List Bool). entry.Scan (bank_event.Scan t (conditions g mine) ss)) (suppressions_same sys.plant f g mine globals is.alarms)
-    ∙ ap (λ (x : Event). entry_of sys x) (sym fits.event_is)))
+    (λ i. entry.Scan (given_from f t (same i) (kept i)))
+    ∙ (λ i. entry.Scan (bank_event.Scan t (delayed_each (conditions_same sys.plant f g mine globals is.alarms i) t (delays_of mine) (map since_of sys.scans)) (suppressions_same sys.plant f g mine globals is.alarms i)))
+    ∙ ap (λ (cs : List Bool). entry.Scan (bank_event.Scan t cs (suppressions g mine))) (sym (counts_scans (conditions g mine) t (delays_of mine) sys.scans))
+    ∙ ap (λ (x : Event). entry_of sys x) (sym fits.event_is)
 
 pub order_entry : (e : PlainEngine) (p : PlainPreparedOrder) → FitsOrder e p → entry.Order p.console (record { order = p.order; reply = board_reply p.reply }) ≡ entry_of (state_of e) (event.Order p.console p.order)
 order_entry e p fits = ap (λ (r : Reply). entry.Order p.console (record { order = p.order; reply = board_reply r })) fits.reply_is

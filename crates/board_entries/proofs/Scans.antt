@@ -1,5 +1,5 @@
 -- A scan's entry does to a board's alarms what the scan does to the system's.
-use Rattle.std.proofs.Common.{◌≡◌, ℕ, ℤ, ◌==◌, ◌≤◌, Bool, true, ◌&&◌, if◌then◌else◌, nat_le, List, [], ◌∷◌, length, All, Option, Some, None, IfSome, refl, ap, sym, ◌∙◌, eq-eqb}
+use Rattle.std.proofs.Common.{◌≡◌, ℕ, ℤ, ◌==◌, ◌≤◌, Bool, true, ◌&&◌, if◌then◌else◌, nat_le, List, [], ◌∷◌, length, map, All, Option, Some, None, IfSome, refl, ap, sym, ◌∙◌, eq-eqb}
 use Rattle.std.proofs.lemmas.List.{length-map}
 use Rattle.std.proofs.lemmas.List.Elements.{All-head, All-tail}
 use Rattle.std.proofs.lemmas.Bool.{le-leb}
@@ -14,7 +14,9 @@ use Rattle.plant_config.specs.declared.rows.AlarmRow.{AlarmRow}
 use Rattle.plant_config.specs.Plants.{PlainPlant, IsAlarmRow, IsBoolGlobal}
 use Rattle.plant_config.specs.Names.{globals_of}
 use Rattle.plant_system.specs.Programs.{global_in}
-use Rattle.plant_system.specs.System.{System, conditions, suppressions, scanned_by, after_scan_event}
+use Rattle.plant_system.specs.System.{System, suppressions, scanned_by, scans_after, after_scan_event}
+use Rattle.plant_system.proofs.Systems.{HasAlarms, length-scans_after}
+use Rattle.alarm_delays.specs.Delays.{counts}
 use Rattle.plant_system.proofs.CellWorlds.{SameGlobals}
 use Rattle.board_entries.specs.Entries.{given_by, bank_of}
 
@@ -28,24 +30,18 @@ scan_taken cs ss t b h k few =
     ap (λ (fits : Bool). if fits then record b { alarms = scan_each cs ss t b.alarms; moment = t } else b)
     (both (length cs == length b.alarms && length ss == length b.alarms) (nat_le t LAST_MOMENT) (both (length cs == length b.alarms) (length ss == length b.alarms) (eq-eqb (length cs) (length b.alarms) h) (eq-eqb (length ss) (length b.alarms) k)) (le-leb t LAST_MOMENT few))
 
-pub scan_after : (sys : System) (image : List (ℕ × Value)) (t : ℕ) → length sys.alarms ≡ length sys.plant.alarms → t ≤ LAST_MOMENT → after_event (given_by sys image t) (bank_of sys) ≡ bank_of (after_scan_event sys image t)
+pub scan_after : (sys : System) (image : List (ℕ × Value)) (t : ℕ) → HasAlarms sys → t ≤ LAST_MOMENT → after_event (given_by sys image t) (bank_of sys) ≡ bank_of (after_scan_event sys image t)
 scan_after sys image t each few =
     let now = global_in (globals_of sys.plant) (scanned_by sys image t).world in
     let rows = sys.plant.alarms in
-    scan_taken (conditions now rows) (suppressions now rows) t (bank_of sys) (length-map rows (λ (row : AlarmRow). is_true (now row.condition)) ∙ sym each) (length-map rows (λ (row : AlarmRow). suppression now row.suppress) ∙ sym each) few
+    let scans = scans_after now t rows sys.scans in
+    scan_taken (map counts scans) (suppressions now rows) t (bank_of sys) (length-map scans counts ∙ length-scans_after now t rows sys.scans each.1 ∙ sym each.0) (length-map rows (λ (row : AlarmRow). suppression now row.suppress) ∙ sym each.0) few
 
 suppression_same : (source : Source) (f g : ℕ → ℤ) (suppress : Option ℕ) → SameGlobals source f g → IfSome suppress (IsBoolGlobal source.globals) → suppression f suppress ≡ suppression g suppress
 suppression_same source f g None same is = refl
 suppression_same source f g (Some n) same is = ap is_true (same n is.within)
 
 -- alarms watch only globals
-pub conditions_same : (plant : PlainPlant) (f g : ℕ → ℤ) (rows : List AlarmRow) → SameGlobals plant.source f g → All (IsAlarmRow plant) rows → conditions f rows ≡ conditions g rows
-conditions_same plant f g [] same all = refl
-conditions_same plant f g (row ∷ rows) same all =
-    let is = All-head (IsAlarmRow plant) row rows all in
-    ap (λ n. is_true n ∷ conditions f rows) (same row.condition is.condition.within)
-    ∙ ap (λ l. is_true (g row.condition) ∷ l) (conditions_same plant f g rows same (All-tail (IsAlarmRow plant) row rows all))
-
 pub suppressions_same : (plant : PlainPlant) (f g : ℕ → ℤ) (rows : List AlarmRow) → SameGlobals plant.source f g → All (IsAlarmRow plant) rows → suppressions f rows ≡ suppressions g rows
 suppressions_same plant f g [] same all = refl
 suppressions_same plant f g (row ∷ rows) same all =

@@ -7,7 +7,7 @@ use Rattle.plant_config.specs.Plants.{PlainPlant}
 use Rattle.plant_config.specs.Names.{globals_of}
 use Rattle.plant_system.specs.System.{System, system, opening_system, after_event}
 use Rattle.plant_system.proofs.Images.{taken_when}
-use Rattle.plant_system.proofs.Systems.{system_alarms, system_next, system_none}
+use Rattle.plant_system.proofs.Systems.{HasAlarms, alarms_there, system_next, system_none}
 use Rattle.engine.specs.Lawful.{IsTaken}
 use Rattle.boards.specs.declared.entry.Entry.{Entry}
 use Rattle.boards.specs.declared.picture.Picture.{Picture}
@@ -43,7 +43,7 @@ next_allowed : (sys : System) (e : Event) → allows (picture_of sys) (entry_of 
 next_allowed sys (event.Scan image t) = refl
 next_allowed sys (event.Order console order) = (order_takes (bank_of sys) sys.plant sys.faulted console order).may
 
-bank_after : (sys : System) (e : Event) → length sys.alarms ≡ length sys.plant.alarms → IsTaken sys e → bank_after_entry (bank_of sys) (entry_of sys e) ≡ bank_of (after_event sys e)
+bank_after : (sys : System) (e : Event) → HasAlarms sys → IsTaken sys e → bank_after_entry (bank_of sys) (entry_of sys e) ≡ bank_of (after_event sys e)
 bank_after sys (event.Scan image t) each h = scan_after sys image t each (taken_when (globals_of sys.plant) sys.moment sys.events h.0 t t image h.1).in_range
 bank_after sys (event.Order console order) each h = (order_takes (bank_of sys) sys.plant sys.faulted console order).after
 
@@ -52,7 +52,7 @@ same_plant : (sys : System) (e : Event) → (after_event sys e).plant ≡ sys.pl
 same_plant sys (event.Scan image t) = refl
 same_plant sys (event.Order console order) = refl
 
-next_after : (sys : System) (e : Event) → length sys.alarms ≡ length sys.plant.alarms → IsTaken sys e → after (picture_of sys) (entry_of sys e) ≡ picture_of (after_event sys e)
+next_after : (sys : System) (e : Event) → HasAlarms sys → IsTaken sys e → after (picture_of sys) (entry_of sys e) ≡ picture_of (after_event sys e)
 next_after sys e each h = λ i. record { bank = bank_after sys e each h i; consoles = counted_consoles ((sym (same_plant sys e) i).consoles) }
 
 -- the entry of an event may come after the history before it
@@ -69,7 +69,7 @@ alarms_next plant history e taken alarms =
     let es = entries_of plant history in
     let x = entry_of sys e in
     ap (λ (l : List Entry). shown after opening l) (history_more plant history e)
-    ∙ (shown_more after opening es x ∙ (ap (λ (p : Picture). after p x) alarms ∙ (next_after sys e (system_alarms plant history) taken ∙ ap picture_of (sym (system_next plant history e)))))
+    ∙ (shown_more after opening es x ∙ (ap (λ (p : Picture). after p x) alarms ∙ (next_after sys e (alarms_there plant history) taken ∙ ap picture_of (sym (system_next plant history e)))))
 
 -- before the first event there is none
 pub no_entries : (plant : PlainPlant) → entries_of plant [] ≡ []

@@ -6,6 +6,7 @@ use Rattle.alarm_machine.specs.Codes.{PlainChange}
 use Rattle.alarm_bank.specs.Banks.{PlainBank}
 use Rattle.alarm_bank.specs.declared.event.BankEvent.{BankEvent}
 use Rattle.alarm_bank.specs.declared.event.BankEvent.TheVariants as bank_event
+use Rattle.alarm_delays.specs.Delays.{counts}
 use Rattle.event_history.specs.declared.event.Event.{Event}
 use Rattle.event_history.specs.declared.event.Event.TheVariants as event
 use Rattle.plant_file.specs.declared.console.Console.{Console}
@@ -14,7 +15,7 @@ use Rattle.plant_config.specs.Names.{globals_of}
 use Rattle.plant_system.specs.declared.event.Reply.{Reply}
 use Rattle.plant_system.specs.declared.event.Reply.TheVariants as reply
 use Rattle.plant_system.specs.Programs.{global_in}
-use Rattle.plant_system.specs.System.{System, opening_system, after_event, conditions, suppressions, scanned_by, reply_to, sites_of}
+use Rattle.plant_system.specs.System.{System, opening_system, after_event, scans_after, suppressions, scanned_by, reply_to, sites_of}
 use Rattle.boards.specs.declared.entry.Entry.{Entry}
 use Rattle.boards.specs.declared.entry.Entry.TheVariants as entry
 use Rattle.boards.specs.declared.picture.Picture.{Picture}
@@ -25,11 +26,11 @@ abbrev pub board_reply : Reply → Result (Option PlainChange) OrderFault
 board_reply (reply.Done change) = Ok change
 board_reply (reply.Refused fault) = Err fault
 
--- what a scan gives to the alarms in a state: the conditions and suppressions that its programs leave
+-- what a scan gives to the alarms in a state: which conditions count, and the suppressions, by what its programs leave
 abbrev pub given_by : System → List (ℕ × Value) → ℕ → BankEvent
 given_by sys image t =
     let now = global_in (globals_of sys.plant) (scanned_by sys image t).world in
-    bank_event.Scan t (conditions now sys.plant.alarms) (suppressions now sys.plant.alarms)
+    bank_event.Scan t (map counts (scans_after now t sys.plant.alarms sys.scans)) (suppressions now sys.plant.alarms)
 
 -- the entry of an event in a state: of an order its console and the reply there
 abbrev pub entry_of : System → Event → Entry

@@ -1,8 +1,9 @@
 //! How the entry of an event is laid by.
 
-ghost use Rattle.std.specs.Prelude.{◌≡◌, [], ◌∷◌, ◌++◌, map, IfOk, MatchResult};
+ghost use Rattle.std.specs.Prelude.{◌≡◌, [], ◌∷◌, ◌++◌, length, map, IfOk, MatchResult};
 ghost use Rattle.alarm_bank.specs.declared.event.BankEvent.TheVariants.{Scan};
 ghost use Rattle.event_history.specs.declared.event.Event.TheVariants.{Order};
+ghost use Rattle.alarm_delays.specs.Delays.{delayed_each};
 ghost use Rattle.plant_cells.specs.Cells.{value_at};
 ghost use Rattle.plant_types.specs.Values.{is_true};
 ghost use Rattle.alarm_watch.specs.Watched.{suppression};
@@ -13,6 +14,7 @@ ghost use Rattle.board_entries.specs.Entries.{board_reply};
 ghost use Rattle.board_entries.specs.Showing.{HasHistory};
 
 use alarm_bank::BankEvent;
+use alarm_delays::Delays;
 use alarm_watch::value_at;
 use boards::{Answer, BoardWriter, Entry};
 use engine::{Engine, Prepared, PreparedOrder};
@@ -61,16 +63,19 @@ fn suppressions(alloc: Global, rows: &[AlarmRow], cells: &Cells) -> Result<Vec<b
     Ok(flags)
 }
 
-/// What a scan gives to the alarms that leaves these cells. Fails if memory was refused.
+/// What a scan gives to alarms with these delays that leaves these cells. Fails if memory was refused.
 fn given(
     alloc: Global,
     rows: &[AlarmRow],
+    delays: &Delays,
     cells: &Cells,
     moment: u64,
 ) -> Result<BankEvent, AllocError>
-    ensures { IfOk result (λ event. event ≡ Scan moment (conditions (value_at cells.now) rows.now) (suppressions (value_at cells.now) rows.now)) }
+    requires { length delays.now.delays ≡ length rows.now }
+    ensures { IfOk result (λ event. event ≡ Scan moment (delayed_each (conditions (value_at cells.now) rows.now) moment delays.now.delays delays.now.since) (suppressions (value_at cells.now) rows.now)) }
 {
-    let conds = conditions(alloc, rows, cells)?;
+    let mut conds = conditions(alloc, rows, cells)?;
+    delays.which_count(conds.as_mut_slice(), moment);
     let sups = suppressions(alloc, rows, cells)?;
     Ok(BankEvent::Scan {
         moment,
@@ -104,7 +109,9 @@ pub fn lay_scan(
     engine.leaves_a_state(prepared);
     let rows = engine.plant().alarm_rows();
     let scan = &*prepared.scan;
-    let given = given(alloc, rows, &scan.effect.cells, scan.report.moment)?;
+    let delays = engine.delays();
+    let cells = &scan.effect.cells;
+    let given = given(alloc, rows, delays, cells, scan.report.moment)?;
     board.lay(Entry::Scan(given))
 }
 

@@ -22,6 +22,7 @@ use Rattle.plant_system.specs.Orders.{alarms_by, changed_by}
 use Rattle.engine.proofs.OrderRows.{order_changes}
 use Rattle.engine.specs.Engines.{PlainEngine, Fits, FitsOrder, state_of}
 use Rattle.plant_system.specs.States.{PlainState, PlainPrepared, PlainPreparedOrder, after_effect, IsState, IsReport}
+use Rattle.alarm_delays.specs.Delays.{PlainDelays}
 use Rattle.plant_system.proofs.Images.{taken_when}
 use Rattle.plant_system.proofs.Systems.{system_next}
 use Rattle.engine.proofs.Journals.{scan_journal, order_journal, until_after, last_below, room_after, length-scan_entries, few_order_entries}
@@ -48,6 +49,12 @@ scan_forward e p k fits held =
 moment_after : (e : PlainEngine) (p : PlainPrepared) (k : PlainState) → Fits e p → IsState (state_of e) k → p.effect.moment ≡ p.report.moment
 moment_after e p k fits held =
     (fits.effect_is k held).moment_is ∙ ap (λ (x : Event). (after_event (state_of e) x).moment) fits.event_is
+
+-- so the delays go on to it
+pub scan_later : (e : PlainEngine) (p : PlainPrepared) (k : PlainState) → Fits e p → IsState (state_of e) k → k.delays.last ≤ p.effect.moment
+scan_later e p k fits held =
+    let last : k.delays.last ≡ (state_of e).moment = ap (λ (d : PlainDelays). d.last) held.delays_are in
+    omega (arith, last, held.moment_is, scan_forward e p k fits held, moment_after e p k fits held)
 
 pub scan_until : (e : PlainEngine) (p : PlainPrepared) (k : PlainState) (log : PlainLog) → Fits e p → IsState (state_of e) k → All (λ row. row.moment ≤ k.moment) log.rows
     → All (λ row. row.moment ≤ p.effect.moment) (after_entries p.report.moment log (scan_entries p.report)).rows

@@ -14,7 +14,7 @@ use Rattle.plant_system.specs.System.{System, opening_system, after_event, after
 use Rattle.plant_system.specs.States.{PlainState, PlainPrepared, PlainPreparedOrder, IsState, IsReport, after_effect}
 use Rattle.plant_system.specs.Steps.{ScanRan, IsPreparedScan, IsPreparedOrder}
 use Rattle.plant_system.proofs.Images.{taken_within}
-use Rattle.plant_system.proofs.Systems.{system_keeps_its_plant, system_next, system_none, kept_alarms, scan_agrees, scan_reports, scan_event_is, effect_anywhere, order_steps, order_event_room}
+use Rattle.plant_system.proofs.Systems.{system_keeps_its_plant, system_next, system_none, system_scans, kept_alarms, scan_agrees, scan_reports, scan_event_is, effect_anywhere, order_steps, order_event_room}
 use Rattle.engine.specs.Lawful.{IsTaken}
 use Rattle.engine.specs.Engines.{PlainEngine, Fits, FitsOrder, IsEngine, state_of}
 use Rattle.engine.proofs.Journals.{journal_empty}
@@ -32,14 +32,15 @@ scan_fits e p old events pairs t begun held scan counted rows_there =
     let made = subst (λ (x : PlainPlant). ScanRan x old image t new p.report) own scan.ran in
     let taken : scan_event sys pairs t ≡ Ok (event.Scan image t) = sym (scan_event_is e.plant e.history old events pairs t held counted) ∙ scan.taken ∙ ap Ok is in
     let within = taken_within (globals_of sys.plant) sys.moment sys.events pairs t t image taken in
-    let after = scan_agrees sys old new image t p.report plant_is within held made in
+    let seen = system_scans e.plant e.history in
+    let after = scan_agrees sys old new image t p.report plant_is seen within held made in
     record {
       image = image;
       event_is = is ∙ ap (event.Scan image) (sym made.reported_at);
       row_room = rows_there;
       effect_is = λ k keeps. subst (λ (x : Event). IsState (after_event sys x) (after_effect p.effect k)) (sym is) (effect_anywhere sys (after_scan_event sys image t) old k p.effect held keeps after);
       in_range = after.in_range;
-      report_is = subst (λ (x : Event). IsReport sys x p.report) (sym is) (scan_reports sys old new image t p.report plant_is within (kept_alarms e.plant e.history old held) held made);
+      report_is = subst (λ (x : Event). IsReport sys x p.report) (sym is) (scan_reports sys old new image t p.report plant_is seen within (kept_alarms e.plant e.history old held) held made);
       taken = subst (IsTaken sys) (sym is) (pairs, taken);
     }
 

@@ -1,5 +1,7 @@
 -- What an engine holds, by the plant with which it began.
-use Rattle.std.proofs.Common.{List, subst}
+use Rattle.std.proofs.Common.{List, length, ap, sym, ◌∙◌, subst}
+use Rattle.std.proofs.lemmas.List.{length-map}
+use Rattle.alarm_delays.specs.Delays.{PlainDelays, since_of}
 use Rattle.journal_core.specs.declared.row.Row.{Row}
 use Rattle.plant_config.specs.Plants.{PlainPlant}
 use Rattle.event_history.specs.declared.event.Event.{Event}
@@ -8,7 +10,7 @@ use Rattle.engine.specs.Engines.{IsEngine}
 use Rattle.plant_system.specs.States.{PlainState}
 use Rattle.plant_system.specs.Steps.{IsReady}
 use Rattle.engine.proofs.InRange.{lawful_in_range}
-use Rattle.plant_system.proofs.Systems.{system_keeps_its_plant, kept_alarms, kept_faulted, kept_outputs}
+use Rattle.plant_system.proofs.Systems.{system_keeps_its_plant, system_scans, kept_alarms, kept_faulted, kept_outputs}
 
 -- an engine has what the parts of an event ask
 pub ready : (plant : PlainPlant) (history : List Event) (rows : List Row) (k : PlainState) → IsEngine plant history rows k → IsReady plant k
@@ -20,6 +22,9 @@ ready plant history rows k is =
       programs = kept_faulted plant history k is.state_is;
       alarms = kept_alarms plant history k is.state_is;
       watches = is.state_is.watches_are;
+      delays = ap (λ (d : PlainDelays). d.delays) is.state_is.delays_are;
+      since = ap (λ (d : PlainDelays). length d.since) is.state_is.delays_are ∙ length-map sys.scans since_of ∙ system_scans plant history;
+      last = ap (λ (d : PlainDelays). d.last) is.state_is.delays_are ∙ sym is.state_is.moment_is;
       follow = is.state_is.follow;
       outputs = kept_outputs sys k is.state_is;
       values = record { world = sys.world; stands = is.state_is.world_stands; in_range = holds.1 };

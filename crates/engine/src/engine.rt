@@ -10,10 +10,11 @@ ghost use Rattle.plant_system.specs.System.{scan_event, order_event, reply_to, o
 ghost use Rattle.engine.specs.Lawful.{IsLawfulHistory};
 ghost use Rattle.engine.specs.Journal.{IsJournal, IsLine, added_entries, journal_of};
 ghost use Rattle.engine.specs.Engines.{state_of, Fits, FitsOrder, IsEngine, LeavesState, TakesScan};
-ghost use Rattle.plant_system.specs.States.{IsReport};
+ghost use Rattle.plant_system.specs.States.{IsReport, delays_in};
 
 use crate::journal::{line_text, push_order, push_scan, row_count};
 use alarm_bank::Summary;
+use alarm_delays::Delays;
 use alarm_machine::{AlarmState, Verb};
 use crew::Crew;
 use event_history::{Event, History, Order};
@@ -147,6 +148,13 @@ impl Engine {
         ensures { result.now ≡ summary_of (state_of self.now) }
     {
         self.state.bank.summary()
+    }
+
+    /// The delays of the alarms, and since when their conditions have been met.
+    pub fn delays(&self) -> &Delays
+        ensures { result.now ≡ delays_in (state_of self.now) }
+    {
+        &self.state.delays
     }
 
     /// The moment of the last scan in milliseconds, 0 before the first.

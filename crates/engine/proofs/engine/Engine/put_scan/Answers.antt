@@ -1,6 +1,6 @@
 use Rattle.std.proofs.Common.{arith}
 use Rattle.std.proofs.lemmas.Grind.{common_steps}
-use Rattle.engine.proofs.Commits.{scan_state, scan_committed, scan_until, scan_in_order, scan_room}
+use Rattle.engine.proofs.Commits.{scan_state, scan_committed, scan_later, scan_until, scan_in_order, scan_room}
 use Rattle.engine.proofs.Lawful.{lawful_next, lawful_short}
 use Rattle.engine.proofs.engine.Engine.put_scan.Goals as goal
 
@@ -40,3 +40,8 @@ returns-clause-row_room c =
 
 pub returns-clause-plant : goal.returns-clause-plant
 returns-clause-plant c = grind (arith, common_steps)
+
+pub apply_scan-requires-clause-later : goal.apply_scan-requires-clause-later
+apply_scan-requires-clause-later c =
+    let fits = rw (← c.self.view_is) at c.requires in
+    scan_later _ _ c.self.inside.state fits c.self.invariant.0.state_is
