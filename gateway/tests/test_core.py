@@ -281,7 +281,7 @@ def test_an_order_under_way_when_the_server_ends_is_answered(config: Config) -> 
 
 def test_a_server_that_is_silent_is_started_again(alarmd: Path, tmp_path: Path) -> None:
     async def work() -> None:
-        config = config_for(alarmd, plant_copy("tank", tmp_path), patience_ms=3000)
+        config = config_for(alarmd, plant_copy("tank", tmp_path), patience_ms=5000)
         async with served(config) as core:
             await give(core, running=1, level=100)
             await core.drain()
@@ -295,14 +295,14 @@ def test_a_server_that_is_silent_is_started_again(alarmd: Path, tmp_path: Path) 
 
 def test_what_holds_the_gateway_up_is_no_silence(alarmd: Path, tmp_path: Path) -> None:
     async def work() -> None:
-        config = config_for(alarmd, plant_copy("tank", tmp_path), patience_ms=1000, restarts=0)
+        config = config_for(alarmd, plant_copy("tank", tmp_path), patience_ms=5000, restarts=0)
         async with served(config) as core:
             await give(core, running=1, level=100)
             await core.drain()
             asked = asyncio.create_task(core.order(Order(Verb.ACK, 1, "LAL-101")))
             await asyncio.sleep(0)
             await asyncio.sleep(0)
-            time.sleep(2.5)  # the loop stands still for longer than the patience
+            time.sleep(6)  # the loop stands still for longer than the patience
             assert (await asked).taken
 
     run(work())

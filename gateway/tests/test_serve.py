@@ -138,7 +138,7 @@ def test_a_signal_while_the_record_is_played(config: Path) -> None:
 
 
 def test_a_reader_that_does_not_read_is_no_fault(alarmd: Path, plant: Path) -> None:
-    config = config_file(alarmd, plant, patience_ms=2000, restarts=0)
+    config = config_file(alarmd, plant, patience_ms=5000, restarts=0)
     reading, writing = os.pipe()
     gateway = Gateway(config, stdout=writing)
     os.close(writing)
@@ -148,7 +148,7 @@ def test_a_reader_that_does_not_read_is_no_fault(alarmd: Path, plant: Path) -> N
     record = config.parent / "record"
     size, end = record.stat().st_size, time.monotonic() + LIMIT
     begin = time.monotonic()
-    while time.monotonic() < begin + 3 or record.stat().st_size < size + 500:
+    while time.monotonic() < begin + 6 or record.stat().st_size < size + 500:
         assert time.monotonic() < end
         time.sleep(0.05)
     assert gateway.process.poll() is None
