@@ -117,7 +117,8 @@ fn bounds(alloc: Global, reader: &mut Reader) -> Result<Bounds, Stop>
 fn body(alloc: Global, depth: u32, reader: &mut Reader) -> Result<Vec<Stmt<Text>>, Stop>
     ensures { Returns (λ b. (view_body b.items, reader.new)) result (sequence_at depth reader.old) }
 {
-    let mut body = Vec::new(alloc);
+    // Most bodies have one statement.
+    let mut body = Vec::with_capacity(alloc, 1)?;
     // Each takes at least one token.
     for _turn in 0..reader.left() {
         if !is_statement(reader) {
