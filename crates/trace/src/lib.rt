@@ -1,16 +1,19 @@
 //! Lists and values that contracts see whole and that take no memory: nothing is stored.
 //!
 //! A value that grows by entries can keep beside it, for its contracts, the list of the entries that made it: its trace. What it was at some
-//! moment can be remembered, too. Neither has bytes, so both may go to any thread, and the prover finds that of each type that holds them.
+//! moment can be remembered, too, and what it was made from can still be shown. None of these has bytes, so they may go to any thread, and
+//! the prover finds that of each type that holds them.
 #![tactic(auto)]
 
 ghost use Rattle.std.specs.Prelude.{◌≡◌, [], ◌∷◌, ◌++◌};
 
 mod listed;
 mod remembered;
+mod shown;
 
 use listed::Listed;
 pub use remembered::Remembered;
+pub use shown::Shown;
 use std::marker::Model;
 
 /// A list of entries, for contracts alone. Contracts see it as the list.

@@ -33,4 +33,14 @@ impl<T> Remembered<T> {
             marker: PhantomData,
         }
     }
+
+    /// Remembers the same value.
+    pub fn again(&self) -> Remembered<T>
+        ensures { result.value ≡ self.now.value }
+    {
+        let _ = self;
+        Remembered {
+            marker: PhantomData,
+        }
+    }
 }
