@@ -219,3 +219,28 @@ def test_equal_lines_stand_beside_each_other() -> None:
         ("", "x"),
         ("d", "d"),
     ]
+
+
+@pytest.mark.server
+def test_listings_are_whole_answers_too(alarmd: Path, examples: Path, tmp_path: Path) -> None:
+    path = tmp_path / "cases"
+    path.write_text(
+        """scan 0 level=250 flow=100 running=TRUE
+list
+  STATE LAL-101 UNACK 3
+  COUNT tank 1 NORM 1
+  COUNT tank 2 NORM 2
+  COUNT tank 3 UNACK 1
+  COUNT dosing 3 NORM 1
+  END 5
+journal
+  1 2026-11-23T06:00:00.000Z ALARM LAL-101 NORM UNACK
+  END 1
+scan 4000000000000
+scan 4000000000000 level=400
+expect LAL-101 RTNUN
+restart 1 dose
+  REPLY O5
+"""
+    )
+    assert run(alarmd, examples / "tank" / "plant.toml", path) == 0
