@@ -15,7 +15,7 @@ from selenium.webdriver.common.keys import Keys
 
 __all__ = ["Keys", "Page", "browser", "until"]
 
-PATIENCE = 60.0  # seconds
+PATIENCE = 180.0  # seconds
 WORDS = (
     "--headless=new",
     "--no-sandbox",

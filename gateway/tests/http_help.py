@@ -11,7 +11,7 @@ from urllib.parse import urlsplit
 
 from alarmd_gateway.users import Hash, User, Users, derive
 
-PATIENCE = 60.0  # seconds
+PATIENCE = 180.0  # seconds
 
 
 def cheap_hash(password: str) -> Hash:

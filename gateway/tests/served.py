@@ -15,7 +15,7 @@ from alarmd_gateway.web_config import WebConfig
 from fake_core import FakeCore
 
 T = TypeVar("T")
-PATIENCE = 60.0  # seconds
+PATIENCE = 180.0  # seconds
 
 
 class Served:

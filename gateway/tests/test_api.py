@@ -372,6 +372,8 @@ def test_metrics(guarded_plant: Served) -> None:
     assert 'alarmd_orders_total{order="ack",reply="OK"} 1.0' in lines
     assert "alarmd_events 2.0" in lines
     assert any(line.startswith("process_resident_memory_bytes") for line in lines)
+    again = anna.ask("/metrics").body.decode()
+    assert 'alarmd_annunciations_total{priority="2"} 1.0' in again  # counted once
     # a new record begins: what was annunciated stays counted
     guarded_plant.do(guarded_plant.core.anew)
     guarded_plant.do(lambda: guarded_plant.core.scan(9000, {"A1": Code.UNACK}))

@@ -19,7 +19,7 @@ from alarmd_gateway import live, sessions
 from alarmd_gateway.model import Code
 from alarmd_gateway.troubles import TroubleKind
 
-PATIENCE = 60.0  # seconds
+PATIENCE = 180.0  # seconds
 
 
 class Page:

@@ -16,7 +16,7 @@ from pathlib import Path
 from http_help import two_users
 
 GATEWAY = Path(__file__).resolve().parents[1]
-PATIENCE = 120.0  # seconds
+PATIENCE = 240.0  # seconds
 
 CONFIG = """
 alarmd = "{alarmd}"

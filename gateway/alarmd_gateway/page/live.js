@@ -1,6 +1,7 @@
 // The live connection. Whoever hears nothing for too long says that nothing is live any more, and tries again.
 
 const SILENCE = 2200; // ms without a message, after which the connection counts as lost
+const OPENING = 30000; // ms in which a new connection has to bring its first message
 const WAITS = [300, 600, 1000, 2000, 3000]; // ms before the next try
 
 export class Live {
@@ -51,7 +52,7 @@ export class Live {
   look() {
     const now = performance.now();
     if (this.alive && now - this.heard > SILENCE) this.drop();
-    else if (!this.alive && now - Math.max(this.opened ?? 0, this.heard ?? 0) > 5000) this.drop();
+    else if (!this.alive && this.socket && now - this.opened > OPENING) this.drop();
   }
 
   drop() {
