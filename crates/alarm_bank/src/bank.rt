@@ -1,6 +1,6 @@
 //! The alarms of a plant.
 
-ghost use Rattle.std.specs.Prelude.{◌≡◌, ◌≤◌, ◌<◌, ◌^◌, List, length, slice_get, IfSome, IfNone, IfOk, OnOk, All, Some, slice_set, map, false};
+ghost use Rattle.std.specs.Prelude.{◌≡◌, ℕ, ◌≤◌, ◌<◌, ◌^◌, List, length, slice_get, IfSome, IfNone, IfOk, OnOk, All, Some, slice_set, map, false};
 ghost use Rattle.alarm_machine.specs.declared.limits.TheConstants.{LAST_MOMENT};
 ghost use Rattle.alarm_machine.specs.Alarms.{PlainAlarm, end_of, EndsInRange};
 ghost use Rattle.alarm_bank.specs.Banks.{IsSite, scan_each, after_event, reply_of, counted, end_or_never, IsNextEnd, NoneShelved, IsSettled};
@@ -314,18 +314,21 @@ impl Bank {
         Ok(())
     }
 
-    /// Lists the alarms that a scan moves, and the changes of their codes, as `list_moved` does. It looks at the marked alarms alone, unless a shelf
-    /// ends by the scan's moment: each of the others has the condition and the suppression that it had in the last scan. Fails if allocation
-    /// fails.
+    /// Lists the alarms that a scan moves, and the changes of their codes, as `list_moved` does. It looks at the marked alarms alone, of which none comes
+    /// before a first place, unless a shelf ends by the scan's moment: each of the others has the condition and the suppression that it had in the
+    /// last scan. Fails if allocation fails.
     pub fn list_moved_among<S: Signals>(
         &self,
         marks: &[bool],
+        first: usize,
         signals: &S,
         moment: u64,
         moved: &mut Vec<(u32, Alarm)>,
         changes: &mut Vec<(u32, Change)>,
     ) -> Result<(), AllocError>
         requires marks { length marks.now ≡ length self.now.alarms }
+        requires first { first ≤ length marks.now }
+        requires clear { (n : ℕ) → n < first → slice_get marks.now n ≡ Some false }
         requires unmarked { UnmarkedStay marks.now (S.conditions signals.now) (S.suppressions signals.now) self.now.alarms }
         requires conditions { length (S.conditions signals.now) ≡ length self.now.alarms }
         requires suppressions { length (S.suppressions signals.now) ≡ length self.now.alarms }
@@ -336,7 +339,7 @@ impl Bank {
         }
         moved.clear();
         changes.clear();
-        let mut at = 0;
+        let mut at = first;
         while at < self.alarms.len() {
             if marks[at] {
                 self.list_move(at as u32, signals, moment, moved, changes)?;

@@ -1,5 +1,5 @@
 -- On-delays of alarms: a condition counts once it has been met for so long, as the Q of a TON whose IN is the condition and whose PT is the delay (IEC 61131-3).
-use Rattle.std.specs.Prelude.{◌≡◌, ℕ, ◌+◌, ◌<◌, ◌≤◌, ◌-◌, pos, Bool, false, Option, Some, None, List, [], ◌∷◌, length, slice_get, slice_set, slice_index, slice_index_or, ◌⊎◌, is_some, fold, ◌^◌}
+use Rattle.std.specs.Prelude.{◌≡◌, ℕ, ◌+◌, ◌<◌, ◌≤◌, ◌-◌, pos, Bool, true, false, Option, Some, None, List, [], ◌∷◌, length, slice_get, slice_set, slice_index, slice_index_or, ◌⊎◌, is_some, fold, ◌^◌}
 use Rattle.alarm_machine.specs.declared.limits.TheConstants.{LAST_MOMENT}
 use Rattle.std_blocks.specs.Calls.{Call, call}
 use Rattle.std_blocks.specs.Timers.{ton}
@@ -85,6 +85,12 @@ FollowsAt d alarms n = (a : PlainAlarm) (delay : ℕ) (r : Option ℕ) → slice
 -- that holds of each alarm
 abbrev pub Follows : PlainDelays → List PlainAlarm → Type 0
 Follows d alarms = (n : ℕ) → FollowsAt d alarms n
+
+-- the place of the first mark that is set; the number of marks where there is none
+pub record IsFirstMark (marks : List Bool) (first : ℕ) : Type 0 where
+  pub within : first ≤ length marks
+  pub clear : (n : ℕ) → n < first → slice_get marks n ≡ Some false
+  pub set : first < length marks → slice_get marks first ≡ Some true
 
 -- an alarm that isn't marked has the condition that it had in the last scan
 abbrev pub ConditionsStay : List Bool → List Bool → List (Option ℕ) → Type 0

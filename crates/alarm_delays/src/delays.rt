@@ -4,7 +4,7 @@ ghost use Rattle.std.specs.Prelude.{◌≡◌, ◌<◌, ◌≤◌, ◌^◌, ◌+
 ghost use Rattle.alarm_machine.specs.declared.limits.TheConstants.{LAST_MOMENT};
 ghost use Rattle.alarm_bank.specs.Banks.{scan_each};
 ghost use Rattle.alarm_bank.specs.Moves.{AreMovesOf};
-ghost use Rattle.alarm_delays.specs.Delays.{AreMet, ConditionsStay, DelaysAgree, FollowsOn, RawStay, after_conditions, after_met, delayed, delayed_each, put_since, since_after};
+ghost use Rattle.alarm_delays.specs.Delays.{AreMet, ConditionsStay, DelaysAgree, IsFirstMark, FollowsOn, RawStay, after_conditions, after_met, delayed, delayed_each, put_since, since_after};
 
 use alarm_bank::{Bank, Shelf, Signals, next_mark};
 use alarm_machine::{Alarm, Change};
@@ -209,13 +209,16 @@ impl Delays {
         }
     }
 
-    /// Lists the marked alarms, in order, each by its number with its condition, in place of what was listed before. Fails if allocation fails.
+    /// Lists the marked alarms, of which none comes before a first place, in order, each by its number with its condition, in place of what was listed
+    /// before. Fails if allocation fails.
     fn list_met<S: Signals>(
         &self,
         raw: &S,
         marks: &[bool],
+        first: usize,
         met: &mut Vec<(u32, bool)>,
     ) -> Result<(), AllocError>
+        requires first { IsFirstMark marks.now first }
         requires few { length self.now.since < 2 ^ 32 }
         requires each { length (S.conditions raw.now) ≡ length self.now.since }
         requires marks { length marks.now ≡ length self.now.since }
@@ -223,7 +226,7 @@ impl Delays {
         ensures { OnOk result (AreMet 0 (S.conditions raw.now) self.now.since met.new.items) }
     {
         met.clear();
-        let mut at = next_mark(marks, 0);
+        let mut at = first;
         while at < marks.len() {
             let number = at as u32;
             met.push((number, raw.condition(number)))?;
@@ -255,13 +258,14 @@ impl Delays {
         ensures met { OnOk result (AreMet 0 (S.conditions raw.now) self.now.since met.new.items) }
     {
         self.due.mark_most(moment, marks);
-        self.list_met(raw, marks, met)?;
+        let first = next_mark(marks, 0);
+        self.list_met(raw, marks, first, met)?;
         let counted = Counting {
             raw,
             delays: self,
             moment,
         };
-        bank.list_moved_among(marks, &counted, moment, moved, changes)
+        bank.list_moved_among(marks, first, &counted, moment, moved, changes)
     }
 }
 

@@ -1,8 +1,19 @@
-use Rattle.std.proofs.Common.{◌≡◌, ◌∙◌, ◌+◌, ◌<◌, ◌≤◌, false, length, slice_get, All, Some, arith, ap, refl}
+use Rattle.std.proofs.Common.{◌≡◌, ◌∙◌, ◌+◌, ◌<◌, ◌≤◌, false, [], length, slice_get, All, Some, arith, ap, refl}
 use Rattle.std.proofs.lemmas.Option.{slice_get-get_or}
 use Rattle.alarm_bank.specs.Banks.{PlainBank, IsSettled}
-use Rattle.alarm_bank.proofs.MoveLaws.{move_more, unmarked_next, unmarked_to, moves_listed}
+use Rattle.alarm_bank.proofs.MoveLaws.{move_more, moves_first, unmarked_next, unmarked_to, moves_listed}
 use Rattle.alarm_bank.proofs.bank.Bank.list_moved_among.Goals as goal
+
+pub loop-at-init : goal.loop-at-init
+loop-at-init g c =
+    let settled : All IsSettled c.args.self.now.alarms = rw (← ap (λ (b : PlainBank). b.alarms) c.self.view_is) c.self.invariant.settled in
+    let later = c.if-shelf_ends.ensures refl in
+    let within : c.args.first ≤ length c.args.self.now.alarms = omega (arith, c.requires.first, c.requires.marks) in
+    record {
+      within = within;
+      moves = rw c.clear.ensures.items (unmarked_to c.args.marks.now 0 c.args.first _ _ _ _ [] (omega arith) within c.requires.conditions c.requires.suppressions (λ n low less. c.requires.clear n less) c.requires.unmarked settled later (moves_first _ _ _ _));
+      changes = rw (c.clear.ensures.items, c.clear-2.ensures.items) refl;
+    }
 
 pub loop-at-preserved-then-marks-at : goal.loop-at-preserved-then-marks-at
 loop-at-preserved-then-marks-at g c =

@@ -9,11 +9,12 @@ loop-at-init g c =
     let marks = c.args.marks.now in
     let cs = g.S.Signals.conditions c.args.raw.now in
     let since = c.args.self.now.since in
-    let first = c.next_mark-at.result in
+    let first = c.args.first in
+    let is = c.requires.first in
     record {
-      listed = λ rest h. rw c.clear.ensures.items (passed_over first 0 first marks cs since rest (omega arith) c.requires.each (rw c.requires.marks at c.next_mark-at.ensures.within.1) c.requires.unmarked c.next_mark-at.ensures.clear h);
-      within = c.next_mark-at.ensures.within.1;
-      marked = c.next_mark-at.ensures.set;
+      listed = λ rest h. rw c.clear.ensures.items (passed_over first 0 first marks cs since rest (omega arith) c.requires.each (rw c.requires.marks at is.within) c.requires.unmarked (λ n low less. is.clear n less) h);
+      within = is.within;
+      marked = is.set;
     }
 
 pub loop-at-preserved : goal.loop-at-preserved
@@ -22,17 +23,17 @@ loop-at-preserved g c =
     let cs = g.S.Signals.conditions c.args.raw.now in
     let since = c.args.self.now.since in
     let here = c.loop-at.at in
-    let next = c.next_mark-at-in-loop-at.result in
-    let low = c.next_mark-at-in-loop-at.ensures.within.0 in
-    let high : next ≤ length since = rw c.requires.marks at c.next_mark-at-in-loop-at.ensures.within.1 in
+    let next = c.next_mark-at.result in
+    let low = c.next_mark-at.ensures.within.0 in
+    let high : next ≤ length since = rw c.requires.marks at c.next_mark-at.ensures.within.1 in
     let below : here < length since = rw c.requires.marks at c.loop-at-test.true in
     record {
       listed = λ rest h.
-          let others = passed_over (next - (here + 1)) (here + 1) next marks cs since rest (omega (arith, low)) c.requires.each high c.requires.unmarked c.next_mark-at-in-loop-at.ensures.clear h in
+          let others = passed_over (next - (here + 1)) (here + 1) next marks cs since rest (omega (arith, low)) c.requires.each high c.requires.unmarked c.next_mark-at.ensures.clear h in
           subst (λ l. AreMet 0 cs since l) (sym (append_assoc c.loop-at.met.items ((here, c.condition.result) ∷ []) rest) ∙ ap (λ l. l ++ rest) (sym c.in_ok-push.ensures.items))
           (c.loop-at.invariant.listed ((here, c.condition.result) ∷ rest) (listed_one here c.condition.result cs since rest c.requires.each below c.condition.ensures others));
-      within = c.next_mark-at-in-loop-at.ensures.within.1;
-      marked = c.next_mark-at-in-loop-at.ensures.set;
+      within = c.next_mark-at.ensures.within.1;
+      marked = c.next_mark-at.ensures.set;
     }
 
 pub returns : goal.returns

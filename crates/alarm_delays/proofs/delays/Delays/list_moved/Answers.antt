@@ -1,4 +1,4 @@
-use Rattle.std.proofs.Common.{sym, ◌∙◌, subst}
+use Rattle.std.proofs.Common.{arith, sym, ◌∙◌, subst}
 use Rattle.alarm_delays.specs.Delays.{PlainDelays, IsDelays}
 use Rattle.alarm_delays.proofs.DelayLaws.{each_length, unmarked_stay}
 use Rattle.alarm_delays.proofs.delays.Delays.list_moved.Goals as goal
@@ -13,3 +13,9 @@ pub list_moved_among-requires-clause-conditions : goal.list_moved_among-requires
 list_moved_among-requires-clause-conditions g c =
     let is : IsDelays c.args.self.now.delays c.args.self.now.since c.args.self.now.last c.self.inside.due = subst (λ (d : PlainDelays). IsDelays d.delays d.since d.last c.self.inside.due) c.self.view_is c.self.invariant in
     each_length _ c.args.moment c.args.self.now.delays c.args.self.now.since c.requires.conditions is.each ∙ sym c.requires.each
+
+pub list_met-requires-clause-first : goal.list_met-requires-clause-first
+list_met-requires-clause-first g c = record { within = c.next_mark-first.ensures.within.1; clear = λ n less. c.next_mark-first.ensures.clear n (omega arith) less; set = c.next_mark-first.ensures.set }
+
+pub list_moved_among-requires-clause-clear : goal.list_moved_among-requires-clause-clear
+list_moved_among-requires-clause-clear g c = λ n less. c.next_mark-first.ensures.clear n (omega arith) less
