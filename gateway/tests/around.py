@@ -15,7 +15,7 @@ from pathlib import Path
 from alarmd_gateway.config import Config
 
 ROOT = Path(__file__).resolve().parents[2]
-LIMIT = 60.0
+LIMIT = 180.0
 """Seconds for which a test waits for what has to come."""
 
 

@@ -48,7 +48,7 @@ async def give(core: Core, **values: int | bool | str) -> None:
 
 
 def run(work: Coroutine[Any, Any, None]) -> None:
-    asyncio.run(asyncio.wait_for(work, 120))
+    asyncio.run(asyncio.wait_for(work, 400))
 
 
 def code_of(core: Core, tag: str) -> str:
@@ -279,13 +279,13 @@ def test_an_order_under_way_when_the_server_ends_is_answered(config: Config) -> 
     run(work())
 
 
-def test_a_server_that_is_silent_is_started_again(alarmd: Path, tmp_path: Path) -> None:
+def test_a_server_that_is_silent_is_started_again(config: Config) -> None:
     async def work() -> None:
-        config = config_for(alarmd, plant_copy("tank", tmp_path), patience_ms=5000)
         async with served(config) as core:
             await give(core, running=1, level=100)
             await core.drain()
             pid = server_pid()
+            core._link._server._slice = 0.1  # the next one has the patience of the configuration
             os.kill(pid, signal.SIGSTOP)
             assert (await core.order(Order(Verb.ACK, 1, "LAL-101"))).taken
             assert server_pid() != pid
@@ -293,12 +293,13 @@ def test_a_server_that_is_silent_is_started_again(alarmd: Path, tmp_path: Path) 
     run(work())
 
 
-def test_what_holds_the_gateway_up_is_no_silence(alarmd: Path, tmp_path: Path) -> None:
+def test_what_holds_the_gateway_up_is_no_silence(config: Config) -> None:
     async def work() -> None:
-        config = config_for(alarmd, plant_copy("tank", tmp_path), patience_ms=5000, restarts=0)
-        async with served(config) as core:
+        slow = config_for(config.alarmd, config.plant, period_ms=3_600_000, restarts=0)
+        async with served(slow) as core:
             await give(core, running=1, level=100)
             await core.drain()
+            core._link._server._slice = 0.5
             asked = asyncio.create_task(core.order(Order(Verb.ACK, 1, "LAL-101")))
             await asyncio.sleep(0)
             await asyncio.sleep(0)

@@ -24,7 +24,7 @@ from alarmd_gateway.troubles import TroubleKind
 
 
 def run(work: Coroutine[Any, Any, None]) -> None:
-    asyncio.run(asyncio.wait_for(work, 120))
+    asyncio.run(asyncio.wait_for(work, 400))
 
 
 @pytest.fixture

@@ -137,8 +137,7 @@ def test_a_signal_while_the_record_is_played(config: Path) -> None:
     assert gateway.wait() == 0
 
 
-def test_a_reader_that_does_not_read_is_no_fault(alarmd: Path, plant: Path) -> None:
-    config = config_file(alarmd, plant, patience_ms=5000, restarts=0)
+def test_a_reader_that_does_not_read_is_no_fault(config: Path) -> None:
     reading, writing = os.pipe()
     gateway = Gateway(config, stdout=writing)
     os.close(writing)
@@ -147,8 +146,7 @@ def test_a_reader_that_does_not_read_is_no_fault(alarmd: Path, plant: Path) -> N
     gateway.wait_for("program dose has stopped", gateway.err)
     record = config.parent / "record"
     size, end = record.stat().st_size, time.monotonic() + LIMIT
-    begin = time.monotonic()
-    while time.monotonic() < begin + 6 or record.stat().st_size < size + 500:
+    while record.stat().st_size < size + 1000:  # scans go on
         assert time.monotonic() < end
         time.sleep(0.05)
     assert gateway.process.poll() is None
