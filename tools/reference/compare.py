@@ -62,8 +62,7 @@ class Commands:
 
     def add_scan(self):
         some = self.some
-        later = some.choice([0, 1, 5, 5, 5, 10, 10, 20, 30, 100])
-        moment = max(0, self.server.moment + (later if some.random() < 0.95 else -some.randrange(3)))
+        moment = max(0, self.moment() if some.random() < 0.95 else self.server.moment - some.randrange(3))
         if some.random() < 0.01:
             moment = 4_000_000_000_001
         pairs = [(some.choice([name, name.upper(), name.lower()]), self.given(kind)) for name, kind in some.sample(self.inputs, some.randrange(len(self.inputs) + 1))]
@@ -73,6 +72,14 @@ class Commands:
         line = gap.join([f"scan {some.choice(['', '', '0'])}{moment}"] + [f"{name}={text}" for name, text in pairs])
         self.take(line, self.server.scan(moment, pairs))
 
+    def moment(self):
+        """A moment that isn't before the last one; now and then at the end of an alarm's delay, or a millisecond beside it."""
+        some, last = self.some, self.server.moment
+        due = [it.due() for it in self.server.alarms if it.due() is not None and it.due() >= last]
+        if due and some.random() < 0.15:
+            return max(last, some.choice(due) + some.choice([-1, 0, 0, 1]))
+        return last + some.choice([0, 1, 5, 5, 5, 10, 10, 20, 30, 100])
+
     def add_order(self):
         some, plant = self.some, self.plant
         verb = some.choice(["ack", "ack", "reset", "shelve", "shelve", "unshelve", "remove", "return", "restart"])
@@ -81,6 +88,9 @@ class Commands:
         if stopped and some.random() < 0.5:
             verb = "restart"
         targets = (stopped or [it.name for it in plant.programs]) if verb == "restart" else [it.tag for it in plant.alarms]
+        fit = [it.row.tag for it in self.server.alarms if it.state == {"unshelve": "SHELVED", "return": "OOS"}.get(verb)]
+        if fit and some.random() < 0.6:
+            targets = fit
         target = some.choice(targets) if targets and some.random() < 0.97 else "nobody"
         if verb == "restart" and some.random() < 0.3:
             target = target.upper()

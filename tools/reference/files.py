@@ -20,6 +20,11 @@ LARGEST_FILE = 16_777_217
 FORM, WORD = re.compile("[A-Za-z0-9_.-]{1,32}"), re.compile("[A-Za-z_][A-Za-z0-9_]*")
 EPOCH = re.compile("([0-9]{4})-([0-9]{2})-([0-9]{2})T([0-9]{2}):([0-9]{2}):([0-9]{2})Z")
 COLUMNS = ["tag", "area", "priority", "condition", "suppress", "latch", "max_shelve_ms", "text"]
+COLUMNS_WITH_DELAY = ["tag", "area", "priority", "condition", "suppress", "latch", "max_shelve_ms", "on_delay_ms", "text"]
+# The headers that there are: the first is version 1 of the table, the second version 2.
+HEADERS = [COLUMNS, COLUMNS_WITH_DELAY]
+# The greatest number that stands in a column of milliseconds.
+LARGEST = {"max_shelve_ms": 2_592_000_000, "on_delay_ms": 86_400_000}
 
 
 class Refused(Exception):
@@ -130,20 +135,21 @@ def fits_column(column, field):
         return text in ("1", "2", "3", "4")
     if column == "latch":
         return text.upper() in ("TRUE", "FALSE", "1", "0")
-    if column == "max_shelve_ms":
-        return re.fullmatch("[0-9]{1,10}", text) is not None and int(text) <= 2_592_000_000
+    if column in LARGEST:
+        return re.fullmatch("[0-9]{1,10}", text) is not None and int(text) <= LARGEST[column]
     return WORD.fullmatch(text) is not None or (column == "suppress" and text == "")
 
 
 def alarm_file(given, areas, bools):
     """The rows of an alarm file, where the BOOL globals have these names, in small letters; or C11 to C14, and C10 ALARMS."""
     header, *rows = records(given.removeprefix(MARK)) or [[]]
-    if header != [column.encode() for column in COLUMNS] or any(len(row) != len(COLUMNS) for row in rows):
+    columns = next((them for them in HEADERS if header == [column.encode() for column in them]), None)
+    if columns is None or any(len(row) != len(columns) for row in rows):
         refuse("CONFIG C11")
     if len(rows) > 20_000:
         refuse("CONFIG C10 ALARMS")
     for at, row in enumerate(rows, 1):
-        for column, field in zip(COLUMNS, row):
+        for column, field in zip(columns, row):
             if not fits_column(column, field):
                 refuse(f"CONFIG C12 {at} {column}")
     tags = [row[0] for row in rows]
@@ -151,19 +157,19 @@ def alarm_file(given, areas, bools):
     for at, tag in enumerate(tags):
         if first[tag] < at:
             refuse(f"CONFIG C13 {at + 1}")
-    return [alarm_row(at, [field.decode() for field in row], areas, bools) for at, row in enumerate(rows, 1)]
+    return [alarm_row(at, dict(zip(columns, [field.decode() for field in row])), areas, bools) for at, row in enumerate(rows, 1)]
 
 
 def alarm_row(at, row, areas, bools):
-    """The alarm of a row whose fields have their forms; or C14."""
-    tag, area, priority, condition, suppress, latch, longest, _ = row
-    if area not in areas:
+    """The alarm of a row whose fields, by their columns, have their forms; or C14. A table without the column of delays has none."""
+    if row["area"] not in areas:
         refuse(f"CONFIG C14 {at} area")
-    if condition.lower() not in bools:
+    if row["condition"].lower() not in bools:
         refuse(f"CONFIG C14 {at} condition")
-    if suppress and suppress.lower() not in bools:
+    if row["suppress"] and row["suppress"].lower() not in bools:
         refuse(f"CONFIG C14 {at} suppress")
-    return AlarmRow(tag, area, int(priority), condition, suppress or None, latch.upper() in ("TRUE", "1"), int(longest))
+    latching, delay = row["latch"].upper() in ("TRUE", "1"), int(row.get("on_delay_ms", "0"))
+    return AlarmRow(row["tag"], row["area"], int(row["priority"]), row["condition"], row["suppress"] or None, latching, int(row["max_shelve_ms"]), delay)
 
 
 # --------------------------------------------------------------------------------------------------------------------- all of them

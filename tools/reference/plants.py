@@ -18,11 +18,13 @@ class AlarmRow:
     suppress: str | None
     latching: bool
     longest: int
+    delay: int = 0
 
 
 @dataclass
 class Plant:
-    """Globals are (name, kind, region or None, initial value or None); blocks by name, each after those that it declares."""
+    """Globals are (name, kind, region or None, initial value or None); blocks by name, each after those that it declares. `has_delays` is whether the table of alarms is
+    of version 2, which has a column of delays."""
 
     epoch: str
     globals: list = field(default_factory=list)
@@ -31,6 +33,7 @@ class Plant:
     areas: list = field(default_factory=list)
     consoles: list = field(default_factory=list)
     alarms: list = field(default_factory=list)
+    has_delays: bool = False
 
 
 class Maker:
@@ -250,7 +253,15 @@ class Maker:
             longest = some.choice([0, 1, 50, 100, 2_592_000_000])
             row = AlarmRow(f"T-{at}.x", some.choice(plant.areas), some.randrange(1, 5), some.choice(watched), suppress, some.random() < 0.4, longest)
             plant.alarms.append(row)
+        self.add_delays()
         return plant
+
+    def add_delays(self):
+        """Gives the alarms of most plants delays: none, as long as scans are apart, and long ones."""
+        some, plant = self.random, self.plant
+        plant.has_delays = some.random() < 0.75
+        for row in plant.alarms if plant.has_delays else []:
+            row.delay = some.choice([0, 0, 1, 2, 5, 5, 10, 10, 15, 20, 30, 30, 50, 100, 101, 1000, 60_000, 86_400_000, some.randrange(200)])
 
 
 class Writer:
@@ -344,8 +355,9 @@ class Writer:
         quoted = lambda texts: "[" + ", ".join(f'"{text}"' for text in texts) + "]"
         keys = f'name = "random"\nepoch = "{plant.epoch}"\nareas = {quoted(plant.areas)}\nsources = {quoted(sources)}\nalarms = "alarms.csv"\n'
         consoles = "".join(f"[[console]]\nnumber = {number}\nareas = {quoted(areas)}\n" for number, areas in plant.consoles)
-        rows = "tag,area,priority,condition,suppress,latch,max_shelve_ms,text\n"
+        rows = f"tag,area,priority,condition,suppress,latch,max_shelve_ms,{'on_delay_ms,' if plant.has_delays else ''}text\n"
         for it in plant.alarms:
             latch = self.random.choice(["TRUE", "true", "1"] if it.latching else ["FALSE", "0"])
-            rows += f'{it.tag},{it.area},{it.priority},{it.condition},{it.suppress or ""},{latch},{it.longest},"a ""text"""\n'
+            delay = f"{it.delay}," if plant.has_delays else ""
+            rows += f'{it.tag},{it.area},{it.priority},{it.condition},{it.suppress or ""},{latch},{it.longest},{delay}"a ""text"""\n'
         return {"plant.toml": keys + consoles, "alarms.csv": rows, **sources}

@@ -68,9 +68,43 @@ def after_scan(state, latching, end, condition, suppressed, moment):
     return state
 
 
+class Scans(list):
+    """All scans that an alarm has seen: (whether the variable that it watches was TRUE, moment). `first` is the place of the first scan of the unbroken run of
+    scans with the same value that ends the list."""
+
+    first = 0
+
+    def add(self, watched, moment):
+        if self and self[-1][0] != watched:
+            self.first = len(self)
+        self.append((watched, moment))
+
+    def condition(self, delay):
+        """The condition that counts: the scans with TRUE, back from the last one without a break, began at least the delay ago."""
+        watched, moment = self[-1]
+        return watched and moment - self[self.first][1] >= delay
+
+    def due(self, delay):
+        """The moment from which the condition counts, if the variable stays as it is; None where it is FALSE."""
+        return self[self.first][1] + delay if self and self[-1][0] else None
+
+    def copy(self):
+        made = Scans(self)
+        made.first = self.first
+        return made
+
+
 class Alarm:
     def __init__(self, row):
-        self.row, self.state, self.end, self.condition, self.suppressed = row, "NORM", 0, False, False
+        self.row, self.state, self.end, self.condition, self.suppressed, self.scans = row, "NORM", 0, False, False, Scans()
+
+    def copy(self):
+        made = copy.copy(self)
+        made.scans = self.scans.copy()
+        return made
+
+    def due(self):
+        return self.scans.due(self.row.delay)
 
     def ordered(self, verb, time, last):
         """The state after an order, or the reply that refuses it."""
@@ -115,7 +149,7 @@ class Server:
         made = copy.copy(self)
         made.values, made.rows, made.faulted = dict(self.values), list(self.rows), list(self.faulted)
         made.calls = {path: calls.copy() for path, calls in self.calls.items()}
-        made.alarms = [copy.copy(alarm) for alarm in self.alarms]
+        made.alarms = [alarm.copy() for alarm in self.alarms]
         return made
 
     def open(self, routine, path):
@@ -251,7 +285,8 @@ class Server:
         lines = []
         for alarm in self.alarms:
             row, old = alarm.row, alarm.state
-            alarm.condition = bool(self.values["global", row.condition.lower()])
+            alarm.scans.add(bool(self.values["global", row.condition.lower()]), moment)
+            alarm.condition = alarm.scans.condition(row.delay)
             alarm.suppressed = bool(row.suppress and self.values["global", row.suppress.lower()])
             alarm.state = after_scan(old, row.latching, alarm.end, alarm.condition, alarm.suppressed, moment)
             lines += self.changed(moment, row.tag, old, alarm.state)

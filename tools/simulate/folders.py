@@ -15,6 +15,7 @@ TEXTS = ["", "a text", "Tank too hot, look at the heater", 'a "text"', "\u00e9\u
 COMMENTS = ["", "", "", "// c\n", "(* \u00e9 ; END_VAR *)", "/* \xff \0 */", "\f"]
 # Fields of alarms and values of the plant file that are wrong somewhere.
 FIELDS = [b"", b"T 1", b"T/1", b"x" * 33, b"0", b"1", b"4", b"5", b"02", b"high", b"1c", b"c-d", b"TRUE", b"FALSE", b"tRUE", b"yes", b"-1", b"2592000000", b"2592000001"]
+FIELDS += [b"86400000", b"86400001", b"0086400000", b"00000000000", b"100ms", b"+1", b"1.5", b"on_delay_ms", b"ON_DELAY_MS", b"text"]
 FIELDS += [b"00000000001", b"5000ms", b"1_000", b"x" * 200, b"x" * 201, b"\x7f", b"\t", b'"a\nb"', b"\xff", b"\xc3\xa9", b'"', b'""', b'"a"b', b"a\"b", b'"a,b"', b"a,b", b" ", b"_"]
 VALUES = ['""', "5", "1.0", "true", "[]", '"x"', "[5]", '[["x"]]', '["x", "x"]', '["a b"]', '[""]', '"' + "x" * 64 + '"', '"' + "x" * 65 + '"', '"' + "x" * 255 + '"', '"' + "x" * 256 + '"']
 VALUES += ['"2024-02-30T00:00:00Z"', '"2023-02-29T00:00:00Z"', '"2024-02-29T00:00:00Z"', '"2024-01-01"', '"2400-01-01T00:00:00Z"', '"1969-12-31T23:59:59Z"', '"2024-01-01T24:00:00Z"']
@@ -150,7 +151,7 @@ class Texts(Writer):
     def alarm_table(self):
         some = self.random
         end = some.choice(["\n", "\n", "\r\n", "\r"])
-        rows = [files.COLUMNS] + [self.row(it) for it in self.plant.alarms]
+        rows = [files.HEADERS[self.plant.has_delays]] + [self.row(it) for it in self.plant.alarms]
         lines = [",".join(self.quoted(field) for field in row) for row in rows]
         gaps = [end * some.choice([1, 1, 1, 1, 1, 2]) for _ in lines[1:]] + [some.choice([end, end, ""])]
         return self.mark() + some.choice(["", "", end]).encode() + "".join(line + gap for line, gap in zip(lines, gaps)).encode()
@@ -159,7 +160,8 @@ class Texts(Writer):
         some = self.random
         latch = some.choice(["TRUE", "true", "1"] if it.latching else ["FALSE", "False", "0"])
         longest = f"{it.longest}" if some.random() < 0.8 else f"{it.longest:010}"
-        return [it.tag, it.area, f"{it.priority}", self.named(it.condition), self.named(it.suppress or ""), latch, longest, some.choice(TEXTS)]
+        delays = [some.choice([f"{it.delay}", f"{it.delay}", f"{it.delay:010}", f"00{it.delay}"])] if self.plant.has_delays else []
+        return [it.tag, it.area, f"{it.priority}", self.named(it.condition), self.named(it.suppress or ""), latch, longest, *delays, some.choice(TEXTS)]
 
     def quoted(self, field):
         if self.random.random() < 0.2 or any(mark in field for mark in ',"\r\n'):
@@ -313,9 +315,11 @@ class Folder:
             rows.insert(some.randrange(len(rows) + 1), rows[at])
         elif pick < 0.9:
             fields = some.choice([fields[:-1], fields + [b""]])
-        else:
+        elif pick < 0.95:
             byte = some.randrange(len(text) + 1)
             return text[:byte] + bytes([some.randrange(256)]) + text[byte + 1 :]
+        else:
+            at, fields = 0, [column.encode() for column in some.choice(files.HEADERS)]
         return b"\n".join(rows[:at] + [b",".join(fields)] + rows[at + 1 :])
 
     # ---- what has to be answered

@@ -81,8 +81,11 @@ class Lines:
     def moment(self):
         some, last = self.some, self.server.moment
         ends = [alarm.end for alarm in self.server.alarms if alarm.state == "SHELVED"]
+        due = [alarm.due() for alarm in self.server.alarms if alarm.due() is not None and alarm.due() >= last]
+        if some.random() < 0.5 or not ends:
+            ends = due or ends
         pick = some.random()
-        if ends and pick < 0.15:
+        if ends and pick < 0.2:
             return max(0, some.choice(ends) + some.choice([-1, 0, 0, 1]))
         if pick < 0.94:
             return last + some.choice([0, 1, 5, 5, 5, 10, 10, 20, 30, 100, 1000, 60_000])
