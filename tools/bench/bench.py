@@ -12,6 +12,7 @@ PROGRAM is the built server (crates/alarmd/out/alarmd). KIND is one of these, `l
 | logic | 64 programs with nested loops, a CASE, blocks and timers; beside it the yardstick, which runs them as trees of closures |
 | alarms | scans that change 200 of 20,000 alarms, with 100 orders each |
 | changes | scans that change all of 20,000 alarms |
+| delays | alarms and changes with tables that have no column of delays, delays of 0 and delays of 60 s; and scans in each of which one of 20,000 delays ends |
 | orders | 300,000 orders for 20,000 alarms |
 | check | `check` of 4.2 MB of sources and 14.5 MB of alarms |
 | still | scans that change nothing, by the size of the plant |
@@ -36,7 +37,7 @@ from measured import least, run
 
 HERE = os.path.dirname(os.path.abspath(__file__))
 PLANTS = {"turns": inputs.turns, "logic": inputs.logic, "alarms": inputs.alarms, "changes": inputs.changes, "orders": inputs.orders}
-KINDS = ["lines", "turns", "logic", "alarms", "changes", "orders", "check", "still", "workers", "read", "commands"]
+KINDS = ["lines", "turns", "logic", "alarms", "changes", "delays", "orders", "check", "still", "workers", "read", "commands"]
 # variables, alarms with a variable each, outputs
 STILL = [(2, 0, 0), (16384, 0, 0), (65536, 0, 0), (10000, 10000, 0), (20000, 20000, 0), (0, 0, 32000), (65536, 20000, 0)]
 
@@ -103,6 +104,13 @@ class Bench:
         elif yardstick:
             self.told("logic: yardstick", self.best([yardstick, "logic"], given))
         self.told(kind, it, f"  {lines / it.processor:11.0f} lines a second")
+
+    def delays(self):
+        tables = {"no column": None, "0": lambda n: 0, "60 s": lambda n: 60_000}
+        made = {f"delays: {kind.__name__}, {name}": lambda it, kind=kind, delay=delay: kind(it, delay=delay) for kind in (inputs.alarms, inputs.changes) for name, delay in tables.items()}
+        for name, make in {**made, "delays: one ends in each scan": inputs.due}.items():
+            path, given = self.filled(name.replace(" ", "_").replace(":", "").replace(",", ""), make)
+            self.told(name, self.best([self.program, "run", f"{path}/plant.toml"], given))
 
     def check(self):
         path, _ = self.filled("check", inputs.large)

@@ -5,6 +5,7 @@ import random
 
 AREAS = [f"area{n:02}" for n in range(64)]
 HEAD = "tag,area,priority,condition,suppress,latch,max_shelve_ms,text\n"
+HEAD_WITH_DELAYS = HEAD.replace(",text", ",on_delay_ms,text")
 
 BLOCKS = """FUNCTION_BLOCK Filter
   VAR_INPUT x, gain : DINT; END_VAR
@@ -73,12 +74,12 @@ def tag_of(number):
     return f"{chr(65 + number % 26)}-PT{number:05}.HI"
 
 
-def alarm_file(folder, count, condition, suppress=lambda n: "", latch=lambda n: "FALSE"):
-    """alarms.csv with so many alarms, over all areas. Gives their tags."""
-    rows = [HEAD]
+def alarm_file(folder, count, condition, suppress=lambda n: "", latch=lambda n: "FALSE", delay=None):
+    """alarms.csv with so many alarms, over all areas; with a column of delays where there is a `delay`. Gives their tags."""
+    rows = [HEAD if delay is None else HEAD_WITH_DELAYS]
     for n in range(count):
-        area = AREAS[n * 64 // max(count, 1)]
-        rows.append(f"{tag_of(n)},{area},{n % 4 + 1},{condition(n)},{suppress(n)},{latch(n)},3600000,Pressure of vessel {n} above its limit\n")
+        area, waits = AREAS[n * 64 // max(count, 1)], "" if delay is None else f",{delay(n)}"
+        rows.append(f"{tag_of(n)},{area},{n % 4 + 1},{condition(n)},{suppress(n)},{latch(n)},3600000{waits},Pressure of vessel {n} above its limit\n")
     write(folder, "alarms.csv", "".join(rows))
     return [tag_of(n) for n in range(count)]
 
@@ -112,14 +113,14 @@ def logic(folder, scans=20000, turns=40, programs=64):
     return lines
 
 
-def alarms(folder, count=20000, scans=1000):
+def alarms(folder, count=20000, scans=1000, delay=None):
     """Scans that change a hundredth of the alarms, and after each up to 100 orders."""
     dice = random.Random(1)
     plant_file(folder)
     inputs = "".join(f"c{n} AT %IX{n // 8}.{n % 8} : BOOL;\n" for n in range(count))
     suppressions = "".join(f"s{n} AT %MX{n}.0 : BOOL;\n" for n in range(64))
     write(folder, "p.st", f"VAR_GLOBAL\n{inputs}{suppressions}END_VAR\n")
-    tags = alarm_file(folder, count, lambda n: f"c{n}", lambda n: f"s{n % 64}" if n % 10 == 0 else "", lambda n: "TRUE" if n % 3 == 0 else "FALSE")
+    tags = alarm_file(folder, count, lambda n: f"c{n}", lambda n: f"s{n % 64}" if n % 10 == 0 else "", lambda n: "TRUE" if n % 3 == 0 else "FALSE", delay)
     values, lines = [0] * count, []
     for scan in range(scans):
         changed = dice.sample(range(count), max(1, count // 100))
@@ -130,14 +131,22 @@ def alarms(folder, count=20000, scans=1000):
     return lines
 
 
-def changes(folder, count=20000, scans=500):
-    """Each scan changes every alarm."""
+def changes(folder, count=20000, scans=500, delay=None):
+    """Each scan changes the condition of every alarm."""
     plant_file(folder)
     conditions = "".join(f"c{n} : BOOL;\n" for n in range(64))
     body = "".join(f"c{n} := b;\n" for n in range(64))
     write(folder, "p.st", f"VAR_GLOBAL b AT %IX0.0 : BOOL;\n{conditions}END_VAR\nPROGRAM p\n{body}END_PROGRAM\n")
-    alarm_file(folder, count, lambda n: f"c{n % 64}")
+    alarm_file(folder, count, lambda n: f"c{n % 64}", delay=delay)
     return [f"scan {scan * 100} b={1 - scan % 2}" for scan in range(scans)]
+
+
+def due(folder, count=20000):
+    """All alarms have their condition from the first scan on, and in each scan after it the delay of one ends."""
+    plant_file(folder)
+    write(folder, "p.st", "VAR_GLOBAL b AT %IX0.0 : BOOL; END_VAR\n")
+    alarm_file(folder, count, lambda n: "b", delay=lambda n: n * 7919 % count + 1)
+    return ["scan 0 b=1"] + [f"scan {n}" for n in range(1, count + 1)]
 
 
 def orders(folder, count=20000, orders=300000):
