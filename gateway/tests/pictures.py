@@ -44,7 +44,7 @@ def tank(page: Page, served: Gateway) -> None:
         time.sleep(1.2)
     for line in ("level=850", "level=500", "level=850", "level=500", "level=850"):
         served.give(line)
-        time.sleep(0.6)
+        time.sleep(5.6 if line == "level=850" else 0.6)
     until(lambda: ("TAHH-102", "LATUN") in page.rows() and ("LAH-101", "UNACK") in page.rows())
     page.choose("RAH-104")
     page.keys("a")
