@@ -16,6 +16,7 @@ mod commands;
 mod journals;
 mod printing;
 mod runs;
+mod sharing;
 mod sources;
 mod table;
 mod trees;
@@ -27,7 +28,7 @@ use table::answers_to;
 
 fn main(rt: HostRuntime) -> io::Result<()> {
     let table = io::read_to_string(rt.alloc(), rt.reader())?;
-    let text = answers_to(rt.alloc(), table.as_str())?;
+    let text = answers_to(&rt, rt.alloc(), table.as_str())?;
     io::writer(&rt).write_all(text.as_slice())?;
     Ok(())
 }

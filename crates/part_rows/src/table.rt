@@ -8,11 +8,13 @@ use crate::codes::{push_cells, push_counts};
 use crate::commands::{push_command, push_lines};
 use crate::journals::{push_row, push_stamp};
 use crate::printing::{number_of, parts_of};
+use crate::sharing::push_shared;
 use crate::sources::push_source;
 use crate::trees::{push_copied, push_labels, push_named_body, push_named_sum};
 use crate::values::{push_fitted, push_lists, push_name, push_names, push_same, push_truths};
 use row_text::Page;
 use std::alloc::{AllocError, Global};
+use std::thread::Threads;
 use twin_runs::{push_level_row, push_seed};
 
 /// Adds the answer to a row of words, values, alarms or blocks; of any other row that of `push_other`.
@@ -66,32 +68,40 @@ fn push_other(alloc: Global, page: &mut Page, word: &str, rest: &str) {
 }
 
 /// A row and its answer. Fails where memory was refused.
-fn answered(alloc: Global, line: &str) -> Result<Vec<u8>, AllocError> {
+fn answered<H: Threads + Sync>(rt: &H, alloc: Global, line: &str) -> Result<Vec<u8>, AllocError> {
     let mut page = Page::new(alloc);
     page.line(line);
     let (word, rest) = parts_of(line, " ");
-    push_answer(alloc, &mut page, word, rest);
+    if word == "shared" {
+        push_shared(rt, alloc, &mut page, rest.parse::<u32>().unwrap_or(0));
+    } else {
+        push_answer(alloc, &mut page, word, rest);
+    }
     page.add("\n");
     page.end()
 }
 
 /// Adds a row and its answer; where memory is refused it is answered once more.
-fn push_answered(alloc: Global, text: &mut Page, line: &str) {
-    if let Ok(answer) = answered(alloc, line) {
+fn push_answered<H: Threads + Sync>(rt: &H, alloc: Global, text: &mut Page, line: &str) {
+    if let Ok(answer) = answered(rt, alloc, line) {
         return text.add_bytes(answer.as_slice());
     }
-    match answered(alloc, line) {
+    match answered(rt, alloc, line) {
         Ok(answer) => text.add_bytes(answer.as_slice()),
         Err(_) => text.refuse(),
     }
 }
 
 /// The rows of a table and their answers. A row without words and one that begins with `#` are passed over. Fails where memory was refused.
-pub fn answers_to(alloc: Global, table: &str) -> Result<Vec<u8>, AllocError> {
+pub fn answers_to<H: Threads + Sync>(
+    rt: &H,
+    alloc: Global,
+    table: &str,
+) -> Result<Vec<u8>, AllocError> {
     let mut text = Page::new(alloc);
     for line in table.lines() {
         if !line.is_empty() && !line.starts_with("#") {
-            push_answered(alloc, &mut text, line);
+            push_answered(rt, alloc, &mut text, line);
         }
     }
     text.end()
