@@ -47,7 +47,7 @@ fn scan_all<H: Threads + Sync>(
             requires { (at < length conds.now) × (at < length sups.now) }
             ensures { alarm.new ≡ after_scan (slice_index_or conds.entry.now at false) (slice_index_or sups.entry.now at false) moment alarm.old }
         {
-            let _ = alarm.scan(conds[at], sups[sups.len() - 1 - at], moment);
+            let _ = alarm.scan(conds[at], sups[at], moment);
         },
     );
 }
