@@ -83,10 +83,12 @@ async def play(it: Simulated, milliseconds: int, seconds: float) -> Counter[str]
 
 
 def assert_cycles(came: Counter[str], milliseconds: int) -> None:
-    """500 mm down by 7 mm a second and up by 12 are 113 seconds: each brings one low level, and nothing else. The high level is gone in two seconds, and its alarm waits for five."""
-    assert set(came) <= {"LAL-101"}
+    """500 mm down by 7 mm a second and up by 12 are 113 seconds, with one low and one high level.
+    The high one is gone in two seconds, and its alarm waits five: it comes where scans are few."""
+    assert set(came) <= {"LAL-101", "LAH-101"}
     cycles = milliseconds / 113_095
     assert cycles * 0.8 - 2 <= came["LAL-101"] <= cycles * 1.1 + 2
+    assert came["LAH-101"] <= came["LAL-101"] + 1
 
 
 @pytest.mark.server
