@@ -14,3 +14,11 @@ faults_after n (Err Memory) = n
 faults_after n (Err NoThread) = one_more n
 faults_after n (Err Lost) = one_more n
 faults_after n (Err Misfit) = one_more n
+
+-- an answer is no fault, unless memory was refused
+abbrev pub IsMemoryAtMost : {T : Type 0} → Result T CrewFault → Type 0
+IsMemoryAtMost (Ok _) = Unit {0}
+IsMemoryAtMost (Err Memory) = Unit {0}
+IsMemoryAtMost (Err NoThread) = ⊥
+IsMemoryAtMost (Err Lost) = ⊥
+IsMemoryAtMost (Err Misfit) = ⊥

@@ -4,8 +4,8 @@
 //! which thread ran what, so what follows from the runs is the same for every crew.
 #![tactic(auto)]
 
-ghost use Rattle.std.specs.Prelude.{◌≡◌, ℕ, IfOk, map};
-ghost use Rattle.crew.specs.Faults.{faults_after};
+ghost use Rattle.std.specs.Prelude.{◌≡◌, ℕ, IfOk, IsTrue, map};
+ghost use Rattle.crew.specs.Faults.{IsMemoryAtMost, faults_after};
 ghost use Rattle.crew.specs.Runs.{AreNumbered, IsEachOnce};
 
 use std::alloc::Global;
@@ -30,17 +30,23 @@ pub trait Crew<J: Work<S, D>, S, D, H> {
     /// What the crew asks of the handle, as that threads may share it.
     ghost asks: { Type 0 };
 
+    /// Whether the crew is nobody but the caller. Such a crew runs all jobs in the caller's thread, and no fault but `Memory` comes of that.
+    ghost alone: { Self → Type 0 };
+
     /// Runs each job once. The runs come in any order. After an `Err` nothing of this call is to be used, and the jobs are gone.
     fn run(&mut self, rt: &H, alloc: Global, jobs: Vec<J>) -> Result<Vec<D>, CrewFault>
         requires asked { asks }
         requires numbered { AreNumbered J.number_of (map J.start_of jobs.items) }
         ensures each { IfOk result (λ runs. IsEachOnce (map J.start_of jobs.items) (map J.ended_from runs.items)) }
-        ensures faults { faulted self.new ≡ faults_after (faulted self.old) result };
+        ensures faults { faulted self.new ≡ faults_after (faulted self.old) result }
+        ensures alone { alone self.old → IsMemoryAtMost result × alone self.new };
 
     /// How many runs answered a fault other than `Memory`; at the greatest `u64` it stays.
     fn faults(&self) -> u64
         ensures { result ≡ faulted self.now };
 
-    /// Whether all jobs are run in the caller's thread, so that a caller loses nothing where it does its work itself, without jobs.
-    fn is_alone(&self) -> bool;
+    /// Whether the crew is nobody but the caller, so that a caller loses nothing, and no fault, where it does its work itself, without jobs. It says
+    /// so only where that is so.
+    fn is_alone(&self) -> bool
+        ensures { IsTrue result → alone self.now };
 }

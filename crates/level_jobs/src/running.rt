@@ -113,6 +113,19 @@ fn run_in_turn<C: Crew<Job, Start, Done, H>, H>(
     Ok(faults)
 }
 
+/// Asks a crew that has no job to do whether it is there: it runs none.
+fn ask<C: Crew<Job, Start, Done, H>, H>(
+    rt: &H,
+    alloc: Global,
+    crew: &mut C,
+) -> Result<(), CrewFault>
+    requires { C.asks }
+    ensures { C.faulted crew.new ≡ faults_after (C.faulted crew.old) result }
+{
+    let _runs = run_jobs(rt, alloc, crew, Vec::new(alloc))?;
+    Ok(())
+}
+
 /// Sorts faults by the numbers of their programs, in place.
 fn sort_faults(faults: &mut Vec<ProgramFault>)
     ensures same { IsPermutation faults.old.items faults.new.items }
@@ -122,7 +135,8 @@ fn sort_faults(faults: &mut Vec<ProgramFault>)
 }
 
 /// Runs all levels in turn, the jobs of each by a crew, and tells the faults in program order. Refused memory is the fault `Memory`, and any
-/// other is the crew's own, after which no later level is run. After an error the store isn't used again.
+/// other is the crew's own, after which no later level is run; a crew that is gone says so where there is no level, too. After an error the store
+/// isn't used again.
 pub fn run_levels<C: Crew<Job, Start, Done, H>, H>(
     rt: &H,
     alloc: Global,
@@ -142,6 +156,9 @@ pub fn run_levels<C: Crew<Job, Start, Done, H>, H>(
         → EndsInOrder (in_order (programs_at store.old.moment paths codes levels.now).run 0 store.old.faulted store.old.cells) store.new (spotted paths faults.items)) }
     ensures faults { C.faulted crew.new ≡ faults_after (C.faulted crew.old) result }
 {
+    if levels.last() == 0 {
+        ask(rt, alloc, crew)?;
+    }
     let mut faults = run_in_turn(rt, alloc, crew, parts, levels, store)?;
     sort_faults(&mut faults);
     Ok(faults)

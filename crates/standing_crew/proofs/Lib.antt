@@ -1,1 +1,2 @@
+pub mod RunFaults
 pub mod Ticks

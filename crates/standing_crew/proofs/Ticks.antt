@@ -6,7 +6,8 @@ use Rattle.std.proofs.lemmas.List.Elements.{Contains-append_left, Contains-appen
 use Rattle.std.proofs.Math.Seq.{take-append_seam}
 use Rattle.crew.specs.Runs.{IsDistinct, IsEachOnce}
 use Rattle.crew.specs.declared.fault.CrewFault.{CrewFault}
-use Rattle.standing_crew.specs.Assembled.{IsTicked, IsGathered, HasStranger, HasDouble, LacksOne}
+use Rattle.crew.specs.declared.fault.CrewFault.TheVariants.{Memory, NoThread, Lost, Misfit}
+use Rattle.standing_crew.specs.Assembled.{IsTicked, IsGathered, IsMemoryOrNone, IsCollectFault, HasStranger, HasDouble, LacksOne}
 
 pub no_stranger : {S : Type 0} (starts runs : List S) → ((s : S) → Contains runs s → Contains starts s) → HasStranger starts runs → ⊥
 no_stranger starts runs known h = h.2 (known h.0 h.1)
@@ -192,13 +193,27 @@ pub parted : {J S : Type 0} (f : J → S) (jobs own others : List J) (n : ℕ) �
 parted {J} {S} f jobs own others n a b =
     ap (λ (xs : List J). map f xs ++ map f others) a ∙ ap (λ (xs : List J). map f (take n jobs) ++ map f xs) b ∙ sym (map-append f (take n jobs) (drop n jobs)) ∙ ap (λ (xs : List J). map f xs) (take-append-drop n jobs)
 
--- what is ticked off is gathered, whatever the fault; and where there is no fault the other way round
-pub still_gathered : {S : Type 0} (starts : List S) (fault : Option CrewFault) (ticks : List Bool) (runs : List S) → IsTicked starts ticks runs → IsGathered starts fault ticks runs
-still_gathered starts None ticks runs h = h
-still_gathered starts (Some fault) ticks runs h = tt
+-- what is ticked off is gathered as long as there is no fault, and the other way round
+pub still_gathered : {S : Type 0} (starts : List S) (fault : Option CrewFault) (ticks : List Bool) (runs : List S) → fault ≡ None → IsTicked starts ticks runs → IsGathered starts fault ticks runs
+still_gathered starts fault ticks runs e h = subst (λ (o : Option CrewFault). IsGathered starts o ticks runs) (sym e) h
 
 pub was_ticked : {S : Type 0} (starts : List S) (fault : Option CrewFault) (ticks : List Bool) (runs : List S) → fault ≡ None → IsGathered starts fault ticks runs → IsTicked starts ticks runs
 was_ticked starts fault ticks runs e h = subst (λ (o : Option CrewFault). IsGathered starts o ticks runs) e h
+
+-- what is ticked off is gathered, also where memory was refused
+pub handed_gathered : {S : Type 0} (starts : List S) (fault : Option CrewFault) (ticks : List Bool) (runs : List S) → IsMemoryOrNone fault → IsTicked starts ticks runs → IsGathered starts fault ticks runs
+handed_gathered starts None ticks runs e h = h
+handed_gathered starts (Some Memory) ticks runs e h = tt
+handed_gathered starts (Some NoThread) ticks runs e h = absurd e
+handed_gathered starts (Some Lost) ticks runs e h = absurd e
+handed_gathered starts (Some Misfit) ticks runs e h = absurd e
+
+-- a fault of what is gathered says why it is refused
+pub fault_told : {S : Type 0} (starts : List S) (fault : CrewFault) (ticks : List Bool) (runs : List S) → IsGathered starts (Some fault) ticks runs → IsCollectFault starts runs fault
+fault_told starts Memory ticks runs h = tt
+fault_told starts NoThread ticks runs h = absurd h
+fault_told starts Lost ticks runs h = absurd h
+fault_told starts Misfit ticks runs h = h
 
 -- what holds where a call was Ok
 pub if_ok : {T E : Type 0} (P Q : T → Type 0) (r : Result T E) → ((x : T) → P x → Q x) → IfOk r P → IfOk r Q

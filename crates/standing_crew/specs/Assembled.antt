@@ -39,7 +39,18 @@ pub record IsTicked {S : Type 0} (starts : List S) (ticks : List Bool) (runs : L
   pub ticked : (s : S) → Contains runs s → (i : ℕ) → i < length starts → slice_index_or starts i s ≡ s → slice_index_or ticks i false ≡ true
   pub once : IsDistinct runs
 
--- the runs that came back are ticked off, unless there was a fault
+-- no fault, unless memory was refused
+abbrev pub IsMemoryOrNone : Option CrewFault → Type 0
+IsMemoryOrNone None = Unit {0}
+IsMemoryOrNone (Some Memory) = Unit {0}
+IsMemoryOrNone (Some NoThread) = ⊥
+IsMemoryOrNone (Some Lost) = ⊥
+IsMemoryOrNone (Some Misfit) = ⊥
+
+-- what is gathered of the runs that came back: they are ticked off; unless memory was refused, or the last of them is of no job or comes twice
 abbrev pub IsGathered : {S : Type 0} → List S → Option CrewFault → List Bool → List S → Type 0
 IsGathered starts None ticks runs = IsTicked starts ticks runs
-IsGathered starts (Some fault) ticks runs = Unit {0}
+IsGathered starts (Some Memory) ticks runs = Unit {0}
+IsGathered starts (Some NoThread) ticks runs = ⊥
+IsGathered starts (Some Lost) ticks runs = ⊥
+IsGathered starts (Some Misfit) ticks runs = HasStranger starts runs ⊎ HasDouble runs

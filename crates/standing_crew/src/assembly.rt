@@ -1,4 +1,4 @@
-//! Runs that came back, held against what was handed out.
+//! Ticks for what was handed out, and runs that came back held against it.
 ghost use Rattle.std.specs.Prelude.{◌≡◌, ◌⊎◌, ℕ, ◌<◌, ◌≤◌, [], true, false, length, map, take, slice_index_or, Contains, IfOk, IsTrue, IsFalse, MatchOption, MatchResult};
 ghost use Rattle.crew.specs.Runs.{IsDistinct, IsEachOnce};
 ghost use Rattle.standing_crew.specs.Assembled.{HasStranger, HasDouble, IsTicked, IsCollectFault};
@@ -6,28 +6,6 @@ ghost use Rattle.standing_crew.specs.Assembled.{HasStranger, HasDouble, IsTicked
 use crate::Begun;
 use crew::{CrewFault, Work};
 use std::alloc::AllocError;
-
-/// The runs that came back, where there is one of each job that was handed out, in any order. `Misfit` where one is of no job that was handed
-/// out, or comes twice; else `Lost` where one is missing. It ticks them off in a list, whatever that holds.
-pub fn assemble<J: Work<S, D>, S: Drop, D: Drop>(
-    starts: &[Begun<S>],
-    got: Vec<D>,
-    ticks: &mut Vec<bool>,
-) -> Result<Vec<D>, CrewFault>
-    requires { IsDistinct starts.now }
-    ensures { MatchResult result (λ runs. (runs ≡ got) × IsEachOnce starts.now (map J.ended_from got.items)) (λ fault. IsCollectFault starts.now (map J.ended_from got.items) fault) }
-{
-    let Ok(()) = begin_ticks(starts, ticks) else {
-        return Err(CrewFault::Memory);
-    };
-    if !tick_off::<J, S, D>(starts, got.as_slice(), 0, 0, ticks.as_mut_slice()) {
-        return Err(CrewFault::Misfit);
-    }
-    match all_there::<J, S, D>(starts, got.as_slice(), ticks.as_slice()) {
-        Ok(()) => Ok(got),
-        Err(fault) => Err(fault),
-    }
-}
 
 /// A tick for each job that was handed out, all off, in the room of other ticks. Fails if memory was refused.
 #[tactic(auto, using(crate::proofs::Ticks::all_off))]

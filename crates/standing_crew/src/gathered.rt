@@ -1,12 +1,13 @@
 //! The runs of a round, ticked off as they come back.
-ghost use Rattle.std.specs.Prelude.{◌≡◌, ◌≤◌, length, map, take, IfOk};
+ghost use Rattle.std.specs.Prelude.{◌≡◌, ◌≤◌, None, length, map, take, MatchResult};
 ghost use Rattle.crew.specs.Runs.{IsDistinct, IsEachOnce};
-ghost use Rattle.standing_crew.specs.Assembled.{IsTicked, IsGathered};
+ghost use Rattle.standing_crew.specs.Assembled.{IsCollectFault, IsGathered, IsTicked};
 
 use crate::Begun;
-use crate::assembly::{all_there, tick_off};
+use crate::assembly::{all_there, begin_ticks, tick_off};
 use crate::message::{Lists, keep_lists, run_back};
 use crew::{CrewFault, Gate, Work};
+use std::alloc::Global;
 
 /// The runs that came back so far, each ticked off, how many messages are away, the first fault, and lists that serve a later message.
 #[derive(Drop)]
@@ -18,6 +19,34 @@ pub(crate) struct Gathered<J, D> {
     pub(crate) spare: Vec<Lists<J, D>>,
 }
 
+/// The runs that came back, where there is one of each job that was handed out, in any order. `Misfit` where one is of no job that was handed
+/// out, or comes twice; else `Lost` where one is missing. A crew does the same with the runs of a round, some of them at a time.
+pub fn assemble<J: Work<S, D>, S: Drop, D: Drop>(
+    alloc: Global,
+    starts: &[Begun<S>],
+    got: Vec<D>,
+) -> Result<Vec<D>, CrewFault>
+    requires { IsDistinct starts.now }
+    ensures { MatchResult result (λ runs. (runs ≡ got) × IsEachOnce starts.now (map J.ended_from got.items)) (λ fault. IsCollectFault starts.now (map J.ended_from got.items) fault) }
+{
+    let mut ticks = Vec::new(alloc);
+    let Ok(()) = begin_ticks(starts, &mut ticks) else {
+        return Err(CrewFault::Memory);
+    };
+    let mut gathered = Gathered::<J, D> {
+        runs: got,
+        ticks,
+        away: 0,
+        fault: None,
+        spare: Vec::new(alloc),
+    };
+    tick_rest::<J, S, D>(starts, 0, 0, &mut gathered);
+    match gathered_all::<J, S, D>(starts, &gathered) {
+        Ok(()) => Ok(gathered.runs),
+        Err(fault) => Err(fault),
+    }
+}
+
 /// Ticks off the runs from a place on, where those before it are ticked off. The first is sought near the start of a place.
 #[tactic(auto, using(crate::proofs::Ticks::still_gathered))]
 fn tick_rest<J: Work<S, D>, S: Drop, D>(
@@ -27,9 +56,11 @@ fn tick_rest<J: Work<S, D>, S: Drop, D>(
     gathered: &mut Gathered<J, D>,
 )
     requires before { from ≤ length gathered.old.runs.items }
+    requires fine { gathered.old.fault ≡ None }
     requires ticked { IsTicked starts.now gathered.old.ticks.items (map J.ended_from (take from gathered.old.runs.items)) }
     requires distinct { IsDistinct starts.now }
-    ensures { IsGathered starts.now gathered.new.fault gathered.new.ticks.items (map J.ended_from gathered.new.runs.items) }
+    ensures gathered { IsGathered starts.now gathered.new.fault gathered.new.ticks.items (map J.ended_from gathered.new.runs.items) }
+    ensures runs { gathered.new.runs ≡ gathered.old.runs }
 {
     let runs = gathered.runs.as_slice();
     let ticks = gathered.ticks.as_mut_slice();
@@ -46,6 +77,7 @@ fn add_runs<J: Work<S, D>, S: Drop, D: Drop>(
     gathered: &mut Gathered<J, D>,
 )
     requires distinct { IsDistinct starts.now }
+    requires fine { gathered.old.fault ≡ None }
     requires ticked { IsTicked starts.now gathered.old.ticks.items (map J.ended_from gathered.old.runs.items) }
     ensures { IsGathered starts.now gathered.new.fault gathered.new.ticks.items (map J.ended_from gathered.new.runs.items) }
 {
@@ -68,6 +100,7 @@ fn run_more<J: Work<S, D>, S: Drop, D: Drop, G: Gate>(
     gathered: &mut Gathered<J, D>,
 )
     requires distinct { IsDistinct starts.now }
+    requires fine { gathered.old.fault ≡ None }
     requires ticked { IsTicked starts.now gathered.old.ticks.items (map J.ended_from gathered.old.runs.items) }
     ensures { IsGathered starts.now gathered.new.fault gathered.new.ticks.items (map J.ended_from gathered.new.runs.items) }
 {
@@ -118,14 +151,14 @@ pub(crate) fn run_in<J: Work<S, D>, S: Drop, D: Drop, G: Gate>(
     }
 }
 
-/// Whether there is a run of each job that was handed out; else the fault.
-#[tactic(auto, using(crate::proofs::Ticks::was_ticked))]
+/// Whether there is a run of each job that was handed out; else the first fault, or `Lost`.
+#[tactic(auto, using(crate::proofs::Ticks::was_ticked, crate::proofs::Ticks::fault_told))]
 pub(crate) fn gathered_all<J: Work<S, D>, S, D>(
     starts: &[Begun<S>],
     gathered: &Gathered<J, D>,
 ) -> Result<(), CrewFault>
     requires { IsGathered starts.now gathered.now.fault gathered.now.ticks.items (map J.ended_from gathered.now.runs.items) }
-    ensures { IfOk result (λ _. IsEachOnce starts.now (map J.ended_from gathered.now.runs.items)) }
+    ensures { MatchResult result (λ _. IsEachOnce starts.now (map J.ended_from gathered.now.runs.items)) (λ fault. IsCollectFault starts.now (map J.ended_from gathered.now.runs.items) fault) }
 {
     match gathered.fault {
         None => {

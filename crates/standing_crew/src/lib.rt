@@ -13,6 +13,6 @@ mod standing;
 mod starts;
 mod waiting;
 
-pub use assembly::assemble;
+pub use gathered::assemble;
 pub use standing::Standing;
 pub use starts::{Begun, starts_of};

@@ -1,9 +1,10 @@
 //! The workers, and the rounds in which they run jobs.
-ghost use Rattle.std.specs.Prelude.{◌≡◌, ◌++◌, ◌<◌, ◌≤◌, true, false, IfOk, IfErr, map};
-ghost use Rattle.crew.specs.Faults.{faults_after};
+ghost use Rattle.std.specs.Prelude.{◌≡◌, ◌⊎◌, ◌++◌, ◌<◌, ◌≤◌, true, IfOk, IfErr, IsTrue, map};
+ghost use Rattle.crew.specs.Faults.{IsMemoryAtMost, faults_after};
+ghost use Rattle.crew.specs.declared.fault.CrewFault.TheVariants.{Memory};
 ghost use Rattle.crew.specs.Runs.{AreNumbered, IsDistinct, IsEachOnce};
-ghost use Rattle.standing_crew.specs.Assembled.{IsGathered, IsLost, IsTicked};
-ghost use Rattle.standing_crew.specs.Standings.{lost_after, IsStartFault};
+ghost use Rattle.standing_crew.specs.Assembled.{IsGathered, IsLost, IsMemoryOrNone, IsTicked};
+ghost use Rattle.standing_crew.specs.Standings.{lost_after, IsAsBefore, IsByItself, IsNew, IsRefused, IsRunFault, IsStartFault};
 
 use crate::assembly::begin_ticks;
 use crate::gathered::{Gathered, gathered_all, run_in, take_in};
@@ -19,6 +20,7 @@ use std::mem::replace;
 use std::sync::{Arc, Wait};
 use std::thread;
 use std::thread::{JoinHandle, Threads};
+use trace::Remembered;
 
 /// Workers that stand ready from one call to the next: the caller, and threads. `J` is a job, `S` what it starts from, `D` a run of it that
 /// ended, and `G` the gate.
@@ -39,6 +41,8 @@ pub struct Standing<J, S, D, G> {
     round: u64,
     lost: bool,
     faults: u64,
+    out: Remembered<Vec<Begun<S>>>,
+    back: Remembered<Vec<D>>,
 }
 
 impl<J: Drop, S: Drop, D: Drop, G: Drop> Drop for Standing<J, S, D, G> {
@@ -57,6 +61,8 @@ impl<J: Drop, S: Drop, D: Drop, G: Drop> Drop for Standing<J, S, D, G> {
             round: _,
             lost: _,
             faults: _,
+            out: _,
+            back: _,
         } = self;
     }
 }
@@ -64,9 +70,9 @@ impl<J: Drop, S: Drop, D: Drop, G: Drop> Drop for Standing<J, S, D, G> {
 impl<J, S, D, G> Model for Standing<J, S, D, G> {
     ghost use Rattle.standing_crew.specs.Standings.{PlainStanding};
 
-    ghost Value = { PlainStanding };
+    ghost Value = { PlainStanding S D };
 
-    ghost view = { λ s. record { lost = s.lost; faults = s.faults } };
+    ghost view = { λ s. record { lost = s.lost; faults = s.faults; workers = s.hands; rounds = s.round; out = s.out.value.items; back = s.back.value.items } };
 }
 
 /// The jobs of a round that are to be handed out, and what they cost.
@@ -76,17 +82,19 @@ struct Others<J> {
     cost: u64,
 }
 
-/// How many messages of a round went out, and the fault that ended the handing out.
+/// How many messages of a round went out, and the fault `Memory` where memory for one more was refused. Jobs that didn't go out are given up.
 struct HandedOut {
     messages: u64,
     fault: Option<CrewFault>,
 }
 
-/// The handing out ends, and the jobs that are left are given up.
-fn given_up(messages: u64, fault: CrewFault) -> HandedOut {
+/// Memory for one more message was refused.
+fn given_up(messages: u64) -> HandedOut
+    ensures { IsMemoryOrNone result.fault }
+{
     HandedOut {
         messages,
-        fault: Some(fault),
+        fault: Some(CrewFault::Memory),
     }
 }
 
@@ -105,7 +113,7 @@ impl<
         gate: Arc<G>,
     ) -> Result<Standing<J, S, D, G>, CrewFault>
         requires { (0 < workers) × (workers ≤ 64) }
-        ensures ready { IfOk result (λ s. (s.lost ≡ false) × (s.faults ≡ 0)) }
+        ensures ready { IfOk result (λ crew. IsNew workers crew) }
         ensures refused { IfErr result (λ fault. IsStartFault fault) }
     {
         Standing::with_least(rt, alloc, workers, gate, LEAST_ROUND)
@@ -120,7 +128,7 @@ impl<
         least: u64,
     ) -> Result<Standing<J, S, D, G>, CrewFault>
         requires { (0 < workers) × (workers ≤ 64) }
-        ensures ready { IfOk result (λ s. (s.lost ≡ false) × (s.faults ≡ 0)) }
+        ensures ready { IfOk result (λ crew. IsNew workers crew) }
         ensures refused { IfErr result (λ fault. IsStartFault fault) }
     {
         let Ok((parcels, waiting)) = crossbeam_channel::unbounded(alloc) else {
@@ -143,6 +151,8 @@ impl<
             round: 0,
             lost: false,
             faults: 0,
+            out: Remembered::of(&Vec::new(alloc)),
+            back: Remembered::of(&Vec::new(alloc)),
         };
         for _ in 1..workers {
             let added = add_thread::<J, S, D, G, H>(
@@ -251,7 +261,7 @@ fn join_all<H: Threads>(rt: &H, threads: &mut Vec<JoinHandle<()>>, most: u32) {
 }
 
 impl<J: Drop, S: Drop, D: Drop, G: Drop> Standing<J, S, D, G> {
-    /// Ends the workers, and waits until they have ended. From then on each run answers `Lost`.
+    /// Ends the workers, and waits until they have ended. From then on each run answers `Lost`, also where there is nobody but the caller.
     pub fn retire<H: Threads + Wait>(&mut self, rt: &H)
         ensures lost { self.new.lost ≡ true }
         ensures faults { self.new.faults ≡ self.old.faults }
@@ -272,7 +282,8 @@ impl<J: Work<S, D>, S: Drop, D: Drop, G: Gate> Standing<J, S, D, G> {
     /// Runs all jobs in the caller's thread. Nothing is compared, since nothing comes back.
     fn run_alone(&self, alloc: Global, jobs: Vec<J>) -> Result<Vec<D>, CrewFault>
         requires { AreNumbered J.number_of (map J.start_of jobs.items) }
-        ensures { IfOk result (λ runs. IsEachOnce (map J.start_of jobs.items) (map J.ended_from runs.items)) }
+        ensures each { IfOk result (λ runs. IsEachOnce (map J.start_of jobs.items) (map J.ended_from runs.items)) }
+        ensures memory { IfErr result (λ fault. fault ≡ Memory) }
     {
         let mut runs = Vec::new(alloc);
         if run_all::<J, S, D, G>(&*self.gate, jobs, &mut runs) {
@@ -284,19 +295,24 @@ impl<J: Work<S, D>, S: Drop, D: Drop, G: Gate> Standing<J, S, D, G> {
 
     /// A round: the caller keeps some jobs, the others are handed out, and a run of each comes back. The caller runs alone what isn't worth a
     /// message.
+    #[tactic(auto, using(crate::proofs::RunFaults::run_fault, crate::proofs::RunFaults::memory_fault, crate::proofs::RunFaults::memory_at_most))]
     fn round<H: Wait>(&mut self, rt: &H, alloc: Global, jobs: Vec<J>) -> Result<Vec<D>, CrewFault>
         requires { AreNumbered J.number_of (map J.start_of jobs.items) }
         ensures each { IfOk result (λ runs. IsEachOnce (map J.start_of jobs.items) (map J.ended_from runs.items)) }
-        ensures faults { self.new.faults ≡ self.old.faults }
+        ensures why { IfErr result (λ fault. IsRunFault J.ended_from (map J.start_of jobs.items) self.old self.new fault) }
         ensures lost { self.old.lost ≡ true → IsLost result }
-        ensures stands { self.new.lost ≡ self.old.lost }
+        ensures alone { IsByItself self.old → IsMemoryAtMost result }
+        ensures stands { IsAsBefore self.old self.new }
     {
-        if self.lost || self.round == u64::MAX {
+        if self.lost {
             return Err(CrewFault::Lost);
         }
         let whole = cost_of::<J, S, D>(jobs.as_slice());
         if self.hands < 2 || whole < self.least {
             return self.run_alone(alloc, jobs);
+        }
+        if self.round == u64::MAX {
+            return Err(CrewFault::Lost);
         }
         self.round += 1;
         let mut own = jobs;
@@ -332,11 +348,15 @@ impl<J: Work<S, D>, S: Drop, D: Drop, G: Gate> Standing<J, S, D, G> {
         Ok((starts, gathered))
     }
 
-    /// Keeps the lists of a round for the next one, and returns its runs.
+    /// Keeps the lists of a round for the next one, and returns its runs. Contracts remember what was handed out and what came back.
     fn end_round(&mut self, starts: Vec<Begun<S>>, gathered: Gathered<J, D>) -> Vec<D>
         ensures runs { result ≡ gathered.runs }
-        ensures same { self.new ≡ self.old }
+        ensures out { self.new.out ≡ starts.items }
+        ensures back { self.new.back ≡ gathered.runs.items }
+        ensures same { IsAsBefore self.old self.new }
     {
+        self.out = Remembered::of(&starts);
+        self.back = Remembered::of(&gathered.runs);
         let Gathered {
             runs,
             ticks,
@@ -361,7 +381,8 @@ impl<J: Work<S, D>, S: Drop, D: Drop, G: Gate> Standing<J, S, D, G> {
     ) -> Result<Vec<D>, CrewFault>
         requires { IsDistinct (map J.start_of own.items ++ map J.start_of others.jobs.items) }
         ensures each { IfOk result (λ runs. IsEachOnce (map J.start_of own.items ++ map J.start_of others.jobs.items) (map J.ended_from runs.items)) }
-        ensures same { self.new ≡ self.old }
+        ensures why { IfErr result (λ fault. IsRefused J.ended_from (map J.start_of own.items ++ map J.start_of others.jobs.items) self.new.out self.new.back fault ⊎ (fault ≡ Memory)) }
+        ensures same { IsAsBefore self.old self.new }
     {
         let Ok((starts, mut gathered)) = self.begin_round(alloc, others.jobs.as_slice()) else {
             return Err(CrewFault::Memory);
@@ -390,7 +411,9 @@ impl<J: Work<S, D>, S: Drop, D: Drop, G: Gate> Standing<J, S, D, G> {
         alloc: Global,
         others: Others<J>,
         spare: &mut Vec<Lists<J, D>>,
-    ) -> HandedOut {
+    ) -> HandedOut
+        ensures { IsMemoryOrNone result.fault }
+    {
         let Others {
             jobs: mut left,
             mut cost,
@@ -402,12 +425,13 @@ impl<J: Work<S, D>, S: Drop, D: Drop, G: Gate> Standing<J, S, D, G> {
             cost = cost.saturating_sub(carried);
             let mut lists = lists_of(alloc, spare);
             let Ok(()) = move_last(&mut left, place, &mut lists.jobs) else {
-                return given_up(messages, CrewFault::Memory);
+                return given_up(messages);
             };
-            if let Err(fault) = self.hand(rt, place, lists) {
-                return given_up(messages, fault);
+            match self.hand(rt, place, lists) {
+                Ok(true) => messages = messages.saturating_add(1),
+                Ok(false) => break,
+                Err(_) => return given_up(messages),
             }
-            messages = messages.saturating_add(1);
         }
         HandedOut {
             messages,
@@ -415,10 +439,10 @@ impl<J: Work<S, D>, S: Drop, D: Drop, G: Gate> Standing<J, S, D, G> {
         }
     }
 
-    /// Hands out some jobs in one message, the first from a place.
-    fn hand<H: Wait>(&self, rt: &H, place: usize, lists: Lists<J, D>) -> Result<(), CrewFault> {
+    /// Hands out some jobs in one message, the first from a place, and tells whether the way out is open. Fails if memory was refused.
+    fn hand<H: Wait>(&self, rt: &H, place: usize, lists: Lists<J, D>) -> Result<bool, AllocError> {
         let Some(parcels) = &self.parcels else {
-            return Err(CrewFault::Lost);
+            return Ok(false);
         };
         let parcel = Parcel {
             round: self.round,
@@ -426,9 +450,9 @@ impl<J: Work<S, D>, S: Drop, D: Drop, G: Gate> Standing<J, S, D, G> {
             lists,
         };
         match parcels.send(rt, parcel) {
-            Ok(()) => Ok(()),
-            Err(SendError::OutOfMemory(_)) => Err(CrewFault::Memory),
-            Err(SendError::Disconnected(_)) => Err(CrewFault::Lost),
+            Ok(()) => Ok(true),
+            Err(SendError::OutOfMemory(_)) => Err(AllocError),
+            Err(SendError::Disconnected(_)) => Ok(false),
         }
     }
 
@@ -463,7 +487,7 @@ impl<J: Work<S, D>, S: Drop, D: Drop, G: Gate> Standing<J, S, D, G> {
         }
     }
 
-    /// Hears of each message of this round that is away.
+    /// Hears of each message of this round that is away, as long as one can come.
     fn hear<H: Wait>(&self, rt: &H, starts: &[Begun<S>], gathered: &mut Gathered<J, D>)
         requires distinct { IsDistinct starts.now }
         requires ticked { IsGathered starts.now gathered.old.fault gathered.old.ticks.items (map J.ended_from gathered.old.runs.items) }
@@ -474,7 +498,6 @@ impl<J: Work<S, D>, S: Drop, D: Drop, G: Gate> Standing<J, S, D, G> {
                 break;
             }
             let Some(answer) = next_of(rt, &self.answers) else {
-                gathered.fault = Some(CrewFault::Lost);
                 break;
             };
             self.take_answer(starts, answer, gathered);
@@ -498,7 +521,7 @@ impl<J: Work<S, D>, S: Drop, D: Drop, G: Gate> Standing<J, S, D, G> {
         }
     }
 
-    /// Takes in the runs of a message of this round. What comes of another round is dropped.
+    /// Takes in the runs of a message of this round. What comes of another round is dropped, and the first fault stays.
     fn take_answer(&self, starts: &[Begun<S>], answer: Answer<J, D>, gathered: &mut Gathered<J, D>)
         requires distinct { IsDistinct starts.now }
         requires ticked { IsGathered starts.now gathered.old.fault gathered.old.ticks.items (map J.ended_from gathered.old.runs.items) }
@@ -516,7 +539,7 @@ impl<J: Work<S, D>, S: Drop, D: Drop, G: Gate> Standing<J, S, D, G> {
         gathered.away = gathered.away.saturating_sub(1);
         if whole {
             take_in::<J, S, D>(starts, lists, place, gathered);
-        } else {
+        } else if gathered.fault.is_none() {
             gathered.fault = Some(CrewFault::Memory);
         }
     }
@@ -524,7 +547,8 @@ impl<J: Work<S, D>, S: Drop, D: Drop, G: Gate> Standing<J, S, D, G> {
 
 /// Runs, and others behind them. `Memory` where memory was refused.
 fn joined<D: Drop>(runs: Vec<D>, others: Vec<D>) -> Result<Vec<D>, CrewFault>
-    ensures { IfOk result (λ all. all.items ≡ runs.items ++ others.items) }
+    ensures all { IfOk result (λ all. all.items ≡ runs.items ++ others.items) }
+    ensures memory { IfErr result (λ fault. fault ≡ Memory) }
 {
     let mut all = runs;
     let mut more = others;
@@ -540,11 +564,15 @@ impl<J: Work<S, D>, S: Drop, D: Drop, G: Gate, H: Threads + Wait> Crew<J, S, D, 
 
     ghost asks = { Unit {0} };
 
+    ghost alone = { IsByItself };
+
     fn run(&mut self, rt: &H, alloc: Global, jobs: Vec<J>) -> Result<Vec<D>, CrewFault>
         requires asked { Unit {0} }
         requires numbered { AreNumbered J.number_of (map J.start_of jobs.items) }
         ensures each { IfOk result (λ runs. IsEachOnce (map J.start_of jobs.items) (map J.ended_from runs.items)) }
         ensures faults { self.new.faults ≡ faults_after self.old.faults result }
+        ensures alone { IsByItself self.old → IsMemoryAtMost result × IsByItself self.new }
+        ensures why { IfErr result (λ fault. IsRunFault J.ended_from (map J.start_of jobs.items) self.old self.new fault) }
         ensures lost { self.old.lost ≡ true → IsLost result × (self.new.lost ≡ true) }
         ensures gone { self.new.lost ≡ lost_after self.old.lost result }
     {
@@ -567,7 +595,9 @@ impl<J: Work<S, D>, S: Drop, D: Drop, G: Gate, H: Threads + Wait> Crew<J, S, D, 
         self.faults
     }
 
-    fn is_alone(&self) -> bool {
-        self.hands < 2
+    fn is_alone(&self) -> bool
+        ensures { IsTrue result → IsByItself self.now }
+    {
+        self.hands < 2 && !self.lost
     }
 }

@@ -1,7 +1,7 @@
 //! Who runs the programs of a station.
 
-ghost use Rattle.std.specs.Prelude.{◌≡◌, IfOk, map};
-ghost use Rattle.crew.specs.Faults.{faults_after};
+ghost use Rattle.std.specs.Prelude.{◌≡◌, IfOk, None, map};
+ghost use Rattle.crew.specs.Faults.{IsMemoryAtMost, faults_after};
 ghost use Rattle.crew.specs.Runs.{AreNumbered, IsEachOnce};
 
 use crate::rows::number;
@@ -29,11 +29,14 @@ impl<J: Work<S, D>, S, D: Drop, H> Crew<J, S, D, H> for Workers {
 
     ghost asks = { Unit {0} };
 
+    ghost alone = { λ w. w.left ≡ None };
+
     fn run(&mut self, rt: &H, alloc: Global, jobs: Vec<J>) -> Result<Vec<D>, CrewFault>
         requires asked { Unit {0} }
         requires numbered { AreNumbered J.number_of (map J.start_of jobs.items) }
         ensures each { IfOk result (λ runs. IsEachOnce (map J.start_of jobs.items) (map J.ended_from runs.items)) }
         ensures faults { self.new.faults ≡ faults_after self.old.faults result }
+        ensures alone { self.old.left ≡ None → IsMemoryAtMost result × (self.new.left ≡ None) }
     {
         if self.left == Some(0) {
             self.faults = self.faults.saturating_add(1);

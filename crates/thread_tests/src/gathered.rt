@@ -122,7 +122,7 @@ fn assembled(alloc: Global, numbers: &[u32]) -> Result<Result<usize, CrewFault>,
         got.push(Job::new(alloc, *number, u64::from(*number) * 1_000, 1)?.run())?;
     }
     let starts = starts_of::<Job, Start, Done>(jobs.as_slice(), Vec::new(alloc))?;
-    match assemble::<Job, Start, Done>(starts.as_slice(), got, &mut Vec::new(alloc)) {
+    match assemble::<Job, Start, Done>(alloc, starts.as_slice(), got) {
         Ok(runs) => Ok(Ok(runs.len())),
         Err(CrewFault::Memory) => Err(AllocError),
         Err(fault) => Ok(Err(fault)),

@@ -6,4 +6,4 @@ pub returns-then-run_all : goal.returns-then-run_all
 returns-then-run_all g c =
     let f = g.J.Work.ended_from in
     let e = c.if-run_all.ensures refl ∙ ap (λ xs. map f xs ++ map g.J.Work.start_of c.args.jobs.items) c.new-runs.ensures.items in
-    same_once g.J.Work.number_of _ _ c.requires e
+    record { each = same_once g.J.Work.number_of _ _ c.requires e; memory = tt }
