@@ -1,0 +1,63 @@
+//! Scans of a plant by a crew, and what its gate saw of each.
+
+use crate::gates::Watch;
+use engine::{Crew, Done, Engine, EngineFault, Job, Pair, Plant, Start};
+use row_text::Page;
+use std::alloc::Global;
+
+/// Adds the values of the outputs.
+fn push_outputs(page: &mut Page, engine: &Engine) {
+    for (_, value) in engine.outputs() {
+        page.number(i128::from(value.worth()));
+    }
+    page.add("\n");
+}
+
+/// Takes a scan without an image, and adds what the gate saw of it and the outputs, or why it was refused.
+fn push_scan<H, C: Crew<Job, Start, Done, H>>(
+    rt: &H,
+    alloc: Global,
+    page: &mut Page,
+    engine: &mut Engine,
+    crew: &mut C,
+    watch: &Watch,
+    moment: u64,
+)
+    requires { C.asks }
+{
+    let pairs = Vec::<Pair>::new(alloc);
+    watch.forget();
+    match engine.scan(rt, alloc, crew, pairs.as_slice(), moment) {
+        Ok(report) => {
+            page.add_number(i128::from(report.moment));
+            page.word(watch.told());
+            push_outputs(page, engine);
+        }
+        Err(EngineFault::Memory) => page.refuse(),
+        Err(fault) => {
+            page.add("REFUSED ");
+            page.line(fault.text());
+        }
+    }
+}
+
+/// Takes two scans of a plant by a crew, at an odd and at an even moment. An engine is let go here alone.
+pub fn push_scans<H, C: Crew<Job, Start, Done, H>>(
+    rt: &H,
+    alloc: Global,
+    page: &mut Page,
+    crew: &mut C,
+    watch: &Watch,
+    plant: Plant,
+)
+    requires { C.asks }
+{
+    match Engine::new(alloc, plant) {
+        Ok(mut engine) => {
+            push_scan(rt, alloc, page, &mut engine, crew, watch, 1);
+            push_scan(rt, alloc, page, &mut engine, crew, watch, 2);
+            drop(engine);
+        }
+        Err(_) => page.refuse(),
+    }
+}
