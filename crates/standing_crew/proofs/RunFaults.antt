@@ -1,5 +1,5 @@
 -- Why runs of a crew fail.
-use Rattle.std.proofs.Common.{◌≡◌, ◌⊎◌, inl, inr, sym, subst, List, map, Result, Ok, Err, IfErr}
+use Rattle.std.proofs.Common.{◌≡◌, ◌⊎◌, inl, inr, sym, subst, List, Result, Ok, Err, IfErr}
 use Rattle.crew.specs.Faults.{IsMemoryAtMost}
 use Rattle.crew.specs.declared.fault.CrewFault.{CrewFault}
 use Rattle.crew.specs.declared.fault.CrewFault.TheVariants.{Memory, NoThread, Lost, Misfit}

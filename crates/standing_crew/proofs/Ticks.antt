@@ -1,9 +1,8 @@
 -- Ticking off one run more, and what ticks say at the end.
 use Rattle.std.proofs.Common.{◌≡◌, ℕ, ◌+◌, ◌-◌, ◌<◌, ◌≤◌, Option, Some, None, Result, Ok, Err, IfOk, inl, inr, List, [], ◌∷◌, ◌++◌, length, slice_index_or, slice_set, Contains, Bool, true, false, sym, ◌∙◌, subst, arith, zero, suc, ⊎_elim, get_or-set_same, get_or-set_other, length-append, map, take, drop, ap, refl, replicate}
 use Rattle.std.proofs.lemmas.Bool.{cases_eq, cases_lt}
-use Rattle.std.proofs.lemmas.List.{get_or_default, get_or_append_left, get_or_push, get_or-map, get_or-append-add, get_or-append_right, take-map, length-set, length-map, length-replicate, length-take, map_more, map-append, take-append-drop}
+use Rattle.std.proofs.lemmas.List.{get_or_default, get_or_append_left, get_or_push, get_or-map, get_or-append-add, get_or-append_right, length-set, length-map, length-replicate, length-take, map_more, map-append, take-append-drop}
 use Rattle.std.proofs.lemmas.List.Elements.{Contains-append_left, Contains-append_right, Contains-append_cases}
-use Rattle.std.proofs.Math.Seq.{take-append_seam}
 use Rattle.crew.specs.Runs.{IsDistinct, IsEachOnce}
 use Rattle.crew.specs.declared.fault.CrewFault.{CrewFault}
 use Rattle.crew.specs.declared.fault.CrewFault.TheVariants.{Memory, NoThread, Lost, Misfit}

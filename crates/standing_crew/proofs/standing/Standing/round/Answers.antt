@@ -1,4 +1,4 @@
-use Rattle.std.proofs.Common.{◌≡◌, ◌++◌, IfOk, IfErr, map, sym, subst, arith}
+use Rattle.std.proofs.Common.{◌++◌, IfOk, IfErr, map, sym, subst, arith}
 use Rattle.std.proofs.lemmas.Grind.{common_steps}
 use Rattle.crew.specs.Runs.{IsDistinct, IsEachOnce}
 use Rattle.crew.proofs.Same.{distinct}
