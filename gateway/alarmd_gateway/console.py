@@ -2,6 +2,7 @@
 
 from __future__ import annotations
 
+import asyncio
 from collections.abc import AsyncIterator, Iterator
 
 from .changes import Change, ChangeKind, CutOff
@@ -76,6 +77,8 @@ class Console:
             await self._answer(waiting[0] if len(waiting) == 1 else 0, ask.word == "yes", None)
             return
         for line in self._told(ask):
+            while self._output.crowded:
+                await asyncio.sleep(0.01)
             self._output.put(line)
 
     async def _answer(self, number: int, yes: bool, console: int | None) -> None:

@@ -4,12 +4,16 @@ from __future__ import annotations
 
 import os
 import threading
+import time
 from collections import deque
 from collections.abc import Callable
 from typing import Final
 
 ROOM: Final = 4_194_304
 """Characters that may wait for the reader. What comes while there is no room is left out, and the reader is told how much."""
+
+ASLEEP_SECONDS: Final = 5.0
+"""A reader that has read nothing for so long isn't waited for."""
 
 
 class Output:
@@ -30,6 +34,7 @@ class Output:
         self._left_out = 0
         self._change = threading.Condition()
         self._ended = False
+        self._moved = time.monotonic()
         self.fault: OSError | None = None
         self._thread = threading.Thread(target=self._write, name="output", daemon=True)
         self._thread.start()
@@ -40,11 +45,20 @@ class Output:
             if self._size + len(line) > self._room:
                 self._left_out += 1
                 return
-            if self._left_out:
-                self._add(f"# {self._left_out} lines were left out: nobody read them")
-                self._left_out = 0
+            self._tell_left_out()
             self._add(line)
             self._change.notify_all()
+
+    @property
+    def crowded(self) -> bool:
+        """Whether half of the room is taken while the reader reads: who has many lines waits, so that none is left out."""
+        reads = time.monotonic() < self._moved + ASLEEP_SECONDS and self.fault is None
+        return reads and self._size > self._room // 2
+
+    def _tell_left_out(self) -> None:
+        if self._left_out:
+            self._add(f"# {self._left_out} lines were left out: nobody read them")
+            self._left_out = 0
 
     def _add(self, line: str) -> None:
         self._lines.append(line)
@@ -60,7 +74,7 @@ class Output:
                 text = "".join(f"{line}\n" for line in self._lines)
                 self._lines.clear()
             try:
-                _all(self._descriptor, text.encode("utf-8", "surrogateescape"))
+                self._all(text.encode("utf-8", "surrogateescape"))
             except OSError as fault:
                 self.fault = fault
                 self._broken()
@@ -68,14 +82,16 @@ class Output:
             with self._change:
                 self._size = sum(map(len, self._lines))
 
+    def _all(self, data: bytes) -> None:
+        self._moved = time.monotonic()
+        while data:
+            data = data[os.write(self._descriptor, data) :]
+            self._moved = time.monotonic()
+
     def close(self, seconds: float) -> None:
         """Waits until all is written, at most so long."""
         with self._change:
+            self._tell_left_out()
             self._ended = True
             self._change.notify_all()
         self._thread.join(seconds)
-
-
-def _all(descriptor: int, data: bytes) -> None:
-    while data:
-        data = data[os.write(descriptor, data) :]

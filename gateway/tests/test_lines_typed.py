@@ -13,6 +13,7 @@ from alarmd_gateway import commands, plant as plants, typed
 from alarmd_gateway.commands import Scan
 from alarmd_gateway.input import MOST, Lines
 from alarmd_gateway.model import BadSample, Order, Plant, Sample, Value, Verb
+from alarmd_gateway import output as outputs
 from alarmd_gateway.output import Output
 
 
@@ -180,6 +181,21 @@ def test_output_leaves_out_what_nobody_reads() -> None:
     assert lines[-2] == f"# {left_out} lines were left out: nobody read them"
     assert lines[:-2] == [line] * (5000 - left_out)
     os.close(reading)
+
+
+def test_nobody_waits_for_a_reader_that_sleeps(monkeypatch: pytest.MonkeyPatch) -> None:
+    monkeypatch.setattr(outputs, "ASLEEP_SECONDS", 100.0)
+    reading, writing = os.pipe()
+    output = Output(writing, room=1_000_000)
+    assert not output.crowded
+    for _ in range(6):
+        output.put("x" * 100_000)
+    assert output.crowded
+    monkeypatch.setattr(outputs, "ASLEEP_SECONDS", 0.0)
+    assert not output.crowded
+    os.close(reading)
+    output.close(60)
+    os.close(writing)
 
 
 def test_output_tells_what_keeps_it_from_writing() -> None:

@@ -155,6 +155,12 @@ def test_a_reader_that_does_not_read_is_no_fault(config: Path) -> None:
     os.close(reading)
 
 
+def test_a_long_answer_is_whole(config: Path) -> None:
+    status, out, _ = run(config, "help\n" * 13_000)  # some 5 MB, which is more than may wait
+    assert (status, len(out) % 13_000) == (0, 0)
+    assert out.count("# help") == 13_000
+
+
 def test_a_reader_that_has_gone(config: Path) -> None:
     reading, writing = os.pipe()
     gateway = Gateway(config, stdout=writing)
