@@ -119,7 +119,7 @@ def test_an_order_that_is_under_way_isnt_given_again(site: Served, page: Page) -
     site.do(lambda: setattr(core, "order", slow))
     page.choose("A1")
     page.keys("a", "a", "a")
-    until(lambda: "an order for it is under way" in page.text("#message"))
+    until(lambda: "this order is under way" in page.text("#message"))
     time.sleep(0.5)  # until the rows have been there for long enough
     page.keys("v")  # A5, A1 and A2, one after another
     until(lambda: len(core.orders) == 2)
@@ -462,7 +462,9 @@ def test_by_keyboard_alone(page: Page) -> None:
         tag = until(lambda: page.text("#remove .subject").split(" ")[0])
         page.keys("worn out", Keys.ENTER)
         until(lambda: core.orders[-1][0] == Order(Verb.REMOVE, 1, tag))
-        page.keys("3", "/", tag, Keys.ENTER, Keys.ARROW_DOWN, "t")
+        page.keys("3", "/", tag, Keys.ENTER, Keys.ARROW_DOWN)
+        until(lambda: page.rows("#all")[0] == (tag, "OOS"))
+        page.keys("t")
         until(lambda: core.orders[-1][0] == Order(Verb.RETURN, 1, tag))
         page.keys("?")
         until(lambda: "acknowledge the chosen alarm" in page.text("#help"))

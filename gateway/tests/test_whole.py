@@ -182,7 +182,7 @@ def test_a_question_at_the_start_is_answered_on_the_page(
     text = (plant / "plant.toml").read_text()
     (plant / "plant.toml").write_text(text.replace("2026-11-23", "2399-11-23"))
     with gateway(tmp_path / "served", alarmd, plant, users=True) as served:
-        served.give("level=200 running=TRUE")
+        served.give("level=200 running=TRUE flow=100")  # without a flow FAL-103 comes too
         page.open(served.url)
         page.login("anna")
         until(lambda: page.text("#troubles"))

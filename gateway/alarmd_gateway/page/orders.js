@@ -4,14 +4,17 @@ import { $, setText } from "./dom.js";
 import { post } from "./http.js";
 import { DONE } from "./words.js";
 
-// Targets of orders that are under way, until the answer is there and the change that it makes too.
+// Orders that are under way, by target, until the answer is there and the change that it makes too.
 const away = new Map();
 const SETTLES = 1000; // ms after an answer, in which its change comes
 
 export const isAway = (target) => away.has(target);
 
 function end(target) {
-  if (away.delete(target)) document.dispatchEvent(new Event("away"));
+  const order = away.get(target);
+  if (!away.delete(target)) return;
+  order.done();
+  document.dispatchEvent(new Event("away"));
 }
 
 // An alarm has changed: an order for it that was answered is done.
@@ -34,10 +37,14 @@ export function tell(words, bad = false) {
   if (words) until = setTimeout(() => tell(""), TOLD);
 }
 
-// Gives an order, and says what came of it: null where it was taken, else why it wasn't.
+// Gives an order, and says what came of it: null where it was taken, else why it wasn't. Another order for the same target goes first.
 async function give(verb, target, more) {
-  if (away.has(target)) return "an order for it is under way";
-  const order = { answered: false, changed: verb === "restart" };
+  while (away.has(target)) {
+    if (away.get(target).verb === verb) return "this order is under way";
+    await away.get(target).ended;
+  }
+  const order = { verb, answered: false, changed: verb === "restart" };
+  order.ended = new Promise((resolve) => { order.done = resolve; });
   away.set(target, order);
   document.dispatchEvent(new Event("away"));
   let why;
