@@ -115,11 +115,11 @@ def test_what_was_not_announced_is_asked_about_again(config: Config) -> None:
             await core.answer(first.number, True, 1)
             await until(lambda: core.questions and core.questions[0].number != first.number)
             second = await asked(core)
-            assert second.details[0] == "alarm LAH-101 (Tank level high): ACKED becomes UNACK"
+            assert second.details[0] == "alarm LAH-101 (Tank level high): ACKED becomes NORM"
             assert not Path(f"{config.record}.1").exists()
             await core.answer(second.number, True, 1)
             await until(lambda: core.state.events < 20)
-            assert core.state.by_tag["LAH-101"].code is Code.UNACK
+            assert core.state.by_tag["LAH-101"].code is Code.NORM  # its delay runs anew
 
     run(work())
 
