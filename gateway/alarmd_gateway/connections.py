@@ -3,6 +3,7 @@
 from __future__ import annotations
 
 import asyncio
+import logging
 import resource
 from collections import Counter
 from contextlib import suppress
@@ -16,6 +17,8 @@ IDLE = 75.0  # seconds that a connection may rest between two requests
 LONGEST_LINE = 8190  # bytes of a request's first line, or of a header
 
 
+QUIET = logging.getLogger("alarmd_gateway.http")  # what is no HTTP is answered, and no trouble
+QUIET.setLevel(logging.CRITICAL)
 HANDSHAKE = 10.0  # seconds in which TLS has to begin
 DESCRIPTORS = 65_536
 
@@ -68,6 +71,7 @@ class Connection(RequestHandler):
             max_line_size=LONGEST_LINE,
             max_field_size=LONGEST_LINE,
             access_log=None,  # type: ignore[arg-type]
+            logger=QUIET,
             auto_decompress=False,  # a small body stays small
         )
         self._limit = limit

@@ -13,6 +13,7 @@ from __future__ import annotations
 
 import asyncio
 import json
+import logging
 from contextlib import suppress
 from datetime import datetime, timezone
 
@@ -25,11 +26,13 @@ from .sessions import Session
 from .view import Texts, View
 
 LARGEST_FRAME = 4096  # bytes
+EXPECTED = (ConnectionError, asyncio.TimeoutError)  # a page that has gone, or doesn't read
 BEAT = 0.8  # seconds
 MOST_AT_ONCE = 500  # changes in a message
 ROOM = 60_000  # changes that may wait for a page: three of each alarm of the largest plant
 SLOWEST = 15.0  # seconds in which a message has to leave
 PING = 20.0  # seconds between two pings of the WebSocket's own
+log = logging.getLogger(__name__)
 
 
 class Live:
@@ -59,7 +62,9 @@ class Live:
         finally:
             for task in (reader, writer):
                 task.cancel()
-            await asyncio.gather(reader, writer, return_exceptions=True)
+            for ended in await asyncio.gather(reader, writer, return_exceptions=True):
+                if isinstance(ended, Exception) and not isinstance(ended, EXPECTED):
+                    log.error("a live connection has failed", exc_info=ended)
             self._open.discard(socket)
             with suppress(ConnectionError, asyncio.TimeoutError):
                 await asyncio.wait_for(socket.close(), 2)

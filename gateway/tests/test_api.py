@@ -412,7 +412,7 @@ def test_a_stuck_key_doesnt_fill_the_history(open_plant: Served) -> None:
     assert len(open_plant.core.orders) < 160
 
 
-def test_what_is_no_http(open_plant: Served) -> None:
+def test_what_is_no_http(open_plant: Served, caplog: pytest.LogCaptureFixture) -> None:
     for sent in (
         b"\x00" * 1000,
         b"GET / HTTP/9.9\r\n\r\n",
@@ -432,6 +432,7 @@ def test_what_is_no_http(open_plant: Served) -> None:
     assert client.ask("/api/session", headers={"X-Long": "x" * 9000}).status == 400
     client.enter()
     assert client.order("ack", "A1").json["taken"]
+    assert caplog.records == []
 
 
 def test_who_brings_no_request_is_closed(monkeypatch: pytest.MonkeyPatch) -> None:
