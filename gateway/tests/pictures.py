@@ -39,13 +39,14 @@ def tank(page: Page, served: Gateway) -> None:
     page.until_live()
     served.give("level=500 flow=100 temperature=600 running=TRUE additive=500")
     until(lambda: page.text("#scan-time") != "no scan yet")
-    for line in ("level=200", "additive=3000", "temperature=900", "temperature=600", "level=500"):
+    for line in ("level=200", "temperature=900", "temperature=600", "level=850"):
         served.give(line)
         time.sleep(1.2)
-    for line in ("level=850", "level=500", "level=850", "level=500", "level=850"):
+    for line in ("additive=3000", "additive=500", "additive=3000", "additive=500", "additive=3000"):
         served.give(line)
-        time.sleep(5.6 if line == "level=850" else 0.6)
-    until(lambda: ("TAHH-102", "LATUN") in page.rows() and ("LAH-101", "UNACK") in page.rows())
+        time.sleep(0.6)
+    wanted = {("TAHH-102", "LATUN"), ("LAH-101", "UNACK"), ("RAH-104", "UNACK")}
+    until(lambda: wanted <= set(page.rows()))
     page.choose("RAH-104")
     page.keys("a")
     until(lambda: ("RAH-104", "ACKED") in page.rows())

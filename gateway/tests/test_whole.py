@@ -11,6 +11,7 @@ import statistics
 import time
 from collections.abc import Iterator
 from pathlib import Path
+from typing import Any
 
 import pytest
 from browser_help import Keys, Page, browser, until
@@ -197,8 +198,11 @@ def test_a_question_at_the_start_is_answered_on_the_page(
 def test_a_new_record_is_confirmed_on_the_page(
     tmp_path: Path, alarmd: Path, examples: Path, page: Page
 ) -> None:
-    settings = "rotate_at = 30"
-    with gateway(tmp_path, alarmd, examples / "tank", users=True, settings=settings) as served:
+    more: dict[str, Any] = {
+        "period": 1000,
+        "settings": "rotate_at = 400",
+    }  # so that it isn't due by scans alone
+    with gateway(tmp_path, alarmd, examples / "tank", users=True, **more) as served:
         served.give(QUIET)
         enter(page, served)
         served.give("level=200")
@@ -207,6 +211,8 @@ def test_a_new_record_is_confirmed_on_the_page(
         until(lambda: page.rows()[0] == ("TAHH-102", "UNACK"))
         served.give("temperature=600")
         until(lambda: page.rows()[0] == ("TAHH-102", "LATUN"))  # no order makes it wait again
+        for _ in range(400):
+            served.give("ack 1 NONE")  # an event each
         until(lambda: "a new record is due" in page.text("#troubles"))
         page.click("#troubles [data-question]")
         until(lambda: "TAHH-102" in page.text("#confirm .subject"))
