@@ -89,6 +89,10 @@ def _light(old: State, new: State) -> Iterator[str]:
     for name, value in old.outputs.items():
         if new.outputs[name] != value:
             yield f"output {name}: {spelled(value)} becomes {spelled(new.outputs[name])}"
+    delayed = [row.tag for row in old.plant.alarms if row.on_delay_ms]
+    if delayed:
+        more = f" and {len(delayed) - 20} more" if len(delayed) > 20 else ""
+        yield f"on-delays run anew, those of {', '.join(delayed[:20])}{more}"
     if old.plant.programs:
         names = ", ".join(program.name for program in old.plant.programs.values())
         yield f"what the programs remember begins anew, also their timers and edges: {names}"

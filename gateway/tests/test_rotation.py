@@ -60,6 +60,7 @@ def test_a_new_record_carries_what_can_be_carried(config: Config) -> None:
                 "program dose has stopped (control.st, line 21), and runs again",
             )
             assert question.details[-1].endswith("timers and edges: fill, heat, dose, watch")
+            assert question.details[-2] == "on-delays run anew, those of LAH-101"
             events = core.state.events
             await until(lambda: core.state.events > events + 5)  # scans go on meanwhile
             assert not Path(f"{config.record}.1").exists()
