@@ -184,10 +184,11 @@ def test_what_is_not_there_is_a_line_and_no_end(
     process = run(tmp_path, alarmd, examples, text)
     try:
         assert process.stderr is not None
-        lines = [process.stderr.readline() for _ in range(3)]
-        assert all(line.startswith("SERVER ") for line in lines)
-        for name in ("fifo is lost", "broker is lost", "plc is lost"):
-            assert sum(name in line for line in lines) == 1
+        wanted = {"fifo is lost", "broker is lost", "plc is lost"}
+        while wanted:  # on a slow machine an input may be stale before
+            line = process.stderr.readline()
+            assert line.startswith("SERVER ")
+            wanted = {name for name in wanted if name not in line}
         assert process.poll() is None
         process.send_signal(signal.SIGTERM)
         assert process.wait(60) == 0

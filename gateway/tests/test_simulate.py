@@ -8,8 +8,11 @@ import pty
 import shutil
 import signal
 import subprocess
+import time
 from collections import Counter
+from collections.abc import Callable
 from pathlib import Path
+from unittest.mock import patch
 
 import pytest
 
@@ -20,33 +23,34 @@ from core_help import Served, by_core, by_record, config_of
 from field_help import until
 
 GATEWAY = Path(__file__).resolve().parents[1] / "gateway"
-HOUR = 3_600_000
+
+
+class Steps:
+    """A clock that goes on by a second with each scan, however fast the machine is."""
+
+    def __init__(self) -> None:
+        self.seconds = 0.0
+        self._begin = time.time()
+
+    def clocks(self, speed: int) -> tuple[Callable[[], float], Callable[[], float]]:
+        return lambda: self._begin + self.seconds, lambda: self.seconds
 
 
 class Simulated:
-    """A tank that is simulated, a hundred times as fast as time, or as the test says."""
+    """A tank that is simulated, by a clock of its own."""
 
     def __init__(
-        self,
-        alarmd: Path,
-        examples: Path,
-        folder: Path,
-        model: Path | None = None,
-        speed: int = 100,
+        self, alarmd: Path, examples: Path, folder: Path, model: Path | None = None
     ) -> None:
         tank = examples / "tank"
-        table = {"model": str(model or tank / "model" / "plant.toml")}
-        self.config = config_of(
-            alarmd,
-            tank / "plant.toml",
-            folder,
-            period_ms=max(1, 1000 // speed),
-            speed=speed,
-            tables={"simulate": table},
-        )
+        tables = {"simulate": {"model": str(model or tank / "model" / "plant.toml")}}
+        plant = tank / "plant.toml"
+        self.config = config_of(alarmd, plant, folder, period_ms=1, tables=tables)
+        self._steps = Steps()
 
     async def __aenter__(self) -> Simulated:
-        self.core = await Core.start(self.config)
+        with patch("alarmd_gateway.core.clocks", self._steps.clocks):
+            self.core = await Core.start(self.config)
         try:
             simulation = await attach(self.core, self.config)
             assert simulation is not None
@@ -55,8 +59,13 @@ class Simulated:
             served = Served(self.core)
             await served.close()
             raise
+        self.core.before_scan = self._step
         self._served = Served(self.core)
         return self
+
+    async def _step(self, moment: int) -> None:
+        await self.simulation.step(moment)
+        self._steps.seconds += 1
 
     async def __aexit__(self, *_: object) -> None:
         await self._served.close()
@@ -66,37 +75,29 @@ class Simulated:
         return self.core.state.by_tag[tag].code
 
 
-async def play(it: Simulated, milliseconds: int, seconds: float) -> Counter[str]:
+async def play(it: Simulated, seconds: int) -> Counter[str]:
     """Lets so much time of the plant pass, and counts the alarms that came."""
     await until(lambda: it.core.state.scanned)
-    end = it.core.state.moment + milliseconds
-    lowest, highest = 1000, 0
+    end = it.core.state.moment + 1000 * seconds
     while (moment := it.core.state.moment) < end:
-        await until(lambda: it.core.state.moment > moment, seconds)
-        level = int(it.core.state.inputs["level"])
-        lowest, highest = min(lowest, level), max(highest, level)
+        await until(lambda: it.core.state.moment > moment)
+        assert 297 <= int(it.core.state.inputs["level"]) <= 801
         assert not it.core.state.stopped and not list(it.core.troubles)
-    # a scan that is late by ten seconds of the plant lets the level run on by 70 mm, or by 120
-    assert 200 < lowest <= highest < 950
     rows = [row.words for row in it.core.journal.rows()]
     return Counter(words[1] for words in rows if words[0] == "ALARM" and words[3] == "UNACK")
 
 
-def assert_cycles(came: Counter[str], milliseconds: int) -> None:
-    """500 mm down by 7 mm a second and up by 12 are 113 seconds, with one low and one high level.
-    The high one is gone in two seconds, and its alarm waits five: it comes where scans are few."""
-    assert set(came) <= {"LAL-101", "LAH-101"}
-    cycles = milliseconds / 113_095
-    assert cycles * 0.8 - 2 <= came["LAL-101"] <= cycles * 1.1 + 2
-    assert came["LAH-101"] <= came["LAL-101"] + 1
+# Worked out by hand: 500 mm and 7 mm less each second are 297 mm after 29 seconds, and the pump starts; with 12 mm more each second 801 mm
+# come 42 seconds later, for a second, and the high level waits five. From there it is 72 seconds down and 42 up. So low levels begin at
+# 29 and each 114 seconds after that, and nothing else comes.
 
 
 @pytest.mark.server
 def test_a_quarter_of_an_hour_of_the_tank(alarmd: Path, examples: Path, tmp_path: Path) -> None:
     async def body() -> None:
-        async with Simulated(alarmd, examples, tmp_path, speed=200) as it:
-            came = await play(it, HOUR // 4, 120)
-        assert_cycles(came, HOUR // 4)
+        async with Simulated(alarmd, examples, tmp_path) as it:
+            came = await play(it, 900)
+        assert came == {"LAL-101": 8}  # the ninth at 941 s
         assert by_core(it.core) == by_record(it.config)
 
     asyncio.run(body())
@@ -106,9 +107,9 @@ def test_a_quarter_of_an_hour_of_the_tank(alarmd: Path, examples: Path, tmp_path
 @pytest.mark.long
 def test_a_day_of_the_tank(alarmd: Path, examples: Path, tmp_path: Path) -> None:
     async def body() -> None:
-        async with Simulated(alarmd, examples, tmp_path, speed=400) as it:
-            came = await play(it, 24 * HOUR, 1200)
-        assert_cycles(came, 24 * HOUR)
+        async with Simulated(alarmd, examples, tmp_path) as it:
+            came = await play(it, 24 * 3600)
+        assert came == {"LAL-101": 758}  # the last at 86,327 s, the next at 86,441 s
         assert by_core(it.core) == by_record(it.config)
 
     asyncio.run(body())
