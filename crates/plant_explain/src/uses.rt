@@ -58,24 +58,29 @@ impl<'a> Variables<'a> {
 
     /// Whether there is a variable of a name.
     pub fn has(&self, word: &str) -> bool {
-        self.names.find(word).is_some()
+        self.number(word).is_some()
     }
 
-    /// Notes a use of the variable of a name; whether there is one.
-    pub fn note(&mut self, word: &str, found: Use) -> bool {
-        let Some(number) = self.names.find(word) else {
-            return false;
-        };
+    /// The number of the variable of a name; `None` if there is none.
+    pub fn number(&self, word: &str) -> Option<usize> {
+        self.names.find(word)
+    }
+
+    /// Notes a use of the variable of a number.
+    pub fn note_at(&mut self, number: usize, found: Use) {
         if let Some(known) = self.uses.get_mut(number) {
             known.is_read = known.is_read || found.is_read;
             known.is_assigned = known.is_assigned || found.is_assigned;
         }
-        true
     }
 
-    /// What is done with the variable of a name; `None` if there is none.
-    pub fn found(&self, word: &str) -> Option<(Entry<'a>, Use)> {
-        self.at(self.names.find(word)?)
+    /// Notes a use of the variable of a name; whether there is one.
+    pub fn note(&mut self, word: &str, found: Use) -> bool {
+        let Some(number) = self.number(word) else {
+            return false;
+        };
+        self.note_at(number, found);
+        true
     }
 
     /// The variable of a number and what is done with it; `None` if there is none.

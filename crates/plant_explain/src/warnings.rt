@@ -126,14 +126,19 @@ impl<'s, 'a> Plant<'s, 'a> {
         }
     }
 
-    /// Goes through a source.
+    /// Goes through a source, until there are as many warnings as are told.
     fn go_through(&mut self, alloc: Global, source: &Source<'a>) -> Result<(), AllocError> {
         let tokens = source.tokens.as_slice();
         let mut section = None;
         for (number, token) in tokens.iter().enumerate() {
             section = section_after(section, token.kind);
-            let role = role_of(tokens, number, section.is_some());
-            self.take(alloc, word_at(source.text, tokens, number), role)?;
+            if matches!(token.kind, TokenKind::Word) {
+                let role = role_of(tokens, number, section.is_some());
+                self.take(alloc, word_at(source.text, tokens, number), role)?;
+            }
+            if self.warnings.len() >= MOST_WARNINGS {
+                return Ok(());
+            }
         }
         self.end_unit(alloc)
     }
@@ -163,11 +168,14 @@ impl<'s, 'a> Plant<'s, 'a> {
         mark: (usize, usize),
         is_condition: bool,
     ) -> Result<(), AllocError> {
-        let Some((entry, found)) = self.globals.found(word) else {
+        let Some(number) = self.globals.number(word) else {
             return Ok(());
         };
-        self.globals.note(
-            word,
+        let Some((entry, found)) = self.globals.at(number) else {
+            return Ok(());
+        };
+        self.globals.note_at(
+            number,
             Use {
                 is_read: true,
                 is_assigned: false,

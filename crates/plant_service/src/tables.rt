@@ -16,6 +16,9 @@ const COSTS: usize = 7;
 /// How wide the column of levels is.
 const LEVELS: usize = 5;
 
+/// How wide the column of the longest delays is.
+const DELAYS: usize = 10;
+
 /// The level of a program.
 fn level_of(plant: &Plant, levelled: &Levelled, program: u32) -> u32
     requires levels { AreLevelsOf plant.now.source levelled.now }
@@ -57,7 +60,44 @@ fn alarms_in(plant: &Plant, area: u32) -> u64 {
         .count() as u64
 }
 
-/// Adds the areas in the order of the plant file, each with how many alarms it has. Fails if allocation fails.
+/// Whether an alarm of the plant has an on-delay.
+fn has_delays(plant: &Plant) -> bool {
+    plant.alarm_rows().iter().any(|row| row.on_delay_ms > 0)
+}
+
+/// How many alarms of an area have an on-delay.
+fn delayed_in(plant: &Plant, area: u32) -> u64 {
+    plant
+        .alarm_rows()
+        .iter()
+        .filter(|row| row.area == area && row.on_delay_ms > 0)
+        .count() as u64
+}
+
+/// The longest on-delay of an area's alarms in milliseconds; 0 where none has one.
+fn longest_in(plant: &Plant, area: u32) -> u64 {
+    let mut longest = 0;
+    for row in plant.alarm_rows() {
+        if row.area == area {
+            longest = row.on_delay_ms.max(longest);
+        }
+    }
+    u64::from(longest)
+}
+
+/// Adds how many alarms of an area have an on-delay, and the longest of these. Fails if allocation fails.
+fn push_delays(
+    alloc: Global,
+    text: &mut String,
+    plant: &Plant,
+    area: u32,
+) -> Result<(), AllocError> {
+    push_number(alloc, text, delayed_in(plant, area), COSTS)?;
+    push_number(alloc, text, longest_in(plant, area), DELAYS)
+}
+
+/// Adds the areas in the order of the plant file, each with how many alarms it has; where an alarm of the plant has an on-delay, also with how many of them
+/// have one, and the longest. Fails if allocation fails.
 fn push_areas(
     alloc: Global,
     text: &mut String,
@@ -66,10 +106,18 @@ fn push_areas(
 ) -> Result<(), AllocError> {
     push_left(text, "area", width)?;
     push_right(text, "alarms", COSTS)?;
+    let has_delays = has_delays(plant);
+    if has_delays {
+        push_right(text, "delayed", COSTS)?;
+        push_right(text, "longest_ms", DELAYS)?;
+    }
     text.push_str("\n")?;
     for area in 0..plant.areas() {
         push_left(text, plant.area(area), width)?;
         push_number(alloc, text, alarms_in(plant, area), COSTS)?;
+        if has_delays {
+            push_delays(alloc, text, plant, area)?;
+        }
         text.push_str("\n")?;
     }
     Ok(())
@@ -124,7 +172,7 @@ fn tables(alloc: Global, plant: &Plant, levelled: &Levelled) -> Result<String, A
 }
 
 /// What there is in a plant, in three tables: each program with its cost and its level, in the order in which they run; each area with how many alarms it
-/// has, and each console with its areas, in the order of the plant file. It takes time in proportion to the plant. Fails if allocation fails.
+/// has, and with their on-delays where the plant has one, and each console with its areas, in the order of the plant file. It takes time in proportion to the plant. Fails if allocation fails.
 pub fn listing(alloc: Global, plant: &Plant) -> Result<String, AllocError> {
     let levelled = Levelled::of(alloc, plant.logic())?;
     let told = tables(alloc, plant, &levelled);
