@@ -34,7 +34,7 @@ TYPES = {
 class Pages:
     """The files of the page, read once."""
 
-    def __init__(self, folder: Path = FOLDER) -> None:
+    def __init__(self, folder: Path) -> None:
         self._files = {
             file.name: (file.read_bytes(), TYPES[file.suffix])
             for file in folder.iterdir()
@@ -63,6 +63,7 @@ class Web:
     """The web server as a part of the gateway."""
 
     asks = True
+    folder = FOLDER  # of the page
 
     def __init__(self, core: Core, config: WebConfig) -> None:
         consoles = tuple(row.number for row in core.plant.consoles)
@@ -83,7 +84,7 @@ class Web:
         more_descriptors()
         app = web.Application(middlewares=[self.guard.middleware], client_max_size=LARGEST_BODY)
         app.on_response_prepare.append(self.guard.headers)
-        pages = Pages()
+        pages = Pages(self.folder)
         app.add_routes(
             [
                 web.get("/", pages.handle),

@@ -8,7 +8,12 @@ from contextlib import contextmanager
 from typing import Any
 
 from selenium import webdriver
-from selenium.common.exceptions import StaleElementReferenceException
+from selenium.common.exceptions import (
+    ElementClickInterceptedException,
+    ElementNotInteractableException,
+    NoSuchElementException,
+    StaleElementReferenceException,
+)
 from selenium.webdriver.common.action_chains import ActionChains
 from selenium.webdriver.common.by import By
 from selenium.webdriver.common.keys import Keys
@@ -16,6 +21,12 @@ from selenium.webdriver.common.keys import Keys
 __all__ = ["Keys", "Page", "browser", "until"]
 
 PATIENCE = 180.0  # seconds
+AWAY = (
+    ElementClickInterceptedException,
+    ElementNotInteractableException,
+    NoSuchElementException,
+    StaleElementReferenceException,
+)
 WORDS = (
     "--headless=new",
     "--no-sandbox",
@@ -77,8 +88,17 @@ class Page:
 
     def click(self, css: str) -> None:
         """Clicks what can be seen and isn't disabled."""
-        until(lambda: self.run(ENABLED, css), f"{css} can be clicked")
-        self.driver.find_element(By.CSS_SELECTOR, css).click()
+
+        def clicked() -> bool:
+            if not self.run(ENABLED, css):
+                return False
+            try:
+                self.driver.find_element(By.CSS_SELECTOR, css).click()
+            except AWAY:  # it was drawn anew meanwhile
+                return False
+            return True
+
+        until(clicked, f"{css} can be clicked")
 
     def choose(self, tag: str, screen: str = "#alarms") -> None:
         """Clicks the row of an alarm."""

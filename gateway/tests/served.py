@@ -3,13 +3,18 @@
 from __future__ import annotations
 
 import asyncio
+import atexit
+import shutil
+import tempfile
 import threading
 from collections.abc import Callable, Coroutine, Iterator
 from contextlib import contextmanager
+from functools import cache
+from pathlib import Path
 from typing import Any, TypeVar
 
 from alarmd_gateway.users import Users
-from alarmd_gateway.web import Web
+from alarmd_gateway.web import FOLDER, Web
 from alarmd_gateway.web_config import WebConfig
 
 from fake_core import FakeCore
@@ -41,6 +46,19 @@ class Served:
         return self.run(work())
 
 
+@cache
+def patient_page() -> Path:
+    """The page, which hears nothing for a minute until it says so: a busy machine holds all up for seconds."""
+    folder = Path(tempfile.mkdtemp(prefix="page-"))
+    atexit.register(shutil.rmtree, folder, True)
+    shutil.copytree(FOLDER, folder, dirs_exist_ok=True)
+    live = folder / "live.js"
+    text = live.read_text()
+    assert "SILENCE = 2200;" in text
+    live.write_text(text.replace("SILENCE = 2200;", "SILENCE = 60000;"))
+    return folder
+
+
 @contextmanager
 def served(
     core: FakeCore | None = None, users: Users | None = None, port: int = 0, **more: Any
@@ -51,6 +69,7 @@ def served(
     thread.start()
     found = core or FakeCore()
     web = Web(found, WebConfig("127.0.0.1", port, users, more.pop("tls", None), **more))
+    web.folder = patient_page()
     made = Served(loop, found, web)
     try:
         made.run(web.start())

@@ -471,10 +471,14 @@ def test_by_keyboard_alone(page: Page) -> None:
         page.keys(Keys.ESCAPE, "1")
         site.do(lambda: core.stops("dose"))
         until(lambda: page.text("#troubles"))
-        page.keys("b", Keys.ENTER)
+        page.keys("b")
+        site.do(lambda: core.troubles.raises(TroubleKind.CLOCK, "", "the clock"))
+        until(lambda: "the clock" in page.text("#troubles"))  # drawn anew, and the focus stays
+        page.keys(Keys.ENTER)
         until(lambda: page.text("#confirm-title") == "Restart dose?")
         page.back()  # from Cancel, which has the focus at first
         page.keys(Keys.ENTER)
+        site.do(lambda: core.troubles.clear(TroubleKind.CLOCK, ""))
         until(lambda: page.text("#troubles") == "")
         assert core.orders[-1] == (Order(Verb.RESTART, 1, "dose"), "anna", None)
         # every screen can be reached and left, and nothing holds the focus

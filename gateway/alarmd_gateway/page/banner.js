@@ -14,6 +14,15 @@ export const isDead = (store) =>
   [...store.troubles.values()].some((trouble) => DEAD.has(trouble.kind)) ||
   [...store.questions.values()].some((question) => question.subject === "clock");
 
+// How the button that has the focus is found again, where one has it.
+function focusIn(box) {
+  const button = document.activeElement;
+  if (!box.contains(button)) return "";
+  if (button.dataset.restart) return `[data-restart="${CSS.escape(button.dataset.restart)}"]`;
+  if (button.dataset.question) return `[data-question="${button.dataset.question}"]`;
+  return ".all-troubles";
+}
+
 export class Banner {
   constructor(store) {
     this.store = store;
@@ -39,7 +48,9 @@ export class Banner {
       const words = this.whole ? "Fewer" : `${lines.length - MOST} more …`;
       shown.at(-1).append(el("button", { type: "button", class: "all-troubles", onclick: () => { this.whole = !this.whole; this.show(); } }, words));
     }
+    const focused = focusIn($("troubles"));
     $("troubles").replaceChildren(...shown);
+    if (focused) $("troubles").querySelector(focused)?.focus();
     $("troubles").hidden = lines.length === 0;
   }
 
