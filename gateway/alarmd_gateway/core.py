@@ -57,7 +57,7 @@ class Disturbances(Protocol):
 
 
 @dataclass
-class _Job:
+class Job:
     """An order that waits, and whoever waits for its reply."""
 
     order: Order
@@ -70,6 +70,8 @@ class Core:
     """The one owner of server, record, state and journal. `state` and `journal` are new objects after a new record or a new
     start of the server: don't keep them."""
 
+    leads = True  # whether it scans, takes samples and writes outputs; else another gateway does
+    look_seconds = LOOK_SECONDS
     disturbances: Disturbances | None = None  # of a simulation
     before_scan: Callable[[int], Awaitable[None]] | None = None  # told of its moment
     sampled: Callable[[str], None] | None = None  # told of each input of which a sample has come
@@ -83,17 +85,22 @@ class Core:
         self._link = link
         self._announcer = Announcer(link)
         self._questions = Questions(self._announcer.asked)
-        last = self.state.moment if self.state.scanned else None
-        self._clock = Clock(link.plant, last, config.gap_ms, *clocks(config.speed))
-        self._first = FirstMoment(self._clock, self._questions, link.troubles, config.yes)
-        self._renewal = Renewal(config, link, self._clock, self._questions)
+        self._begin()
         self._queue = SampleQueue()
-        self._jobs: deque[_Job] = deque()
+        self._jobs: deque[Job] = deque()
         self._wake = asyncio.Event()
         self._taken = asyncio.Event()
         self._closing = False
         self._draining = False
         self._due = 0.0
+
+    def _begin(self) -> None:
+        """The clock, and what goes by it, from the record's last scan on."""
+        config, link = self.config, self._link
+        last = self.state.moment if self.state.scanned else None
+        self._clock = Clock(link.plant, last, config.gap_ms, *clocks(config.speed))
+        self._first = FirstMoment(self._clock, self._questions, link.troubles, config.yes)
+        self._renewal = Renewal(config, link, self._clock, self._questions)
 
     @classmethod
     async def start(cls, config: Config) -> Core:
@@ -124,7 +131,7 @@ class Core:
         commands.check(order)
         if self._closing:
             raise ServerGone("the gateway ends", 1)
-        job = _Job(order, user, reason)
+        job = Job(order, user, reason)
         self._jobs.append(job)
         self._wake.set()
         return await job.reply
@@ -223,7 +230,7 @@ class Core:
         period = self.config.period_ms / 1000
         left = max(0.0, self._due - loop.time()) if self._may_scan() else period
         try:
-            await asyncio.wait_for(self._wake.wait(), min(left, period, LOOK_SECONDS))
+            await asyncio.wait_for(self._wake.wait(), min(left, period, self.look_seconds))
         except asyncio.TimeoutError:
             pass
 
@@ -255,7 +262,7 @@ class Core:
         self._announcer.scanned(answer[-1])
         self._taken.set()
 
-    async def _order(self, job: _Job) -> None:
+    async def _order(self, job: Job) -> None:
         try:
             answer, happened = await self._link.give(job.order, job.user, job.reason)
         except GatewayFault as fault:
@@ -267,7 +274,7 @@ class Core:
         self._taken.set()
 
 
-def _fail(job: _Job, fault: ServerGone) -> None:
+def _fail(job: Job, fault: ServerGone) -> None:
     """The order gets no reply."""
     if not job.reply.done():
         job.reply.set_exception(fault)

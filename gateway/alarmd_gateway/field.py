@@ -46,6 +46,9 @@ class Field:
             source.close()
 
     def _current(self) -> dict[str, Value]:
+        """The outputs that a source writes once it is reached: none where another gateway leads."""
+        if not self._core.leads:
+            return {}
         return dict(self._core.state.outputs)
 
     async def _watch_outputs(self) -> None:
@@ -69,6 +72,8 @@ class Field:
                 changes.close()
 
     def _put(self, name: str, value: Value) -> None:
+        if not self._core.leads:
+            return  # the leader writes outputs; all are written where this one leads
         for source in self._sources:
             source.put_output(name, value)
 

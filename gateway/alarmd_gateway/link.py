@@ -87,6 +87,12 @@ class Link:
         """Records a command, sends it, and gives its answer and what has happened by it. Raises GatewayFault where the record
         can't be written, ServerGone where the server ends again and again."""
         await self._log.append(Entry(command.line(), user, reason))
+        return await self.take(command, user, reason)
+
+    async def take(
+        self, command: Scan | Order, user: str | None = None, reason: str | None = None
+    ) -> tuple[list[str], list[Happening]]:
+        """The same for a command that is the last one of the record already."""
         try:
             taken = Taken(command, await self._server.ask(command.line()), user, reason)
         except ServerGone as gone:
@@ -140,10 +146,14 @@ class Link:
         """A new record with these commands takes the old one's place, and the server and the book that have them already those
         of the old one. Gives the name under which the old record is kept. Raises GatewayFault."""
         kept = await self._log.succeed(entries)
+        await self.replace(server, book)
+        return kept
+
+    async def replace(self, server: Server, book: Book) -> None:
+        """A server and a book that have another record already take the old ones' place."""
         old, self._server, self.book = self._server, server, book
         await old.close()
         self.anew()
-        return kept
 
     async def close(self) -> int:
         """Ends the server in order, and gives its status."""

@@ -22,7 +22,7 @@ from .model import GatewayFault, Plant
 from .plant import files
 
 _HEAD: Final = "# gateway record "
-_BY: Final = "# by "
+BY: Final = "# by "
 _OLD_HEAD: Final = "# plant "
 _NO_HELP: Final = (errno.ENOENT, errno.ENOTDIR, errno.EISDIR, errno.EACCES, errno.EROFS)
 """Faults of opening a record that another start doesn't help."""
@@ -73,18 +73,18 @@ def sums(plant: Plant) -> dict[str, str]:
     }
 
 
-def head(files: dict[str, str], follows: str | None = None) -> str:
-    """The first line of a record of a plant whose files have these sums. `follows` names the record before it."""
-    fields: dict[str, object] = {"files": files}
-    if follows is not None:
-        fields["follows"] = follows
+def head(files: dict[str, str], follows: str | None = None, log: str | None = None) -> str:
+    """The first line of a record of a plant whose files have these sums. `follows` names the record before it, `log` the shared
+    log of which it is a copy."""
+    known = {"files": files, "follows": follows, "log": log}
+    fields = {key: value for key, value in known.items() if value is not None}
     return f"{_HEAD}{json.dumps(fields)}"
 
 
 def _remark(entry: Entry) -> str:
     fields = {"user": entry.user, "reason": entry.reason}
     known = {key: value for key, value in fields.items() if value is not None}
-    return f"{_BY}{json.dumps(known)}\n" if known else ""
+    return f"{BY}{json.dumps(known)}\n" if known else ""
 
 
 def entries(lines: Iterator[bytes]) -> Iterator[Entry]:
@@ -94,8 +94,8 @@ def entries(lines: Iterator[bytes]) -> Iterator[Entry]:
         if not raw.endswith(b"\n"):
             return  # it was never sent
         line = raw[:-1].decode("utf-8", "surrogateescape")
-        if line.startswith(_BY):
-            by = _fields(line.removeprefix(_BY))
+        if line.startswith(BY):
+            by = _fields(line.removeprefix(BY))
         elif line and not line.startswith("#"):
             yield Entry(line, by.get("user"), by.get("reason")) if by else Entry(line)
             by = {}
@@ -137,10 +137,12 @@ def _compare(kept: dict[str, str], now: dict[str, str]) -> None:
 class FileRecord:
     """A record in a file that one gateway has at a time."""
 
-    def __init__(self, path: Path, plant: Plant) -> None:
-        """Opens the record, or begins it. A torn last line is cut off. Raises GatewayFault: status 2 where another gateway has
-        it or it is another plant's, 1 where it can't be read or written."""
+    def __init__(self, path: Path, plant: Plant, log: str | None = None) -> None:
+        """Opens the record, or begins it. A torn last line is cut off. `log` names the shared log of which it is a copy. Raises
+        GatewayFault: status 2 where another gateway has it or it is another plant's or log's, 1 where it can't be read or
+        written."""
         self.path = path
+        self._log = log
         self._plant = plant
         self._sums = sums(plant)
         self._thread = ThreadPoolExecutor(1, "record")
@@ -160,8 +162,10 @@ class FileRecord:
         first = self._file.readline().decode("utf-8", "replace").rstrip("\n")
         if first:
             judge_head(first, self._plant, self.path)
+            if _fields(first.removeprefix(_HEAD)).get("log") != self._log:
+                raise GatewayFault(f"{self.path} is no copy of this log: keep it elsewhere", 2)
         else:
-            _write(self._file, head(self._sums) + "\n")
+            _write(self._file, head(self._sums, log=self._log) + "\n")
             _sync_folder(self.path)
 
     def _fault(self, fault: OSError, status: int = 1) -> GatewayFault:
@@ -181,7 +185,11 @@ class FileRecord:
 
     async def append(self, entry: Entry) -> None:
         """Appends, flushes and waits for the disk, in a thread of its own: meanwhile displays are served."""
-        text = f"{_remark(entry)}{entry.line}\n"
+        await self.extend([entry])
+
+    async def extend(self, entries: Sequence[Entry]) -> None:
+        """Appends all of them, and waits for the disk once. Raises GatewayFault (status 1)."""
+        text = "".join(f"{_remark(entry)}{entry.line}\n" for entry in entries)
         loop = asyncio.get_running_loop()
         try:
             await loop.run_in_executor(self._thread, _write, self._file, text)
@@ -277,7 +285,7 @@ def _cut(file: IO[bytes]) -> None:
         end = begin
     whole = tail[: tail.rfind(b"\n") + 1]
     last = whole[whole[:-1].rfind(b"\n") + 1 :]
-    keep = end + len(whole) - (len(last) if last.startswith(_BY.encode()) else 0)
+    keep = end + len(whole) - (len(last) if last.startswith(BY.encode()) else 0)
     if keep < size:
         file.truncate(keep)
         os.fsync(file.fileno())

@@ -22,6 +22,7 @@ class TroubleKind(enum.Enum):
     HISTORY = "history"  # the history is nearly full, or full
     CLOCK = "clock"  # the time of day and the moments part
     RECORD = "record"  # what a new record couldn't carry
+    LOG = "log"  # the shared log isn't reached: nothing is taken, and what is shown may be old
     QUESTION = "question"  # the gateway waits for an answer: its subject is the question's number
 
 

@@ -7,7 +7,7 @@ import { order, tell } from "./orders.js";
 import { longTime, shortTime, TRAPS } from "./words.js";
 
 const MOST = 3; // troubles that are shown before somebody asks for all
-const DEAD = new Set(["server", "silence", "refused"]); // with one of these nothing that is shown is live
+const DEAD = new Set(["server", "silence", "refused", "log"]); // with one of these nothing that is shown is live
 
 // Whether no scan is taken, so that nothing that is shown is live.
 export const isDead = (store) =>
@@ -81,6 +81,7 @@ export class Banner {
 const KINDS = {
   server: "Server",
   silence: "Silence",
+  log: "Log",
   question: "Question",
   stopped: "Program stopped",
   refused: "Scan refused",
