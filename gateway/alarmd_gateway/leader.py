@@ -1,0 +1,98 @@
+"""Who leads: a lease of etcd's, and a key that lives as long as the lease of the gateway that made it.
+
+Nothing here decides whether a command is written: each transaction that writes one asks etcd for the key itself."""
+
+from __future__ import annotations
+
+import asyncio
+import uuid
+from dataclasses import dataclass
+
+from .etcd import (
+    GRANT,
+    KEEP,
+    REVOKE,
+    TXN,
+    Etcd,
+    EtcdRefused,
+    Kept,
+    NoEtcd,
+    absent,
+    put,
+    transaction,
+)
+
+BEATS = 3  # of the keeping alive, in the time of a lease
+
+
+@dataclass(frozen=True)
+class Leader:
+    """The gateway that leads: its name, the mark of its process, and the revision at which it began."""
+
+    name: str
+    mark: str
+    revision: int
+
+
+def leader_of(kept: list[Kept]) -> Leader | None:
+    """The leader by its key; None where nobody leads."""
+    if not kept:
+        return None
+    value = kept[0].value
+    return Leader(str(value.get("name")), str(value.get("mark")), kept[0].created)
+
+
+class Candidate:
+    """This gateway's lease. It is kept alive by `run`; where it was lost, another one takes its place."""
+
+    def __init__(self, etcd: Etcd, key: str, name: str, lease_seconds: int) -> None:
+        self.name = name
+        self.mark = uuid.uuid4().hex
+        self.lease: str | None = None
+        self._etcd = etcd
+        self._key = key
+        self._seconds = lease_seconds
+
+    async def run(self) -> None:
+        """Keeps the lease, for ever."""
+        while True:
+            await self.beat()
+            await asyncio.sleep(self._seconds / BEATS if self.lease else 0.2)
+
+    async def beat(self) -> None:
+        """Asks for a lease where there is none, else for its whole time anew."""
+        try:
+            if self.lease is None:
+                answer = await self._etcd.post(GRANT, {"TTL": str(self._seconds)})
+                self.lease = str(answer["ID"])
+                return
+            answer = await self._etcd.post(KEEP, {"ID": self.lease})
+            if int(answer.get("result", {}).get("TTL", "0")) <= 0:
+                self.lease = None
+        except EtcdRefused:
+            self.lease = None
+        except NoEtcd:
+            pass  # it may still be kept in time
+
+    async def stand(self) -> None:
+        """Leads from now on where nobody does. Whether it does is seen by the key."""
+        if self.lease is None:
+            return
+        value = {"name": self.name, "mark": self.mark}
+        words = transaction([absent(self._key)], [put(self._key, value, self.lease)])
+        try:
+            await self._etcd.post(TXN, words)
+        except EtcdRefused:
+            self.lease = None
+        except NoEtcd:
+            pass
+
+    async def resign(self) -> None:
+        """Gives the lease back, so that another one may lead at once."""
+        if self.lease is None:
+            return
+        try:
+            await self._etcd.post(REVOKE, {"ID": self.lease})
+        except (NoEtcd, EtcdRefused):
+            pass
+        self.lease = None

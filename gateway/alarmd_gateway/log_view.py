@@ -1,0 +1,96 @@
+"""What the log in etcd looks like: its keys, its end, its entries, and where a gateway has its copies of them."""
+
+from __future__ import annotations
+
+from dataclasses import dataclass
+from pathlib import Path
+
+from .etcd import Body, Kept
+from .leader import Leader
+from .record import BY, Entry
+
+
+@dataclass(frozen=True)
+class Marked:
+    """An entry of the log, with the mark that its writer gave it."""
+
+    entry: Entry
+    mark: str
+
+
+@dataclass(frozen=True)
+class Last:
+    """The number of the record, the log's own mark, how many entries it has, and the revision at which this was written."""
+
+    record: int
+    log: str
+    entries: int
+    revision: int
+
+
+@dataclass(frozen=True)
+class View:
+    """The log at one moment. `fresh` are entries after those that are known, `requests` orders that wait for the leader."""
+
+    last: Last
+    leader: Leader | None
+    requests: tuple[Marked, ...]
+    fresh: tuple[Marked, ...]
+
+
+class Keys:
+    """The keys of a log."""
+
+    def __init__(self, name: str) -> None:
+        self.prefix = f"/alarmd/{name}/"
+        self.last = f"{self.prefix}last"
+        self.leader = f"{self.prefix}leader"
+        self.files = f"{self.prefix}files"
+        self.requests = f"{self.prefix}request/"
+
+    def record(self, record: int) -> str:
+        """What the keys of a record's entries begin with."""
+        return f"{self.prefix}entry/{record:06}/"
+
+    def entry(self, record: int, number: int) -> str:
+        """The key of an entry, counted from 1."""
+        return f"{self.record(record)}{number:09}"
+
+
+def value_of(entry: Entry, mark: str) -> Body:
+    """An entry as its key has it."""
+    return {"line": entry.line, "user": entry.user, "reason": entry.reason, "mark": mark}
+
+
+def marked(kept: Kept) -> Marked:
+    """An entry by its key."""
+    value = kept.value
+    return Marked(Entry(value["line"], value["user"], value["reason"]), value["mark"])
+
+
+def last_by(kept: Kept) -> Last:
+    """The end of the log by its key."""
+    return Last(kept.value["record"], kept.value["log"], kept.value["entries"], kept.modified)
+
+
+def copy_path(record: Path, number: int) -> Path:
+    """Where the copy of a record of the log is kept."""
+    return record.with_name(f"{record.name}.{number}")
+
+
+def newest_copy(record: Path) -> Path:
+    """The copy of the newest record that this gateway has; the first where it has none."""
+    tails = (path.name.removeprefix(f"{record.name}.") for path in record.parent.glob("*"))
+    numbers = [int(tail) for tail in tails if tail.isascii() and tail.isdigit()]
+    return copy_path(record, max(numbers, default=1))
+
+
+def last_of(path: Path) -> tuple[int, str]:
+    """How many commands and remarks a record has that were appended, and the last of them, empty where there is none."""
+    count, last = 0, b""
+    with open(path, "rb", buffering=1 << 20) as file:
+        file.readline()
+        for line in file:
+            if not line.startswith(BY.encode()):
+                count, last = count + 1, line
+    return count, last[:-1].decode("utf-8", "surrogateescape")

@@ -1,0 +1,419 @@
+"""The shared log before an etcd in memory: who may append, what an answer that is lost leaves, copies, a new record."""
+
+from __future__ import annotations
+
+import asyncio
+import shutil
+from collections.abc import Awaitable, Callable
+from functools import partial
+from pathlib import Path
+
+import pytest
+from fake_etcd import FakeEtcd
+
+from alarmd_gateway import etcd_log
+from alarmd_gateway import plant as plants
+from alarmd_gateway.config import Config
+from alarmd_gateway.etcd import EtcdRefused, NoEtcd, after, coded, plain
+from alarmd_gateway.etcd_log import Deposed, EtcdLog
+from alarmd_gateway.leader import Candidate
+from alarmd_gateway.log_view import Keys, newest_copy
+from alarmd_gateway.model import GatewayFault, Plant
+from alarmd_gateway.record import Entry
+from alarmd_gateway.shared_config import shared_config
+
+
+class Side:
+    """A gateway's side of the log, without a server."""
+
+    def __init__(self, etcd: FakeEtcd, folder: Path, plant: Plant, name: str) -> None:
+        folder.mkdir(exist_ok=True)
+        keys = Keys("trial")
+        self.log = EtcdLog(etcd, keys, folder / "record", plant)
+        self.candidate = Candidate(etcd, keys.leader, name, 3)
+
+    async def look(self) -> bool:
+        """Takes what is new, and says whether this side leads then."""
+        view = await self.log.look()
+        for one in view.fresh:
+            await self.log.keep(one)
+        if not view.fresh and view.last.log != self.log.known.log:
+            await self.log.begin(view.last)
+        if view.leader is None:
+            await self.candidate.stand()
+            return False
+        return view.leader.mark == self.candidate.mark and self.log.lead(view.leader, view.last)
+
+    async def lead(self) -> None:
+        await self.candidate.beat()
+        for _ in range(9):
+            if await self.look():
+                return
+        raise AssertionError("it doesn't lead")
+
+    def lines(self) -> list[str]:
+        return [entry.line for entry in self.log.replay()]
+
+
+Sides = Callable[[str], Awaitable[Side]]
+
+
+@pytest.fixture
+def plant(tmp_path: Path, examples: Path) -> Plant:
+    shutil.copytree(examples / "tank", tmp_path / "plant")
+    return plants.read(tmp_path / "plant" / "plant.toml")
+
+
+def trial(work: Callable[[FakeEtcd, Sides], Awaitable[None]], folder: Path, plant: Plant) -> None:
+    """Runs a trial with sides that are open, and closed at its end."""
+
+    async def run() -> None:
+        etcd, made = FakeEtcd(), []
+
+        async def side(name: str) -> Side:
+            one = Side(etcd, folder / name, plant, name)
+            made.append(one)
+            await one.log.open()
+            return one
+
+        try:
+            await work(etcd, side)
+        finally:
+            for one in made:
+                one.log.close()
+
+    asyncio.run(run())
+
+
+def test_the_leader_appends_and_the_others_follow(tmp_path: Path, plant: Plant) -> None:
+    async def work(etcd: FakeEtcd, side: Sides) -> None:
+        a, b = await side("a"), await side("b")
+        with pytest.raises(Deposed):
+            await a.log.append(Entry("scan 0"))
+        await a.lead()
+        await a.log.append(Entry("scan 0 level=5"))
+        await a.log.append(Entry("ack 1 LAL-101", "anna", 'seen "ü"'))
+        await b.candidate.beat()
+        assert not await b.look() and not await b.look()
+        with pytest.raises(Deposed):
+            await b.log.append(Entry("scan 1"))
+        assert list(b.log.replay())[1] == Entry("ack 1 LAL-101", "anna", 'seen "ü"')
+        assert a.log.copy.path.read_bytes() == b.log.copy.path.read_bytes()
+
+    trial(work, tmp_path, plant)
+
+
+def test_a_leader_whose_lease_has_ended_writes_nothing(tmp_path: Path, plant: Plant) -> None:
+    async def work(etcd: FakeEtcd, side: Sides) -> None:
+        a, b = await side("a"), await side("b")
+        await a.lead()
+        await a.log.append(Entry("scan 0"))
+        assert a.candidate.lease is not None
+        etcd.end(a.candidate.lease)  # it sleeps, and knows nothing of it
+        with pytest.raises(Deposed) as alone:
+            await a.log.append(Entry("scan 1"))
+        await b.lead()
+        with pytest.raises(Deposed):
+            await a.log.append(Entry("scan 1"))
+        await b.log.append(Entry("scan 2"))
+        with pytest.raises(Deposed):
+            await a.log.append(Entry("scan 3"))
+        assert alone.value.sure and a.lines() == ["scan 0"]
+        assert not await a.look()
+        assert a.lines() == b.lines() == ["scan 0", "scan 2"]
+        await a.candidate.beat()
+        assert a.candidate.lease is None  # the next beat asks for another one
+
+    trial(work, tmp_path, plant)
+
+
+def test_one_that_leads_again_has_to_know_all_of_the_log(tmp_path: Path, plant: Plant) -> None:
+    async def work(etcd: FakeEtcd, side: Sides) -> None:
+        a, b = await side("a"), await side("b")
+        await a.lead()
+        view = await a.log.look()
+        await b.log.look()
+        await a.log.append(Entry("scan 0"))
+        assert view.leader is not None
+        assert not b.log.lead(view.leader, (await a.log.look()).last)
+
+    trial(work, tmp_path, plant)
+
+
+@pytest.mark.parametrize(("deaf", "dumb"), [(0, 1), (1, 0), (2, 0), (0, 2), (1, 1)])
+def test_an_answer_that_is_lost(tmp_path: Path, plant: Plant, deaf: int, dumb: int) -> None:
+    """It is tried again, and is in the log once."""
+
+    async def work(etcd: FakeEtcd, side: Sides) -> None:
+        a = await side("a")
+        await a.lead()
+        etcd.deaf, etcd.dumb = deaf, dumb
+        await a.log.append(Entry("ack 1 LAL-101"))
+        await a.log.append(Entry("scan 1"))
+        b = await side("b")
+        assert a.lines() == b.lines() == ["ack 1 LAL-101", "scan 1"]
+
+    trial(work, tmp_path, plant)
+
+
+@pytest.mark.parametrize("carried_out", [True, False])
+def test_no_answer_for_long(
+    tmp_path: Path, plant: Plant, monkeypatch: pytest.MonkeyPatch, carried_out: bool
+) -> None:
+    """The leader leads no more, and finds by the log whether its command is in it."""
+
+    async def work(etcd: FakeEtcd, side: Sides) -> None:
+        a = await side("a")
+        await a.lead()
+        etcd.dumb, etcd.deaf = (10**9, 0) if carried_out else (0, 10**9)
+        with pytest.raises(Deposed) as deposed:
+            await a.log.append_as("mark", Entry("scan 0"))
+        assert not deposed.value.sure
+        with pytest.raises(NoEtcd):
+            await a.log.look()
+        etcd.deaf = etcd.dumb = 0
+        with pytest.raises(Deposed):
+            await a.log.append(Entry("scan 1"))
+        view = await a.log.look()
+        assert [one.mark for one in view.fresh] == (["mark"] if carried_out else [])
+
+    monkeypatch.setattr(etcd_log, "PATIENCE", 0.0)
+    monkeypatch.setattr(etcd_log, "AGAIN", 0.0)
+    trial(work, tmp_path, plant)
+
+
+def test_a_command_that_comes_late(
+    tmp_path: Path, plant: Plant, monkeypatch: pytest.MonkeyPatch
+) -> None:
+    """What was sent without an answer arrives after another command, or after another leader: it is not written."""
+
+    async def work(etcd: FakeEtcd, side: Sides) -> None:
+        a, b = await side("a"), await side("b")
+        await a.lead()
+        etcd.late = 1
+        with pytest.raises(Deposed) as deposed:
+            await a.log.append(Entry("scan 7"))
+        assert not deposed.value.sure
+        await a.lead()
+        await a.log.append(Entry("scan 8"))
+        etcd.arrive()
+        etcd.late = 1
+        with pytest.raises(Deposed):
+            await a.log.append(Entry("scan 9"))
+        assert a.candidate.lease is not None
+        etcd.end(a.candidate.lease)
+        etcd.arrive()
+        await b.lead()
+        assert b.lines() == ["scan 8"]
+
+    monkeypatch.setattr(etcd_log, "PATIENCE", -1.0)
+    trial(work, tmp_path, plant)
+
+
+def test_a_command_that_comes_late_and_first(
+    tmp_path: Path, plant: Plant, monkeypatch: pytest.MonkeyPatch
+) -> None:
+    """It is in the log, and what the leader appends without knowing of it isn't."""
+
+    async def work(etcd: FakeEtcd, side: Sides) -> None:
+        a = await side("a")
+        await a.lead()
+        etcd.late = 1
+        with pytest.raises(Deposed):
+            await a.log.append(Entry("scan 7"))
+        assert await a.look()
+        etcd.arrive()
+        with pytest.raises(Deposed) as deposed:
+            await a.log.append(Entry("scan 8"))
+        assert deposed.value.sure
+        await a.lead()
+        assert a.lines() == ["scan 7"]
+
+    monkeypatch.setattr(etcd_log, "PATIENCE", -1.0)
+    trial(work, tmp_path, plant)
+
+
+def test_an_order_that_is_handed_on_is_taken_once(tmp_path: Path, plant: Plant) -> None:
+    async def work(etcd: FakeEtcd, side: Sides) -> None:
+        a, b = await side("a"), await side("b")
+        await a.lead()
+        await b.candidate.beat()
+        assert b.candidate.lease is not None
+        entry = Entry("ack 1 LAL-101", "bert", "why")
+        await b.log.request("m1", entry, b.candidate.lease)
+        (request,) = (await a.log.look()).requests
+        assert (request.mark, request.entry) == ("m1", entry)
+        await a.log.append_as("m1", entry, request=True)
+        with pytest.raises(Deposed):
+            await a.log.append_as("m1", entry, request=True)
+        assert (await a.log.look()).requests == ()
+        assert [one.mark for one in (await b.log.look()).fresh] == ["m1"]
+
+    trial(work, tmp_path, plant)
+
+
+def test_a_request_ends_with_its_lease(tmp_path: Path, plant: Plant) -> None:
+    async def work(etcd: FakeEtcd, side: Sides) -> None:
+        a, b = await side("a"), await side("b")
+        await a.lead()
+        await b.candidate.beat()
+        lease = b.candidate.lease
+        assert lease is not None
+        await b.log.request("m1", Entry("ack 1 LAL-101"), lease)
+        etcd.end(lease)
+        assert (await a.log.look()).requests == ()
+        with pytest.raises(EtcdRefused):
+            await b.log.request("m2", Entry("ack 1 LAL-101"), lease)
+        with pytest.raises(Deposed):
+            await a.log.append_as("m1", Entry("ack 1 LAL-101"), request=True)
+
+    trial(work, tmp_path, plant)
+
+
+def test_a_new_record(tmp_path: Path, plant: Plant) -> None:
+    async def work(etcd: FakeEtcd, side: Sides) -> None:
+        a, b = await side("a"), await side("b")
+        await a.lead()
+        for moment in range(3):
+            await a.log.append(Entry(f"scan {moment}"))
+        fresh = [Entry("# why"), *(Entry(f"remove 1 T{number}") for number in range(120))]
+        assert await a.log.succeed(fresh) == "record.1"
+        await a.log.append(Entry("scan 9"))
+        assert len(a.lines()) == 121
+        await b.look()
+        assert b.lines() == ["scan 0", "scan 1", "scan 2"]  # the old one is whole first
+        await b.look()
+        assert b.log.copy.path.name == "record.2" and b.lines() == a.lines()
+        assert (tmp_path / "b" / "record.1").read_bytes() == (
+            tmp_path / "a" / "record.1"
+        ).read_bytes()
+        assert await a.log.succeed([Entry("scan 10")]) == "record.2"
+        kept = {key.split(b"/")[4] for key in etcd.keys if b"/entry/" in key}
+        assert kept == {b"000002", b"000003"}
+        assert newest_copy(tmp_path / "a" / "record").name == "record.3"
+
+    trial(work, tmp_path, plant)
+
+
+def test_no_new_record_by_one_that_leads_no_more(tmp_path: Path, plant: Plant) -> None:
+    async def work(etcd: FakeEtcd, side: Sides) -> None:
+        a, b = await side("a"), await side("b")
+        await a.lead()
+        await a.log.append(Entry("scan 0"))
+        assert a.candidate.lease is not None
+        etcd.end(a.candidate.lease)
+        with pytest.raises(Deposed):
+            await a.log.succeed([Entry("scan 1")])
+        await b.lead()
+        assert b.log.known.record == 1
+
+    trial(work, tmp_path, plant)
+
+
+@pytest.mark.parametrize("lease_ends", [True, False])
+def test_no_new_record_over_what_came_meanwhile(
+    tmp_path: Path, plant: Plant, monkeypatch: pytest.MonkeyPatch, lease_ends: bool
+) -> None:
+    """The lease ends, or a command comes late, when the new record is written and only has to take the old one's place."""
+
+    async def work(etcd: FakeEtcd, side: Sides) -> None:
+        a, b = await side("a"), await side("b")
+        await a.lead()
+        etcd.late = 1
+        with pytest.raises(Deposed):
+            await a.log.append(Entry("scan 7"))
+        await a.lead()
+        lease = a.candidate.lease
+        assert lease is not None
+        if lease_ends:
+            etcd.before[3] = partial(etcd.end, lease)
+        else:
+            etcd.before[3] = etcd.arrive
+        with pytest.raises(Deposed):
+            await a.log.succeed([Entry("scan 8")])
+        await (b if lease_ends else a).lead()
+        await b.look()
+        assert b.log.known.record == 1 and b.lines() == ([] if lease_ends else ["scan 7"])
+
+    monkeypatch.setattr(etcd_log, "PATIENCE", -1.0)
+    trial(work, tmp_path, plant)
+
+
+def test_a_copy_goes_on(tmp_path: Path, plant: Plant) -> None:
+    """A gateway that was away reads what it lacks; one whose copy isn't of this log is refused."""
+
+    async def work(etcd: FakeEtcd, side: Sides) -> None:
+        a, b = await side("a"), await side("b")
+        await a.lead()
+        await a.log.append(Entry("scan 0", None, None))
+        await b.look()
+        b.log.close()
+        for moment in range(1, 1200):
+            await a.log.append(Entry(f"scan {moment}"))
+        again = await side("b")
+        assert again.log.copy.path.read_bytes() == a.log.copy.path.read_bytes()
+        again.log.close()
+        path = tmp_path / "b" / "record.1"
+        path.write_bytes(path.read_bytes() + b"scan 5000\n")
+        with pytest.raises(GatewayFault, match="what isn't in the log") as fault:
+            await side("b")
+        assert fault.value.status == 2
+        path.write_bytes(path.read_bytes().replace(b'"log": "', b'"log": "0'))
+        with pytest.raises(GatewayFault, match="no copy of this log"):
+            await side("b")
+
+    trial(work, tmp_path, plant)
+
+
+def test_another_plant_is_refused(tmp_path: Path, plant: Plant) -> None:
+    async def work(etcd: FakeEtcd, side: Sides) -> None:
+        await side("a")
+        path = tmp_path / "plant" / "alarms.csv"
+        path.write_text(path.read_text() + "\n")
+        with pytest.raises(GatewayFault, match="another plant: alarms.csv differs") as fault:
+            await side("b")
+        assert fault.value.status == 2
+
+    trial(work, tmp_path, plant)
+
+
+def test_who_stands_while_another_leads(tmp_path: Path, plant: Plant) -> None:
+    async def work(etcd: FakeEtcd, side: Sides) -> None:
+        a, b = await side("a"), await side("b")
+        await a.lead()
+        await b.candidate.beat()
+        await b.candidate.stand()
+        view = await b.log.look()
+        assert view.leader is not None and view.leader.name == "a"
+        await a.candidate.resign()
+        assert (await b.log.look()).leader is None
+        await b.lead()
+
+    trial(work, tmp_path, plant)
+
+
+def test_keys_and_values() -> None:
+    assert plain(coded("ü\udcff")) == "ü\udcff"
+    assert after("/alarmd/tank/request/") == "/alarmd/tank/request0"
+    assert Keys("tank").entry(1, 20) < Keys("tank").entry(1, 100) < Keys("tank").entry(2, 1)
+
+
+@pytest.mark.parametrize(
+    ("change", "words"),
+    [
+        ({"log": "a/b"}, "'log'"),
+        ({"gateway": ""}, "'gateway'"),
+        ({"endpoints": []}, "'endpoints'"),
+        ({"endpoints": ["https://x"]}, "'endpoints'"),
+        ({"lease_s": 1}, "'lease_s'"),
+        ({"more": 1}, "'more'"),
+    ],
+)
+def test_a_table_that_is_wrong(tmp_path: Path, change: dict[str, object], words: str) -> None:
+    table = {"endpoints": ["http://127.0.0.1:2379"], "log": "tank", "gateway": "a"}
+    good = Config(tmp_path, tmp_path, tmp_path, tmp_path, tables={"etcd": table})
+    assert shared_config(good).lease == 3
+    bad = Config(tmp_path, tmp_path, tmp_path, tmp_path, tables={"etcd": {**table, **change}})
+    with pytest.raises(GatewayFault, match=words) as fault:
+        shared_config(bad)
+    assert fault.value.status == 2
