@@ -55,7 +55,7 @@ async def serve(config: Config) -> None:
     loop = asyncio.get_running_loop()
     for number in (signal.SIGTERM, signal.SIGINT, signal.SIGHUP):
         loop.add_signal_handler(number, stop.set)
-    starting = asyncio.create_task(Core.start(config))
+    starting = asyncio.create_task(_core(config))
     if not await _first(starting, stop):  # the record is still played
         starting.cancel()
         await asyncio.gather(starting, return_exceptions=True)
@@ -65,6 +65,14 @@ async def serve(config: Config) -> None:
     output.close(2)
     if output.fault is not None:
         raise GatewayFault(f"standard output: {output.fault.strerror}", 1)
+
+
+async def _core(config: Config) -> Core:
+    """The core, of its own or with others; the second wants a library that the first doesn't."""
+    if "etcd" not in config.tables:
+        return await Core.start(config)
+    core: Core = await importlib.import_module(".shared", __package__).SharedCore.start(config)
+    return core
 
 
 async def _first(task: asyncio.Task[Core], stop: asyncio.Event) -> bool:

@@ -15,6 +15,7 @@ from . import plant as plants
 from .commands import spelled
 from .config import Config
 from .link import start_server
+from .log_view import newest_copy
 from .player import Book, play
 from .record import peek
 from .state import State, time_of
@@ -36,6 +37,8 @@ def main(words: list[str]) -> int:
     config = configs.read(given.config)
     if given.record is not None:
         config = dataclasses.replace(config, record=given.record)
+    elif "etcd" in config.tables:
+        config = dataclasses.replace(config, record=newest_copy(config.record))
     book = asyncio.run(played(config))
     if words[0] == "state":
         lines = iter([json.dumps(book.state.json())]) if given.json else told(book.state)

@@ -1,0 +1,45 @@
+"""Orders that may be found in the shared log, and those who wait for their answers."""
+
+from __future__ import annotations
+
+from .core import Job
+from .model import Reply, ServerGone
+
+UNKNOWN = "it isn't known whether the order was taken: the journal tells"
+
+
+class Away:
+    """Orders by the marks that their entries in the log have."""
+
+    def __init__(self) -> None:
+        self._jobs: dict[str, Job] = {}
+
+    def add(self, mark: str, job: Job) -> None:
+        """This order may be in the log from now on."""
+        self._jobs[mark] = job
+
+    def drop(self, mark: str) -> None:
+        """It is known that it isn't."""
+        del self._jobs[mark]
+
+    def answer(self, mark: str, answer: list[str]) -> None:
+        """Whoever gave the order of this mark here has the server's answer. Orders of others are passed over."""
+        job = self._jobs.pop(mark, None)
+        if job is not None and not job.reply.done():
+            job.reply.set_result(Reply(answer[0].partition(" ")[2], tuple(answer)))
+
+    def fail_one(self, mark: str, words: str) -> None:
+        """The order of this mark gets no reply."""
+        job = self._jobs.pop(mark, None)
+        if job is not None and not job.reply.done():
+            job.reply.set_exception(ServerGone(words, 1))
+            job.reply.exception()  # whoever asked may have gone
+
+    def fail(self) -> None:
+        """None of them gets a reply."""
+        for mark in tuple(self._jobs):
+            self.fail_one(mark, UNKNOWN)
+
+    def tidy(self) -> None:
+        """Those for which nobody waits any more are forgotten."""
+        self._jobs = {mark: job for mark, job in self._jobs.items() if not job.reply.done()}

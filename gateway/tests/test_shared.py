@@ -1,0 +1,197 @@
+"""Two gateways that share a log, with an etcd in memory and servers of their own: who leads, orders, samples, a new record."""
+
+from __future__ import annotations
+
+import asyncio
+import contextlib
+from collections.abc import Awaitable, Callable
+from pathlib import Path
+
+import pytest
+from around import config_for, plant_copy, until, without_programs
+from core_help import Served
+from fake_etcd import FakeEtcd
+
+from alarmd_gateway import shared
+from alarmd_gateway.model import Code, Order, Sample, ServerGone, Verb
+from alarmd_gateway.shared import SharedCore
+from alarmd_gateway.shared_config import SharedConfig
+from alarmd_gateway.troubles import TroubleKind
+
+pytestmark = pytest.mark.server
+
+PlantMaker = Callable[[Path], Path]
+
+
+class Pair:
+    """An etcd, and gateways around it."""
+
+    def __init__(self, alarmd: Path, folder: Path, plant: PlantMaker, **more: int | bool) -> None:
+        self.etcd = FakeEtcd()
+        self._alarmd, self._folder, self._plant, self._more = alarmd, folder, plant, more
+        self.served: list[Served] = []
+
+    async def join(self, name: str, **more: int | bool) -> SharedCore:
+        """A gateway of this name, which is at work."""
+        (self._folder / name).mkdir()
+        keys: dict[str, int | bool] = {**self._more, **more}
+        keys["yes"] = True
+        config = config_for(self._alarmd, self._plant(self._folder / name), **keys)
+        told = SharedConfig((), "trial", name, 3, 1.0)
+        core = await SharedCore.join(config, told, self.etcd)
+        self.served.append(Served(core))
+        return core
+
+    async def close(self) -> None:
+        for served in self.served:
+            with contextlib.suppress(ServerGone):
+                await served.close()
+
+
+def trial(pair: Pair, work: Callable[[Pair], Awaitable[None]]) -> None:
+    async def run() -> None:
+        try:
+            await asyncio.wait_for(work(pair), 400)
+        finally:
+            await pair.close()
+
+    asyncio.run(run())
+
+
+def tank(folder: Path) -> Path:
+    return plant_copy("tank", folder)
+
+
+async def give(core: SharedCore, **values: int | bool) -> None:
+    for name, value in values.items():
+        await core.offer(Sample(name, value, "test"))
+
+
+def same(one: SharedCore, other: SharedCore) -> bool:
+    """Whether both say the same, byte for byte."""
+    pairs = [(list(core.journal.lines()), core.state.json()) for core in (one, other)]
+    return pairs[0] == pairs[1]
+
+
+def told_of_log(core: SharedCore) -> bool:
+    return any(one.kind is TroubleKind.LOG for one in core.troubles)
+
+
+def test_one_leads_and_the_other_takes_over(alarmd: Path, tmp_path: Path) -> None:
+    async def work(pair: Pair) -> None:
+        a = await pair.join("a")
+        await until(lambda: a.leads, "a leads")
+        b = await pair.join("b")
+        await give(b, level=999)  # of this gateway's field: it doesn't lead
+        await give(a, running=True, level=250, flow=100)
+        await until(lambda: b.state.by_tag["LAL-101"].code is Code.UNACK, "the alarm, by the log")
+        assert not b.leads and b.snapshot().data["log"] == {
+            "gateway": "b",
+            "leads": False,
+            "leader": "a",
+            "record": 1,
+            "entries": b._log.known.entries,
+        }
+        reply = await b.order(Order(Verb.ACK, 1, "LAL-101"), "bert", "seen")
+        assert reply.code == "OK" and b.state.by_tag["LAL-101"].code is Code.ACKED
+        assert (await a.order(Order(Verb.ACK, 1, "LAL-101"))).code == "O3"
+        lease = a._candidate.lease
+        assert lease is not None
+        pair.etcd.end(lease)
+        await until(lambda: b.leads or a.leads and a._candidate.lease != lease, "one leads")
+        await until(lambda: a.leads != b.leads, "one leads, and the other doesn't")
+        reply = await a.order(Order(Verb.REMOVE, 1, "LAL-101"), "anna", "pump")
+        assert reply.code == "OK"
+        await pair.served[1 if b.leads else 0].close()
+        rest = a if b._closing else b
+        await until(lambda: rest.leads, "the other leads, as one has ended in order")
+        rows = [row.words for row in rest.journal.rows() if row.words[0] == "ORDER"]
+        assert [row[2] for row in rows] == ["ack", "ack", "remove"]
+
+    trial(Pair(alarmd, tmp_path, tank), work)
+
+
+def test_both_say_the_same(alarmd: Path, tmp_path: Path) -> None:
+    async def work(pair: Pair) -> None:
+        a, b = await pair.join("a"), await pair.join("b")
+        await until(lambda: a.leads != b.leads, "one leads")
+        for level in (250, 950, 500, 250):
+            for core in (a, b):
+                await give(core, running=True, level=level, flow=0)
+            await a.order(Order(Verb.ACK, 1, "LAL-101"), "anna", str(level))
+            await b.order(Order(Verb.SHELVE, 1, "FAL-103", 500), "bert", str(level))
+        await until(lambda: same(a, b), "both say the same")
+        late = await pair.join("c")
+        await until(lambda: same(a, late), "who comes late says the same")
+
+    trial(Pair(alarmd, tmp_path, tank), work)
+
+
+def test_who_takes_over_goes_on_from_there(alarmd: Path, tmp_path: Path) -> None:
+    """By the log's last moment, which is ahead of its own clock, and with its own last samples."""
+
+    async def work(pair: Pair) -> None:
+        a = await pair.join("a", speed=100_000)
+        await until(lambda: a.leads, "a leads")
+        b = await pair.join("b")
+        await give(b, level=400)
+        await give(a, running=True, level=500, flow=100)
+        began = 0
+
+        def ahead() -> bool:
+            nonlocal began
+            began = began or a.state.moment
+            return began > 0 and a.state.moment > began + 100_000_000
+
+        await until(ahead, "a clock that is a day ahead")
+        assert b.state.inputs["level"] != 400
+        await pair.served[0].close()
+        await until(lambda: b.leads, "b leads")
+        await until(lambda: b.state.inputs["level"] == 400, "its own sample")
+        events = b.state.events
+        await until(lambda: b.state.events > events + 2, "scans are taken")
+        assert not any(one.kind is TroubleKind.REFUSED for one in b.troubles)
+
+    trial(Pair(alarmd, tmp_path, tank), work)
+
+
+def test_no_answer_of_etcd(alarmd: Path, tmp_path: Path, monkeypatch: pytest.MonkeyPatch) -> None:
+    monkeypatch.setattr(shared, "ORDER", 1.0)
+    monkeypatch.setattr(shared, "SILENT", 0.5)
+
+    async def work(pair: Pair) -> None:
+        a = await pair.join("a")
+        await until(lambda: a.leads, "a leads")
+        await give(a, running=True, level=250, flow=100)
+        await until(lambda: a.state.scanned, "a scan")
+        pair.etcd.deaf = 10**9
+        await until(lambda: not a.leads, "it leads no more")
+        assert told_of_log(a)
+        events = a.state.events
+        with pytest.raises(ServerGone, match="wasn't taken"):
+            await a.order(Order(Verb.ACK, 1, "LAL-101"))
+        assert a.state.events == events
+        pair.etcd.deaf = 0
+        await until(lambda: a.leads, "it leads again")
+        await until(lambda: not told_of_log(a), "the trouble ends")
+        await until(lambda: a.state.events > events, "scans go on")
+
+    trial(Pair(alarmd, tmp_path, tank), work)
+
+
+def test_a_new_record_for_both(alarmd: Path, tmp_path: Path) -> None:
+    async def work(pair: Pair) -> None:
+        a, b = await pair.join("a"), await pair.join("b")
+        await until(lambda: a.leads != b.leads, "one leads")
+        leader = a if a.leads else b
+        await give(leader, a=5)
+        await until(lambda: leader.state.scanned, "a scan")
+        await a.order(Order(Verb.REMOVE, 1, "T1"), "anna", "mended")
+        records = [core._log for core in (a, b)]
+        await until(lambda: all(log.known.record > 1 for log in records), "a new record")
+        await until(lambda: same(a, b), "both say the same")
+        assert b.state.by_tag["T1"].code is Code.OOS and b.state.by_tag["T1"].reason == "mended"
+        first = [(tmp_path / name / "record.1").read_bytes() for name in "ab"]
+        assert first[0] == first[1]
+
+    trial(Pair(alarmd, tmp_path, without_programs, rotate_at=20), work)
