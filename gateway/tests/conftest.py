@@ -1,4 +1,4 @@
-"""What all tests share: the built alarmd, the examples, and the option --long."""
+"""What all tests share: the built alarmd, the examples, and the options --long, --faults and --rounds."""
 
 from __future__ import annotations
 
@@ -12,14 +12,16 @@ ROOT = Path(__file__).resolve().parents[2]
 
 def pytest_addoption(parser: pytest.Parser) -> None:
     parser.addoption("--long", action="store_true", help="runs the long trials too")
+    parser.addoption("--faults", action="store_true", help="runs the faults of a shared log too")
+    parser.addoption("--rounds", default=1, type=int, help="how often each fault is tried")
 
 
 def pytest_collection_modifyitems(config: pytest.Config, items: list[pytest.Item]) -> None:
-    if config.getoption("--long"):
-        return
     for item in items:
-        if "long" in item.keywords:
+        if "long" in item.keywords and not config.getoption("--long"):
             item.add_marker(pytest.mark.skip(reason="a long trial: runs with --long"))
+        if "etcd" in item.keywords and not config.getoption("--faults"):
+            item.add_marker(pytest.mark.skip(reason="wants etcd: runs with --faults"))
 
 
 @pytest.fixture(scope="session")

@@ -48,6 +48,7 @@ class Client:
         self.host = urlsplit(url).netloc
         self.cookie = ""
         self.token = ""
+        self.patience = PATIENCE
 
     def ask(
         self,
@@ -57,7 +58,7 @@ class Client:
         method: str | None = None,
     ) -> Answer:
         """A request as it is given, with the cookie."""
-        connection = http.client.HTTPConnection(self.host, timeout=PATIENCE)
+        connection = http.client.HTTPConnection(self.host, timeout=self.patience)
         sent = {**({"Cookie": self.cookie} if self.cookie else {}), **headers}
         try:
             connection.request(method or ("GET" if body is None else "POST"), path, body, sent)

@@ -10,7 +10,7 @@ import sys
 import threading
 import time
 from collections.abc import Callable, Iterator
-from contextlib import contextmanager
+from contextlib import contextmanager, suppress
 from pathlib import Path
 
 from http_help import two_users
@@ -97,6 +97,10 @@ class Gateway:
             time.sleep(0.01)
 
     @property
+    def started(self) -> bool:
+        return self._process is not None
+
+    @property
     def process(self) -> subprocess.Popen[str]:
         assert self._process is not None
         return self._process
@@ -139,7 +143,8 @@ class Gateway:
             status = self.process.wait()
         for stream in (self.process.stdin, self.process.stderr):
             if stream is not None:
-                stream.close()
+                with suppress(OSError):  # a line that nobody took
+                    stream.close()
         return status
 
 

@@ -1,0 +1,129 @@
+"""What clients saw of a cluster, and whether one server could have given it.
+
+The journal is the one order of all commands. So a history is right where each order that was answered is in it once, with its
+answer, where none is in it twice, and where of two orders the one that was answered before the other was given stands first."""
+
+from __future__ import annotations
+
+import http.client
+import random
+import threading
+import time
+from collections.abc import Sequence
+from dataclasses import dataclass
+from typing import Any
+
+from cluster import Cluster
+from http_help import Client
+
+ENDLESS = float("inf")
+NOT_ANSWERED = (OSError, ValueError, http.client.HTTPException)
+TAGS = ("LAH-101", "LAL-101", "FAL-103", "RAH-104")
+
+
+@dataclass
+class Given:
+    """An order: its mark (the reason), when it was given and answered, and the reply; None where none came, and `-` where it
+    was told that the order wasn't taken."""
+
+    mark: str
+    begin: float
+    end: float = ENDLESS
+    reply: str | None = None
+
+
+def faults(history: Sequence[Given], rows: Sequence[dict[str, Any]]) -> list[str]:
+    """What is wrong with a history, by the rows of orders in the journal."""
+    wrong: list[str] = []
+    by_mark: dict[str, list[dict[str, Any]]] = {}
+    for row in rows:
+        by_mark.setdefault(str(row["reason"]), []).append(row)
+    known = {given.mark: given for given in history}
+    for given in history:
+        found = by_mark.get(given.mark, [])
+        if len(found) > 1:
+            wrong.append(f"{given.mark} was taken {len(found)} times")
+        elif given.reply == "-" and found:
+            wrong.append(f"{given.mark} was taken, and answered as not taken")
+        elif given.reply not in (None, "-") and [row["reply"] for row in found] != [given.reply]:
+            wrong.append(f"{given.mark} was answered {given.reply}, and the journal has {found}")
+    latest = 0.0
+    for row in rows:
+        one = known.get(str(row["reason"]))
+        if one is None:
+            wrong.append(f"nobody gave {row}")
+            continue
+        if one.end < latest:
+            wrong.append(f"{one.mark} stands after an order that was given when it was answered")
+        latest = max(latest, one.begin)
+    return wrong
+
+
+class Load:
+    """Samples to all gateways, and to each of them orders of a client of its own, until `close`."""
+
+    def __init__(self, cluster: Cluster, seed: int) -> None:
+        self.history: list[Given] = []
+        self._cluster = cluster
+        self._ended = False
+        works = [threading.Thread(target=self._sample, args=(random.Random(seed),))]
+        for number, name in enumerate(cluster.gateways):
+            chance = random.Random(seed * 10 + number)
+            works.append(threading.Thread(target=self._order, args=(name, chance)))
+        self._threads = works
+        for work in works:
+            work.start()
+
+    def answered(self) -> int:
+        """How many orders have been answered."""
+        return sum(given.reply not in (None, "-") for given in tuple(self.history))
+
+    def _sample(self, chance: random.Random) -> None:
+        while not self._ended:
+            level, flow = chance.choice((100, 250, 500, 950)), chance.choice((0, 100))
+            for gateway in self._cluster.gateways.values():
+                try:
+                    gateway.give(f"running=TRUE level={level} flow={flow}")
+                except (OSError, ValueError):
+                    pass  # it was killed
+            time.sleep(0.3)
+
+    def _order(self, name: str, chance: random.Random) -> None:
+        client: Client | None = None
+        number = 0
+        while not self._ended:
+            time.sleep(chance.uniform(0.05, 0.4))
+            try:
+                if client is None:
+                    client = Client(self._cluster.gateways[name].url)
+                    client.patience = 30.0
+                    if client.enter().status != 200:
+                        raise OSError
+            except NOT_ANSWERED:
+                client = None
+                continue
+            number += 1
+            if not self._give(client, f"{name}-{number}", chance):
+                client = None
+
+    def _give(self, client: Client, mark: str, chance: random.Random) -> bool:
+        """Gives one order; says whether the session goes on."""
+        word = chance.choice(("ack", "ack", "shelve", "unshelve", "remove", "return", "reset"))
+        more = {"milliseconds": 2000} if word == "shelve" else {}
+        given = Given(mark, time.monotonic())
+        self.history.append(given)
+        try:
+            answer = client.order(word, chance.choice(TAGS), reason=mark, console=1, **more)
+            found = answer.json
+        except NOT_ANSWERED:
+            return False
+        if answer.status == 200:
+            given.reply, given.end = str(found["reply"]), time.monotonic()
+        elif answer.status != 503 or "wasn't taken" in str(found):
+            given.reply = "-"
+        return answer.status in (200, 503)
+
+    def close(self) -> None:
+        self._ended = True
+        for thread in self._threads:
+            thread.join()
