@@ -204,7 +204,7 @@ def orders(cluster: Cluster) -> list[dict[str, Any]]:
     return rows
 
 
-def copies_agree(cluster: Cluster, alarmd: Path) -> int:
+def copies_agree(cluster: Cluster, alarmd: Path, rows: list[dict[str, Any]]) -> int:
     """The copies of the log are the same bytes, as far as each goes, and a fresh server has the same orders by them. Gives how
     many commands there are."""
     records = [gateway.folder / "record.1" for gateway in cluster.gateways.values()]
@@ -213,7 +213,8 @@ def copies_agree(cluster: Cluster, alarmd: Path) -> int:
     assert len(texts[-1].splitlines()) - len(texts[0].splitlines()) < 50
     longest = next(path for path in records if path.read_bytes() == texts[-1])
     listed = by_the_record(alarmd, longest.parent / "plant" / "plant.toml", longest)
-    assert listed[-1].startswith("END ")
+    replies = [line.rpartition(" ")[2] for line in listed if " ORDER " in line]
+    assert replies == [row["reply"] for row in rows]
     return sum(not line.startswith(b"#") for line in texts[-1].splitlines())
 
 
@@ -253,13 +254,14 @@ def test_faults(cluster: Cluster, alarmd: Path, pytestconfig: pytest.Config) -> 
     finally:
         load.close()
     same(cluster)
-    wrong = faults(load.history, orders(cluster))
+    rows = orders(cluster)
+    wrong = faults(load.history, rows)
     for name, times in trial.times.items():
         print(f"{name}: after {', '.join(f'{seconds:.1f}' for seconds in sorted(times))} s")
     print(f"{len(load.history)} orders, {load.answered()} answered; wrong: {wrong}")
     for gateway in cluster.gateways.values():
         assert gateway.end() == 0
-    print(f"{copies_agree(cluster, alarmd)} commands in the log")
+    print(f"{copies_agree(cluster, alarmd, rows)} commands in the log")
     assert not wrong
     late = [
         (name, one) for name, times in trial.times.items() for one in times if one > LEADS_AFTER
