@@ -14,7 +14,7 @@ from fake_etcd import FakeEtcd
 from alarmd_gateway import etcd_log
 from alarmd_gateway import plant as plants
 from alarmd_gateway.config import Config
-from alarmd_gateway.etcd import EtcdRefused, NoEtcd, after, coded, plain
+from alarmd_gateway.etcd import Etcd, EtcdRefused, NoEtcd, after, coded, plain
 from alarmd_gateway.etcd_log import Deposed, EtcdLog
 from alarmd_gateway.leader import Candidate
 from alarmd_gateway.log_view import Keys, newest_copy
@@ -26,7 +26,7 @@ from alarmd_gateway.shared_config import shared_config
 class Side:
     """A gateway's side of the log, without a server."""
 
-    def __init__(self, etcd: FakeEtcd, folder: Path, plant: Plant, name: str) -> None:
+    def __init__(self, etcd: Etcd, folder: Path, plant: Plant, name: str) -> None:
         folder.mkdir(exist_ok=True)
         keys = Keys("trial")
         self.log = EtcdLog(etcd, keys, folder / "record", plant)

@@ -4,6 +4,7 @@ Runs with `--faults` alone, and wants etcd (`gateway/setup --etcd`). `--rounds N
 
 from __future__ import annotations
 
+import asyncio
 import json
 import random
 import shutil
@@ -18,7 +19,13 @@ import pytest
 from cluster import LIMIT, Cluster, wait
 from history import Load, faults
 from http_help import Client
+from test_etcd_log import Side
 from test_kills import by_the_record
+
+from alarmd_gateway import plant as plants
+from alarmd_gateway.etcd_http import HttpEtcd
+from alarmd_gateway.etcd_log import Deposed
+from alarmd_gateway.record import Entry
 
 pytestmark = [pytest.mark.server, pytest.mark.etcd]
 
@@ -267,3 +274,42 @@ def test_faults(cluster: Cluster, alarmd: Path, pytestconfig: pytest.Config) -> 
         (name, one) for name, times in trial.times.items() for one in times if one > LEADS_AFTER
     ]
     assert not [pair for pair in late if pair[0].startswith("leader")], late
+
+
+def test_a_leader_that_slept_appends_nothing(alarmd: Path, examples: Path, tmp_path: Path) -> None:
+    """Its next command comes before it has looked at the log: etcd itself refuses it."""
+    if shutil.which("etcd") is None:
+        pytest.skip("no etcd: gateway/setup --etcd")
+    found = Cluster(tmp_path, alarmd, examples / "tank", 0)
+
+    async def work() -> None:
+        etcd = HttpEtcd([f"http://127.0.0.1:{node.client}" for node in found.nodes], 5.0)
+        plant = plants.read(examples / "tank" / "plant.toml")
+        a, b = (Side(etcd, tmp_path / name, plant, name) for name in "ab")
+        for side in (a, b):
+            await side.log.open()
+        await a.lead()
+        await a.log.append(Entry("scan 0"))
+        end = time.monotonic() + LIMIT
+        while not (b.candidate.lease and await b.look()):  # nobody keeps the lease of a
+            assert time.monotonic() < end
+            await b.candidate.beat()
+        with pytest.raises(Deposed):
+            await a.log.append(Entry("scan 1"))
+        await b.log.append(Entry("scan 2"))
+        with pytest.raises(Deposed):
+            await a.log.append(Entry("scan 3"))
+        await a.look()
+        assert a.lines() == b.lines() == ["scan 0", "scan 2"]
+        for side in (a, b):
+            side.log.close()
+        await etcd.close()
+
+    try:
+        for node in found.nodes:
+            node.start()
+        for node in found.nodes:
+            wait(node.healthy, "etcd doesn't start")
+        asyncio.run(work())
+    finally:
+        found.close()
