@@ -1,19 +1,29 @@
 //! Programs with blocks, made ready and run over cells (`plant_walk`), and each limit that a source may be past.
 
-ghost use Rattle.std.specs.Prelude.{◌<◌, length};
+ghost use Rattle.std.specs.Prelude.{◌≡◌, ◌<◌, length};
+ghost use Rattle.plant_logic.specs.Units.{source_in};
 
 use plant_cells::Cells;
 use plant_limits::LimitFault;
-use plant_walk::{Framed, Stack, Walked, run_counted, standing_cells_are_there, walk};
+use plant_walk::{Framed, Stack, Walked, run_counted, standing_cells_are_there};
 use row_text::Page;
+use source_walks::Walker;
 use st_typing::Typed;
 use std::alloc::{AllocError, Global};
 
 /// Adds how a program ends that runs at a moment: the path, the statement's number as many points, and the trap.
-fn push_run(alloc: Global, page: &mut Page, framed: &Framed, cells: &mut Cells, moment: u64)
-    requires { 0 < length framed.now.programs }
+fn push_run(
+    alloc: Global,
+    page: &mut Page,
+    framed: &Framed,
+    walker: &Walker,
+    cells: &mut Cells,
+    moment: u64,
+)
+    requires same { walker.now ≡ framed.now }
+    requires there { 0 < length framed.now.programs }
 {
-    match walk(framed, 0, cells, moment) {
+    match walker.walk(0, cells, moment) {
         Walked::Done => page.add(" done"),
         Walked::Trapped(place, trap) => {
             page.add(" ");
@@ -31,24 +41,28 @@ fn push_run(alloc: Global, page: &mut Page, framed: &Framed, cells: &mut Cells, 
 }
 
 /// Adds how the first program ends at the moments 0 and 5 with its global `go` set, and what the second global is then.
-fn push_ends(alloc: Global, page: &mut Page, framed: &Framed, cells: &mut Cells) {
+fn push_ends(alloc: Global, page: &mut Page, framed: &Framed, walker: &Walker, cells: &mut Cells)
+    requires { walker.now ≡ framed.now }
+{
     if framed.programs().is_empty() || cells.is_empty() || framed.find_global("GO") != Some(0) {
         return page.word("?");
     }
     cells.set(0, 1);
-    push_run(alloc, page, framed, cells, 0);
-    push_run(alloc, page, framed, cells, 5);
+    push_run(alloc, page, framed, walker, cells, 0);
+    push_run(alloc, page, framed, walker, cells, 5);
     let second = cells.as_slice().get(1).copied().unwrap_or(0);
     page.number(i128::from(second));
 }
 
 /// Adds the globals by name, and then what its first program does to its cells.
-fn push_walked(alloc: Global, page: &mut Page, framed: &Framed) {
+fn push_walked(alloc: Global, page: &mut Page, framed: &Framed, walker: &Walker)
+    requires { walker.now ≡ framed.now }
+{
     for global in framed.globals() {
         page.word(global.name.as_str());
     }
     match framed.opening(alloc) {
-        Ok(mut cells) => push_ends(alloc, page, framed, &mut cells),
+        Ok(mut cells) => push_ends(alloc, page, framed, walker, &mut cells),
         Err(_) => page.refuse(),
     }
 }
@@ -80,10 +94,25 @@ fn push_counted(alloc: Global, page: &mut Page, framed: &Framed) {
     }
 }
 
+/// Adds the globals of sources by name, and then what a walk of their first program does to their cells.
+fn push_walk(alloc: Global, page: &mut Page, typed: &Typed<'_>, framed: &Framed)
+    requires { framed.now ≡ source_in typed.now }
+{
+    match Walker::of(alloc, typed) {
+        Ok(walker) => {
+            push_walked(alloc, page, framed, &walker);
+            drop(walker);
+        }
+        Err(_) => page.refuse(),
+    }
+}
+
 /// Adds what the row's word asks of sources that are made ready to run.
-fn push_framed(alloc: Global, page: &mut Page, word: &str, framed: &Framed) {
+fn push_framed(alloc: Global, page: &mut Page, word: &str, typed: &Typed<'_>, framed: &Framed)
+    requires { framed.now ≡ source_in typed.now }
+{
     match word {
-        "walk" => push_walked(alloc, page, framed),
+        "walk" => push_walk(alloc, page, typed, framed),
         "count" => push_counted(alloc, page, framed),
         _ => page.add("-"),
     }
@@ -93,7 +122,7 @@ fn push_framed(alloc: Global, page: &mut Page, word: &str, framed: &Framed) {
 pub fn push_judged(alloc: Global, page: &mut Page, word: &str, typed: &Typed<'_>) {
     match Framed::of(alloc, typed) {
         Ok(framed) => {
-            push_framed(alloc, page, word, &framed);
+            push_framed(alloc, page, word, typed, &framed);
             drop(framed);
         }
         Err(LimitFault::Memory) => page.refuse(),

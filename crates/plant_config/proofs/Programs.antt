@@ -1,11 +1,12 @@
 -- Programs, by their numbers and names.
-use Rattle.std.proofs.Common.{◌≡◌, ◌∙◌, ap, subst, arith, refl, ℕ, zero, suc, ◌<◌, Bool, List, [], ◌∷◌, length, map, get_or}
+use Rattle.std.proofs.Common.{◌≡◌, ◌∙◌, ap, sym, arith, refl, ℕ, zero, suc, ◌<◌, Bool, List, [], ◌∷◌, length, map, get_or}
 use Rattle.std.specs.Prelude.{not, position, slice_index_or}
 use Rattle.std.specs.List.{prefix_len}
 use Rattle.std.proofs.lemmas.List.{length-map}
 use Rattle.plant_types.specs.Words.{same_word}
-use Rattle.plant_logic.specs.declared.logic.Routine.{Routine}
-use Rattle.plant_logic.specs.Source.{PlainRoutine, view_routine}
+use Rattle.plant_logic.specs.Source.{PlainRoutine}
+use Rattle.plant_walk.specs.declared.headings.Heading.{Heading}
+use Rattle.plant_walk.specs.Headings.{PlainHeading, heading_of, view_heading}
 
 prefix-map : {X Y : Type 0} (p : Y → Bool) (f : X → Y) (xs : List X) → prefix_len (λ x. p (f x)) xs ≡ prefix_len p (map f xs)
 prefix-map p f [] = refl
@@ -18,19 +19,14 @@ abbrev name_of : PlainRoutine → List ℕ
 name_of p = p.name
 
 -- the first program of a name
-pub numbered : (sources : List PlainRoutine) (programs : List Routine) (name : List ℕ) → map view_routine programs ≡ sources → position (λ (p : Routine). same_word p.name name) programs ≡ position (λ (w : List ℕ). same_word w name) (map name_of sources)
+pub numbered : (sources : List PlainRoutine) (programs : List Heading) (name : List ℕ) → map view_heading programs ≡ map heading_of sources → position (λ (p : Heading). same_word p.name name) programs ≡ position (λ (w : List ℕ). same_word w name) (map name_of sources)
 numbered sources programs name same =
-    position-map (λ (p : PlainRoutine). same_word p.name name) view_routine programs ∙ position-map (λ (w : List ℕ). same_word w name) name_of (map view_routine programs) ∙ ap (λ l. position (λ (w : List ℕ). same_word w name) (map name_of l)) same
-
-name_by : (programs : List Routine) (n : ℕ) (p : Routine) → n < length programs → p ≡ get_or programs n p → p.name ≡ slice_index_or (map name_of (map view_routine programs)) n []
-name_by [] n p within is = absurd (omega (arith, within))
-name_by (q ∷ qs) zero p within is = ap (λ (x : Routine). x.name) is
-name_by (q ∷ qs) (suc n) p within is = name_by qs n p (omega (arith, within)) is
+    position-map (λ (p : PlainHeading). same_word p.name name) view_heading programs ∙ ap (λ l. position (λ (p : PlainHeading). same_word p.name name) l) same
+    ∙ sym (position-map (λ (p : PlainHeading). same_word p.name name) heading_of sources) ∙ position-map (λ (w : List ℕ). same_word w name) name_of sources
 
 -- the name of the program of a number
-pub name_at : (programs : List Routine) (sources : List PlainRoutine) (n : ℕ) (p : Routine) → map view_routine programs ≡ sources → n < length (map name_of sources) → p ≡ get_or programs n p → p.name ≡ slice_index_or (map name_of sources) n []
-name_at programs sources n p same within is =
-    let a = length-map sources name_of in
-    let b = ap length same in
-    let c = length-map programs view_routine in
-    subst (λ s. p.name ≡ slice_index_or (map name_of s) n []) same (name_by programs n p (omega (arith, within, a, b, c)) is)
+pub name_at : (programs : List Heading) (sources : List PlainRoutine) (n : ℕ) (p : Heading) → map view_heading programs ≡ map heading_of sources → n < length (map name_of sources) → p ≡ get_or programs n p → p.name ≡ slice_index_or (map name_of sources) n []
+name_at programs [] n p same within is = absurd (omega (arith, within))
+name_at [] (q ∷ qs) n p same within is = absurd (cc)
+name_at (x ∷ xs) (q ∷ qs) zero p same within is = let head : view_heading x ≡ heading_of q = cc in ap (λ (h : Heading). h.name) is ∙ ap (λ (h : PlainHeading). h.name) head
+name_at (x ∷ xs) (q ∷ qs) (suc n) p same within is = let rest : map view_heading xs ≡ map heading_of qs = cc in name_at xs qs n p rest (omega (arith, within)) is

@@ -5,7 +5,7 @@ ghost use Rattle.std.specs.List.{list_any};
 ghost use Rattle.plant_types.specs.Words.{same_word};
 ghost use Rattle.st_parser.specs.Units.{view_unit};
 ghost use Rattle.plant_file.specs.Read.{plant_file_in};
-ghost use Rattle.plant_logic.specs.declared.logic.Routine.{Routine};
+ghost use Rattle.plant_walk.specs.declared.headings.Heading.{Heading};
 ghost use Rattle.plant_config.specs.Files.{files_of, texts_of};
 ghost use Rattle.alarm_db.specs.Databases.{IsDatabase, rows_of, tags_of as database_tags};
 ghost use Rattle.plant_limits.specs.Counts.{program_costs};
@@ -29,9 +29,9 @@ use crate::running::{database_of, known_alarms, logic_of};
 use crate::spelling::{mistyped, units_of};
 use alarm_db::Tags;
 use plant_file::{Console, PlantFile};
-use plant_logic::{Routine, Variable};
+use plant_logic::Variable;
 use plant_types::{Items, same_word};
-use plant_walk::Framed;
+use plant_walk::{Framed, Heading};
 use st_parser::Unit;
 use st_typing::{Typed, check};
 use stamps::Epoch;
@@ -494,8 +494,8 @@ impl Plant {
 }
 
 /// The number of the first program with a name, letter case ignored; `None` if there is none.
-fn program_row(programs: &[Routine], name: &str) -> Option<usize>
-    ensures number { result ≡ position (λ (program : Routine). same_word program.name name.now) programs.now }
+fn program_row(programs: &[Heading], name: &str) -> Option<usize>
+    ensures number { result ≡ position (λ (program : Heading). same_word program.name name.now) programs.now }
     ensures within { IfSome result (λ number. number < length programs.now) }
 {
     programs.iter().position(|program| same_word(program.name.as_bytes(), name.as_bytes()))

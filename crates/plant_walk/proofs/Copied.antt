@@ -1,50 +1,35 @@
 -- A copy of what is ready to run is ready to run.
-use Rattle.std.proofs.Common.{◌≡◌, ◌∙◌, ap, sym, subst, ℕ, List, [], ◌∷◌, length, map}
+use Rattle.std.proofs.Common.{◌≡◌, ◌∙◌, sym, subst, ℕ, List, map}
+use Rattle.plant_logic.specs.declared.logic.Variable.{Variable}
 use Rattle.plant_logic.specs.Source.{Source}
-use Rattle.plant_cells.specs.declared.clock.Standard.{Standard}
+use Rattle.plant_logic.specs.Worlds.{opening}
+use Rattle.plant_cells.specs.Cells.{PlainCells}
 use Rattle.block_walk.specs.declared.frame.Frame.{Frame}
-use Rattle.block_walk.specs.Plain.{view_frame}
-use Rattle.plant_limits.specs.Counts.{program_costs}
-use Rattle.block_frames.specs.Frames.{IsFrames, IsStart}
+use Rattle.block_frames.specs.Stands.{StandFor}
 use Rattle.acc_vm.specs.Codes.{PlainCode}
-use Rattle.program_codes.specs.Codes.{AreCodes}
-use Rattle.plant_walk.specs.Framed.{HasStart, IsFramed}
+use Rattle.plant_walk.specs.declared.headings.Heading.{Heading}
+use Rattle.plant_walk.specs.Headings.{view_heading}
+use Rattle.plant_walk.specs.Framed.{IsFramed}
+use Rattle.plant_walk.specs.Kept.{IsKept}
 
--- the table of the globals' initial values, of which copies of the frame stand for the frame
-pub start_kept : (source : Source) (table copies : List Frame) → ((start : Frame) (made : List Frame) → map view_frame made ≡ view_frame start ∷ [] → IsStart source start → (copy : Frame) × (made ≡ copy ∷ []) × IsStart source copy)
-    → map view_frame copies ≡ map view_frame table → HasStart source table → HasStart source copies
-start_kept source table copies law same h =
-    let one = law h.start copies (same ∙ ap (map view_frame) h.table_is) h.is_start in
-    record { start = one.0; table_is = one.1; is_start = one.2 }
+-- what holds of parts holds of equal parts
+pub framed_same : (source made : Source) (order o : List ℕ) (frames f : List Frame) (names n : List (List ℕ)) (values v clocks c paths p : List ℕ) (codes d : List PlainCode)
+    → made ≡ source → o ≡ order → f ≡ frames → n ≡ names → v ≡ values → c ≡ clocks → p ≡ paths → d ≡ codes
+    → IsFramed source order frames names values clocks paths codes → IsFramed made o f n v c p d
+framed_same source made order o frames f names n values v clocks c paths p codes d e1 e2 e3 e4 e5 e6 e7 e8 h =
+    subst (λ x. IsFramed x o f n v c p d) (sym e1)
+    (subst (λ x. IsFramed source x f n v c p d) (sym e2)
+    (subst (λ x. IsFramed source order x n v c p d) (sym e3)
+    (subst (λ x. IsFramed source order frames x v c p d) (sym e4)
+    (subst (λ x. IsFramed source order frames names x c p d) (sym e5)
+    (subst (λ x. IsFramed source order frames names values x p d) (sym e6)
+    (subst (λ x. IsFramed source order frames names values clocks x d) (sym e7)
+    (subst (λ x. IsFramed source order frames names values clocks paths x) (sym e8) h)))))))
 
--- the same with other frames
-pub framed_with : (source : Source) (order : List ℕ) (frames start : List Frame) (names : List (List ℕ)) (standards : List Standard) (values clocks paths : List ℕ) (codes : List PlainCode) → IsFramed source order frames start names standards values clocks paths codes
-    → (copies begun : List Frame) → IsFrames source order copies → HasStart source begun → AreCodes copies (length source.globals) (length order) values clocks (program_costs source) codes
-    → IsFramed source order copies begun names standards values clocks paths codes
-framed_with source order frames start names standards values clocks paths codes h copies begun are has have = record {
-  sound = h.sound;
-  below = h.below;
-  are_frames = are;
-  has_start = has;
-  names_are = h.names_are;
-  standards_are = h.standards_are;
-  values_begin = h.values_begin;
-  clocks_begin = h.clocks_begin;
-  paths_begin = h.paths_begin;
-  paths_fit = h.paths_fit;
-  codes_are = have;
-}
-
--- the same of equal parts
-pub framed_same : (source made : Source) (order o : List ℕ) (frames start : List Frame) (names n : List (List ℕ)) (standards s : List Standard) (values v clocks c paths p : List ℕ) (codes d : List PlainCode)
-    → made ≡ source → o ≡ order → n ≡ names → s ≡ standards → v ≡ values → c ≡ clocks → p ≡ paths → d ≡ codes
-    → IsFramed source order frames start names standards values clocks paths codes → IsFramed made o frames start n s v c p d
-framed_same source made order o frames start names n standards s values v clocks c paths p codes d e1 e2 e3 e4 e5 e6 e7 e8 h =
-    subst (λ x. IsFramed x o frames start n s v c p d) (sym e1)
-    (subst (λ x. IsFramed source x frames start n s v c p d) (sym e2)
-    (subst (λ x. IsFramed source order frames start x s v c p d) (sym e3)
-    (subst (λ x. IsFramed source order frames start names x v c p d) (sym e4)
-    (subst (λ x. IsFramed source order frames start names standards x c p d) (sym e5)
-    (subst (λ x. IsFramed source order frames start names standards values x p d) (sym e6)
-    (subst (λ x. IsFramed source order frames start names standards values clocks x d) (sym e7)
-    (subst (λ x. IsFramed source order frames start names standards values clocks paths x) (sym e8) h)))))))
+-- and so does what is kept, where headings are the same but for where they are in memory
+pub kept_same : (source made : Source) (order o : List ℕ) (first : ℕ) (globals g : List Variable) (programs h : List Heading) (cells k : PlainCells)
+    → made ≡ source → o ≡ order → g ≡ globals → map view_heading h ≡ map view_heading programs → k ≡ cells → IsKept source order first globals programs cells → IsKept made o first g h k
+kept_same source made order o first globals g programs h cells k e1 e2 e3 e4 e5 kept =
+    subst (λ x. IsKept x o first g h k) (sym e1)
+    (subst (λ x. IsKept source x first g h k) (sym e2)
+    (record { first_is = kept.first_is; globals_are = e3 ∙ kept.globals_are; programs_are = e4 ∙ kept.programs_are; opens = subst (λ x. StandFor source x (opening source)) (sym e5) kept.opens }))

@@ -6,13 +6,13 @@ mod Bases
 mod Few
 mod FewPaths
 mod FewStarts
-mod Little
+pub mod Little
 mod Numbered
 mod Placed
 mod Spots
 mod Found
 mod Started
-mod Walks
+pub mod Walks
 mod Coded
 mod OwnCodes
 mod Weighed
@@ -23,3 +23,4 @@ mod Within
 mod OwnCells
 pub mod Steady
 mod Copied
+mod Headed

@@ -29,14 +29,12 @@ pub record HasStart (source : Source) (table : List Frame) : Type 0 where
   pub table_is : table ≡ start ∷ []
   pub is_start : IsStart source start
 
--- a sound source has its frames, and where the values, the standard blocks and the paths of each program begin; each path number is one of 32 bits; and it has the code of each program, which tells what the program costs
-pub record IsFramed (source : Source) (order : List ℕ) (frames start : List Frame) (names : List (List ℕ)) (standards : List Standard) (values clocks paths : List ℕ) (codes : List PlainCode) : Type 0 where
+-- a sound source has its frames, the names of its globals, and where the values, the standard blocks and the paths of each program begin; each path number is one of 32 bits; and it has the code of each program, which tells what the program costs
+pub record IsFramed (source : Source) (order : List ℕ) (frames : List Frame) (names : List (List ℕ)) (values clocks paths : List ℕ) (codes : List PlainCode) : Type 0 where
   pub sound : IsSound source
   pub below : AreBelow source.blocks order
   pub are_frames : IsFrames source order frames
-  pub has_start : HasStart source start
   pub names_are : names ≡ global_names source.globals
-  pub standards_are : standards ≡ all_standards source
   pub values_begin : AreBases (program_values_base source) (length source.programs) values
   pub clocks_begin : AreBases (program_clocks_base source) (length source.programs) clocks
   pub paths_begin : AreBases (program_paths_base source) (length source.programs) paths

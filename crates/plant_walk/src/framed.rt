@@ -1,7 +1,7 @@
 //! The logic of a plant, made ready to run.
 
 ghost use Rattle.std.specs.Prelude.{◌≡◌, ◌<◌, ◌≤◌, ◌+◌, ◌*◌, ◌^◌, ◌++◌, [], IfErr, IfOk, IfSome, MatchResult, get_or, length, map, slice_index_or, string_bytes};
-ghost use Rattle.plant_logic.specs.Source.{source_of, view_routine};
+ghost use Rattle.plant_logic.specs.Source.{source_of};
 ghost use Rattle.plant_logic.specs.Names.{find_global};
 ghost use Rattle.plant_logic.specs.Units.{source_in};
 ghost use Rattle.plant_logic.specs.Blocks.{AreBelow, HasItsTypes};
@@ -13,11 +13,13 @@ ghost use Rattle.plant_limits.specs.Limits.{KeepsLimits, IsLimitFault};
 ghost use Rattle.block_frames.specs.Frames.{IsFrames};
 ghost use Rattle.block_frames.specs.Small.{IsSmall};
 ghost use Rattle.block_frames.specs.Stands.{StandFor};
-ghost use Rattle.plant_walk.specs.Framed.{HasStart, IsFramed};
+ghost use Rattle.plant_walk.specs.Framed.{HasStart, IsFramed, all_standards};
+ghost use Rattle.plant_walk.specs.Headings.{heading_of, view_heading};
 ghost use Rattle.plant_walk.specs.Sound.{IsSound};
 ghost use Rattle.plant_walk.specs.Bases.{program_paths_base};
 ghost use Rattle.plant_walk.specs.Runs.{Agree, HasCells, IsProgramCode, IsWithin, TakesInstructions, paths_in, ran, walked_by};
 
+use crate::headings::{Heading, copy_headings, copy_variables, headings_of};
 use crate::names::global_names;
 use crate::opening::start_programs;
 use crate::paths::{path_bases, program_of};
@@ -26,31 +28,36 @@ use crate::values::value_bases;
 use crate::walking::Walked;
 use acc_vm::Code;
 use block_frames::{
-    copied_frames_are_frames, frames_agree, frames_begin, frames_have_paths, frames_of, start_of,
-    typed_names_are_known,
+    frames_agree, frames_begin, frames_have_paths, frames_of, start_of, typed_names_are_known,
 };
-use block_walk::{Frame, copy_frames, push_path, start_frame, walk_frame};
+use block_walk::{Frame, start_frame};
 use plant_cells::{Cells, Standard, Stop};
 use plant_limits::{LimitFault, block_type_counts, limits};
-use plant_logic::{Logic, Routine, Variable, logic_of, order_is_of_source};
+use plant_logic::{Logic, Variable, logic_of, order_is_of_source};
 use plant_types::Place;
-use program_codes::{Stack, codes_of, copied_frames_have_codes, copy_codes, run_code_counted};
+use program_codes::{Stack, codes_of, copy_codes, run_code_counted};
+use seat_tables::SeatTable;
 use st_typing::Typed;
 use std::alloc::{AllocError, Global};
 use std::marker::Model;
+use trace::Shown;
 use word_index::Names;
 
-/// The source of well-formed units that keeps the limits, with a frame for each program and each block type that is used, with where the
-/// values, the standard blocks and the paths of each program begin, and with the code of each program. Contracts see the source.
+/// The source of well-formed units that keeps the limits, made ready to run: the code of each program, the cells before the first scan, the
+/// names and kinds of globals and programs, and what the paths of traps need. Contracts see the source; its statements take no memory any
+/// more.
 pub struct Framed {
-    logic: Logic,
-    order: Vec<usize>,
-    frames: Vec<Frame>,
-    start: Vec<Frame>,
+    logic: Shown<Logic>,
+    order: Shown<Vec<usize>>,
+    values: Shown<Vec<usize>>,
+    clocks: Shown<Vec<usize>>,
+    frames: SeatTable,
+    /// The number of the first program's frame.
+    first: usize,
+    globals: Vec<Variable>,
+    programs: Vec<Heading>,
     names: Names,
-    standards: Vec<Standard>,
-    values: Vec<usize>,
-    clocks: Vec<usize>,
+    cells: Cells,
     paths: Vec<u32>,
     codes: Vec<Code>,
 }
@@ -60,12 +67,14 @@ impl Drop for Framed {
         let Framed {
             logic: _,
             order: _,
-            frames: _,
-            start: _,
-            names: _,
-            standards: _,
             values: _,
             clocks: _,
+            frames: _,
+            first: _,
+            globals: _,
+            programs: _,
+            names: _,
+            cells: _,
             paths: _,
             codes: _,
         } = self;
@@ -81,10 +90,11 @@ impl Model for Framed {
     ghost coded = { source_code };
 
     ghost use Rattle.plant_walk.specs.Framed.{IsFramed};
+    ghost use Rattle.plant_walk.specs.Kept.{IsKept};
 
     ghost view = { λ framed. source_of framed.logic };
 
-    ghost invariant = { λ framed. IsFramed (source_of framed.logic) framed.order.items framed.frames.items framed.start.items framed.names framed.standards.items framed.values.items framed.clocks.items framed.paths.items framed.codes.items };
+    ghost invariant = { λ framed. IsFramed (source_of framed.logic) framed.order.items framed.frames framed.names framed.values.items framed.clocks.items framed.paths.items framed.codes.items × IsKept (source_of framed.logic) framed.order.items framed.first framed.globals.items framed.programs.items framed.cells };
 }
 
 /// What is made of a source, so that it can run.
@@ -132,7 +142,9 @@ fn made_of(alloc: Global, logic: &Logic, order: &[usize], costs: &[u64]) -> Resu
     requires sound { IsSound (source_of logic.now) }
     requires below { AreBelow (source_of logic.now).blocks order.now }
     requires costs { costs.now ≡ program_costs (source_of logic.now) }
-    ensures { IfOk result (λ m. IsFramed (source_of logic.now) order.now m.frames.items m.start.items m.names m.standards.list.items m.values.items m.standards.bases.items m.paths.items m.codes.items) }
+    ensures framed { IfOk result (λ m. IsFramed (source_of logic.now) order.now m.frames.items m.names m.values.items m.standards.bases.items m.paths.items m.codes.items) }
+    ensures start { IfOk result (λ m. HasStart (source_of logic.now) m.start.items) }
+    ensures standards { IfOk result (λ m. m.standards.list.items ≡ all_standards (source_of logic.now)) }
 {
     block_type_counts();
     typed_names_are_known();
@@ -160,54 +172,100 @@ fn made_of(alloc: Global, logic: &Logic, order: &[usize], costs: &[u64]) -> Resu
     })
 }
 
-/// A sound source made ready to run, by what its programs cost. Fails if allocation fails.
+/// The cells before the first scan, by what is made of a source. Fails if allocation fails.
+fn opened(alloc: Global, logic: &Logic, order: &[usize], made: &Made) -> Result<Cells, AllocError>
+    requires framed { IsFramed (source_of logic.now) order.now made.now.frames.items made.now.names made.now.values.items made.now.standards.bases.items made.now.paths.items made.now.codes.items }
+    requires start { HasStart (source_of logic.now) made.now.start.items }
+    requires standards { made.now.standards.list.items ≡ all_standards (source_of logic.now) }
+    ensures { IfOk result (λ cells. StandFor (source_of logic.now) cells (opening (source_of logic.now))) }
+{
+    frames_begin();
+    typed_names_are_known();
+    let all = made.values[logic.programs.len()];
+    let mut cells = Cells::zeros(alloc, all, &made.standards.list)?;
+    start_frame(&made.start, logic.globals.len(), 0, 0, 0, &mut cells);
+    start_programs(
+        logic,
+        order,
+        &made.frames,
+        &made.values,
+        &made.standards.bases,
+        &mut cells,
+    );
+    Ok(cells)
+}
+
+/// What is made of a sound source, with the cells before the first scan. Fails if allocation fails.
+fn opened_of(
+    alloc: Global,
+    logic: &Logic,
+    order: &[usize],
+    costs: &[u64],
+) -> Result<(Made, SeatTable, Cells), AllocError>
+    requires sound { IsSound (source_of logic.now) }
+    requires below { AreBelow (source_of logic.now).blocks order.now }
+    requires costs { costs.now ≡ program_costs (source_of logic.now) }
+    ensures framed { IfOk result (λ m. IsFramed (source_of logic.now) order.now m.1 m.0.names m.0.values.items m.0.standards.bases.items m.0.paths.items m.0.codes.items) }
+    ensures opens { IfOk result (λ m. StandFor (source_of logic.now) m.2 (opening (source_of logic.now))) }
+{
+    let made = made_of(alloc, logic, order, costs)?;
+    let opening = opened(alloc, logic, order, &made)?;
+    let frames = SeatTable::of(alloc, &made.frames)?;
+    Ok((made, frames, opening))
+}
+
+/// A sound source made ready to run, by what its programs cost. Of its statements nothing is kept. Fails if allocation fails.
 fn ready(
     alloc: Global,
-    logic: Logic,
-    order: Vec<usize>,
+    logic: &Logic,
+    order: &Vec<usize>,
     costs: &[u64],
 ) -> Result<Framed, AllocError>
-    requires sound { IsSound (source_of logic) }
-    requires below { AreBelow (source_of logic).blocks order.items }
-    requires costs { costs.now ≡ program_costs (source_of logic) }
-    ensures { IfOk result (λ framed. framed ≡ source_of logic) }
+    requires sound { IsSound (source_of logic.now) }
+    requires below { AreBelow (source_of logic.now).blocks order.now.items }
+    requires costs { costs.now ≡ program_costs (source_of logic.now) }
+    ensures { IfOk result (λ framed. framed ≡ source_of logic.now) }
 {
+    let globals = copy_variables(alloc, &logic.globals)?;
+    let programs = headings_of(alloc, &logic.programs)?;
+    let (made, frames, cells) = opened_of(alloc, logic, order, costs)?;
     let Made {
-        frames,
-        start,
         names,
         standards,
         values,
         paths,
         codes,
-    } = made_of(alloc, &logic, &order, costs)?;
+        ..
+    } = made;
     Ok(Framed {
-        logic,
-        order,
+        logic: Shown::of(logic),
+        order: Shown::of(order),
+        values: Shown::of(&values),
+        clocks: Shown::of(&standards.bases),
         frames,
-        start,
+        first: order.len(),
+        globals,
+        programs,
         names,
-        standards: standards.list,
-        values,
-        clocks: standards.bases,
+        cells,
         paths,
         codes,
     })
 }
 
 /// A source made ready to run, if it keeps the limits; else the first limit that it is past, or `Memory` where an allocation failed.
-fn judged(alloc: Global, logic: Logic, order: Vec<usize>) -> Result<Framed, LimitFault>
-    requires sound { KeepsLimits (source_of logic) → IsSound (source_of logic) }
-    requires below { AreBelow (source_of logic).blocks order.items }
-    ensures made { MatchResult result (λ framed. (framed ≡ source_of logic) × KeepsLimits (source_of logic)) (IsLimitFault (source_of logic)) }
+fn judged(alloc: Global, logic: &Logic, order: &Vec<usize>) -> Result<Framed, LimitFault>
+    requires sound { KeepsLimits (source_of logic.now) → IsSound (source_of logic.now) }
+    requires below { AreBelow (source_of logic.now).blocks order.now.items }
+    ensures made { MatchResult result (λ framed. (framed ≡ source_of logic.now) × KeepsLimits (source_of logic.now)) (IsLimitFault (source_of logic.now)) }
     ensures sound { IfOk result IsSound }
 {
-    let costs = limits(alloc, &logic, &order)?;
+    let costs = limits(alloc, logic, order)?;
     Ok(ready(alloc, logic, order, &costs)?)
 }
 
 /// How a run of the program whose first path has a number ends, by how the run of its frame ended.
-fn walked(base: u32, ended: Result<(), Stop>) -> Walked
+pub fn walked(base: u32, ended: Result<(), Stop>) -> Walked
     requires { IfErr ended (λ stop. base + stop.place.path < 2 ^ 32) }
     ensures { result ≡ walked_by base ended }
 {
@@ -235,26 +293,28 @@ impl Framed {
         let _units = typed.units();
         let logic = logic_of(alloc, typed)?;
         let order = Vec::from_slice(alloc, typed.order())?;
-        judged(alloc, logic, order)
+        let framed = judged(alloc, &logic, &order);
+        drop(logic);
+        framed
     }
 
     /// The same logic. Fails if allocation fails.
     pub fn copy(&self, alloc: Global) -> Result<Framed, AllocError>
         ensures { IfOk result (λ copy. copy ≡ self.now) }
     {
-        copied_frames_are_frames();
-        copied_frames_have_codes();
         Ok(Framed {
-            order: Vec::from_slice(alloc, &self.order)?,
-            standards: Vec::from_slice(alloc, &self.standards)?,
-            values: Vec::from_slice(alloc, &self.values)?,
-            clocks: Vec::from_slice(alloc, &self.clocks)?,
-            paths: Vec::from_slice(alloc, &self.paths)?,
-            frames: copy_frames(alloc, &self.frames)?,
-            start: copy_frames(alloc, &self.start)?,
-            codes: copy_codes(alloc, &self.codes)?,
+            frames: self.frames.copy(alloc)?,
+            globals: copy_variables(alloc, &self.globals)?,
+            programs: copy_headings(alloc, &self.programs)?,
             names: self.names.copy()?,
-            logic: self.logic.copy(alloc)?,
+            cells: self.cells.copy(alloc)?,
+            paths: Vec::from_slice(alloc, &self.paths)?,
+            codes: copy_codes(alloc, &self.codes)?,
+            first: self.first,
+            logic: self.logic.again(),
+            order: self.order.again(),
+            values: self.values.again(),
+            clocks: self.clocks.again(),
         })
     }
 
@@ -263,15 +323,16 @@ impl Framed {
         ensures globals { result.now ≡ self.now.globals }
         ensures sound { IsSound self.now }
     {
-        self.logic.globals.as_slice()
+        self.globals.as_slice()
     }
 
-    /// The programs in order of text, numbered from 0, with their names as declared.
-    pub fn programs(&self) -> &[Routine]
-        ensures programs { map view_routine result.now ≡ self.now.programs }
+    /// The programs in order of text, numbered from 0, with their names as declared, their variables and their instances.
+    pub fn programs(&self) -> &[Heading]
+        ensures programs { map view_heading result.now ≡ map heading_of self.now.programs }
+        ensures count { length result.now ≡ length self.now.programs }
         ensures sound { IsSound self.now }
     {
-        self.logic.programs.as_slice()
+        self.programs.as_slice()
     }
 
     /// The number of the global of a name, letter case ignored; `None` if there is none. It takes no memory.
@@ -287,41 +348,7 @@ impl Framed {
     pub fn opening(&self, alloc: Global) -> Result<Cells, AllocError>
         ensures { IfOk result (λ cells. StandFor self.now cells (opening self.now)) }
     {
-        frames_begin();
-        typed_names_are_known();
-        let all = self.values[self.logic.programs.len()];
-        let mut cells = Cells::zeros(alloc, all, &self.standards)?;
-        start_frame(&self.start, self.logic.globals.len(), 0, 0, 0, &mut cells);
-        start_programs(
-            &self.logic,
-            &self.order,
-            &self.frames,
-            &self.values,
-            &self.clocks,
-            &mut cells,
-        );
-        Ok(cells)
-    }
-
-    /// Walks the program of a number, as `walk` does.
-    pub(crate) fn walk(&self, program: usize, cells: &mut Cells, moment: u64) -> Walked
-        requires there { program < length self.now.programs }
-        ensures ran { (w : World) → StandFor self.now cells.old w → Agree self.now (run_program self.now program moment w) (ran self.now result cells.new) }
-        ensures within { IsWithin self.now result }
-    {
-        frames_agree();
-        frames_have_paths();
-        typed_names_are_known();
-        let ended = walk_frame(
-            &self.frames,
-            self.logic.globals.len(),
-            self.order.len() + program,
-            self.values[program],
-            self.clocks[program],
-            cells,
-            moment,
-        );
-        walked(self.paths[program], ended)
+        self.cells.copy(alloc)
     }
 
     /// Runs the code of the program of a number, as `run_counted` does.
@@ -390,10 +417,10 @@ impl Framed {
         ensures { IfOk result (λ _. string_bytes text.new ≡ string_bytes text.old ++ path_text (slice_index_or (paths_of self.now) path [])) }
     {
         frames_have_paths();
-        let programs = self.logic.programs.as_slice();
+        let programs = self.programs.as_slice();
         let program = program_of(&self.paths, programs.len(), path);
         text.push_str(programs[program].name.as_str())?;
         let below = path - self.paths[program];
-        push_path(&self.frames, self.order.len() + program, below, text)
+        self.frames.push_path(self.first + program, below, text)
     }
 }

@@ -1,4 +1,4 @@
-//! Runs programs over cells: by their codes, or as the source is read.
+//! Runs the codes of programs over cells.
 
 ghost use Rattle.std.specs.Prelude.{◌≡◌, ◌<◌, ◌≤◌, ◌+◌, ◌*◌, IfErr, IfOk, get_or, length};
 ghost use Rattle.plant_limits.specs.Counts.{program_costs};
@@ -21,18 +21,8 @@ pub enum Walked {
     Trapped(Place, Trap),
 }
 
-/// Runs the program of a number, from 0, over the cells. If the cells stand for a world, it ends as the source does in that world, and
-/// leaves them standing for the world that the source leaves. The moment is that of the scan, in milliseconds. It allocates nothing.
-pub fn walk(framed: &Framed, program: u32, cells: &mut Cells, moment: u64) -> Walked
-    requires there { program < length framed.now.programs }
-    ensures ran { (w : World) → StandFor framed.now cells.old w → Agree framed.now (run_program framed.now program moment w) (ran framed.now result cells.new) }
-    ensures within { IsWithin framed.now result }
-{
-    framed.walk(program as usize, cells, moment)
-}
-
-/// Runs the code of the program of a number, from 0, over the cells. Where these stand for a world it ends as `walk` does, and what it leaves
-/// stands for the same world as what `walk` leaves. The stack is memory for the run, and is first made as long as the code needs: a run on
+/// Runs the code of the program of a number, from 0, over the cells. If the cells stand for a world, it ends as the source does in that world, and
+/// leaves them standing for the world that the source leaves. The moment is that of the scan, in milliseconds. The stack is memory for the run, and is first made as long as the code needs: a run on
 /// a stack that is long enough allocates nothing. Fails if allocation fails; then nothing has run.
 pub fn run(
     framed: &Framed,

@@ -16,6 +16,8 @@ mod seeds;
 mod state;
 mod twin;
 
+pub use ready::{Unready, walker_of_sources};
 pub use rows::push_level_row;
 pub use scans::{Scanned, TwinScans};
 pub use seeds::push_seed;
+pub use source_walks::Walker;

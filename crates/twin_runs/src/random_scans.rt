@@ -6,13 +6,14 @@ ghost use Rattle.scan_logic.specs.Levels.{AreLevelsOf};
 
 use crate::jobs::Ended;
 use crate::levels::{Fault, run_by_levels};
-use crate::ready::{Unready, framed};
+use crate::ready::{Ready, Unready, made_ready};
 use crate::state::{End, State, is_alike, opened, restart, run_in_order};
 use crate::twin::set;
 use plant_cells::Stop;
 use plant_walk::{Framed, Walked};
 use random_sources::Dice;
 use scan_logic::Levelled;
+use source_walks::Walker;
 use std::alloc::{AllocError, Global};
 
 /// What came of a source.
@@ -183,34 +184,33 @@ fn make_scans(
 fn run_levelled(
     alloc: Global,
     framed: &Framed,
+    walker: Walker,
     levelled: &Levelled,
     dice: &mut Dice,
 ) -> Result<Outcome, AllocError>
     requires levels { AreLevelsOf framed.now levelled.now }
 {
-    let mut state = opened(alloc, framed)?;
+    let mut state = opened(alloc, framed, walker)?;
     let outcome = make_scans(alloc, framed, levelled, &mut state, dice);
     drop(state);
     outcome
 }
 
 /// Makes scans of a source that is ready.
-fn run_framed(alloc: Global, framed: &Framed, dice: &mut Dice) -> Result<Outcome, AllocError> {
-    let levelled = Levelled::of(alloc, framed)?;
-    let outcome = run_levelled(alloc, framed, &levelled, dice);
+fn run_ready(alloc: Global, ready: Ready, dice: &mut Dice) -> Result<Outcome, AllocError> {
+    let Ready { framed, walker } = ready;
+    let levelled = Levelled::of(alloc, &framed)?;
+    let outcome = run_levelled(alloc, &framed, walker, &levelled, dice);
     drop(levelled);
+    drop(framed);
     outcome
 }
 
 /// Makes scans of a source, with moments, inputs and restarts from dice: its programs one after another by walk and by code, and level by level,
 /// the jobs of each level run and gathered in an order from dice. Fails if memory was refused.
 pub fn run_source(alloc: Global, source: &[u8], dice: &mut Dice) -> Result<Outcome, AllocError> {
-    match framed(alloc, source) {
-        Ok(framed) => {
-            let outcome = run_framed(alloc, &framed, dice);
-            drop(framed);
-            outcome
-        }
+    match made_ready(alloc, source) {
+        Ok(ready) => run_ready(alloc, ready, dice),
         Err(Unready::Memory) => Err(AllocError),
         Err(Unready::Large) => Ok(Outcome::Large),
         Err(Unready::Unfit) => Ok(Outcome::Unfit),

@@ -6,12 +6,13 @@ ghost use Rattle.scan_logic.specs.Levels.{AreLevelsOf};
 
 use crate::jobs::{run_jobs, run_of};
 use crate::levels::{gather, new_store, split};
-use crate::ready::{Unready, framed};
+use crate::ready::{Ready, Unready, made_ready};
 use crate::state::{State, is_alike, opened, run_in_order};
 use plant_walk::{Framed, sound_source_is_small};
 use row_text::Page;
 use scan_logic::Levelled;
 use slice_store::{Done, Misfit};
+use source_walks::Walker;
 use std::alloc::{AllocError, Global};
 
 /// The runs that a level is handed: the words that name them.
@@ -211,11 +212,18 @@ fn push_handed(
 }
 
 /// Adds the levels, and what is left when each was handed the runs that words name, or how these don't fit.
-fn push_gathered(alloc: Global, page: &mut Page, framed: &Framed, levelled: &Levelled, named: &str)
+fn push_gathered(
+    alloc: Global,
+    page: &mut Page,
+    framed: &Framed,
+    walker: Walker,
+    levelled: &Levelled,
+    named: &str,
+)
     requires levels { AreLevelsOf framed.now levelled.now }
 {
     push_levels(page, framed, levelled);
-    match opened(alloc, framed) {
+    match opened(alloc, framed, walker) {
         Ok(mut state) => {
             push_handed(alloc, page, framed, levelled, &mut state, named);
             drop(state);
@@ -225,13 +233,16 @@ fn push_gathered(alloc: Global, page: &mut Page, framed: &Framed, levelled: &Lev
 }
 
 /// Adds what a row says of a source that is ready.
-fn push_framed(alloc: Global, page: &mut Page, framed: &Framed, named: &str) {
+fn push_ready(alloc: Global, page: &mut Page, framed: &Framed, walker: Walker, named: &str) {
     match Levelled::of(alloc, framed) {
         Ok(levelled) => {
-            push_gathered(alloc, page, framed, &levelled, named);
+            push_gathered(alloc, page, framed, walker, &levelled, named);
             drop(levelled);
         }
-        Err(_) => page.refuse(),
+        Err(_) => {
+            drop(walker);
+            page.refuse()
+        }
     }
 }
 
@@ -241,9 +252,9 @@ fn push_framed(alloc: Global, page: &mut Page, framed: &Framed, named: &str) {
 /// A word is the number of a job of the level, with `@5` behind it for its run at another moment, 5. The words of the next level stand behind a
 /// `;`. Of a source that isn't run `?` is added.
 pub fn push_level_row(alloc: Global, page: &mut Page, named: &str, source: &str) {
-    match framed(alloc, source.as_bytes()) {
-        Ok(framed) => {
-            push_framed(alloc, page, &framed, named);
+    match made_ready(alloc, source.as_bytes()) {
+        Ok(Ready { framed, walker }) => {
+            push_ready(alloc, page, &framed, walker, named);
             drop(framed);
         }
         Err(Unready::Memory) => page.refuse(),

@@ -6,6 +6,7 @@ ghost use Rattle.plant_walk.specs.Runs.{HasCells};
 use crate::twin::Twin;
 use plant_types::{Pair, Region, Value, fitted};
 use plant_walk::{Framed, Walked, sound_source_is_small};
+use source_walks::Walker;
 use std::alloc::{AllocError, Global};
 
 /// The last moment of all.
@@ -128,17 +129,17 @@ fn run_programs(
 }
 
 /// Cells for the runs of a logic, and that no program is stopped. Fails if allocation fails.
-fn opened(alloc: Global, framed: &Framed) -> Result<(Twin, Vec<bool>), AllocError>
+fn opened(alloc: Global, framed: &Framed, walker: Walker) -> Result<(Twin, Vec<bool>), AllocError>
     ensures { IfOk result (λ made. HasCells framed.now made.0.ran) }
 {
-    let twin = Twin::new(alloc, framed)?;
+    let twin = Twin::new(alloc, framed, walker)?;
     Ok((twin, vec![in alloc; false; framed.programs().len()]?))
 }
 
 impl TwinScans {
-    /// The programs before the first scan. Fails if allocation fails.
-    pub fn new(alloc: Global, framed: Framed) -> Result<TwinScans, AllocError> {
-        match opened(alloc, &framed) {
+    /// The programs before the first scan. The walker is to be of the same source. Fails if allocation fails.
+    pub fn new(alloc: Global, framed: Framed, walker: Walker) -> Result<TwinScans, AllocError> {
+        match opened(alloc, &framed, walker) {
             Ok((twin, stopped)) => Ok(TwinScans {
                 framed,
                 twin,

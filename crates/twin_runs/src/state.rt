@@ -9,6 +9,7 @@ use plant_cells::Cells;
 use plant_walk::{Framed, Walked, sound_source_is_small, standing_cells_are_there};
 use random_sources::Dice;
 use slice_store::Reserve;
+use source_walks::Walker;
 use std::alloc::{AllocError, Global};
 
 /// What both ways have left. The first has cells for two runs of its programs, by walk and by code.
@@ -36,7 +37,7 @@ fn no_flags(alloc: Global, framed: &Framed) -> Result<Vec<bool>, AllocError>
 }
 
 /// What there is before the first scan. Fails if memory was refused.
-pub fn opened(alloc: Global, framed: &Framed) -> Result<State, AllocError>
+pub fn opened(alloc: Global, framed: &Framed, walker: Walker) -> Result<State, AllocError>
     ensures ran { IfOk result (λ state. HasCells framed.now state.twin.ran) }
     ensures cells { IfOk result (λ state. HasCells framed.now state.cells) }
     ensures flags { IfOk result (λ state. length state.faulted.items ≡ length framed.now.programs) }
@@ -46,7 +47,7 @@ pub fn opened(alloc: Global, framed: &Framed) -> Result<State, AllocError>
     let faulted = no_flags(alloc, framed)?;
     let cells = framed.opening(alloc)?;
     Ok(State {
-        twin: Twin::new(alloc, framed)?,
+        twin: Twin::new(alloc, framed, walker)?,
         stopped,
         cells,
         faulted,

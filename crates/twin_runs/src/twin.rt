@@ -2,12 +2,15 @@ ghost use Rattle.std.specs.Prelude.{◌≡◌, ◌<◌, length, IfOk};
 ghost use Rattle.plant_walk.specs.Runs.{HasCells};
 
 use plant_cells::{Cells, Clock};
-use plant_walk::{Framed, Stack, Walked, run, standing_cells_are_there, walk};
+use plant_walk::{Framed, Stack, Walked, run, standing_cells_are_there};
+use source_walks::Walker;
 use std::alloc::{AllocError, Global};
 
 /// Cells for each of the two ways in which the programs of a source run, and memory for the runs.
 #[derive(Drop)]
 pub struct Twin {
+    /// The source, as it is walked.
+    walker: Walker,
     /// What the walks have left.
     pub walked: Cells,
     /// What the runs of the codes have left.
@@ -40,8 +43,8 @@ fn show_alike(one: &[Clock], other: &[Clock]) -> bool {
 }
 
 impl Twin {
-    /// Cells before the first scan. Fails if allocation fails.
-    pub fn new(alloc: Global, framed: &Framed) -> Result<Twin, AllocError>
+    /// Cells before the first scan. The walker is to be of the same source. Fails if allocation fails.
+    pub fn new(alloc: Global, framed: &Framed, walker: Walker) -> Result<Twin, AllocError>
         ensures { IfOk result (λ twin. HasCells framed.now twin.ran) }
     {
         standing_cells_are_there();
@@ -49,6 +52,7 @@ impl Twin {
         let walked = framed.opening(alloc)?;
         Ok(Twin {
             ran: framed.opening(alloc)?,
+            walker,
             walked,
             stack,
         })
@@ -64,7 +68,7 @@ impl Twin {
     }
 
     /// Runs the program of a number, from 0, in both ways. Tells how it ended, if it ended alike: at the same place, with the same trap;
-    /// `None` otherwise. The moment is that of the scan, in milliseconds. Fails if allocation fails.
+    /// `None` otherwise, and where the walker has no such program. The moment is that of the scan, in milliseconds. Fails if allocation fails.
     pub fn run(
         &mut self,
         framed: &Framed,
@@ -75,8 +79,11 @@ impl Twin {
         requires cells { HasCells framed.now self.old.ran }
         ensures { HasCells framed.now self.new.ran }
     {
-        let walked = walk(framed, program, &mut self.walked, moment);
         let ran = run(framed, program, &mut self.stack, &mut self.ran, moment)?;
+        if !self.walker.has(program) {
+            return Ok(None);
+        }
+        let walked = self.walker.walk(program, &mut self.walked, moment);
         Ok(if walked == ran { Some(walked) } else { None })
     }
 

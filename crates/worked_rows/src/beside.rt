@@ -6,7 +6,7 @@ use engine::Engine;
 use plant_config::Plant;
 use row_text::Page;
 use std::alloc::{AllocError, Global};
-use twin_runs::{Scanned, TwinScans};
+use twin_runs::{Scanned, TwinScans, Walker};
 
 /// The runs beside a server, and room for the pairs of a scan.
 #[derive(Drop)]
@@ -55,9 +55,9 @@ fn push_scanned(page: &mut Page, moment: u64, scanned: Result<Scanned, AllocErro
 }
 
 impl Beside {
-    /// The programs of a plant before the first scan.
-    pub fn new(alloc: Global, plant: &Plant) -> Result<Beside, AllocError> {
-        let scans = TwinScans::new(alloc, plant.logic().copy(alloc)?)?;
+    /// The programs of a plant before the first scan. The walker is to be of the plant's sources.
+    pub fn new(alloc: Global, plant: &Plant, walker: Walker) -> Result<Beside, AllocError> {
+        let scans = TwinScans::new(alloc, plant.logic().copy(alloc)?, walker)?;
         let pool = Pool::new(alloc);
         Ok(Beside { scans, pool })
     }

@@ -4,6 +4,7 @@ use plant_config::{ConfigFault, Files, Plant};
 use row_text::{File, Page};
 use std::alloc::{AllocError, Global};
 use std::thread::Threads;
+use twin_runs::{Unready, Walker, walker_of_sources};
 
 /// What stands in `plant.toml` where the table gives a plant none of its own.
 const PLANT: &str = "name = \"P\"
@@ -177,13 +178,13 @@ struct Given<'a> {
     alarms: &'a str,
 }
 
-/// The plant of texts. Where there is none, a line that says why is added.
+/// The plant of texts, with a walker of its sources. Where there is none, a line that says why is added.
 fn plant_in<H: Threads + Sync>(
     rt: &H,
     alloc: Global,
     page: &mut Page,
     given: Given<'_>,
-) -> Option<Plant> {
+) -> Option<(Plant, Walker)> {
     let Ok(sources) = named(alloc, given.files, given.texts, given.names) else {
         page.refuse();
         return None;
@@ -200,15 +201,35 @@ fn plant_in<H: Threads + Sync>(
     read(rt, alloc, page, (plant, &sources, alarms))
 }
 
-/// Reads a plant. Where it is refused, a line that says why is added.
+/// A plant with a walker of its sources, which a plant that is accepted always has. Where there is none, a line that says so is added.
+fn walked(
+    alloc: Global,
+    page: &mut Page,
+    plant: Plant,
+    sources: &[(&str, &[u8])],
+) -> Option<(Plant, Walker)> {
+    match walker_of_sources(alloc, sources) {
+        Ok(walker) => Some((plant, walker)),
+        Err(why) => {
+            drop(plant);
+            match why {
+                Unready::Memory => page.refuse(),
+                _ => page.line("NO WALKER"),
+            }
+            None
+        }
+    }
+}
+
+/// Reads a plant, and its sources once more for a walker. Where it is refused, a line that says why is added.
 fn read<H: Threads + Sync>(
     rt: &H,
     alloc: Global,
     page: &mut Page,
     texts: (&[u8], &[(&str, &[u8])], &[u8]),
-) -> Option<Plant> {
+) -> Option<(Plant, Walker)> {
     match Plant::read(rt, alloc, texts.0, texts.1, texts.2) {
-        Ok(plant) => Some(plant),
+        Ok(plant) => walked(alloc, page, plant, texts.1),
         Err(fault) => {
             push_refused(alloc, page, &fault);
             None
@@ -224,7 +245,7 @@ fn plant_by<H: Threads + Sync>(
     plan: &Plan<'_>,
     texts: &[Vec<u8>],
     listed: &Files,
-) -> Option<Plant> {
+) -> Option<(Plant, Walker)> {
     if let Asked::List = plan.asked {
         push_listed(page, listed);
         return None;
@@ -249,7 +270,7 @@ fn plant_of_texts<H: Threads + Sync>(
     page: &mut Page,
     plan: &Plan<'_>,
     texts: &[Vec<u8>],
-) -> Option<Plant> {
+) -> Option<(Plant, Walker)> {
     let plant = text_of(plan.files, texts, "plant.toml").unwrap_or(&[]);
     match Plant::files(alloc, plant) {
         Ok(listed) => plant_by(rt, alloc, page, plan, texts, &listed),
@@ -260,13 +281,13 @@ fn plant_of_texts<H: Threads + Sync>(
     }
 }
 
-/// The plant of a plan. Where there is none, or its files are to be listed, lines that say so are added.
+/// The plant of a plan, with a walker of its sources. Where there is none, or its files are to be listed, lines that say so are added.
 pub fn plant_of<H: Threads + Sync>(
     rt: &H,
     alloc: Global,
     page: &mut Page,
     plan: &Plan<'_>,
-) -> Option<Plant> {
+) -> Option<(Plant, Walker)> {
     match texts_of(alloc, plan.files, plan.given) {
         Ok(texts) => plant_of_texts(rt, alloc, page, plan, &texts),
         Err(_) => {

@@ -16,6 +16,7 @@ use row_text::{Page, push_line};
 use std::alloc::Global;
 use std::sync::Wait;
 use std::thread::Threads;
+use twin_runs::Walker;
 
 /// Adds a line to commands.
 fn add_command(page: &mut Page, commands: &mut Vec<u8>, line: &str) {
@@ -177,11 +178,12 @@ fn run_beside<H: Wait, C: Crew<Job, Start, Done, H>>(
     engine: &mut Engine,
     crew: &mut C,
     page: &mut Page,
+    walker: Walker,
     lines: &str,
 )
     requires { C.asks }
 {
-    match Beside::new(alloc, engine.plant()) {
+    match Beside::new(alloc, engine.plant(), walker) {
         Ok(mut beside) => {
             take_all(rt, alloc, engine, crew, &mut beside, page, lines);
             drop(beside);
@@ -196,17 +198,21 @@ fn run_plant<H: Wait, C: Crew<Job, Start, Done, H>>(
     alloc: Global,
     crew: &mut C,
     page: &mut Page,
-    plant: Plant,
+    plant: (Plant, Walker),
     lines: &str,
 )
     requires { C.asks }
 {
+    let (plant, walker) = plant;
     match Engine::new(alloc, plant) {
         Ok(mut engine) => {
-            run_beside(rt, alloc, &mut engine, crew, page, lines);
+            run_beside(rt, alloc, &mut engine, crew, page, walker, lines);
             drop(engine);
         }
-        Err(_) => page.refuse(),
+        Err(_) => {
+            drop(walker);
+            page.refuse()
+        }
     }
 }
 
@@ -220,13 +226,17 @@ fn push_read<H: Threads + Wait + Sync, C: Crew<Job, Start, Done, H>>(
 )
     requires { C.asks }
 {
-    let Some(plant) = plant_of(rt, alloc, page, plan) else {
+    let Some((plant, walker)) = plant_of(rt, alloc, page, plan) else {
         return;
     };
     match plan.asked {
-        Asked::Run => run_plant(rt, alloc, crew, page, plant, plan.lines),
-        Asked::RunGone => run_gone(rt, alloc, crew, page, plant, plan.lines),
+        Asked::Run => run_plant(rt, alloc, crew, page, (plant, walker), plan.lines),
+        Asked::RunGone => {
+            drop(walker);
+            run_gone(rt, alloc, crew, page, plant, plan.lines)
+        }
         _ => {
+            drop(walker);
             push_accepted(page, &plant);
             drop(plant);
         }

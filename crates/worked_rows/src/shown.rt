@@ -4,7 +4,7 @@ use engine::{CrewFault, EngineFault};
 use plant_config::{AlarmRow, ConfigFault, Limit, Plant};
 use plant_service::ServeFault;
 use plant_types::{Kind, Region};
-use plant_walk::{Framed, Walked, walk};
+use plant_walk::{Framed, Stack, Walked, run, standing_cells_are_there};
 use row_text::Page;
 use std::alloc::{AllocError, Global};
 
@@ -112,11 +112,13 @@ fn push_rows(page: &mut Page, plant: &Plant) {
 
 /// The path at which the first program stops in its first scan; nothing where it doesn't stop.
 fn stop_of(alloc: Global, plant: &Plant) -> Result<Option<String>, AllocError> {
+    standing_cells_are_there();
     let mut cells = plant.logic().opening(alloc)?;
     if plant.logic().programs().is_empty() {
         return Ok(None);
     }
-    match walk(plant.logic(), 0, &mut cells, 0) {
+    let mut stack = Stack::new(alloc);
+    match run(plant.logic(), 0, &mut stack, &mut cells, 0)? {
         Walked::Trapped(place, _) => Ok(Some(plant.body_path(alloc, place.path)?)),
         Walked::Done => Ok(None),
     }

@@ -88,8 +88,8 @@ codes_of-requires-clause-enough c =
 pub global_names-requires : goal.global_names-requires
 global_names-requires c = ap (λ l. repeats (global_words l)) c.deref-6.ensures.value ∙ (sound_named (source_of c.args.logic.now) c.requires.sound).globals_apart
 
-pub returns : goal.returns
-returns c =
+pub returns-clause-framed : goal.returns-clause-framed
+returns-clause-framed c =
     let logic = c.args.logic.now in
     let source = source_of logic in
     let frames = c.in_ok-frames.frames.items in
@@ -102,9 +102,7 @@ returns c =
       sound = c.requires.sound;
       below = c.requires.below;
       are_frames = c.in_ok-frames.ensures.frames;
-      has_start = c.in_ok-frames.ensures.start;
       names_are = c.in_ok-global_names.ensures ∙ ap global_names c.deref-6.ensures.value;
-      standards_are = c.in_ok-standards.ensures.list;
       values_begin = c.in_ok-values.ensures;
       clocks_begin = c.in_ok-standards.ensures.bases;
       paths_begin = c.in_ok-paths.ensures.bases;

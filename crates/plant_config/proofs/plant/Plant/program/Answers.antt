@@ -1,6 +1,6 @@
 use Rattle.std.proofs.Common.{◌<◌, ◌∙◌, ap, sym, length, map}
-use Rattle.plant_logic.specs.declared.logic.Routine.{Routine}
 use Rattle.plant_logic.specs.Source.{PlainRoutine}
+use Rattle.plant_walk.specs.declared.headings.Heading.{Heading}
 use Rattle.plant_config.proofs.Programs.{name_at}
 use Rattle.plant_config.proofs.plant.Plant.program.Goals as goal
 
@@ -8,4 +8,4 @@ pub returns : goal.returns
 returns c =
     let inside = c.self.inside in
     let within : c.args.program < length (map (λ (p : PlainRoutine). p.name) inside.logic.programs) = rw (← c.self.view_is) at c.requires in
-    rw (← c.self.view_is) (c.as_str.ensures ∙ ap (λ (p : Routine). p.name) (sym c.index-programs-program.is) ∙ name_at c.programs.result.now inside.logic.programs c.args.program c.index-programs-program.result c.programs.ensures.programs within c.index-programs-program.is)
+    rw (← c.self.view_is) (c.as_str.ensures ∙ ap (λ (p : Heading). p.name) (sym c.index-programs-program.is) ∙ name_at c.programs.result.now inside.logic.programs c.args.program c.index-programs-program.result c.programs.ensures.programs within c.index-programs-program.is)

@@ -18,8 +18,8 @@ pub returns : goal.returns
 returns c =
     let inside = c.self.inside in
     let source = source_of inside.logic in
-    let are = c.self.invariant in
-    let frames = inside.frames.items in
+    let are = c.self.invariant.0 in
+    let frames = inside.frames in
     let order = inside.order.items in
     let n = c.args.program in
     let there : n < length source.programs = subst (λ (s : Source). n < length s.programs) (sym c.self.view_is) c.requires in

@@ -23,7 +23,7 @@ pub run_code_counted-ended-requires-clause-values : goal.run_code_counted-ended-
 run_code_counted-ended-requires-clause-values c =
     let inside = c.self.inside in
     let source = source_of inside.logic in
-    let are = c.self.invariant in
+    let are = c.self.invariant.0 in
     let n = c.args.program in
     let there : n < length source.programs = subst (λ (s : Source). n < length s.programs) (sym c.self.view_is) c.requires.there in
     let long = are.codes_are.long in
@@ -33,7 +33,7 @@ run_code_counted-ended-requires-clause-values c =
     let is = are.codes_are.each n code at in
     let has : HasCells source c.args.cells.now = subst (λ (s : Source). HasCells s c.args.cells.now) (sym c.self.view_is) c.requires.cells in
     let names : HasAllNames source = subst HasAllNames (sym are.sound.are_theirs) (c.typed_names_are_known.ensures are.sound.units are.sound.typed) in
-    let own = (code_there source inside.order.items are.below inside.frames.items are.are_frames (sound_types source are.sound) names inside.values.items inside.clocks.items are.values_begin are.clocks_begin n there (get_or (program_costs source) n 0) code is).0 in
+    let own = (code_there source inside.order.items are.below inside.frames are.are_frames (sound_types source are.sound) names inside.values.items inside.clocks.items are.values_begin are.clocks_begin n there (get_or (program_costs source) n 0) code is).0 in
     let all = has.values in
     omega (arith, own, all)
 
@@ -41,7 +41,7 @@ pub run_code_counted-ended-requires-clause-clocks : goal.run_code_counted-ended-
 run_code_counted-ended-requires-clause-clocks c =
     let inside = c.self.inside in
     let source = source_of inside.logic in
-    let are = c.self.invariant in
+    let are = c.self.invariant.0 in
     let n = c.args.program in
     let there : n < length source.programs = subst (λ (s : Source). n < length s.programs) (sym c.self.view_is) c.requires.there in
     let long = are.codes_are.long in
@@ -51,7 +51,7 @@ run_code_counted-ended-requires-clause-clocks c =
     let is = are.codes_are.each n code at in
     let has : HasCells source c.args.cells.now = subst (λ (s : Source). HasCells s c.args.cells.now) (sym c.self.view_is) c.requires.cells in
     let names : HasAllNames source = subst HasAllNames (sym are.sound.are_theirs) (c.typed_names_are_known.ensures are.sound.units are.sound.typed) in
-    let own = (code_there source inside.order.items are.below inside.frames.items are.are_frames (sound_types source are.sound) names inside.values.items inside.clocks.items are.values_begin are.clocks_begin n there (get_or (program_costs source) n 0) code is).1 in
+    let own = (code_there source inside.order.items are.below inside.frames are.are_frames (sound_types source are.sound) names inside.values.items inside.clocks.items are.values_begin are.clocks_begin n there (get_or (program_costs source) n 0) code is).1 in
     let all = has.clocks in
     omega (arith, own, all)
 
@@ -59,8 +59,8 @@ pub returns-clause-ran : goal.returns-clause-ran
 returns-clause-ran c w stands =
     let inside = c.self.inside in
     let source = source_of inside.logic in
-    let are = c.self.invariant in
-    let frames = inside.frames.items in
+    let are = c.self.invariant.0 in
+    let frames = inside.frames in
     let order = inside.order.items in
     let n = c.args.program in
     let there : n < length source.programs = subst (λ (s : Source). n < length s.programs) (sym c.self.view_is) c.requires.there in
@@ -95,8 +95,8 @@ pub returns-clause-within : goal.returns-clause-within
 returns-clause-within c =
     let inside = c.self.inside in
     let source = source_of inside.logic in
-    let are = c.self.invariant in
-    let frames = inside.frames.items in
+    let are = c.self.invariant.0 in
+    let frames = inside.frames in
     let order = inside.order.items in
     let n = c.args.program in
     let there : n < length source.programs = subst (λ (s : Source). n < length s.programs) (sym c.self.view_is) c.requires.there in
@@ -120,8 +120,8 @@ pub walked-requires : goal.walked-requires
 walked-requires c =
     let inside = c.self.inside in
     let source = source_of inside.logic in
-    let are = c.self.invariant in
-    let frames = inside.frames.items in
+    let are = c.self.invariant.0 in
+    let frames = inside.frames in
     let order = inside.order.items in
     let n = c.args.program in
     let there : n < length source.programs = subst (λ (s : Source). n < length s.programs) (sym c.self.view_is) c.requires.there in
@@ -141,8 +141,8 @@ pub returns-clause-cost : goal.returns-clause-cost
 returns-clause-cost c =
     let inside = c.self.inside in
     let source = source_of inside.logic in
-    let are = c.self.invariant in
-    let frames = inside.frames.items in
+    let are = c.self.invariant.0 in
+    let frames = inside.frames in
     let order = inside.order.items in
     let n = c.args.program in
     let there : n < length source.programs = subst (λ (s : Source). n < length s.programs) (sym c.self.view_is) c.requires.there in
@@ -159,7 +159,7 @@ pub returns-clause-count : goal.returns-clause-count
 returns-clause-count c =
     let inside = c.self.inside in
     let source = source_of inside.logic in
-    let are = c.self.invariant in
+    let are = c.self.invariant.0 in
     let n = c.args.program in
     let there : n < length source.programs = subst (λ (s : Source). n < length s.programs) (sym c.self.view_is) c.requires.there in
     let most : n ≤ length source.programs = omega (arith, there) in
@@ -173,10 +173,10 @@ returns-clause-count c =
     let done = c.run_code_counted-ended.ensures.count in
     let counted : TakesInstructions source n c.args.moment c.args.cells.now c.run_code_counted-ended.result.1 = record {
       order = inside.order.items;
-      frames = inside.frames.items;
+      frames = inside.frames;
       are_frames = are.are_frames;
       code = code;
-      made = subst (λ base. IsMade inside.frames.items (length source.globals) (length inside.order.items + n) base (get_or (program_costs source) n 0) code) base_is (are.codes_are.made n code at);
+      made = subst (λ base. IsMade inside.frames (length source.globals) (length inside.order.items + n) base (get_or (program_costs source) n 0) code) base_is (are.codes_are.made n code at);
       result = ended [] c.run_code_counted-ended.result.0 c.run_code_counted-ended.new.cells;
       left = 4 * code.cost + 4 - c.run_code_counted-ended.result.1;
       runs = c.run_code_counted-ended.ensures.ran [];

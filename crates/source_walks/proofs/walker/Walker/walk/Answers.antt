@@ -9,7 +9,7 @@ use Rattle.plant_walk.specs.Bases.{program_paths_base}
 use Rattle.plant_walk.specs.Runs.{Agree, IsWithin, ran}
 use Rattle.plant_walk.proofs.Small.{sound_named, sound_types}
 use Rattle.plant_walk.proofs.Walks.{the_program, is_there, fits_in, within_is, ran_is}
-use Rattle.plant_walk.proofs.framed.Framed.walk.Goals as goal
+use Rattle.source_walks.proofs.walker.Walker.walk.Goals as goal
 
 pub returns-clause-ran : goal.returns-clause-ran
 returns-clause-ran c w stands =

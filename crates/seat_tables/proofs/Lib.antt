@@ -1,0 +1,2 @@
+mod Descents
+mod Read
