@@ -7,8 +7,6 @@
 //! reset, and no console for the answers of its drill. A console begins with its drill, a hundred orders that shelve and unshelve its own alarms. Then it goes by
 //! its board: it looks, acknowledges and resets what waits in its areas, takes answers, and looks again, until the owner's day is over.
 //!
-//! Meanwhile a keeper, in a thread of its own too, keeps the journal: it pages the archive while the station turns.
-//!
 //! What is printed doesn't depend on how threads take turns: a console orders only what its board shows after the answers that it took, so each alarm
 //! is acknowledged once; and the last scans of the script are of one console's areas, so the last page is always the same. How many turns
 //! the owner took is never printed.
@@ -19,7 +17,6 @@ mod crews;
 mod day;
 mod events;
 mod house;
-mod keeper;
 mod reports;
 mod room;
 mod shift;

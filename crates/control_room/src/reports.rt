@@ -2,7 +2,6 @@
 
 use crate::day::DayFault;
 use crate::events::Events;
-use crate::keeper::Kept;
 use engine::{Engine, Verb};
 use row_text::Page;
 use shift_report::{Orders, count};
@@ -77,11 +76,11 @@ fn are_alike(alloc: Global, engine: &Engine, lines: &[String]) -> Result<bool, A
     Ok(true)
 }
 
-/// Adds how many lines there are, whose they are, and whether they are those of the engine's journal.
-fn push_alike(alloc: Global, engine: &Engine, whose: &str, lines: &[String], page: &mut Page) {
+/// Adds how many lines the archive has, and whether they are those of the engine's journal.
+fn push_alike(alloc: Global, engine: &Engine, lines: &[String], page: &mut Page) {
     page.add("JOURNAL");
     page.number(lines.len() as i128);
-    page.word(whose);
+    page.word("LINES, THE ARCHIVE ALIKE");
     match are_alike(alloc, engine, lines) {
         Ok(are_alike) => page.truth(are_alike),
         Err(_) => page.refuse(),
@@ -98,27 +97,7 @@ fn push_journal<L: Ledger, R: Wait>(
     page: &mut Page,
 ) {
     match archive.page(rt, alloc, 1, u32::MAX) {
-        Ok(lines) => push_alike(
-            alloc,
-            engine,
-            "LINES, THE ARCHIVE ALIKE",
-            lines.as_slice(),
-            page,
-        ),
-        Err(_) => page.refuse(),
-    }
-}
-
-/// Adds how many lines the keeper has, and whether they are the engine's journal, whole.
-pub fn push_kept(alloc: Global, engine: &Engine, kept: Kept, page: &mut Page) {
-    match kept {
-        Ok(lines) => push_alike(
-            alloc,
-            engine,
-            "LINES, THE KEEPER ALIKE",
-            lines.as_slice(),
-            page,
-        ),
+        Ok(lines) => push_alike(alloc, engine, lines.as_slice(), page),
         Err(_) => page.refuse(),
     }
 }

@@ -5,8 +5,7 @@ ghost use Rattle.std.specs.Prelude.{◌≡◌, ◌<◌};
 use crate::console_reports::push_consoles;
 use crate::crews::Workers;
 use crate::day::go_through;
-use crate::keeper::{joined, start};
-use crate::reports::{push_end, push_history, push_kept};
+use crate::reports::{push_end, push_history};
 use crate::shift::Shift;
 use control_desks::{Ended, join_all, seat_all};
 use engine::Plant;
@@ -17,12 +16,16 @@ use std::sync::ledger::{Blank, Ledger};
 use std::thread::Threads;
 use std::time::Clock;
 
-/// The whole life of a station: its consoles and the keeper of the journal go to threads of their own, the owner goes through the script, they
-/// come back, and what there is to tell is added. Tells whether the day was whole.
-pub fn run<
-    L: Ledger + Send + Sync + 'static,
-    R: Threads + Wait + Clock + Clone + Send + Drop + 'static,
->(rt: &R, alloc: Global, plant: Plant, crew: Workers, shift: &mut Shift, blank: Blank) -> bool
+/// The whole life of a station: its consoles go to threads of their own, the owner goes through the script, the consoles come back, and what there is to
+/// tell is added. Tells whether the day was whole.
+pub fn run<L: Ledger, R: Threads + Wait + Clock>(
+    rt: &R,
+    alloc: Global,
+    plant: Plant,
+    crew: Workers,
+    shift: &mut Shift,
+    blank: Blank,
+) -> bool
     requires { (blank.name ≡ L.name) × (blank.parts ≡ L.parts) × (0 < L.parts) }
 {
     let Shift {
@@ -38,11 +41,9 @@ pub fn run<
     };
     let wanted = consoles.len();
     let threads = seat_all(rt, alloc, station.engine().plant(), consoles, watch);
-    let keeper = start(rt, alloc, station.archive(), watch);
     let day = go_through(rt, alloc, &mut station, events, watch, script);
     watch.end();
     let Ended { finished, posts } = join_all(rt, alloc, threads);
-    let kept = joined(rt, keeper);
     push_history(
         rt,
         alloc,
@@ -51,7 +52,6 @@ pub fn run<
         events,
         page,
     );
-    push_kept(alloc, station.engine(), kept, page);
     let mut closing = station.close(rt, finished);
     push_consoles(page, &mut closing, events, posts.as_slice());
     closing.into_crew().close(rt);
