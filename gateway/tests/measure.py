@@ -56,7 +56,7 @@ def large_plant(folder: Path, alarms: int) -> Path:
 
 
 async def scans(core: Core, count: int) -> float:
-    """Scans a second, where samples press: each scan takes one new value."""
+    """Scans a second, where samples press: each scan takes one new value, by which no alarm of the large plant changes."""
     await core.offer(Sample("level", 0, "measure"))
     await core.drain()
     begin, first = time.monotonic(), core.state.events
