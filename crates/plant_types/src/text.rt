@@ -6,11 +6,12 @@ use std::marker::Model;
 /// A text, such as a name. Contracts see its bytes.
 pub struct Text {
     text: String,
+    at: u32,
 }
 
 impl Drop for Text {
     fn drop(self) {
-        let Text { text: _ } = self;
+        let Text { text: _, at: _ } = self;
     }
 }
 
@@ -27,7 +28,7 @@ impl Text {
     pub fn new(text: String) -> Text
         ensures { result ≡ string_bytes text }
     {
-        Text { text }
+        Text { text, at: 0 }
     }
 
     /// Copies a string slice. Fails only where memory was refused.
@@ -36,6 +37,7 @@ impl Text {
     {
         Ok(Text {
             text: String::from_str(alloc, text)?,
+            at: 0,
         })
     }
 
@@ -43,7 +45,21 @@ impl Text {
     pub fn copy(&self, alloc: Global) -> Result<Text, AllocError>
         ensures { IfOk result (λ t. t ≡ self.now) }
     {
-        Text::from_str(alloc, self.as_str())
+        let copy = Text::from_str(alloc, self.as_str())?;
+        Ok(copy.placed(self.at))
+    }
+
+    /// The same text, which stands at a byte of its source.
+    pub fn placed(self, at: u32) -> Text
+        ensures { result ≡ self }
+    {
+        let Text { text, at: _ } = self;
+        Text { text, at }
+    }
+
+    /// The byte of its source at which it stands.
+    pub fn at(&self) -> u32 {
+        self.at
     }
 
     /// The text's bytes.

@@ -150,7 +150,11 @@ impl<'a> Reader<'a> {
             TokenKind::Word => {
                 let name = String::from_utf8_lossy(alloc, span(self.text, *first))?;
                 self.tokens = rest;
-                Ok(Text::new(name))
+                let at = match u32::try_from(first.from) {
+                    Ok(at) => at,
+                    Err(_) => 0,
+                };
+                Ok(Text::new(name).placed(at))
             }
             _ => Err(self.stop()),
         }
