@@ -1,14 +1,21 @@
 #!/usr/bin/env python3
 """count.py PROGRAM [LINES]: how many allocations the built program takes for a line of each kind, on its built-in plant; and for a scan by workers, on plants of many programs.
+count.py PROGRAM live [PLANT]: how many bytes live once the built program has read a plant (the large one of tools/bench, where none is named) and served its first scan, and how many lived at the most until then.
 
 Each kind of line is given to the program so many times and twice as often; the difference of the two counts, divided by the number of lines, is what one line takes. So what the program
 takes at its beginning is not in it, and vectors that grow (history, journal) show as a part of an allocation. Scans by workers are a tenth as many. Needs gcc.
 
+A byte lives from the allocation of its block until that is given back; what the C library keeps for itself isn't in it, nor are stacks and the program's own text.
+
 Allocations are counted by a library in the place of malloc (count.c), so the program has to be linked with the C library as a shared one, as LLVM's builds are. Of any other it counts none, and says so."""
 import os
+import struct
 import subprocess
 import sys
 import tempfile
+
+HERE = os.path.dirname(os.path.abspath(__file__))
+NUMBERS = 3  # of count.c: allocations, the bytes that live, the most that lived
 
 KINDS = [
     ("a scan that changes nothing", ["scan {t} a=5"]),
@@ -55,37 +62,80 @@ def plant(folder, programs, turns):
     return f"{folder}/plant.toml"
 
 
+def counted(preload, counter):
+    """The environment in which a run is counted into a file, which is made anew."""
+    with open(counter, "wb") as file:
+        file.write(bytes(8 * NUMBERS))
+    return {**os.environ, "LD_PRELOAD": preload, "COUNT_FILE": counter}
+
+
+def numbers(program, counter):
+    """What the library has counted so far."""
+    with open(counter, "rb") as file:
+        told = struct.unpack(f"={NUMBERS}q", file.read(8 * NUMBERS))
+    if told[0] == 0:
+        sys.exit(f"{program} doesn't allocate by the C library's malloc, or is linked with it statically: nothing can be counted")
+    return told
+
+
 def count(program, preload, lines, words=()):
     """The allocations of a run on lines, with these words behind the program's name."""
     given = "".join(f"{line}\n" for line in lines).encode()
-    with tempfile.NamedTemporaryFile() as counter:
-        counter.write(bytes(8))
-        counter.flush()
-        counted = {**os.environ, "LD_PRELOAD": preload, "COUNT_FILE": counter.name}
-        subprocess.run([program, *words], input=given, stdout=subprocess.DEVNULL, env=counted, check=True)
-        with open(counter.name, "rb") as file:
-            number = int.from_bytes(file.read(8), sys.byteorder)
-    if number == 0:
-        sys.exit(f"{program} doesn't allocate by the C library's malloc, or is linked with it statically: nothing can be counted")
-    return number
+    counter = f"{os.path.dirname(preload)}/counter"
+    subprocess.run([program, *words], input=given, stdout=subprocess.DEVNULL, env=counted(preload, counter), check=True)
+    return numbers(program, counter)[0]
+
+
+def live(program, preload, plant):
+    """The bytes that live once a plant was read and its first scan served, and the most that lived until then."""
+    counter = f"{os.path.dirname(preload)}/counter"
+    with subprocess.Popen([program, "run", plant], stdin=subprocess.PIPE, stdout=subprocess.PIPE, stderr=subprocess.DEVNULL, env=counted(preload, counter)) as server:
+        server.stdin.write(b"scan 0\n")
+        server.stdin.flush()
+        if not any(line.startswith(b"DONE") for line in server.stdout):
+            sys.exit(f"{program} serves no scan of {plant}")
+        told = numbers(program, counter)
+        server.stdin.close()
+        server.stdout.read()
+    return told[1:]
+
+
+def count_lines(program, preload, room, number):
+    """Prints what a line of each kind takes, and a scan by workers."""
+    for name, lines in KINDS:
+        every = [lines[n % len(lines)].format(t=n) for n in range(2 * number)]
+        more = count(program, preload, every) - count(program, preload, every[:number])
+        print(f"{name}: {more / number:.4f} a line")
+    scans = max(1, number // 10)
+    every = [f"scan {n} a={n % 100}" for n in range(2 * scans)]
+    for programs, turns, workers in CREWS:
+        words = ["run", plant(f"{room}/{programs}_{turns}_{workers}", programs, turns), "--workers", str(workers)]
+        more = count(program, preload, every, words) - count(program, preload, every[:scans], words)
+        print(f"a scan of {programs} programs of {turns} turns by {workers} workers: {more / scans:.4f}")
+
+
+def count_live(program, preload, room, path):
+    """Prints what lives while a plant is served."""
+    if path is None:
+        sys.path.insert(0, f"{HERE}/../bench")
+        import inputs
+
+        os.makedirs(f"{room}/large")
+        inputs.large(f"{room}/large")
+        path = f"{room}/large/plant.toml"
+    here, most = live(program, preload, path)
+    print(f"{here:,} bytes live once the plant is served; until then {most:,} at the most")
 
 
 def main():
-    program, number = os.path.abspath(sys.argv[1]), int(sys.argv[2]) if len(sys.argv) > 2 else 100_000
+    program, words = os.path.abspath(sys.argv[1]), sys.argv[2:]
     with tempfile.TemporaryDirectory() as room:
         preload = f"{room}/count.so"
-        here = os.path.dirname(os.path.abspath(__file__))
-        subprocess.run(["gcc", "-O2", "-shared", "-fPIC", "-o", preload, f"{here}/count.c", "-ldl"], check=True)
-        for name, lines in KINDS:
-            every = [lines[n % len(lines)].format(t=n) for n in range(2 * number)]
-            more = count(program, preload, every) - count(program, preload, every[:number])
-            print(f"{name}: {more / number:.4f} a line")
-        scans = max(1, number // 10)
-        every = [f"scan {n} a={n % 100}" for n in range(2 * scans)]
-        for programs, turns, workers in CREWS:
-            words = ["run", plant(f"{room}/{programs}_{turns}_{workers}", programs, turns), "--workers", str(workers)]
-            more = count(program, preload, every, words) - count(program, preload, every[:scans], words)
-            print(f"a scan of {programs} programs of {turns} turns by {workers} workers: {more / scans:.4f}")
+        subprocess.run(["gcc", "-O2", "-shared", "-fPIC", "-o", preload, f"{HERE}/count.c", "-ldl"], check=True)
+        if words[:1] == ["live"]:
+            count_live(program, preload, room, words[1] if len(words) > 1 else None)
+        else:
+            count_lines(program, preload, room, int(words[0]) if words else 100_000)
 
 
 if __name__ == "__main__":
