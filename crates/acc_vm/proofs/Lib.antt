@@ -1,3 +1,4 @@
 pub mod Stack
 pub mod Turn
 pub mod Found
+pub mod Table

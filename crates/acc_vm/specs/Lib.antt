@@ -1,4 +1,5 @@
 pub mod Machine
+pub mod Operands
 pub mod Codes
 pub mod Steps
 pub mod Flats

@@ -13,5 +13,5 @@ mod step;
 mod words;
 
 pub use code::Code;
-pub use instr::Instr;
+pub use instr::{Instr, Named, Operation};
 pub use own::{Own, Shared};

@@ -7,7 +7,8 @@ use Rattle.plant_types.specs.declared.values.Place.{Place}
 use Rattle.acc_vm.specs.declared.instr.Instr.{Instr}
 use Rattle.acc_vm.specs.Codes.{PlainCode, IsSound}
 use Rattle.code_slices.specs.Slots.{slots_read, slots_written, clocks_of, SomeHas, Names, Writes}
-use Rattle.code_slices.specs.Renaming.{renamed, renamed_code}
+use Rattle.acc_vm.specs.Operands.{renamed}
+use Rattle.code_slices.specs.Renaming.{renamed_code}
 use Rattle.code_slices.specs.Noting.{AreOnce, Notes}
 use Rattle.code_slices.specs.Parts.{PlainPart, IsPart, IsPartOf, AreSlots, AreClocks}
 use Rattle.code_slices.proofs.Sound.{sound_again}

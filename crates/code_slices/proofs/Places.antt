@@ -12,7 +12,7 @@ use Rattle.std.proofs.lemmas.Map.Steps.{length-le_from_distinct_below}
 use Rattle.std.proofs.lemmas.Map.Views.{Contains-from_any}
 use Rattle.acc_vm.specs.declared.instr.Instr.{Instr}
 use Rattle.code_slices.specs.Slots.{SomeHas}
-use Rattle.code_slices.specs.Lists.{listed}
+use Rattle.acc_vm.specs.Operands.{listed}
 use Rattle.code_slices.specs.Noting.{IsNoted, AreOnce, Notes}
 
 pub get_left : {A : Type 0} (xs ys : List A) (i : ℕ) (x : A) → slice_get xs i ≡ Some x → slice_get (xs ++ ys) i ≡ Some x

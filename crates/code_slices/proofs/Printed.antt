@@ -1,17 +1,21 @@
--- Prints tell instructions apart: they are read back.
-use Rattle.std.proofs.Common.{◌≡◌, ◌≢◌, ℕ, ◌+◌, ◌<◌, ℤ, pos, List, [], ◌∷◌, ◌++◌, length, get_or, drop, arith, refl, ap, sym, ◌∙◌, subst, nat_eq, if◌then◌else◌, ◌⊎◌, inl, inr, ne_eqb}
+-- Prints tell instructions and places apart.
+use Rattle.std.proofs.Common.{◌≡◌, ◌≢◌, ℕ, ◌+◌, ◌<◌, ℤ, List, [], ◌∷◌, ◌++◌, map, length, get_or, drop, append_assoc, arith, refl, ap, sym, ◌∙◌, subst, nat_eq, Option, if◌then◌else◌, ◌⊎◌, inl, inr, ne_eqb}
 use Rattle.std.proofs.lemmas.Bool.Decides.{nat_tests}
 use Rattle.std.specs.List.{flat_map}
+use Rattle.std.proofs.lemmas.List.{length-map, map-append}
 use Rattle.plant_types.specs.declared.values.Place.{Place}
 use Rattle.st_tree.specs.declared.tree.Unary.{Unary}
 use Rattle.st_tree.specs.declared.tree.Unary.TheVariants as unary
 use Rattle.st_tree.specs.declared.tree.Binary.{Binary}
 use Rattle.st_tree.specs.declared.tree.Binary.TheVariants as binary
 use Rattle.acc_vm.specs.declared.instr.Instr.{Instr}
-use Rattle.acc_vm.specs.declared.instr.Instr.TheVariants as instr
+use Rattle.acc_vm.specs.declared.instr.Named.{Named}
+use Rattle.acc_vm.specs.declared.instr.Operation.{Operation}
+use Rattle.acc_vm.specs.Operands.{row, operands, listed}
+use Rattle.acc_vm.proofs.Table.{Sizes, same_sizes, same_instr}
 use Rattle.acc_vm.specs.Codes.{PlainCode}
 use Rattle.code_slices.specs.declared.prints.Prints.{Prints}
-use Rattle.code_slices.specs.Prints.{ArePrintsOf, HaveSameItems, kinds_of, numbers_of, literals_of, step_of, told_of, steps_of, told_places, opening, counts_of, unary_number, binary_number}
+use Rattle.code_slices.specs.Prints.{ArePrintsOf, HaveSameItems, kinds_of, numbers_of, literals_of, with_kinds, with_numbers, with_literals, step_of, told_of, steps_of, told_places, opening, counts_of, unary_number, binary_number}
 
 -- the operator of a number
 abbrev unary_of : ℕ → Unary
@@ -28,88 +32,66 @@ binary_back : (op : Binary) → binary_of (binary_number op) ≡ op
 binary_back binary.And = refl
 binary_back op = refl
 
--- an instruction that was read, and what is left of the lists
-record Read : Type 0 where
-  instr : Instr
-  kinds : List ℕ
-  numbers : List ℕ
-  literals : List ℤ
+-- operators of the same numbers are the same
+all_unary : (ops : List Unary) → map unary_of (map unary_number ops) ≡ ops
+all_unary [] = refl
+all_unary (op ∷ ops) = λ i. unary_back op i ∷ all_unary ops i
 
--- an instruction that took so many operators, numbers and literals of the lists
-abbrev taken : List ℕ → List ℕ → List ℤ → Instr → ℕ → ℕ → ℕ → Read
-taken kinds numbers literals i operators words values = record { instr = i; kinds = drop operators kinds; numbers = drop words numbers; literals = drop values literals }
+all_binary : (ops : List Binary) → map binary_of (map binary_number ops) ≡ ops
+all_binary [] = refl
+all_binary (op ∷ ops) = λ i. binary_back op i ∷ all_binary ops i
 
--- the first instruction of lists: its number tells what it takes
-abbrev read_as : ℕ → List ℕ → List ℕ → List ℤ → Read
-read_as number kinds numbers literals =
-    let left : Instr → ℕ → ℕ → ℕ → Read = taken kinds numbers literals in
-    let unary_op : Unary = unary_of (get_or kinds 0 0) in
-    let op : Binary = binary_of (get_or kinds 0 0) in
-    let other : Binary = binary_of (get_or kinds 1 0) in
-    let one : ℕ = get_or numbers 0 0 in
-    let two : ℕ = get_or numbers 1 0 in
-    let three : ℕ = get_or numbers 2 0 in
-    let x : ℤ = get_or literals 0 (pos 0) in
-    let y : ℤ = get_or literals 1 (pos 0) in
-    if nat_eq number 0 then left instr.End 0 0 0 else (
-    if nat_eq number 1 then left (instr.Literal x) 0 0 1 else (
-    if nat_eq number 2 then left (instr.Load one) 0 1 0 else (
-    if nat_eq number 3 then left (instr.Store one) 0 1 0 else (
-    if nat_eq number 4 then left instr.Push 0 0 0 else (
-    if nat_eq number 5 then left (instr.Unary unary_op) 1 0 0 else (
-    if nat_eq number 6 then left (instr.Binary op) 1 0 0 else (
-    if nat_eq number 7 then left (instr.BinaryLiteral op x) 1 0 1 else (
-    if nat_eq number 8 then left (instr.BinarySlot op one) 1 1 0 else (
-    if nat_eq number 9 then left (instr.Jump one) 0 1 0 else (
-    if nat_eq number 10 then left (instr.JumpUnless one) 0 1 0 else (
-    if nat_eq number 11 then left (instr.JumpWithin one (record { low = x; high = y })) 0 1 2 else (
-    if nat_eq number 12 then left (instr.Begin one x y) 0 1 2 else (
-    if nat_eq number 13 then left (instr.Turn one x two) 0 2 1 else (
-    if nat_eq number 14 then left (instr.ClockQ one) 0 1 0 else (
-    if nat_eq number 15 then left (instr.ClockEt one) 0 1 0 else (
-    if nat_eq number 16 then left (instr.Enter one two) 0 2 0 else (
-    if nat_eq number 17 then left (instr.LoadBinarySlot op one two) 1 2 0 else (
-    if nat_eq number 18 then left (instr.LoadBinaryLiteral op one x) 1 1 1 else (
-    if nat_eq number 19 then left (instr.PushLoad one) 0 1 0 else (
-    if nat_eq number 20 then left (instr.BinarySlotStore op one two) 1 2 0 else (
-    if nat_eq number 21 then left (instr.BinaryLiteralStore op x one) 1 1 1 else (
-    if nat_eq number 22 then left (instr.BinaryJump op one) 1 1 0 else (
-    if nat_eq number 23 then left (instr.BinarySlotJump op one two) 1 2 0 else (
-    if nat_eq number 24 then left (instr.BinaryLiteralJump op x one) 1 1 1 else (
-    if nat_eq number 25 then left (instr.BinaryLiteralTwice op other x y) 2 0 2 else (
-    if nat_eq number 26 then left (instr.LoadUnary unary_op one) 1 1 0 else (
-    if nat_eq number 27 then left (instr.PushLoadUnary unary_op one) 1 1 0 else (
-    if nat_eq number 28 then left (instr.LoadBinarySlotStore op one two three) 1 3 0 else (
-    if nat_eq number 29 then left (instr.LoadBinaryLiteralStore op one x two) 1 2 1 else (
-    if nat_eq number 30 then left (instr.LoadBinarySlotJump op one two three) 1 3 0 else (
-    left (instr.LoadBinaryLiteralJump op one x two) 1 2 1)))))))))))))))))))))))))))))))
+same_unary : (xs ys : List Unary) → map unary_number xs ≡ map unary_number ys → xs ≡ ys
+same_unary xs ys e = sym (all_unary xs) ∙ ap (map unary_of) e ∙ all_unary ys
 
-abbrev read : List ℕ → List ℕ → List ℤ → Read
-read [] numbers literals = taken [] numbers literals instr.End 0 0 0
-read (number ∷ kinds) numbers literals = read_as number kinds numbers literals
+same_binary : (xs ys : List Binary) → map binary_number xs ≡ map binary_number ys → xs ≡ ys
+same_binary xs ys e = sym (all_binary xs) ∙ ap (map binary_of) e ∙ all_binary ys
 
--- what is read of an instruction's print and more is that instruction, and the rest
-back : (i : Instr) (ks ns : List ℕ) (ls : List ℤ) → read (kinds_of i ++ ks) (numbers_of i ++ ns) (literals_of i ++ ls) ≡ taken ks ns ls i 0 0 0
-back instr.End ks ns ls = refl
-back (instr.Unary op) ks ns ls = ap (λ o. taken ks ns ls (instr.Unary o) 0 0 0) (unary_back op)
-back (instr.Binary op) ks ns ls = ap (λ o. taken ks ns ls (instr.Binary o) 0 0 0) (binary_back op)
-back (instr.BinaryLiteral op x) ks ns ls = ap (λ o. taken ks ns ls (instr.BinaryLiteral o x) 0 0 0) (binary_back op)
-back (instr.BinarySlot op one) ks ns ls = ap (λ o. taken ks ns ls (instr.BinarySlot o one) 0 0 0) (binary_back op)
-back (instr.LoadBinarySlot op one two) ks ns ls = ap (λ o. taken ks ns ls (instr.LoadBinarySlot o one two) 0 0 0) (binary_back op)
-back (instr.LoadBinaryLiteral op one x) ks ns ls = ap (λ o. taken ks ns ls (instr.LoadBinaryLiteral o one x) 0 0 0) (binary_back op)
-back (instr.BinarySlotStore op one two) ks ns ls = ap (λ o. taken ks ns ls (instr.BinarySlotStore o one two) 0 0 0) (binary_back op)
-back (instr.BinaryLiteralStore op x one) ks ns ls = ap (λ o. taken ks ns ls (instr.BinaryLiteralStore o x one) 0 0 0) (binary_back op)
-back (instr.BinaryJump op one) ks ns ls = ap (λ o. taken ks ns ls (instr.BinaryJump o one) 0 0 0) (binary_back op)
-back (instr.BinarySlotJump op one two) ks ns ls = ap (λ o. taken ks ns ls (instr.BinarySlotJump o one two) 0 0 0) (binary_back op)
-back (instr.BinaryLiteralJump op x one) ks ns ls = ap (λ o. taken ks ns ls (instr.BinaryLiteralJump o x one) 0 0 0) (binary_back op)
-back (instr.LoadUnary op one) ks ns ls = ap (λ o. taken ks ns ls (instr.LoadUnary o one) 0 0 0) (unary_back op)
-back (instr.PushLoadUnary op one) ks ns ls = ap (λ o. taken ks ns ls (instr.PushLoadUnary o one) 0 0 0) (unary_back op)
-back (instr.LoadBinarySlotStore op one two three) ks ns ls = ap (λ o. taken ks ns ls (instr.LoadBinarySlotStore o one two three) 0 0 0) (binary_back op)
-back (instr.LoadBinaryLiteralStore op one x two) ks ns ls = ap (λ o. taken ks ns ls (instr.LoadBinaryLiteralStore o one x two) 0 0 0) (binary_back op)
-back (instr.LoadBinarySlotJump op one two three) ks ns ls = ap (λ o. taken ks ns ls (instr.LoadBinarySlotJump o one two three) 0 0 0) (binary_back op)
-back (instr.LoadBinaryLiteralJump op one x two) ks ns ls = ap (λ o. taken ks ns ls (instr.LoadBinaryLiteralJump o one x two) 0 0 0) (binary_back op)
-back (instr.BinaryLiteralTwice op other x y) ks ns ls = λ i. taken ks ns ls (instr.BinaryLiteralTwice (binary_back op i) (binary_back other i) x y) 0 0 0
-back i ks ns ls = refl
+-- lists that begin with as many items are the same where these are, and what is behind them
+cut : {A : Type 0} (xs ys a b : List A) → length xs ≡ length ys → xs ++ a ≡ ys ++ b → (xs ≡ ys) × (a ≡ b)
+cut [] [] a b n e = (refl, e)
+cut [] (y ∷ ys) a b n e = absurd (omega (arith, n))
+cut (x ∷ xs) [] a b n e = absurd (omega (arith, n))
+cut (x ∷ xs) (y ∷ ys) a b n e =
+    let short : length xs ≡ length ys = omega (arith, n) in
+    let here : x ≡ y = ap (λ l. get_or l 0 x) e in
+    let rest = cut xs ys a b short (ap (drop 1) e) in
+    (λ i. here i ∷ rest.0 i, rest.1)
+
+cut_first : {A : Type 0} (xs ys a b c d : List A) → length xs ≡ length ys → (xs ++ a) ++ c ≡ (ys ++ b) ++ d → (xs ≡ ys) × (a ++ c ≡ b ++ d)
+cut_first xs ys a b c d n e = cut xs ys (a ++ c) (b ++ d) n (sym (append_assoc xs a c) ∙ e ∙ append_assoc ys b d)
+
+-- instructions that begin lists of the same numbers are the same, and so is what is behind them
+record Begins (x y : Instr) (ks hs ns ms : List ℕ) (ls rs : List ℤ) : Type 0 where
+  instr : x ≡ y
+  kinds : ks ≡ hs
+  numbers : ns ≡ ms
+  literals : ls ≡ rs
+
+begin_alike : (x y : Instr) (ks hs ns ms : List ℕ) (ls rs : List ℤ) → kinds_of x ++ ks ≡ kinds_of y ++ hs → numbers_of x ++ ns ≡ numbers_of y ++ ms → literals_of x ++ ls ≡ literals_of y ++ rs
+    → Begins x y ks hs ns ms ls rs
+begin_alike x y ks hs ns ms ls rs k n l =
+    let a = operands x in
+    let b = operands y in
+    let opcode : a.opcode ≡ b.opcode = ap (λ l. get_or l 0 0) k in
+    let size = same_sizes x y opcode in
+    let unary = cut_first (map unary_number a.unary) (map unary_number b.unary) (map binary_number a.binary) (map binary_number b.binary) ks hs
+    (length-map a.unary unary_number ∙ ap (λ (s : Sizes). s.unary) size ∙ sym (length-map b.unary unary_number)) (ap (drop 1) k) in
+    let binary = cut (map binary_number a.binary) (map binary_number b.binary) ks hs
+    (length-map a.binary binary_number ∙ ap (λ (s : Sizes). s.binary) size ∙ sym (length-map b.binary binary_number)) unary.1 in
+    let reads = cut_first a.reads b.reads (a.writes ++ (a.clocks ++ a.targets)) (b.writes ++ (b.clocks ++ b.targets)) ns ms (ap (λ (s : Sizes). s.reads) size) n in
+    let writes = cut_first a.writes b.writes (a.clocks ++ a.targets) (b.clocks ++ b.targets) ns ms (ap (λ (s : Sizes). s.writes) size) reads.1 in
+    let clocks = cut_first a.clocks b.clocks a.targets b.targets ns ms (ap (λ (s : Sizes). s.clocks) size) writes.1 in
+    let targets = cut a.targets b.targets ns ms (ap (λ (s : Sizes). s.targets) size) clocks.1 in
+    let literals = cut a.literals b.literals ls rs (ap (λ (s : Sizes). s.literals) size) l in
+    let ops = same_unary a.unary b.unary unary.0 in
+    let next_ops = same_binary a.binary b.binary binary.0 in
+    record {
+      instr = same_instr x y (λ i. row (opcode i) (ops i) (next_ops i) (reads.0 i) (writes.0 i) (clocks.0 i) (targets.0 i) (literals.0 i));
+      kinds = binary.1;
+      numbers = targets.1;
+      literals = literals.1;
+    }
 
 -- lists of instructions whose prints have the same numbers are the same
 same_instrs : (xs ys : List Instr) → flat_map kinds_of xs ≡ flat_map kinds_of ys → flat_map numbers_of xs ≡ flat_map numbers_of ys → flat_map literals_of xs ≡ flat_map literals_of ys → xs ≡ ys
@@ -117,9 +99,31 @@ same_instrs [] [] k n l = refl
 same_instrs [] (y ∷ ys) k n l = let e = ap length k in absurd (omega (arith, e))
 same_instrs (x ∷ xs) [] k n l = let e = ap length k in absurd (omega (arith, e))
 same_instrs (x ∷ xs) (y ∷ ys) k n l =
-    let both : taken (flat_map kinds_of xs) (flat_map numbers_of xs) (flat_map literals_of xs) x 0 0 0 ≡ taken (flat_map kinds_of ys) (flat_map numbers_of ys) (flat_map literals_of ys) y 0 0 0 = sym (back x _ _ _) ∙ (λ i. read (k i) (n i) (l i)) ∙ back y _ _ _ in
-    let left : xs ≡ ys = same_instrs xs ys (ap (λ (r : Read). r.kinds) both) (ap (λ (r : Read). r.numbers) both) (ap (λ (r : Read). r.literals) both) in
-    λ i. (both i).instr ∷ left i
+    let first = begin_alike x y (flat_map kinds_of xs) (flat_map kinds_of ys) (flat_map numbers_of xs) (flat_map numbers_of ys) (flat_map literals_of xs) (flat_map literals_of ys) k n l in
+    let left : xs ≡ ys = same_instrs xs ys first.kinds first.numbers first.literals in
+    λ i. first.instr i ∷ left i
+
+-- what the machine's code tells of an instruction is written as its print
+pub with_kinds_is : (ks : List ℕ) (i : Instr) (o : Operation) → o.opcode ≡ (operands i).opcode → listed o.unary ≡ (operands i).unary → listed o.binary.0 ++ listed o.binary.1 ≡ (operands i).binary → with_kinds ks o ≡ ks ++ kinds_of i
+with_kinds_is ks i o opcode unary binary =
+    let one = map unary_number (listed o.unary) in
+    let two = map binary_number (listed o.binary.0) in
+    let three = map binary_number (listed o.binary.1) in
+    let numbers : two ++ three ≡ map binary_number (operands i).binary = sym (map-append binary_number (listed o.binary.0) (listed o.binary.1)) ∙ ap (map binary_number) binary in
+    append_assoc ((ks ++ o.opcode ∷ []) ++ one) two three ∙ append_assoc (ks ++ o.opcode ∷ []) one (two ++ three) ∙ append_assoc ks (o.opcode ∷ []) (one ++ (two ++ three))
+    ∙ (λ k. ks ++ (opcode k ∷ (map unary_number (unary k) ++ numbers k)))
+
+pub with_numbers_is : (ns : List ℕ) (i : Instr) (n : Named) (target : Option ℕ) → listed n.reads.0 ++ listed n.reads.1 ≡ (operands i).reads → listed n.write ≡ (operands i).writes → listed n.clock ≡ (operands i).clocks
+    → listed target ≡ (operands i).targets → with_numbers ns n target ≡ ns ++ numbers_of i
+with_numbers_is ns i n target reads writes clocks targets =
+    let one = listed n.reads.0 in
+    let two = listed n.reads.1 in
+    let rest = listed n.write ++ (listed n.clock ++ listed target) in
+    append_assoc (((ns ++ one) ++ two) ++ listed n.write) (listed n.clock) (listed target) ∙ append_assoc ((ns ++ one) ++ two) (listed n.write) (listed n.clock ++ listed target)
+    ∙ ap (λ (l : List ℕ). l ++ rest) (append_assoc ns one two) ∙ append_assoc ns (one ++ two) rest ∙ (λ k. ns ++ (reads k ++ (writes k ++ (clocks k ++ targets k))))
+
+pub with_literals_is : (ls : List ℤ) (i : Instr) (o : Operation) → listed o.literals.0 ++ listed o.literals.1 ≡ (operands i).literals → with_literals ls o ≡ ls ++ literals_of i
+with_literals_is ls i o e = append_assoc ls (listed o.literals.0) (listed o.literals.1) ∙ ap (λ l. ls ++ l) e
 
 -- a place that was read, and what is left of the numbers that are told
 record ReadPlace : Type 0 where

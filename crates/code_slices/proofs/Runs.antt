@@ -7,7 +7,8 @@ use Rattle.acc_vm.specs.declared.instr.Instr.{Instr}
 use Rattle.plant_types.specs.declared.values.Place.{Place}
 use Rattle.acc_vm.specs.Machine.{Run, Over, Unfinished, Stuck, exec}
 use Rattle.std.specs.Prelude.{map}
-use Rattle.code_slices.specs.Renaming.{renamed, TellsApart, StandsFor}
+use Rattle.acc_vm.specs.Operands.{renamed}
+use Rattle.code_slices.specs.Renaming.{TellsApart, StandsFor}
 use Rattle.code_slices.specs.Alike.{EndAlike, GoAlike, IsKept, EndsIn, Leaves}
 use Rattle.code_slices.specs.Laws.{BothAfter}
 use Rattle.code_slices.proofs.Steps.{Like, runs}
@@ -51,7 +52,7 @@ renamed_runs t room names code places f g fuel pc acc stack cells small apart st
     let all = runs (Stands f g code apart cells small) f g t room names code places (suit f g code apart cells small) fuel in
     let first : Stands f g code apart cells small cells small =
     record { stands = stands; kept = record { values = λ s not. refl; clocks = λ k not. refl; shape = record { values = refl; clocks = refl } }; shape = record { values = refl; clocks = refl } } in
-    let like : Like (Stands f g code apart cells small) f g (exec t room names code places fuel pc acc stack cells) (exec t room names (map (renamed f g) code) places fuel pc acc stack small) = all.on pc acc acc stack cells small refl first in
+    let like : Like (Stands f g code apart cells small) f g (GoAlike (Stands f g code apart cells small)) (exec t room names code places fuel pc acc stack cells) (exec t room names (map (renamed f g) code) places fuel pc acc stack small) = all.on pc acc acc stack cells small refl first in
     weaker (Stands f g code apart cells small) (BothAfter f g code cells small) (λ w v h. record { stands = h.stands; kept = h.kept; shape = h.shape }) _ _ like.is
 
 -- a run keeps what its code doesn't write

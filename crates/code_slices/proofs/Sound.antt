@@ -1,5 +1,5 @@
 -- Sound code is sound by other numbers.
-use Rattle.std.proofs.Common.{◌≡◌, ◌<◌, ◌≤◌, ℕ, pos, List, [], map, length, get_or, Option, Some, None, refl, ap, sym, ◌∙◌, subst, arith, inl, inr}
+use Rattle.std.proofs.Common.{◌≡◌, ◌<◌, ◌≤◌, ℕ, pos, max, List, [], map, length, get_or, Option, Some, None, refl, ap, sym, ◌∙◌, subst, arith, inl, inr}
 use Rattle.std.specs.Prelude.{slice_get, option_map}
 use Rattle.std.specs.List.{AllByRecursion, range_with_len}
 use Rattle.std.proofs.lemmas.List.{length-map}
@@ -11,11 +11,12 @@ use Rattle.plant_cells.specs.declared.clock.Standard.TheVariants as standard
 use Rattle.plant_cells.specs.Clocks.{clock_of}
 use Rattle.plant_cells.specs.Cells.{PlainCells, value_at}
 use Rattle.acc_vm.specs.declared.instr.Instr.{Instr}
-use Rattle.acc_vm.specs.declared.instr.Instr.TheVariants as instr
+use Rattle.acc_vm.proofs.Table.{renamed_is, below_past, past_map}
 use Rattle.acc_vm.specs.Machine.{Run, Over, Unfinished, Stuck}
 use Rattle.acc_vm.specs.Codes.{PlainCode, IsSound, IsOver, IsWithin, LeavesShape, SameShape, fuel_of, run_of, values_past, clocks_past}
 use Rattle.code_slices.specs.Slots.{slots_read, slots_written, clocks_of, SomeHas, Names, NamesClock}
-use Rattle.code_slices.specs.Renaming.{renamed, renamed_code, TellsApart, StandsFor, HasRoom}
+use Rattle.acc_vm.specs.Operands.{PlainOperands, operands, renamed, past_all}
+use Rattle.code_slices.specs.Renaming.{renamed_code, TellsApart, StandsFor, HasRoom}
 use Rattle.code_slices.specs.Alike.{EndAlike, GoAlike}
 use Rattle.code_slices.specs.Laws.{BothAfter}
 use Rattle.code_slices.proofs.Standing.{each}
@@ -23,24 +24,22 @@ use Rattle.code_slices.proofs.Runs.{renamed_runs}
 
 -- what an instruction names is below the number after the last slot
 pub read_past : (i : Instr) (n : ℕ) → values_past i ≤ n → AllByRecursion (λ s. s < n) (slots_read i)
-read_past instr.End n h = tt
-read_past i n h = grind arith
+read_past i n h = below_past (operands i).reads n (omega (arith, h))
 
 pub written_past : (i : Instr) (n : ℕ) → values_past i ≤ n → AllByRecursion (λ s. s < n) (slots_written i)
-written_past instr.End n h = tt
-written_past i n h = grind arith
+written_past i n h = below_past (operands i).writes n (omega (arith, h))
 
 pub clock_past : (i : Instr) (n : ℕ) → clocks_past i ≤ n → AllByRecursion (λ k. k < n) (clocks_of i)
-clock_past instr.End n h = tt
-clock_past i n h = grind arith
+clock_past i n h = below_past (operands i).clocks n h
 
 values_again : (f g : ℕ → ℕ) (i : Instr) (n : ℕ) → AllByRecursion (λ s. f s < n) (slots_read i) → AllByRecursion (λ s. f s < n) (slots_written i) → values_past (renamed f g i) ≤ n
-values_again f g instr.End n h k = omega arith
-values_again f g i n h k = omega arith
+values_again f g i n h k =
+    let reads = past_map f (operands i).reads n h in
+    let writes = past_map f (operands i).writes n k in
+    subst (λ (o : PlainOperands). max (past_all o.reads) (past_all o.writes) ≤ n) (sym (renamed_is f g i)) (omega (arith, reads, writes))
 
 clocks_again : (f g : ℕ → ℕ) (i : Instr) (n : ℕ) → AllByRecursion (λ k. g k < n) (clocks_of i) → clocks_past (renamed f g i) ≤ n
-clocks_again f g instr.End n h = omega arith
-clocks_again f g i n h = omega arith
+clocks_again f g i n h = subst (λ (o : PlainOperands). past_all o.clocks ≤ n) (sym (renamed_is f g i)) (past_map g (operands i).clocks n h)
 
 -- what stands at a place by other numbers is what stood there
 was : {A B : Type 0} (h : A → B) (o : Option A) (y : B) → option_map h o ≡ Some y → (x : A) × (o ≡ Some x) × (h x ≡ y)

@@ -2,7 +2,6 @@ pub mod Slots
 pub mod Renaming
 pub mod Alike
 pub mod Laws
-pub mod Lists
 pub mod Noting
 pub mod Parts
 pub mod Puts

@@ -1,5 +1,5 @@
 -- Instructions and places as numbers.
-use Rattle.std.specs.Prelude.{◌≡◌, ℕ, ◌-◌, ℤ, List, [], ◌∷◌, ◌++◌, ◌&&◌, not, min, nat_eq, nat_lt, if◌then◌else◌}
+use Rattle.std.specs.Prelude.{◌≡◌, ℕ, ◌-◌, ℤ, List, [], ◌∷◌, ◌++◌, map, Option, ◌&&◌, not, min, nat_eq, nat_lt, if◌then◌else◌}
 use Rattle.std.specs.List.{flat_map}
 use Rattle.plant_types.specs.declared.values.Place.{Place}
 use Rattle.st_tree.specs.declared.tree.Unary.{Unary}
@@ -7,7 +7,9 @@ use Rattle.st_tree.specs.declared.tree.Unary.TheVariants as unary
 use Rattle.st_tree.specs.declared.tree.Binary.{Binary}
 use Rattle.st_tree.specs.declared.tree.Binary.TheVariants as binary
 use Rattle.acc_vm.specs.declared.instr.Instr.{Instr}
-use Rattle.acc_vm.specs.declared.instr.Instr.TheVariants as instr
+use Rattle.acc_vm.specs.declared.instr.Named.{Named}
+use Rattle.acc_vm.specs.declared.instr.Operation.{Operation}
+use Rattle.acc_vm.specs.Operands.{operands, listed}
 use Rattle.acc_vm.specs.Codes.{PlainCode}
 use Rattle.code_slices.specs.declared.prints.Counts.{Counts}
 use Rattle.code_slices.specs.declared.prints.Prints.{Prints}
@@ -38,57 +40,25 @@ binary_number binary.Multiply = 13
 binary_number binary.Divide = 14
 binary_number binary.Mod = 15
 
--- an instruction as numbers: its own number, those of its operators, those of its slots, clocks and targets, and its literals
-pub record Print : Type 0 where
-  pub number : ℕ
-  pub operators : List ℕ
-  pub numbers : List ℕ
-  pub literals : List ℤ
-
--- the print of an instruction holds what the instruction has
-abbrev pub print_of : Instr → Print
-print_of instr.End = record { number = 0; operators = []; numbers = []; literals = [] }
-print_of (instr.Literal x) = record { number = 1; operators = []; numbers = []; literals = x ∷ [] }
-print_of (instr.Load one) = record { number = 2; operators = []; numbers = one ∷ []; literals = [] }
-print_of (instr.Store one) = record { number = 3; operators = []; numbers = one ∷ []; literals = [] }
-print_of instr.Push = record { number = 4; operators = []; numbers = []; literals = [] }
-print_of (instr.Unary op) = record { number = 5; operators = unary_number op ∷ []; numbers = []; literals = [] }
-print_of (instr.Binary op) = record { number = 6; operators = binary_number op ∷ []; numbers = []; literals = [] }
-print_of (instr.BinaryLiteral op x) = record { number = 7; operators = binary_number op ∷ []; numbers = []; literals = x ∷ [] }
-print_of (instr.BinarySlot op one) = record { number = 8; operators = binary_number op ∷ []; numbers = one ∷ []; literals = [] }
-print_of (instr.Jump one) = record { number = 9; operators = []; numbers = one ∷ []; literals = [] }
-print_of (instr.JumpUnless one) = record { number = 10; operators = []; numbers = one ∷ []; literals = [] }
-print_of (instr.JumpWithin one label) = record { number = 11; operators = []; numbers = one ∷ []; literals = label.low ∷ label.high ∷ [] }
-print_of (instr.Begin one x y) = record { number = 12; operators = []; numbers = one ∷ []; literals = x ∷ y ∷ [] }
-print_of (instr.Turn one x two) = record { number = 13; operators = []; numbers = one ∷ two ∷ []; literals = x ∷ [] }
-print_of (instr.ClockQ one) = record { number = 14; operators = []; numbers = one ∷ []; literals = [] }
-print_of (instr.ClockEt one) = record { number = 15; operators = []; numbers = one ∷ []; literals = [] }
-print_of (instr.Enter one two) = record { number = 16; operators = []; numbers = one ∷ two ∷ []; literals = [] }
-print_of (instr.LoadBinarySlot op one two) = record { number = 17; operators = binary_number op ∷ []; numbers = one ∷ two ∷ []; literals = [] }
-print_of (instr.LoadBinaryLiteral op one x) = record { number = 18; operators = binary_number op ∷ []; numbers = one ∷ []; literals = x ∷ [] }
-print_of (instr.PushLoad one) = record { number = 19; operators = []; numbers = one ∷ []; literals = [] }
-print_of (instr.BinarySlotStore op one two) = record { number = 20; operators = binary_number op ∷ []; numbers = one ∷ two ∷ []; literals = [] }
-print_of (instr.BinaryLiteralStore op x one) = record { number = 21; operators = binary_number op ∷ []; numbers = one ∷ []; literals = x ∷ [] }
-print_of (instr.BinaryJump op one) = record { number = 22; operators = binary_number op ∷ []; numbers = one ∷ []; literals = [] }
-print_of (instr.BinarySlotJump op one two) = record { number = 23; operators = binary_number op ∷ []; numbers = one ∷ two ∷ []; literals = [] }
-print_of (instr.BinaryLiteralJump op x one) = record { number = 24; operators = binary_number op ∷ []; numbers = one ∷ []; literals = x ∷ [] }
-print_of (instr.BinaryLiteralTwice op other x y) = record { number = 25; operators = binary_number op ∷ binary_number other ∷ []; numbers = []; literals = x ∷ y ∷ [] }
-print_of (instr.LoadUnary op one) = record { number = 26; operators = unary_number op ∷ []; numbers = one ∷ []; literals = [] }
-print_of (instr.PushLoadUnary op one) = record { number = 27; operators = unary_number op ∷ []; numbers = one ∷ []; literals = [] }
-print_of (instr.LoadBinarySlotStore op one two three) = record { number = 28; operators = binary_number op ∷ []; numbers = one ∷ two ∷ three ∷ []; literals = [] }
-print_of (instr.LoadBinaryLiteralStore op one x two) = record { number = 29; operators = binary_number op ∷ []; numbers = one ∷ two ∷ []; literals = x ∷ [] }
-print_of (instr.LoadBinarySlotJump op one two three) = record { number = 30; operators = binary_number op ∷ []; numbers = one ∷ two ∷ three ∷ []; literals = [] }
-print_of (instr.LoadBinaryLiteralJump op one x two) = record { number = 31; operators = binary_number op ∷ []; numbers = one ∷ two ∷ []; literals = x ∷ [] }
-
--- the numbers of an instruction's print, by their sizes
+-- an instruction as numbers by their sizes: its own number and those of its operators; those of slots, clocks and instructions that it names; and literals
 abbrev pub kinds_of : Instr → List ℕ
-kinds_of i = (print_of i).number ∷ (print_of i).operators
+kinds_of i = (operands i).opcode ∷ (map unary_number (operands i).unary ++ map binary_number (operands i).binary)
 
 abbrev pub numbers_of : Instr → List ℕ
-numbers_of i = (print_of i).numbers
+numbers_of i = (operands i).reads ++ ((operands i).writes ++ ((operands i).clocks ++ (operands i).targets))
 
 abbrev pub literals_of : Instr → List ℤ
-literals_of i = (print_of i).literals
+literals_of i = (operands i).literals
+
+-- lists with such numbers behind them, by what the machine's code tells of an instruction
+abbrev pub with_kinds : List ℕ → Operation → List ℕ
+with_kinds kinds o = (((kinds ++ o.opcode ∷ []) ++ map unary_number (listed o.unary)) ++ map binary_number (listed o.binary.0)) ++ map binary_number (listed o.binary.1)
+
+abbrev pub with_numbers : List ℕ → Named → Option ℕ → List ℕ
+with_numbers numbers n target = ((((numbers ++ listed n.reads.0) ++ listed n.reads.1) ++ listed n.write) ++ listed n.clock) ++ listed target
+
+abbrev pub with_literals : List ℤ → Operation → List ℤ
+with_literals literals o = (literals ++ listed o.literals.0) ++ listed o.literals.1
 
 -- the step from a place to the next one: how many statements of the same body that lies further on, or 255 where it lies elsewhere or far
 abbrev pub step_of : Place → Place → ℕ

@@ -6,7 +6,7 @@ ghost use Rattle.std.specs.List.{AllByRecursion};
 ghost use Rattle.acc_vm.specs.declared.instr.Instr.{Instr};
 ghost use Rattle.acc_vm.specs.Codes.{values_past, clocks_past};
 ghost use Rattle.code_slices.specs.Slots.{slots_read, slots_written, clocks_of, SomeHas};
-ghost use Rattle.code_slices.specs.Lists.{listed};
+ghost use Rattle.acc_vm.specs.Operands.{listed};
 ghost use Rattle.code_slices.specs.Noting.{IsNoted, AreOnce, Notes};
 
 use crate::named::{clock_by, read_by, written_by};

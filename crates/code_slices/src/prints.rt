@@ -1,10 +1,11 @@
 //! Prints of instructions, by which code is compared.
 
-ghost use Rattle.std.specs.Prelude.{◌≡◌, ◌↔◌, ◌++◌, ◌∷◌, [], pos, IfOk, IsTrue};
+ghost use Rattle.std.specs.Prelude.{◌≡◌, ◌↔◌, ◌++◌, ◌∷◌, [], map, IfOk, IsTrue};
 ghost use Rattle.std.specs.List.{flat_map};
-ghost use Rattle.code_slices.specs.Prints.{ArePlacesOf, ArePrintsOf, HaveSameItems, unary_number, binary_number, kinds_of, numbers_of, literals_of, step_of, told_of, counts_of};
+ghost use Rattle.acc_vm.specs.Operands.{listed};
+ghost use Rattle.code_slices.specs.Prints.{ArePlacesOf, ArePrintsOf, HaveSameItems, unary_number, binary_number, with_kinds, with_numbers, with_literals, kinds_of, numbers_of, literals_of, step_of, told_of, counts_of};
 
-use acc_vm::{Code, Instr};
+use acc_vm::{Code, Instr, Named, Operation};
 use plant_types::Place;
 use st_tree::{Binary, Unary};
 use std::alloc::{AllocError, Global};
@@ -61,24 +62,69 @@ pub(crate) struct Prints {
     places: PlacePrints,
 }
 
-/// Writes the numbers of an instruction behind others. Fails if memory was refused.
-fn add(
-    prints: &mut Prints,
-    number: u8,
-    operators: &[u8],
-    numbers: &[u32],
-    literals: &[i64],
-) -> Result<(), AllocError>
-    ensures kinds { IfOk result (λ _. prints.new.kinds.items ≡ prints.old.kinds.items ++ (number ∷ operators.now)) }
-    ensures numbers { IfOk result (λ _. prints.new.numbers.items ≡ prints.old.numbers.items ++ numbers.now) }
-    ensures literals { IfOk result (λ _. prints.new.literals.items ≡ prints.old.literals.items ++ literals.now) }
-    ensures places { prints.new.places ≡ prints.old.places }
+/// Writes an item behind others, if it is there. Fails if memory was refused.
+#[inline(always)]
+fn add<T: Drop>(items: &mut Vec<T>, item: Option<T>) -> Result<(), AllocError>
+    ensures { IfOk result (λ _. items.new.items ≡ items.old.items ++ listed item) }
 {
-    prints.kinds.push(number)?;
-    prints.kinds.extend_from_slice(operators)?;
-    prints.numbers.extend_from_slice(numbers)?;
-    prints.literals.extend_from_slice(literals)?;
+    if let Some(item) = item {
+        items.push(item)?;
+    }
     Ok(())
+}
+
+/// The number of an operator with one operand, if it is there.
+#[inline(always)]
+fn unary_kind(op: Option<Unary>) -> Option<u8>
+    ensures { listed result ≡ map unary_number (listed op) }
+{
+    match op {
+        Some(op) => Some(unary_print(op)),
+        None => None,
+    }
+}
+
+/// The number of an operator with two operands, if it is there.
+#[inline(always)]
+fn binary_kind(op: Option<Binary>) -> Option<u8>
+    ensures { listed result ≡ map binary_number (listed op) }
+{
+    match op {
+        Some(op) => Some(binary_print(op)),
+        None => None,
+    }
+}
+
+/// Writes the number of an instruction and those of its operators behind others. Fails if memory was refused.
+#[inline(always)]
+fn add_kinds(kinds: &mut Vec<u8>, of: &Operation) -> Result<(), AllocError>
+    ensures { IfOk result (λ _. kinds.new.items ≡ with_kinds kinds.old.items of.now) }
+{
+    kinds.push(of.opcode)?;
+    add(kinds, unary_kind(of.unary))?;
+    add(kinds, binary_kind(of.binary.0))?;
+    add(kinds, binary_kind(of.binary.1))
+}
+
+/// Writes the numbers of an instruction's slots, clocks and targets behind others. Fails if memory was refused.
+#[inline(always)]
+fn add_numbers(numbers: &mut Vec<u32>, named: &Named, target: Option<u32>) -> Result<(), AllocError>
+    ensures { IfOk result (λ _. numbers.new.items ≡ with_numbers numbers.old.items named.now target) }
+{
+    add(numbers, named.reads.0)?;
+    add(numbers, named.reads.1)?;
+    add(numbers, named.write)?;
+    add(numbers, named.clock)?;
+    add(numbers, target)
+}
+
+/// Writes the literals of an instruction behind others. Fails if memory was refused.
+#[inline(always)]
+fn add_literals(literals: &mut Vec<i64>, of: &Operation) -> Result<(), AllocError>
+    ensures { IfOk result (λ _. literals.new.items ≡ with_literals literals.old.items of.now) }
+{
+    add(literals, of.literals.0)?;
+    add(literals, of.literals.1)
 }
 
 /// Writes the print of an instruction behind others. Fails if memory was refused.
@@ -88,88 +134,12 @@ fn add_print(prints: &mut Prints, i: &Instr) -> Result<(), AllocError>
     ensures literals { IfOk result (λ _. prints.new.literals.items ≡ prints.old.literals.items ++ literals_of i.now) }
     ensures places { prints.new.places ≡ prints.old.places }
 {
-    match *i {
-        Instr::End => add(prints, 0, &[], &[], &[]),
-        Instr::Literal(x) => add(prints, 1, &[], &[], &[x]),
-        Instr::Load(one) => add(prints, 2, &[], &[one], &[]),
-        Instr::Store(one) => add(prints, 3, &[], &[one], &[]),
-        Instr::Push => add(prints, 4, &[], &[], &[]),
-        Instr::Unary(op) => add(prints, 5, &[unary_print(op)], &[], &[]),
-        Instr::Binary(op) => add(prints, 6, &[binary_print(op)], &[], &[]),
-        Instr::BinaryLiteral(op, x) => add(prints, 7, &[binary_print(op)], &[], &[x]),
-        Instr::BinarySlot(op, one) => add(prints, 8, &[binary_print(op)], &[one], &[]),
-        Instr::Jump(one) => add(prints, 9, &[], &[one], &[]),
-        Instr::JumpUnless(one) => add(prints, 10, &[], &[one], &[]),
-        Instr::JumpWithin(one, label) => add(prints, 11, &[], &[one], &[label.low, label.high]),
-        Instr::Begin { slot, first, left } => add(prints, 12, &[], &[slot], &[first, left]),
-        Instr::Turn { slot, step, to } => add(prints, 13, &[], &[slot, to], &[step]),
-        Instr::ClockQ(one) => add(prints, 14, &[], &[one], &[]),
-        Instr::ClockEt(one) => add(prints, 15, &[], &[one], &[]),
-        Instr::Enter { clock, input } => add(prints, 16, &[], &[clock, input], &[]),
-        Instr::LoadBinarySlot(op, one, two) => add(
-            prints,
-            17,
-            &[binary_print(op)],
-            &[one, two],
-            &[],
-        ),
-        Instr::LoadBinaryLiteral(op, one, x) => add(prints, 18, &[binary_print(op)], &[one], &[x]),
-        Instr::PushLoad(one) => add(prints, 19, &[], &[one], &[]),
-        Instr::BinarySlotStore(op, one, two) => add(
-            prints,
-            20,
-            &[binary_print(op)],
-            &[one, two],
-            &[],
-        ),
-        Instr::BinaryLiteralStore(op, x, one) => add(prints, 21, &[binary_print(op)], &[one], &[x]),
-        Instr::BinaryJump(op, one) => add(prints, 22, &[binary_print(op)], &[one], &[]),
-        Instr::BinarySlotJump(op, one, two) => add(
-            prints,
-            23,
-            &[binary_print(op)],
-            &[one, two],
-            &[],
-        ),
-        Instr::BinaryLiteralJump(op, x, one) => add(prints, 24, &[binary_print(op)], &[one], &[x]),
-        Instr::BinaryLiteralTwice(op, other, x, y) => add(
-            prints,
-            25,
-            &[binary_print(op), binary_print(other)],
-            &[],
-            &[x, y],
-        ),
-        Instr::LoadUnary(op, one) => add(prints, 26, &[unary_print(op)], &[one], &[]),
-        Instr::PushLoadUnary(op, one) => add(prints, 27, &[unary_print(op)], &[one], &[]),
-        Instr::LoadBinarySlotStore(op, one, two, three) => add(
-            prints,
-            28,
-            &[binary_print(op)],
-            &[one, two, three],
-            &[],
-        ),
-        Instr::LoadBinaryLiteralStore(op, one, x, two) => add(
-            prints,
-            29,
-            &[binary_print(op)],
-            &[one, two],
-            &[x],
-        ),
-        Instr::LoadBinarySlotJump(op, one, two, three) => add(
-            prints,
-            30,
-            &[binary_print(op)],
-            &[one, two, three],
-            &[],
-        ),
-        Instr::LoadBinaryLiteralJump(op, one, x, two) => add(
-            prints,
-            31,
-            &[binary_print(op)],
-            &[one, two],
-            &[x],
-        ),
-    }
+    let named = i.named();
+    let of = i.operation();
+    add_kinds(&mut prints.kinds, &of)?;
+    add_numbers(&mut prints.numbers, &named, of.target)?;
+    add_literals(&mut prints.literals, &of)?;
+    Ok(())
 }
 
 /// The step from a place to the next one: how many statements of the same body that lies further on, or 255 where it lies elsewhere or far.

@@ -25,6 +25,7 @@ use Rattle.block_walk.proofs.Firsts.{first_is}
 use Rattle.acc_vm.specs.declared.instr.Instr.{Instr}
 use Rattle.acc_vm.specs.declared.instr.Instr.TheVariants as instr
 use Rattle.acc_vm.specs.Codes.{values_past, clocks_past, values_named, clocks_named}
+use Rattle.acc_vm.proofs.Table.{past_below, past_append}
 use Rattle.code_slices.specs.Slots.{slots_read, slots_written, clocks_of, SomeHas, Names, NamesClock}
 use Rattle.code_sizes.specs.Sizes.{constant_span, expr_lines, inputs_lines, stmt_lines, body_lines, branches_lines, choices_lines}
 use Rattle.codegen.specs.Pairs.{both as both_in_one, paired, is_same_place, joined, joined_of}
@@ -292,12 +293,13 @@ some_in P numbers code h n some = All-contains P (numbers some.1) n (All-from_re
 
 -- the number after the last slot that an instruction names
 slots_end : (i : Instr) (n : ℕ) → AllByRecursion (λ s. s < n) (slots_read i ++ slots_written i) → values_past i ≤ n
-slots_end instr.End n h = omega arith
-slots_end i n h = omega arith
+slots_end i n h =
+    let all = past_below (slots_read i ++ slots_written i) n h in
+    let both = past_append (slots_read i) (slots_written i) in
+    omega (arith, all, both)
 
 clocks_end : (i : Instr) (n : ℕ) → AllByRecursion (λ k. k < n) (clocks_of i) → clocks_past i ≤ n
-clocks_end instr.End n h = omega arith
-clocks_end i n h = omega arith
+clocks_end i n h = past_below (clocks_of i) n h
 
 module _ (has_value has_clock : ℕ → Bool) where
   -- where all values that are there are before a number, so are those that code names

@@ -1,49 +1,36 @@
 //! How many slots and clocks instructions name.
 
 ghost use Rattle.std.specs.Prelude.{◌≡◌};
+ghost use Rattle.acc_vm.specs.Operands.{listed, past_all};
 ghost use Rattle.acc_vm.specs.Codes.{values_past, clocks_past, values_named, clocks_named};
 
 use acc_vm::Instr;
 
-/// The number after the slot that an instruction names; 0 if it names none.
+/// The number after one that may be there; 0 if it isn't.
+fn past(number: Option<u32>) -> usize
+    ensures { result ≡ past_all (listed number) }
+{
+    match number {
+        Some(number) => number as usize + 1,
+        None => 0,
+    }
+}
+
+/// The number after the last slot that an instruction names; 0 if it names none.
 fn values_past(instr: Instr) -> usize
     ensures { result ≡ values_past instr }
 {
-    match instr {
-        Instr::Load(slot) | Instr::Store(slot) | Instr::BinarySlot(_, slot) => slot as usize + 1,
-        Instr::Begin { slot, .. } | Instr::Turn { slot, .. } => slot as usize + 1,
-        Instr::Enter { input, .. } => input as usize + 1,
-        Instr::LoadBinaryLiteral(_, slot, _) | Instr::PushLoad(slot) => slot as usize + 1,
-        Instr::BinaryLiteralStore(_, _, slot) | Instr::BinarySlotJump(_, slot, _) => {
-            slot as usize + 1
-        }
-        Instr::LoadUnary(_, slot) | Instr::PushLoadUnary(_, slot) => slot as usize + 1,
-        Instr::LoadBinaryLiteralJump(_, slot, _, _) => slot as usize + 1,
-        Instr::LoadBinarySlot(_, one, other) | Instr::BinarySlotStore(_, one, other) => {
-            (one as usize + 1).max(other as usize + 1)
-        }
-        Instr::LoadBinaryLiteralStore(_, one, _, slot) => {
-            (one as usize + 1).max(slot as usize + 1)
-        }
-        Instr::LoadBinarySlotJump(_, one, other, _) => (one as usize + 1).max(other as usize + 1),
-        Instr::LoadBinarySlotStore(_, one, other, slot) => {
-            (one as usize + 1)
-                .max(other as usize + 1)
-                .max(slot as usize + 1)
-        }
-        _ => 0,
-    }
+    let named = instr.named();
+    past(named.reads.0)
+        .max(past(named.reads.1))
+        .max(past(named.write))
 }
 
 /// The number after the clock that an instruction names; 0 if it names none.
 fn clocks_past(instr: Instr) -> usize
     ensures { result ≡ clocks_past instr }
 {
-    match instr {
-        Instr::ClockQ(clock) | Instr::ClockEt(clock) => clock as usize + 1,
-        Instr::Enter { clock, .. } => clock as usize + 1,
-        _ => 0,
-    }
+    past(instr.named().clock)
 }
 
 /// How many slots instructions name, from 0 on.

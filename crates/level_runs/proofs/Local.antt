@@ -11,7 +11,8 @@ use Rattle.acc_vm.specs.Codes.{PlainCode, SameShape, fuel_of, run_of}
 use Rattle.acc_vm.specs.declared.instr.Instr.{Instr}
 use Rattle.acc_vm.specs.declared.instr.Instr.TheVariants as instr
 use Rattle.code_slices.specs.Slots.{slots_read, slots_written}
-use Rattle.code_slices.specs.Renaming.{renamed, StandsFor}
+use Rattle.acc_vm.specs.Operands.{renamed}
+use Rattle.code_slices.specs.Renaming.{StandsFor}
 use Rattle.code_slices.specs.Alike.{EndAlike, GoAlike, IsKept, Leaves}
 use Rattle.code_slices.specs.Laws.{BothAfter}
 use Rattle.code_slices.proofs.Runs.{renamed_runs, keeps}

@@ -4,7 +4,7 @@ use Rattle.std.specs.Prelude.{Contains}
 use Rattle.std.proofs.lemmas.Option.{slice_get-get_or}
 use Rattle.acc_vm.specs.declared.instr.Instr.TheVariants.{End}
 use Rattle.code_slices.specs.Slots.{slots_read}
-use Rattle.code_slices.specs.Lists.{listed}
+use Rattle.acc_vm.specs.Operands.{listed}
 use Rattle.code_slices.specs.Noting.{Notes}
 use Rattle.code_slices.proofs.Sound.{read_past}
 use Rattle.code_slices.proofs.Places.{notes_start, notes_next, notes_done, notes_both, both_listed}

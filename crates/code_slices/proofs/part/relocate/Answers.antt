@@ -2,10 +2,20 @@ use Rattle.std.proofs.Common.{◌≡◌, List, map, length, get_or, sym, ap, ◌
 use Rattle.std.specs.Prelude.{slice_get}
 use Rattle.acc_vm.specs.declared.instr.Instr.{Instr}
 use Rattle.acc_vm.specs.Codes.{IsSound}
-use Rattle.code_slices.specs.Renaming.{renamed}
+use Rattle.acc_vm.specs.Operands.{renamed}
 use Rattle.code_slices.specs.Parts.{IsPartOf, AreSlots, AreClocks}
 use Rattle.code_slices.proofs.Made.{moved_is_sound, is_part_of, part_is, same_code}
 use Rattle.code_slices.proofs.part.relocate.Goals as goal
+
+pub named_slots-requires-clause-there : goal.named_slots-requires-clause-there
+named_slots-requires-clause-there c = λ pc i at.
+    let h = c.instrs-program.ensures.sound.within pc i (ap (λ xs. slice_get xs pc) (sym c.instrs-program.ensures.is) ∙ at) in
+    let n = c.requires.slots in let b = h.0 in omega (arith, n, b)
+
+pub renamed_all-requires-clause-values : goal.renamed_all-requires-clause-values
+renamed_all-requires-clause-values c = λ pc i at.
+    let h = c.instrs-program.ensures.sound.within pc i (ap (λ xs. slice_get xs pc) (sym c.instrs-program.ensures.is) ∙ at) in
+    let n = c.requires.slots in let b = h.0 in let long = c.named_slots.auto.places in omega (arith, n, b, long)
 
 pub named_clocks-requires-clause-there : goal.named_clocks-requires-clause-there
 named_clocks-requires-clause-there c = λ pc i at.

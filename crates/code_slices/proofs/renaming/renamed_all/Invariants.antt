@@ -1,5 +1,5 @@
 use Rattle.std.proofs.Common.{◌≡◌, map, take, get_or}
-use Rattle.code_slices.specs.Renaming.{renamed}
+use Rattle.acc_vm.specs.Operands.{renamed}
 use Rattle.code_slices.proofs.renaming.renamed_all.Given as goal
 
 abbrev pub invariant-loop-i : goal.invariant-loop-i
