@@ -5,7 +5,7 @@ ghost use Rattle.std.specs.Prelude.{◌<◌, ◌≤◌};
 use crate::crews::workers;
 use crate::example::{ALARMS, PLANT, PLANT_NAME, SOURCE, SOURCE_NAME};
 use crate::greeting::greet;
-use crate::prints::stopped;
+use crate::prints::{stopped, stopped_by};
 use crate::telling::{OfAccepted, Telling};
 use crate::watching::Watching;
 use command_line::Ended;
@@ -20,11 +20,16 @@ use std::sync::Wait;
 use std::thread::Threads;
 
 /// How the program ends after a run.
-fn ended<R: Eprint>(rt: &R, run: Result<RunEnd, ServeFault>) -> Ended {
+fn ended<R: Eprint>(
+    rt: &R,
+    run: Result<RunEnd, ServeFault>,
+    input: Option<io::Error>,
+    output: Option<io::Error>,
+) -> Ended {
     match run {
         Ok(RunEnd::Served) => Ended::Done,
         Ok(RunEnd::Refused) => Ended::Refused,
-        Err(fault) => stopped(rt, fault),
+        Err(fault) => stopped_by(rt, fault, input, output),
     }
 }
 
@@ -33,6 +38,7 @@ fn checked<R: Files + Eprint + Threads + AllocGlobal + Sync>(
     rt: &R,
     telling: &Telling<'_, R>,
     accepted: Result<bool, ServeFault>,
+    output: Option<io::Error>,
 ) -> Ended {
     match accepted {
         Ok(is_accepted) => {
@@ -43,7 +49,7 @@ fn checked<R: Files + Eprint + Threads + AllocGlobal + Sync>(
                 Ended::Refused
             }
         }
-        Err(fault) => stopped(rt, fault),
+        Err(fault) => stopped_by(rt, fault, None, output),
     }
 }
 
@@ -68,7 +74,7 @@ pub fn check<R: Files + Print + Eprint + Threads + AllocGlobal + Sync>(
         path,
     };
     let accepted = check_from(rt, rt.alloc(), &files, &mut telling, &mut sink);
-    checked(rt, &telling, accepted)
+    checked(rt, &telling, accepted, sink.error())
 }
 
 /// Serves the plant of a plant file's path over standard input and output, its programs run by the crew. A person is told why it is refused, and at a
@@ -97,7 +103,7 @@ fn serve_by<
     if let Ok(RunEnd::Refused) = run {
         ends.listener.tell(rt);
     }
-    ended(rt, run)
+    ended(rt, run, ends.feed.error(), ends.sink.to.error())
 }
 
 /// Serves the plant of a plant file's path over standard input and output, its programs run by so many workers. One is the caller alone.
@@ -144,5 +150,5 @@ pub fn serve_example<R: Input + Print + Eprint + Threads + Wait + AllocGlobal + 
         alarms: ALARMS,
     };
     let run = run(rt, rt.alloc(), &mut Alone, &texts, &mut ends);
-    ended(rt, run)
+    ended(rt, run, ends.feed.error(), ends.sink.to.error())
 }

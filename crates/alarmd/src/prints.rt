@@ -15,6 +15,28 @@ pub fn stopped(rt: &impl Eprint, fault: ServeFault) -> Ended
     Ended::Fault
 }
 
+/// Prints on standard error why the program stopped, and, where standard input couldn't be read or standard output not be written, the system's reason.
+pub fn stopped_by(
+    rt: &impl Eprint,
+    fault: ServeFault,
+    input: Option<io::Error>,
+    output: Option<io::Error>,
+) -> Ended
+    ensures { result ≡ ended.Fault }
+{
+    let _ = eprintln!(rt; "RUN {}", fault.text());
+    match (fault, input, output) {
+        (ServeFault::Read, Some(error), _) => {
+            let _ = eprintln!(rt; "standard input: {error}");
+        }
+        (ServeFault::Write, _, Some(error)) => {
+            let _ = eprintln!(rt; "standard output: {error}");
+        }
+        _ => {}
+    }
+    Ended::Fault
+}
+
 /// Prints on standard error how the program is used.
 pub fn usage(rt: &impl Eprint, text: &str) -> Ended
     ensures { result ≡ ended.Usage }
@@ -27,8 +49,9 @@ pub fn usage(rt: &impl Eprint, text: &str) -> Ended
 pub fn asked(rt: &(impl Print + Eprint), text: &str) -> Ended
     ensures { (result ≡ ended.Done) ⊎ (result ≡ ended.Fault) }
 {
-    match put_all(&mut Writing::new(io::writer(rt)), text.as_bytes()) {
+    let mut sink = Writing::new(io::writer(rt));
+    match put_all(&mut sink, text.as_bytes()) {
         Ok(()) => Ended::Done,
-        Err(fault) => stopped(rt, fault),
+        Err(fault) => stopped_by(rt, fault, None, sink.error()),
     }
 }

@@ -1,7 +1,7 @@
 ghost use Rattle.std.specs.Prelude.{◌≡◌, ◌<◌, ◌≤◌, ◌||◌, ℕ, List, Option, Bool, false, length, IfOk, is_err};
 ghost use Rattle.std.specs.Io.KnownBytes.{ReadConsumes, WriteAppends};
 
-use std::io::{Read, Write};
+use std::io::{self, Read, Write};
 use std::marker::Model;
 
 /// The error of a read or a write that failed.
@@ -54,6 +54,7 @@ pub trait Sink {
 pub struct Reading<R: Read + Drop> {
     from: R,
     broken: bool,
+    error: Option<io::Error>,
 }
 
 impl<R: Read + Drop> Model for Reading<R> {
@@ -73,6 +74,7 @@ impl<R: Read + Drop> Reading<R> {
         Reading {
             from,
             broken: false,
+            error: None,
         }
     }
 
@@ -81,6 +83,11 @@ impl<R: Read + Drop> Reading<R> {
         ensures { result.now ≡ self.now.from }
     {
         &self.from
+    }
+
+    /// Returns the reader's last error, for a person. There is none unless a read has failed.
+    pub fn error(&self) -> Option<io::Error> {
+        self.error
     }
 }
 
@@ -92,8 +99,9 @@ impl<R: Read + Drop> Feed for Reading<R> {
     fn read(&mut self, buf: &mut [u8]) -> Result<usize, Failed> {
         match self.from.read(buf) {
             Ok(n) => Ok(n),
-            Err(_) => {
+            Err(error) => {
                 self.broken = true;
+                self.error = Some(error);
                 Err(Failed)
             }
         }
@@ -109,6 +117,7 @@ impl<R: Read + Drop> Feed for Reading<R> {
 pub struct Writing<W: Write + Drop> {
     to: W,
     broken: bool,
+    error: Option<io::Error>,
 }
 
 impl<W: Write + Drop> Model for Writing<W> {
@@ -125,7 +134,11 @@ impl<W: Write + Drop> Writing<W> {
         ensures to { result.to ≡ to }
         ensures whole { result.broken ≡ false }
     {
-        Writing { to, broken: false }
+        Writing {
+            to,
+            broken: false,
+            error: None,
+        }
     }
 
     /// Returns the writer.
@@ -133,6 +146,11 @@ impl<W: Write + Drop> Writing<W> {
         ensures { result.now ≡ self.now.to }
     {
         &self.to
+    }
+
+    /// Returns the writer's last error, for a person. There is none unless a write has failed, nor where one took nothing.
+    pub fn error(&self) -> Option<io::Error> {
+        self.error
     }
 
     /// Gives the writer back.
@@ -157,8 +175,9 @@ impl<W: Write + Drop> Sink for Writing<W> {
                 }
                 Ok(n)
             }
-            Err(_) => {
+            Err(error) => {
                 self.broken = true;
+                self.error = Some(error);
                 Err(Failed)
             }
         }
