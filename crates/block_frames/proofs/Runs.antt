@@ -4,7 +4,7 @@ use Rattle.std.proofs.lemmas.Option.{slice_get_within}
 use Rattle.st_tree.specs.View.{view_body}
 use Rattle.st_tree.specs.Meaning.{Ran, Done, run_all}
 use Rattle.st_tree.specs.Alike.{Agree}
-use Rattle.st_tree.proofs.MappingLaws.{body_same}
+use Rattle.st_tree.proofs.AnyValueLaws.{body_same}
 use Rattle.plant_logic.specs.Source.{PlainRoutine, Source}
 use Rattle.plant_logic.specs.Names.{kind_named, output_kind_named, meant_in}
 use Rattle.plant_logic.specs.Blocks.{AreBelow, HasItsTypes, DeclaresThere}

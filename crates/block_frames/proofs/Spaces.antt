@@ -7,7 +7,8 @@ use Rattle.plant_types.specs.Values.{truth, is_true}
 use Rattle.std_blocks.specs.Calls.{call}
 use Rattle.std_blocks.specs.Timers.{ton, tof}
 use Rattle.st_tree.specs.Meaning.{Ran}
-use Rattle.st_tree.specs.Alike.{Agree, Same, IsLawful}
+use Rattle.st_tree.specs.Alike.{Agree, Same}
+use Rattle.st_tree.proofs.AnyValueLaws.{IsLawfulForAny}
 use Rattle.block_order.specs.Chains.{Among}
 use Rattle.plant_logic.specs.declared.logic.Instance.{Instance}
 use Rattle.plant_logic.specs.declared.logic.BlockRef.{BlockRef}
@@ -207,7 +208,7 @@ module _ (source : Source) (order : List ℕ) (below : AreBelow source.blocks or
         (input_put w cells stands s.0 (words_of (instance ∷ path)) f.1.of (sits_named instance f.0 f.1 f.2 s.0 s.3) name m x numbered)
 
     -- numbers for names are lawful
-    pub spaces_lawful : IsLawful (called_known source r) (numbers source r) (routine_space t inner r path) (frame_space t (length source.globals) frame seats base path) (Matches source)
+    pub spaces_lawful : IsLawfulForAny (called_known source r) (numbers source r) (routine_space t inner r path) (frame_space t (length source.globals) frame seats base path) (Matches source)
     spaces_lawful = record {
       path_is = refl;
       variable_is = λ v w cells is m. sym (value_held source cells w m (slot_of (length source.globals) base (unwrap_or (variable_number source r v) 0)) (path_in r path v) (variable_at w cells m v is));

@@ -5,8 +5,8 @@ use Rattle.std.proofs.lemmas.Option.{slice_get_within}
 use Rattle.st_tree.specs.View.{view_body}
 use Rattle.st_tree.specs.Meaning.{Ran, Done, Trapped, run_all}
 use Rattle.st_tree.specs.Mapping.{mapped_body}
-use Rattle.st_tree.specs.Alike.{Agree, IsLawful}
-use Rattle.st_tree.proofs.MappingLaws.{body_same}
+use Rattle.st_tree.specs.Alike.{Agree}
+use Rattle.st_tree.proofs.AnyValueLaws.{IsLawfulForAny, body_same}
 use Rattle.block_order.specs.Chains.{Among}
 use Rattle.plant_logic.specs.declared.logic.Instance.{Instance}
 use Rattle.plant_logic.specs.declared.logic.BlockRef.{BlockRef}
@@ -76,7 +76,7 @@ module _ (source : Source) (order : List ℕ) (below : AreBelow source.blocks or
     variable_at name there =
         named_value_stands source r path base.values name (slot_of (length source.globals) base (unwrap_or (variable_number source r name) 0)) values (slot_is source r base name there)
 
-    starts_lawful : IsLawful (variables_in source r) (numbers source r) (routine_space 0 no_calls r path) (frame_space 0 (length source.globals) inner [] base path) (Matches source)
+    starts_lawful : IsLawfulForAny (variables_in source r) (numbers source r) (routine_space 0 no_calls r path) (frame_space 0 (length source.globals) inner [] base path) (Matches source)
     starts_lawful = record {
       path_is = refl;
       variable_is = λ v w cells is m. sym (value_held source cells w m (slot_of (length source.globals) base (unwrap_or (variable_number source r v) 0)) (path_in r path v) (variable_at v is));

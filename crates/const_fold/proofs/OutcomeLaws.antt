@@ -4,8 +4,8 @@ use Rattle.std.specs.Prelude.{Ok}
 use Rattle.st_tree.specs.Plain.{PlainExpr, PlainBody}
 use Rattle.st_tree.specs.Meaning.{Space, Ran, Done, Trapped, value_of, run_all}
 use Rattle.st_tree.specs.Mapping.{all_known}
-use Rattle.st_tree.specs.Alike.{Agree, IsLawful}
-use Rattle.st_tree.proofs.MappingLaws.{body_same}
+use Rattle.st_tree.specs.Alike.{Agree}
+use Rattle.st_tree.proofs.AnyValueLaws.{IsLawfulForAny, body_same}
 use Rattle.st_tree.proofs.RenamingLaws.{body_all}
 use Rattle.const_fold.specs.Folding.{folded_node, folding, folded_body}
 use Rattle.const_fold.proofs.LiteralLaws.{node_holds}
@@ -30,7 +30,7 @@ module _ {W : Type 0} where
   is_agree (Trapped a spot trap) (Trapped b other_spot other_trap) is = (cc, (cc, cc))
 
 module _ {V W : Type 0} (space : Space V W) where
-  pub folding_lawful : IsLawful all_known folding space space (λ a b. a ≡ b)
+  pub folding_lawful : IsLawfulForAny all_known folding space space (λ a b. a ≡ b)
   folding_lawful = record {
     path_is = refl;
     variable_is = λ v a b is same. ap (λ w. space.get w v) same;

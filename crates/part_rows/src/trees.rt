@@ -89,22 +89,23 @@ struct Named {
 }
 
 impl Pass<usize, usize> for Named {
-    ghost use Rattle.std.specs.Prelude.{◌≡◌, ℕ};
-    ghost use Rattle.st_tree.specs.Meaning.{Space};
+    ghost use Rattle.std.specs.Prelude.{◌≡◌, ℕ, true};
     ghost use Rattle.st_tree.specs.Mapping.{all_known, renaming};
-    ghost use Rattle.st_tree.specs.Alike.{renamed_space};
+    ghost use Rattle.st_tree.specs.Alike.{RangedSpace, renamed_space, renamed_context};
 
     ghost Before = { ℕ };
 
     ghost After = { ℕ };
 
-    ghost Case = { Space ℕ ℕ };
+    ghost Case = { RangedSpace ℕ ℕ };
 
-    ghost from = { λ pass space. renamed_space (λ _. pass.name) space };
+    ghost from = { λ pass case. renamed_space (λ _. pass.name) case.space };
 
-    ghost to = { λ pass space. space };
+    ghost to = { λ pass case. case.space };
 
-    ghost matches = { λ pass space a b. a ≡ b };
+    ghost matches = { λ pass case a b. (a ≡ b) × (case.holds a ≡ true) };
+
+    ghost context = { λ pass case. renamed_context (λ _. pass.name) case.context };
 
     ghost known = { λ pass. all_known };
 

@@ -10,7 +10,7 @@ use Rattle.plant_types.specs.declared.values.Kind.{Kind}
 use Rattle.plant_types.specs.declared.values.Kind.TheVariants as kind
 use Rattle.block_order.specs.Chains.{Among}
 use Rattle.st_tree.specs.Kinds.{is_kind}
-use Rattle.st_tree.proofs.RunLaws.{kind_is}
+use Rattle.st_tree.proofs.FittedLaws.{kind_is}
 use Rattle.st_parser.specs.declared.unit.Sort.{Sort}
 use Rattle.st_parser.specs.declared.unit.Sort.TheVariants as sort
 use Rattle.st_parser.specs.Units.{PlainPou, PlainUnit}

@@ -9,9 +9,13 @@ pub mod CostExamples
 pub mod FitExamples
 pub mod RangeLaws
 pub mod ControlRangeLaws
+pub mod FittedLaws
 pub mod RunLaws
 pub mod MappingLaws
+pub mod AnyValueLaws
+pub mod KindValueLaws
 pub mod Mapped
 pub mod RenamingLaws
 pub mod MappingExamples
+pub mod LawfulExamples
 mod RuleLaws

@@ -5,9 +5,11 @@ use Rattle.std.specs.List.{list_all}
 use Rattle.st_tree.specs.Plain.{PlainExpr, literal, read, output_of, unary, binary, PlainArgument, input, output}
 use Rattle.st_tree.specs.Plain.{PlainStmt, empty, assign, call, if_else, case_of, for_to, PlainBody, done, next, Branches, no_branch, branch, Choices, no_choice, choice}
 use Rattle.st_tree.specs.Meaning.{Space, Ran, Done, Trapped, run_all}
-use Rattle.st_tree.specs.Mapping.{mapped_body, renaming, all_known, expr_known, option_known, argument_known, stmt_known, body_known, branches_known, choices_known}
-use Rattle.st_tree.specs.Alike.{Agree, IsLawful, renamed_space}
-use Rattle.st_tree.proofs.MappingLaws.{body_same}
+use Rattle.st_tree.specs.Mapping.{mapped_body, identity, renaming, all_known, expr_known, option_known, argument_known, stmt_known, body_known, branches_known, choices_known}
+use Rattle.st_tree.specs.Alike.{Agree, renamed_space, renamed_context}
+use Rattle.st_tree.specs.Fits.{Context}
+use Rattle.st_tree.specs.Ranges.{IsInvariant}
+use Rattle.st_tree.proofs.AnyValueLaws.{IsLawfulForAny, body_same}
 
 module _ {V : Type 0} where
   expr_all : (e : PlainExpr V) → expr_known all_known e ≡ true
@@ -65,7 +67,7 @@ module _ {A : Type 0} where
   is_agree (Trapped a spot trap) (Trapped b other_spot other_trap) is = (cc, (cc, cc))
 
 module _ {V W A : Type 0} (f : V → W) (space : Space W A) where
-  pub renaming_lawful : IsLawful all_known (renaming f) (renamed_space f space) space (λ a b. a ≡ b)
+  pub renaming_lawful : IsLawfulForAny all_known (renaming f) (renamed_space f space) space (λ a b. a ≡ b)
   renaming_lawful = record {
     path_is = refl;
     variable_is = λ v a b is same. ap (λ w. space.get w (f v)) same;
@@ -76,6 +78,20 @@ module _ {V W A : Type 0} (f : V → W) (space : Space W A) where
     node_is = λ e a b same. refl;
   }
 
+  -- what worlds keep of the ranges of kinds, they keep under other names
+  pub renamed_kept : (context : Context W) (Holds : A → Type 0) → IsInvariant context space Holds → IsInvariant (renamed_context f context) (renamed_space f space) Holds
+  renamed_kept context Holds inv = record {
+    variable_in_range = λ w v k holds is. inv.variable_in_range w (f v) k holds is;
+    output_in_range = λ w instance name k holds is. inv.output_in_range w (f instance) (f name) k holds is;
+    put_keeps = λ w v k n holds may is fits. inv.put_keeps w (f v) k n holds may is fits;
+    put_input_keeps = λ w instance name k n holds is_one is fits. inv.put_input_keeps w (f instance) (f name) k n holds is_one is fits;
+    enter_keeps = λ w instance holds is_one. inv.enter_keeps w (f instance) holds is_one;
+  }
+
   pub renamed_runs : (body : PlainBody V) (w : A) → run_all (renamed_space f space) body w ≡ run_all space (mapped_body (renaming f) body) w
   renamed_runs body w = agree_is (run_all (renamed_space f space) body w) (run_all space (mapped_body (renaming f) body) w)
       (body_same all_known (renaming f) (renamed_space f space) space (λ a b. a ≡ b) renaming_lawful body (body_all body) w w refl)
+
+-- the mapping that changes nothing
+pub identity_lawful : {V A : Type 0} (space : Space V A) → IsLawfulForAny all_known identity space space (λ a b. a ≡ b)
+identity_lawful space = renaming_lawful (λ v. v) space

@@ -1,51 +1,24 @@
 -- A run of a body whose kinds are right keeps an invariant, be it to a trap.
-use Rattle.std.proofs.Common.{◌≡◌, refl, ap, subst, sym, ℕ, ℤ, pos, Bool, true, false, List, [], ◌∷◌, arith}
-use Rattle.std.specs.Prelude.{Option, Some, None, Result, Ok, Err, ◌&&◌, ◌||◌, if◌then◌else◌}
-use Rattle.std.specs.Ordering.{int_eq}
+use Rattle.std.proofs.Common.{◌≡◌, refl, ℕ, ℤ, Bool, true, false, List, [], ◌∷◌}
+use Rattle.std.specs.Prelude.{Option, Some, Result, Ok, Err, ◌&&◌, if◌then◌else◌}
 use Rattle.std.specs.List.{AllByRecursion, list_all}
 use Rattle.std.proofs.lemmas.Bool.{and_parts}
-use Rattle.std.proofs.lemmas.Int.{ints}
 use Rattle.plant_types.specs.declared.values.Kind.{Kind}
 use Rattle.plant_types.specs.declared.values.Kind.TheVariants as kind
 use Rattle.plant_types.specs.declared.values.Trap.{Trap}
 use Rattle.plant_types.specs.Values.{is_true}
-use Rattle.st_tree.specs.declared.tree.Literal.TheVariants.{Integer, Value}
-use Rattle.st_tree.specs.declared.controls.Span.{Span}
-use Rattle.st_tree.specs.Plain.{PlainExpr, literal, read, output_of, unary, binary, PlainArgument, input, output}
+use Rattle.st_tree.specs.Plain.{PlainExpr, output_of, PlainArgument, input, output}
 use Rattle.st_tree.specs.Plain.{PlainStmt, empty, assign, call, if_else, case_of, for_to, PlainBody, done, next, Branches, no_branch, branch, Choices, no_choice, choice}
 use Rattle.st_tree.specs.Operators.{Outcome}
 use Rattle.st_tree.specs.Controls.{control_values, span_of}
-use Rattle.st_tree.specs.Kinds.{same_kind, kind_of_expr, is_kind, is_bit}
+use Rattle.st_tree.specs.Kinds.{is_kind}
 use Rattle.st_tree.specs.Fits.{Context, is_of, option_is_of, fits_option, takes, argument_fits, stmt_fits, all_fit, branches_fit, choices_fit}
 use Rattle.st_tree.specs.Fits.{may_control, stmt_controls_fit, controls_fit, branches_controls_fit, choices_controls_fit}
 use Rattle.st_tree.specs.Meaning.{Spot, Space, Ran, Done, Trapped, then_run, with_value, turns, labels_fit, Chosen, Took, Passed, or_else, on_test, statement_spot, outcome, step_of, take_inputs, give_outputs, run, run_all, first_true, first_fit}
 use Rattle.st_tree.specs.Ranges.{Leaves, IsInvariant}
-use Rattle.st_tree.proofs.RangeLaws.{InRange, value_in_range}
+use Rattle.st_tree.proofs.RangeLaws.{InRange}
+use Rattle.st_tree.proofs.FittedLaws.{kind_is, span_ends, value_in, fitted_in}
 use Rattle.st_tree.proofs.ControlRangeLaws.{control_values_in_range}
-
-same_is : (k l : Kind) → same_kind k l ≡ true → k ≡ l
-same_is kind.Bool kind.Bool is = refl
-same_is kind.Dint kind.Dint is = refl
-same_is kind.Time kind.Time is = refl
-same_is kind.Bool kind.Dint is = absurd (cc)
-same_is kind.Bool kind.Time is = absurd (cc)
-same_is kind.Dint kind.Bool is = absurd (cc)
-same_is kind.Dint kind.Time is = absurd (cc)
-same_is kind.Time kind.Bool is = absurd (cc)
-same_is kind.Time kind.Dint is = absurd (cc)
-
-pub kind_is : (k : Kind) (o : Option Kind) → is_kind k o ≡ true → o ≡ Some k
-kind_is k None is = absurd (cc)
-kind_is k (Some l) is = ap Some (sym (same_is k l is))
-
-span_ends : (a b c : Outcome) (span : Span) → span_of a b c ≡ Ok span → (a ≡ Ok span.from) × (b ≡ Ok span.to)
-span_ends (Ok from) (Ok to) (Ok step) span is = let e : record { from = from; to = to; step = step } ≡ span = cc in ((λ i. Ok (e i).from), (λ i. Ok (e i).to))
-span_ends (Ok from) (Ok to) (Err trap) span is = absurd (cc)
-span_ends (Ok from) (Err trap) c span is = absurd (cc)
-span_ends (Err trap) b c span is = absurd (cc)
-
-bit_in_range : (m : ℤ) → (int_eq m (pos 0) || int_eq m (pos 1)) ≡ true → InRange kind.Bool m
-bit_in_range m is = grind (arith, ints, is)
 
 module _ {V W : Type 0} (context : Context V) (space : Space V W) (Holds : W → Type 0) (inv : IsInvariant context space Holds) where
   abbrev ChosenLeaves : Chosen W → Type 0
@@ -55,37 +28,25 @@ module _ {V W : Type 0} (context : Context V) (space : Space V W) (Holds : W →
   -- the value of an expression of a kind
   outcome_in : (w : W) (e : PlainExpr V) (k : Kind) (n : ℤ) → Holds w → is_of context k e ≡ true → outcome space w e ≡ Ok n → InRange k n
   outcome_in w e k n holds is gives =
-      value_in_range context.variable_kind context.output_kind (space.get w) (space.get_output w) (λ v k. inv.variable_in_range w v k holds) (λ instance name k. inv.output_in_range w instance name k holds)
-      e k n (kind_is k (kind_of_expr context.variable_kind context.output_kind e) is) gives
+      value_in context (space.get w) (space.get_output w) (λ v k. inv.variable_in_range w v k holds) (λ instance name k. inv.output_in_range w instance name k holds) e k n is gives
 
-  bit_in : (k : Kind) (e : PlainExpr V) (w : W) (n : ℤ) → (same_kind k kind.Bool && is_bit e) ≡ true → outcome space w e ≡ Ok n → InRange k n
-  bit_in kind.Bool (literal (Integer m)) w n is gives = subst (InRange kind.Bool) (let e : m ≡ n = cc in e) (bit_in_range m is)
-  bit_in kind.Bool (literal (Value v)) w n is gives = absurd (cc)
-  bit_in kind.Bool (read v) w n is gives = absurd (cc)
-  bit_in kind.Bool (output_of instance name) w n is gives = absurd (cc)
-  bit_in kind.Bool (unary op a) w n is gives = absurd (cc)
-  bit_in kind.Bool (binary op a b) w n is gives = absurd (cc)
-  bit_in kind.Dint e w n is gives = absurd (cc)
-  bit_in kind.Time e w n is gives = absurd (cc)
-
-  fitted_by : (b : Bool) (k : Kind) (e : PlainExpr V) (w : W) (n : ℤ) → Holds w → is_of context k e ≡ b → (b || (same_kind k kind.Bool && is_bit e)) ≡ true → outcome space w e ≡ Ok n → InRange k n
-  fitted_by true k e w n holds kind fits gives = outcome_in w e k n holds kind gives
-  fitted_by false k e w n holds kind fits gives = bit_in k e w n fits gives
+  -- the kind that is declared where an expression fits, with the range of its value
+  outcome_fits : (o : Option Kind) (e : PlainExpr V) (w : W) (n : ℤ) → Holds w → fits_option context o e ≡ true → outcome space w e ≡ Ok n → (k : Kind) × (o ≡ Some k) × InRange k n
+  outcome_fits o e w n holds fits gives =
+      fitted_in context (space.get w) (space.get_output w) (λ v k. inv.variable_in_range w v k holds) (λ instance name k. inv.output_in_range w instance name k holds) o e n fits gives
 
   -- an assignment that fits keeps the invariant, and so does an input of a call
-  put_fits : (v : V) (o : Option Kind) (e : PlainExpr V) (w : W) (n : ℤ) → Holds w → context.may_assign v ≡ true → context.variable_kind v ≡ o → fits_option context o e ≡ true → outcome space w e ≡ Ok n → Holds (space.put w v n)
-  put_fits v None e w n holds may is fits gives = absurd (cc)
-  put_fits v (Some k) e w n holds may is fits gives = inv.put_keeps w v k n holds may is (fitted_by (is_of context k e) k e w n holds refl fits gives)
-
   taken : (v : V) (e : PlainExpr V) (w : W) (n : ℤ) → Holds w → takes context v e ≡ true → outcome space w e ≡ Ok n → Holds (space.put w v n)
   taken v e w n holds fits gives =
       let parts = and_parts (context.may_assign v) (fits_option context (context.variable_kind v) e) fits in
-      put_fits v (context.variable_kind v) e w n holds parts.0 refl parts.1 gives
+      let f = outcome_fits (context.variable_kind v) e w n holds parts.1 gives in
+      inv.put_keeps w v f.0 n holds parts.0 f.1 f.2
 
-  put_input_fits : (instance name : V) (o : Option Kind) (e : PlainExpr V) (w : W) (n : ℤ) → Holds w → context.is_instance instance ≡ true → context.input_kind instance name ≡ o → fits_option context o e ≡ true → outcome space w e ≡ Ok n
+  put_input_fits : (instance name : V) (e : PlainExpr V) (w : W) (n : ℤ) → Holds w → context.is_instance instance ≡ true → fits_option context (context.input_kind instance name) e ≡ true → outcome space w e ≡ Ok n
       → Holds (space.put_input w instance name n)
-  put_input_fits instance name None e w n holds is_one is fits gives = absurd (cc)
-  put_input_fits instance name (Some k) e w n holds is_one is fits gives = inv.put_input_keeps w instance name k n holds is_one is (fitted_by (is_of context k e) k e w n holds refl fits gives)
+  put_input_fits instance name e w n holds is_one fits gives =
+      let f = outcome_fits (context.input_kind instance name) e w n holds fits gives in
+      inv.put_input_keeps w instance name f.0 n holds is_one f.1 f.2
 
   after_value : {A : Type 0} (w : W) (spot : Spot) (o : Result A Trap) (rest : A → Ran W) → Holds w → ((a : A) → o ≡ Ok a → Leaves Holds (rest a)) → Leaves Holds (with_value w spot o rest)
   after_value w spot (Ok a) rest holds later = later a refl
@@ -119,7 +80,7 @@ module _ {V W : Type 0} (context : Context V) (space : Space V W) (Holds : W →
   inputs_keep number instance (input name e ∷ rest) w is_one fits holds =
       let f = and_parts (fits_option context (context.input_kind instance name) e) (list_all (argument_fits context instance) rest) fits in
       after_value w (statement_spot space number) (outcome space w e) (λ n. take_inputs space number instance rest (space.put_input w instance name n)) holds
-      (λ n gives. inputs_keep number instance rest (space.put_input w instance name n) is_one f.1 (put_input_fits instance name (context.input_kind instance name) e w n holds is_one refl f.0 gives))
+      (λ n gives. inputs_keep number instance rest (space.put_input w instance name n) is_one f.1 (put_input_fits instance name e w n holds is_one f.0 gives))
   inputs_keep number instance (output name v ∷ rest) w is_one fits holds =
       inputs_keep number instance rest w is_one (and_parts (takes context v (output_of instance name)) (list_all (argument_fits context instance) rest) fits).1 holds
 

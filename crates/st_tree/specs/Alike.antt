@@ -1,8 +1,12 @@
 -- Two runs that do the same in worlds of two types, and the laws of a mapping by which a mapped body does what the body does.
-use Rattle.std.specs.Prelude.{◌≡◌, ℤ, true}
-use Rattle.st_tree.specs.Plain.{PlainExpr}
+use Rattle.std.specs.Prelude.{◌≡◌, ℤ, Bool, true, Some}
+use Rattle.plant_types.specs.declared.values.Kind.{Kind}
+use Rattle.plant_types.specs.Values.{is_in_range}
+use Rattle.st_tree.specs.Plain.{PlainExpr, PlainBody}
+use Rattle.st_tree.specs.Fits.{Context, all_fit, controls_fit}
 use Rattle.st_tree.specs.Meaning.{Space, Ran, Done, Trapped, outcome}
-use Rattle.st_tree.specs.Mapping.{Mapping, Known}
+use Rattle.st_tree.specs.Mapping.{Mapping, Known, body_known}
+use Rattle.st_tree.specs.Ranges.{IsInvariant}
 
 -- both runs end, or both trap by the same statement of the same path with the same trap; and the worlds that they leave match
 abbrev pub Agree : {A B : Type 0} → (A → B → Type 0) → Ran A → Ran B → Type 0
@@ -19,18 +23,28 @@ Same {A} {B} Matches f g = (a : A) (b : B) → Matches a b → Agree Matches (f 
 abbrev pub SameOutcome : {V W A B : Type 0} → (A → B → Type 0) → Space V A → Space W B → PlainExpr V → PlainExpr W → Type 0
 SameOutcome {V} {W} {A} {B} Matches from to e f = (a : A) (b : B) → Matches a b → outcome from a e ≡ outcome to b f
 
--- a mapping keeps what the names that are known mean: in worlds that match, what is mapped has the same value, and worlds match after it is assigned or called;
--- and what stands in the place of an operator with its operands has its outcome
-pub record IsLawful {V W A B : Type 0} (known : Known V) (mapping : Mapping V W) (from : Space V A) (to : Space W B) (Matches : A → B → Type 0) : Type 0 where
+-- a mapping keeps what the names that are known mean: in worlds that match, what is mapped has the same value, which is in the range of its kind; worlds go on matching
+-- after a value in the range of its kind is assigned to a variable that may be assigned, or to an input, and after a call; and what stands in the place of an operator
+-- with its operands has its outcome
+pub record IsLawful {V W A B : Type 0} (context : Context V) (known : Known V) (mapping : Mapping V W) (from : Space V A) (to : Space W B) (Matches : A → B → Type 0) : Type 0 where
   pub path_is : from.path ≡ to.path
   pub variable_is : (v : V) (a : A) (b : B) → known.has_variable v ≡ true → Matches a b → from.get a v ≡ to.get b (mapping.variable v)
-  pub put_matches : (v : V) (n : ℤ) (a : A) (b : B) → known.has_variable v ≡ true → Matches a b → Matches (from.put a v n) (to.put b (mapping.variable v) n)
+  pub variable_in_range : (v : V) (k : Kind) (a : A) (b : B) → Matches a b → context.variable_kind v ≡ Some k → is_in_range k (from.get a v) ≡ true
+  pub put_matches : (v : V) (k : Kind) (n : ℤ) (a : A) (b : B) → known.has_variable v ≡ true → context.may_assign v ≡ true → context.variable_kind v ≡ Some k → is_in_range k n ≡ true → Matches a b
+      → Matches (from.put a v n) (to.put b (mapping.variable v) n)
   pub output_is : (instance name : V) (a : A) (b : B) → known.has_output instance name ≡ true → Matches a b
       → from.get_output a instance name ≡ to.get_output b (mapping.instance instance) (mapping.output_name instance name)
-  pub put_input_matches : (instance name : V) (n : ℤ) (a : A) (b : B) → known.has_input instance name ≡ true → Matches a b
+  pub output_in_range : (instance name : V) (k : Kind) (a : A) (b : B) → Matches a b → context.output_kind instance name ≡ Some k → is_in_range k (from.get_output a instance name) ≡ true
+  pub put_input_matches : (instance name : V) (k : Kind) (n : ℤ) (a : A) (b : B) → known.has_input instance name ≡ true → context.is_instance instance ≡ true → context.input_kind instance name ≡ Some k → is_in_range k n ≡ true → Matches a b
       → Matches (from.put_input a instance name n) (to.put_input b (mapping.instance instance) (mapping.input_name instance name) n)
-  pub enter_agrees : (instance : V) (a : A) (b : B) → known.has_instance instance ≡ true → Matches a b → Agree Matches (from.enter a instance) (to.enter b (mapping.instance instance))
+  pub enter_agrees : (instance : V) (a : A) (b : B) → known.has_instance instance ≡ true → context.is_instance instance ≡ true → Matches a b → Agree Matches (from.enter a instance) (to.enter b (mapping.instance instance))
   pub node_is : (e : PlainExpr W) (a : A) (b : B) → Matches a b → outcome to b (mapping.node e) ≡ outcome to b e
+
+-- a body that a lawful mapping keeps: each of its names is known, each of its expressions has the kind that its place needs, and each control variable is a DINT that may be assigned
+pub record IsKeptBody {V : Type 0} (context : Context V) (known : Known V) (body : PlainBody V) : Type 0 where
+  pub names : body_known known body ≡ true
+  pub kinds : all_fit context body ≡ true
+  pub controls : controls_fit context body ≡ true
 
 -- where names mean what other names mean that stand in their places
 abbrev pub renamed_space : {V W A : Type 0} → (V → W) → Space W A → Space V A
@@ -42,3 +56,20 @@ renamed_space f space = record {
   put_input = λ w instance name n. space.put_input w (f instance) (f name) n;
   enter = λ w instance. space.enter w (f instance);
 }
+
+-- what is declared of names that mean what other names mean
+abbrev pub renamed_context : {V W : Type 0} → (V → W) → Context W → Context V
+renamed_context f context = record {
+  variable_kind = λ v. context.variable_kind (f v);
+  may_assign = λ v. context.may_assign (f v);
+  is_instance = λ v. context.is_instance (f v);
+  input_kind = λ instance name. context.input_kind (f instance) (f name);
+  output_kind = λ instance name. context.output_kind (f instance) (f name);
+}
+
+-- what names mean, what is declared of them, and a test that all worlds pass which runs leave, and which gives the values in them their ranges
+pub record RangedSpace (V W : Type 0) : Type 0 where
+  pub space : Space V W
+  pub context : Context V
+  pub holds : W → Bool
+  pub kept : IsInvariant context space (λ w. holds w ≡ true)

@@ -1,8 +1,8 @@
 //! Copies of trees.
 
-ghost use Rattle.std.specs.Prelude.{◌≡◌, ℕ, IfOk};
+ghost use Rattle.std.specs.Prelude.{◌≡◌, ℕ, true, IfOk};
 ghost use Rattle.st_tree.specs.View.{view_expr, view_body};
-ghost use Rattle.st_tree.specs.Meaning.{Space};
+ghost use Rattle.st_tree.specs.Alike.{RangedSpace};
 ghost use Rattle.st_tree.specs.Mapping.{identity, all_known};
 
 use crate::map::{mapped_body, mapped_expr};
@@ -39,13 +39,15 @@ impl<V: Duplicate> Pass<V, V> for Copies {
 
     ghost After = { ℕ };
 
-    ghost Case = { Space V ℕ };
+    ghost Case = { RangedSpace V ℕ };
 
-    ghost from = { λ pass space. space };
+    ghost from = { λ pass case. case.space };
 
-    ghost to = { λ pass space. space };
+    ghost to = { λ pass case. case.space };
 
-    ghost matches = { λ pass space a b. a ≡ b };
+    ghost matches = { λ pass case a b. (a ≡ b) × (case.holds a ≡ true) };
+
+    ghost context = { λ pass case. case.context };
 
     ghost known = { λ pass. all_known };
 

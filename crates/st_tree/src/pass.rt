@@ -2,9 +2,10 @@
 
 ghost use Rattle.std.specs.Prelude.{◌≡◌, true, IfOk};
 ghost use Rattle.st_tree.specs.View.{view_expr, view_body};
+ghost use Rattle.st_tree.specs.Fits.{Context};
 ghost use Rattle.st_tree.specs.Meaning.{Space, run_all};
-ghost use Rattle.st_tree.specs.Mapping.{Mapping, mapped_expr, mapped_body, Known, expr_known, body_known};
-ghost use Rattle.st_tree.specs.Alike.{Same, SameOutcome, IsLawful};
+ghost use Rattle.st_tree.specs.Mapping.{Mapping, mapped_expr, mapped_body, Known, expr_known};
+ghost use Rattle.st_tree.specs.Alike.{Same, SameOutcome, IsLawful, IsKeptBody};
 
 use crate::map::{mapped_body, mapped_expr};
 use crate::tree::{Expr, Stmt};
@@ -26,8 +27,11 @@ pub trait Pass<V, W> {
 
     ghost to: { Self → Case → Space W After };
 
-    /// Which worlds match: the same runs go on in them.
+    /// Which worlds match: the same runs go on in them, and each value is in the range of its kind.
     ghost matches: { Self → Case → Before → After → Type 0 };
+
+    /// What is declared of the names before the pass: their kinds, and which may be assigned.
+    ghost context: { Self → Case → Context V };
 
     /// The names that a body may use.
     ghost known: { Self → Known V };
@@ -55,9 +59,10 @@ pub trait Pass<V, W> {
     fn node(&self, alloc: Global, expr: Expr<W>) -> Result<Expr<W>, AllocError>
         ensures { IfOk result (λ e. view_expr e ≡ (mapping self.now).node (view_expr expr)) };
 
-    /// The laws of the pass: what it puts in the place of a name that is known means the same, in worlds that match. It does nothing.
+    /// The laws of the pass: what it puts in the place of a name that is known means the same, in worlds that match, and these match
+    /// after a value of its kind is assigned to a variable that may be assigned, or to an input. It does nothing.
     fn laws(&self)
-        ensures { (case : Case) → IsLawful (known self.now) (mapping self.now) (from self.now case) (to self.now case) (matches self.now case) };
+        ensures { (case : Case) → IsLawful (context self.now case) (known self.now) (mapping self.now) (from self.now case) (to self.now case) (matches self.now case) };
 }
 
 /// Returns the expression that a pass makes of an expression. In worlds that match it has the same outcome, a trap too, if the pass
@@ -76,15 +81,15 @@ pub fn map_expr<V, W: Drop, P: Pass<V, W>>(
 }
 
 /// Returns the body that a pass makes of a body, each statement with the same number. From worlds that match the two do the same, if the
-/// pass knows each of the body's names: both end or both trap in the same place, and the worlds that they leave match.
-/// Fails only where memory is refused.
+/// pass knows each of the body's names and the body's kinds are right: both end or both trap in the same place, and the worlds that they
+/// leave match. Fails only where memory is refused.
 pub fn map_body<V, W: Drop, P: Pass<V, W>>(
     alloc: Global,
     pass: &P,
     body: &[Stmt<V>],
 ) -> Result<Vec<Stmt<W>>, AllocError>
     ensures tree { IfOk result (λ r. view_body r.items ≡ mapped_body (P.mapping pass.now) (view_body body.now)) }
-    ensures same { IfOk result (λ r. (case : P.Case) → body_known (P.known pass.now) (view_body body.now) ≡ true → Same (P.matches pass.now case) (run_all (P.from pass.now case) (view_body body.now)) (run_all (P.to pass.now case) (view_body r.items))) }
+    ensures same { IfOk result (λ r. (case : P.Case) → IsKeptBody (P.context pass.now case) (P.known pass.now) (view_body body.now) → Same (P.matches pass.now case) (run_all (P.from pass.now case) (view_body body.now)) (run_all (P.to pass.now case) (view_body r.items))) }
 {
     pass.laws();
     let mapped = mapped_body(alloc, pass, body)?;
