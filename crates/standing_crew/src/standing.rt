@@ -22,11 +22,17 @@ use std::thread;
 use std::thread::{JoinHandle, Threads};
 use trace::Remembered;
 
+/// So many answers may wait for the caller: as many as a plant has programs at most.
+const MOST_ANSWERS: usize = 512;
+
 /// Workers that stand ready from one call to the next: the caller, and threads. `J` is a job, `S` what it starts from, `D` a run of it that
 /// ended, and `G` the gate.
 ///
 /// Each call of `run` is a round with a number of its own, which jobs and runs carry; what comes of another round is dropped. After a fault
 /// other than `Memory` each further run answers `Lost`.
+///
+/// A worker's answer takes no memory: there is room for 512 from the beginning, and where so many wait, a worker waits until the caller takes
+/// one. So none is refused for memory, which would leave the caller waiting for it.
 pub struct Standing<J, S, D, G> {
     parcels: Option<Sender<Parcel<J, D>>>,
     waiting: Receiver<Parcel<J, D>>,
@@ -134,7 +140,7 @@ impl<
         let Ok((parcels, waiting)) = crossbeam_channel::unbounded(alloc) else {
             return Err(CrewFault::Memory);
         };
-        let Ok((done, answers)) = crossbeam_channel::unbounded(alloc) else {
+        let Ok((done, answers)) = crossbeam_channel::bounded(alloc, MOST_ANSWERS) else {
             return Err(CrewFault::Memory);
         };
         let mut standing = Standing {
