@@ -1,22 +1,24 @@
-//! What the owner and the consoles tell each other beside the rings.
+//! What the owner and other threads tell each other beside the rings.
 
 use std::alloc::{AllocError, Global};
 use std::sync::Arc;
 use std::sync::atomic::{AtomicBool, AtomicU64, Ordering};
 
-/// Whether the day is over, and how many consoles are done with their drill.
+/// Whether the day is over, how many consoles are done with their drill, and how many lines of the journal are kept.
 #[derive(Drop)]
 pub struct Watch {
     over: AtomicBool,
     drilled: AtomicU64,
+    kept: AtomicU64,
 }
 
 impl Watch {
-    /// What owner and consoles share when the day begins. Fails if memory was refused.
+    /// What they share when the day begins. Fails if memory was refused.
     pub fn shared(alloc: Global) -> Result<Arc<Watch>, AllocError> {
         let watch = Watch {
             over: AtomicBool::new(false),
             drilled: AtomicU64::new(0),
+            kept: AtomicU64::new(0),
         };
         match Arc::new(alloc, watch) {
             Ok(watch) => Ok(watch),
@@ -42,5 +44,15 @@ impl Watch {
     /// How many consoles are done with their drill.
     pub fn drilled(&self) -> u64 {
         self.drilled.load(Ordering::SeqCst)
+    }
+
+    /// So many lines of the journal are kept.
+    pub fn keep(&self, lines: u64) {
+        self.kept.store(lines, Ordering::SeqCst);
+    }
+
+    /// How many lines of the journal are kept.
+    pub fn kept(&self) -> u64 {
+        self.kept.load(Ordering::SeqCst)
     }
 }

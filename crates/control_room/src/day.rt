@@ -67,9 +67,11 @@ fn is_quiet(engine: &Engine) -> bool {
     true
 }
 
-/// Whether no alarm waits for an operator, and each console is done with its drill.
+/// Whether no alarm waits for an operator, each console is done with its drill, and the journal so far is kept.
 fn is_settled(engine: &Engine, watch: &Watch) -> bool {
-    watch.drilled() >= engine.plant().consoles().len() as u64 && is_quiet(engine)
+    watch.drilled() >= engine.plant().consoles().len() as u64
+        && is_quiet(engine)
+        && watch.kept() >= engine.journal().len()
 }
 
 /// Takes a turn, and tells how many orders it took.

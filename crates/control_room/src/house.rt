@@ -60,7 +60,11 @@ fn plant_of<H: Threads + Sync>(
 fn push_fault(page: &mut Page, fault: FetchFault) {
     match fault {
         FetchFault::Memory => page.refuse(),
-        FetchFault::File(_) => page.line("A FILE IS MISSING"),
+        FetchFault::File(name) => {
+            page.add("A FILE IS MISSING:");
+            page.word(name.as_str());
+            page.add("\n");
+        }
         FetchFault::Config(_) => page.line("NO PLANT FILE"),
     }
 }

@@ -1,15 +1,16 @@
-//! The control room: a host that has a station, with its consoles in threads of their own and a crew of workers.
+//! The control room: a host that has a station, with its consoles and the keeper of its journal in threads of their own, and a crew of workers.
 //!
 //! The plant is that of `data/house`, a boiler house of forty alarms with two consoles, whose areas are apart. The script is read from standard input (the
 //! file `stdin`): scans, each a line as the server reads it, and remarks.
 //!
 //! The owner takes the turn of a scan, and then turns at the same moment, two at least, until nothing waits: no alarm for an acknowledgement or a
-//! reset, and no console for the answers of its drill. A console begins with its drill, a hundred orders that shelve and unshelve its own alarms. Then it goes by
-//! its board: it looks, acknowledges and resets what waits in its areas, takes answers, and looks again, until the owner's day is over.
+//! reset, no console for the answers of its drill, and no line of the journal for the keeper. A console begins with its drill, a hundred orders that
+//! shelve and unshelve its own alarms. Then it goes by its board: it looks, acknowledges and resets what waits in its areas, takes answers, and looks
+//! again, until the owner's day is over. The keeper has the archive, and takes page after page of it until then.
 //!
 //! What is printed doesn't depend on how threads take turns: a console orders only what its board shows after the answers that it took, so each alarm
-//! is acknowledged once; and the last scans of the script are of one console's areas, so the last page is always the same. How many turns
-//! the owner took is never printed.
+//! is acknowledged once; the last scans of the script are of one console's areas, so the last page is always the same; and the keeper has every line
+//! where the day is whole. How many turns the owner took, and how many pages the keeper, is never printed.
 #![tactic(auto)]
 
 mod console_reports;
@@ -17,6 +18,7 @@ mod crews;
 mod day;
 mod events;
 mod house;
+mod keeper;
 mod reports;
 mod room;
 mod shift;

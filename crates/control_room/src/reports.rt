@@ -2,6 +2,7 @@
 
 use crate::day::DayFault;
 use crate::events::Events;
+use crate::keeper::Kept;
 use engine::{Engine, Verb};
 use row_text::Page;
 use shift_report::{Orders, count};
@@ -76,11 +77,8 @@ fn are_alike(alloc: Global, engine: &Engine, lines: &[String]) -> Result<bool, A
     Ok(true)
 }
 
-/// Adds how many lines the archive has, and whether they are those of the engine's journal.
+/// Adds whether these lines are those of the engine's journal.
 fn push_alike(alloc: Global, engine: &Engine, lines: &[String], page: &mut Page) {
-    page.add("JOURNAL");
-    page.number(lines.len() as i128);
-    page.word("LINES, THE ARCHIVE ALIKE");
     match are_alike(alloc, engine, lines) {
         Ok(are_alike) => page.truth(are_alike),
         Err(_) => page.refuse(),
@@ -88,7 +86,7 @@ fn push_alike(alloc: Global, engine: &Engine, lines: &[String], page: &mut Page)
     page.add("\n");
 }
 
-/// Adds whether the lines of the archive are those of the engine's journal.
+/// Adds how many lines the archive has, and whether they are those of the engine's journal.
 fn push_journal<L: Ledger, R: Wait>(
     rt: &R,
     alloc: Global,
@@ -97,7 +95,27 @@ fn push_journal<L: Ledger, R: Wait>(
     page: &mut Page,
 ) {
     match archive.page(rt, alloc, 1, u32::MAX) {
-        Ok(lines) => push_alike(alloc, engine, lines.as_slice(), page),
+        Ok(lines) => {
+            page.add("JOURNAL");
+            page.number(lines.len() as i128);
+            page.word("LINES, THE ARCHIVE ALIKE");
+            push_alike(alloc, engine, lines.as_slice(), page)
+        }
+        Err(_) => page.refuse(),
+    }
+}
+
+/// Adds how many lines the keeper had before the day was over, how many it has, and whether they are those of the engine's journal.
+pub fn push_kept(alloc: Global, engine: &Engine, before: u64, kept: Kept, page: &mut Page) {
+    match kept {
+        Ok(lines) => {
+            page.add("KEPT BEFORE THE END");
+            page.number(i128::from(before));
+            page.word("LINES, IN ALL");
+            page.number(lines.len() as i128);
+            page.add("\nTHE PAGES ARE THE ENGINE'S JOURNAL");
+            push_alike(alloc, engine, lines.as_slice(), page)
+        }
         Err(_) => page.refuse(),
     }
 }

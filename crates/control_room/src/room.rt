@@ -5,7 +5,8 @@ ghost use Rattle.std.specs.Prelude.{◌≡◌, ◌<◌};
 use crate::console_reports::push_consoles;
 use crate::crews::Workers;
 use crate::day::go_through;
-use crate::reports::{push_end, push_history};
+use crate::keeper::{end_keeper, start_keeper};
+use crate::reports::{push_end, push_history, push_kept};
 use crate::shift::Shift;
 use control_desks::{Ended, join_all, seat_all};
 use engine::Plant;
@@ -18,14 +19,10 @@ use std::time::Clock;
 
 /// The whole life of a station: its consoles go to threads of their own, the owner goes through the script, the consoles come back, and what there is to
 /// tell is added. Tells whether the day was whole.
-pub fn run<L: Ledger, R: Threads + Wait + Clock>(
-    rt: &R,
-    alloc: Global,
-    plant: Plant,
-    crew: Workers,
-    shift: &mut Shift,
-    blank: Blank,
-) -> bool
+pub fn run<
+    L: Ledger + Send + Sync + 'static,
+    R: Threads + Wait + Clock + Clone + Send + Drop + 'static,
+>(rt: &R, alloc: Global, plant: Plant, crew: Workers, shift: &mut Shift, blank: Blank) -> bool
     requires { (blank.name ≡ L.name) × (blank.parts ≡ L.parts) × (0 < L.parts) }
 {
     let Shift {
@@ -41,7 +38,9 @@ pub fn run<L: Ledger, R: Threads + Wait + Clock>(
     };
     let wanted = consoles.len();
     let threads = seat_all(rt, alloc, station.engine().plant(), consoles, watch);
+    let keeper = start_keeper(rt, alloc, station.archive(), watch);
     let day = go_through(rt, alloc, &mut station, events, watch, script);
+    let before = watch.kept();
     watch.end();
     let Ended { finished, posts } = join_all(rt, alloc, threads);
     push_history(
@@ -50,6 +49,13 @@ pub fn run<L: Ledger, R: Threads + Wait + Clock>(
         &**station.archive(),
         station.engine(),
         events,
+        page,
+    );
+    push_kept(
+        alloc,
+        station.engine(),
+        before,
+        end_keeper(rt, keeper),
         page,
     );
     let mut closing = station.close(rt, finished);
