@@ -314,13 +314,14 @@ impl Bank {
         Ok(())
     }
 
-    /// Lists the alarms that a scan moves, and the changes of their codes, as `list_moved` does. It looks at the marked alarms alone, of which none comes
-    /// before a first place, unless a shelf ends by the scan's moment: each of the others has the condition and the suppression that it had in the
+    /// Lists the alarms that a scan moves, and the changes of their codes, as `list_moved` does. It looks at the marked alarms alone, which lie from
+    /// a first place up to before an end, unless a shelf ends by the scan's moment: each of the others has the condition and the suppression that it had in the
     /// last scan. Fails if allocation fails.
     pub fn list_moved_among<S: Signals>(
         &self,
         marks: &[bool],
         first: usize,
+        end: usize,
         signals: &S,
         moment: u64,
         moved: &mut Vec<(u32, Alarm)>,
@@ -329,6 +330,7 @@ impl Bank {
         requires marks { length marks.now ≡ length self.now.alarms }
         requires first { first ≤ length marks.now }
         requires clear { (n : ℕ) → n < first → slice_get marks.now n ≡ Some false }
+        requires rest { (n : ℕ) → end ≤ n → n < length marks.now → slice_get marks.now n ≡ Some false }
         requires unmarked { UnmarkedStay marks.now (S.conditions signals.now) (S.suppressions signals.now) self.now.alarms }
         requires conditions { length (S.conditions signals.now) ≡ length self.now.alarms }
         requires suppressions { length (S.suppressions signals.now) ≡ length self.now.alarms }
@@ -339,8 +341,9 @@ impl Bank {
         }
         moved.clear();
         changes.clear();
+        let end = end.min(self.alarms.len());
         let mut at = first;
-        while at < self.alarms.len() {
+        while at < end {
             if marks[at] {
                 self.list_move(at as u32, signals, moment, moved, changes)?;
                 at += 1;

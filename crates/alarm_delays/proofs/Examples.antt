@@ -1,5 +1,5 @@
 -- Worked examples: whether a condition counts after some scans. The latest scan comes first.
-use Rattle.std.proofs.Common.{◌≡◌, Bool, true, false, List, [], ◌∷◌, Some, None, refl}
+use Rattle.std.proofs.Common.{◌≡◌, true, false, [], ◌∷◌, Some, refl}
 use Rattle.alarm_delays.specs.Delays.{counts, scan_of, since_of}
 
 without_a_delay_at_once : counts (scan_of true 0 5 ∷ []) ≡ true

@@ -170,9 +170,12 @@ impl Delays {
         ensures { self.new ≡ record self.old { since = put_since self.old.last self.old.since (at, condition) } }
     {
         let since = since_after(condition, self.last, self.since[at]);
-        let due = due_at(self.last, self.delays[at], since);
         self.since[at] = since;
-        self.due.put(at, due);
+        let delay = self.delays[at];
+        if delay == 0 {
+            return;
+        }
+        self.due.put(at, due_at(self.last, delay, since));
     }
 
     /// Takes the condition of the alarm of a number in the scan of the last moment. A number that isn't there changes nothing.
@@ -210,29 +213,36 @@ impl Delays {
     }
 
     /// Lists the marked alarms, of which none comes before a first place, in order, each by its number with its condition, in place of what was listed
-    /// before. Fails if allocation fails.
+    /// before. Returns a place before which all of them are. Fails if allocation fails.
     fn list_met<S: Signals>(
         &self,
         raw: &S,
         marks: &[bool],
         first: usize,
         met: &mut Vec<(u32, bool)>,
-    ) -> Result<(), AllocError>
+    ) -> Result<usize, AllocError>
         requires first { IsFirstMark marks.now first }
         requires few { length self.now.since < 2 ^ 32 }
         requires each { length (S.conditions raw.now) ≡ length self.now.since }
         requires marks { length marks.now ≡ length self.now.since }
         requires unmarked { ConditionsStay marks.now (S.conditions raw.now) self.now.since }
-        ensures { OnOk result (AreMet 0 (S.conditions raw.now) self.now.since met.new.items) }
+        ensures met { OnOk result (AreMet 0 (S.conditions raw.now) self.now.since met.new.items) }
+        ensures end { IfOk result (λ end. (n : ℕ) → end ≤ n → n < length marks.now → slice_get marks.now n ≡ Some false) }
     {
         met.clear();
+        let mut end = first;
         let mut at = first;
         while at < marks.len() {
-            let number = at as u32;
-            met.push((number, raw.condition(number)))?;
-            at = next_mark(marks, at + 1);
+            if marks[at] {
+                let number = at as u32;
+                met.push((number, raw.condition(number)))?;
+                at += 1;
+                end = at;
+            } else {
+                at = next_mark(marks, at + 1);
+            }
         }
-        Ok(())
+        Ok(end)
     }
 
     /// Lists the alarms of a bank that a scan moves, and the changes of their codes, as `Bank::list_moved` does, by the conditions that count; and for
@@ -259,13 +269,13 @@ impl Delays {
     {
         self.due.mark_most(moment, marks);
         let first = next_mark(marks, 0);
-        self.list_met(raw, marks, first, met)?;
+        let end = self.list_met(raw, marks, first, met)?;
         let counted = Counting {
             raw,
             delays: self,
             moment,
         };
-        bank.list_moved_among(marks, first, &counted, moment, moved, changes)
+        bank.list_moved_among(marks, first, end, &counted, moment, moved, changes)
     }
 }
 

@@ -1,4 +1,4 @@
-use Rattle.std.proofs.Common.{◌≡◌, ◌∙◌, ◌+◌, ◌<◌, ◌≤◌, false, [], length, slice_get, All, Some, arith, ap, refl}
+use Rattle.std.proofs.Common.{ℕ, ◌≡◌, ◌∙◌, ◌+◌, ◌<◌, ◌≤◌, false, [], length, slice_get, All, Some, arith, ap, refl}
 use Rattle.std.proofs.lemmas.Option.{slice_get-get_or}
 use Rattle.alarm_bank.specs.Banks.{PlainBank, IsSettled}
 use Rattle.alarm_bank.proofs.MoveLaws.{move_more, moves_first, unmarked_next, unmarked_to, moves_listed}
@@ -17,13 +17,13 @@ loop-at-init g c =
 
 pub loop-at-preserved-then-marks-at : goal.loop-at-preserved-then-marks-at
 loop-at-preserved-then-marks-at g c =
-    let within : c.loop-at.at < length c.args.self.now.alarms = omega (arith, ap (λ (b : PlainBank). length b.alarms) c.self.view_is) in
+    let within : c.loop-at.at < length c.args.self.now.alarms = omega (arith, c.loop-at-test.true, c.min-end.ensures, ap (λ (b : PlainBank). length b.alarms) c.self.view_is) in
     let more = move_more c.loop-at.at _ _ _ _ _ _ _ _ within c.requires.conditions c.requires.suppressions c.in_ok-list_move.ensures c.loop-at.invariant.moves c.loop-at.invariant.changes in
     record { within = omega (arith, within); moves = more.moves; changes = more.changes }
 
 pub loop-at-preserved : goal.loop-at-preserved
 loop-at-preserved g c =
-    let within : c.loop-at.at < length c.args.self.now.alarms = omega (arith, ap (λ (b : PlainBank). length b.alarms) c.self.view_is) in
+    let within : c.loop-at.at < length c.args.self.now.alarms = omega (arith, c.loop-at-test.true, c.min-end.ensures, ap (λ (b : PlainBank). length b.alarms) c.self.view_is) in
     let unmarked : slice_get c.args.marks.now c.loop-at.at ≡ Some false = slice_get-get_or c.args.marks.now c.loop-at.at false (omega (arith, within, c.requires.marks)) ∙ ap Some c.if-marks-at.false in
     let settled : All IsSettled c.args.self.now.alarms = rw (← ap (λ (b : PlainBank). b.alarms) c.self.view_is) c.self.invariant.settled in
     let later = c.if-shelf_ends.ensures refl in
@@ -37,5 +37,10 @@ loop-at-preserved g c =
 
 pub returns : goal.returns
 returns g c =
-    let end : length c.args.self.now.alarms ≤ c.loop-at.at = omega (arith, ap (λ (b : PlainBank). length b.alarms) c.self.view_is) in
-    moves_listed c.loop-at.at _ _ _ _ _ _ end c.loop-at.invariant.moves c.loop-at.invariant.changes
+    let settled : All IsSettled c.args.self.now.alarms = rw (← ap (λ (b : PlainBank). b.alarms) c.self.view_is) c.self.invariant.settled in
+    let later = c.if-shelf_ends.ensures refl in
+    let many : length c.args.marks.now ≡ length c.args.self.now.alarms = c.requires.marks in
+    let past : (n : ℕ) → c.loop-at.at ≤ n → n < length c.args.self.now.alarms → c.args.end ≤ n = λ n low less. omega (arith, low, less, c.loop-at-test.false, c.min-end.ensures, ap (λ (b : PlainBank). length b.alarms) c.self.view_is) in
+    moves_listed (length c.args.self.now.alarms) _ _ _ _ _ _ (omega arith)
+    (unmarked_to c.args.marks.now c.loop-at.at (length c.args.self.now.alarms) _ _ _ _ _ c.loop-at.invariant.within (omega arith) c.requires.conditions c.requires.suppressions (λ n low less. c.requires.rest n (past n low less) (omega (arith, less, many))) c.requires.unmarked settled later c.loop-at.invariant.moves)
+    c.loop-at.invariant.changes

@@ -19,3 +19,6 @@ list_met-requires-clause-first g c = record { within = c.next_mark-first.ensures
 
 pub list_moved_among-requires-clause-clear : goal.list_moved_among-requires-clause-clear
 list_moved_among-requires-clause-clear g c = λ n less. c.next_mark-first.ensures.clear n (omega arith) less
+
+pub list_moved_among-requires-clause-rest : goal.list_moved_among-requires-clause-rest
+list_moved_among-requires-clause-rest g c = c.in_ok-end.ensures.end
