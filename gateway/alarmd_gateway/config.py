@@ -123,6 +123,7 @@ class Config:
     restarts: int = 3  # so often in a row alarmd is started again, without a scan between
     speed: int = 1  # moments go so many times as fast as the time of day: for simulations alone
     tables: dict[str, Any] = field(default_factory=dict)
+    new_alarmd: bool = False  # a shared log goes on with this program
 
     def table(self, name: str) -> Table:
         """A table of another module, `[name]`, empty where there is none."""

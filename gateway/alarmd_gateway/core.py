@@ -8,7 +8,7 @@ from __future__ import annotations
 
 import asyncio
 from collections import deque
-from collections.abc import Awaitable, Callable
+from collections.abc import Awaitable, Callable, Iterable
 from dataclasses import dataclass, field
 from typing import Protocol
 
@@ -23,6 +23,7 @@ from .journal import Journal
 from .link import Link
 from .model import (
     MOST_EVENTS,
+    Figure,
     GatewayFault,
     Order,
     Reply,
@@ -40,7 +41,16 @@ from .state import State
 LOOK_SECONDS = 1.0
 """At most so long passes between two looks at the server, the clock and the history."""
 
-__all__ = ["Change", "ChangeKind", "Core", "CutOff", "Question", "Snapshot", "Subscription"]
+__all__ = [
+    "Change",
+    "ChangeKind",
+    "Core",
+    "CutOff",
+    "Figure",
+    "Question",
+    "Snapshot",
+    "Subscription",
+]
 
 
 class Disturbances(Protocol):
@@ -164,6 +174,10 @@ class Core:
         """All that a display wants, at one moment."""
         number = self._announcer.board.number
         return snapshots.take(number, self._link.book, self.troubles, self._questions)
+
+    def figures(self) -> Iterable[Figure]:
+        """Further figures for `/metrics`."""
+        return ()
 
     @property
     def questions(self) -> tuple[Question, ...]:

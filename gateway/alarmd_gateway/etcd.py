@@ -28,8 +28,8 @@ class Etcd(Protocol):
     """What answers requests."""
 
     async def post(self, path: str, body: Body, once: bool = False) -> Body:
-        """The answer to a request. Where a node doesn't answer, the next one is asked, unless `once`. Raises NoEtcd,
-        EtcdRefused."""
+        """The answer to a request. Where a node doesn't answer, the next one is asked; with `once` only where the request has surely
+        not arrived. Raises NoEtcd, EtcdRefused."""
 
     async def close(self) -> None:
         """Ends all connections."""
@@ -72,6 +72,12 @@ def created(key: str, revision: int) -> Body:
 def modified(key: str, revision: int) -> Body:
     """Holds while the key was last written at this revision."""
     return {"key": coded(key), "target": "MOD", "result": "EQUAL", "mod_revision": str(revision)}
+
+
+def valued(key: str, value: Mapping[str, Any]) -> Body:
+    """Holds while the key has this value."""
+    known = {"target": "VALUE", "result": "EQUAL", "value": coded(json.dumps(value))}
+    return {"key": coded(key), **known}
 
 
 def put(key: str, value: Mapping[str, Any], lease: str | None = None) -> Body:

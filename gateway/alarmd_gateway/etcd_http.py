@@ -4,6 +4,7 @@ from __future__ import annotations
 
 import asyncio
 import json
+import ssl
 from collections.abc import Sequence
 
 import aiohttp
@@ -11,14 +12,21 @@ import aiohttp
 from .etcd import Body, EtcdRefused, NoEtcd
 
 
+class NotSent(NoEtcd):
+    """The node wasn't reached: it surely hasn't done what was asked."""
+
+
 class HttpEtcd:
     """The nodes of a cluster, of which one is asked at a time."""
 
-    def __init__(self, endpoints: Sequence[str], seconds: float) -> None:
-        """`endpoints` as `http://127.0.0.1:2379`; a node may take so many seconds for an answer."""
+    def __init__(
+        self, endpoints: Sequence[str], seconds: float, tls: ssl.SSLContext | None = None
+    ) -> None:
+        """`endpoints` as `http://127.0.0.1:2379`, or with `https` and `tls`; a node may take so many seconds for an answer."""
         self._endpoints = [endpoint.rstrip("/") for endpoint in endpoints]
         self._at = 0
         self._seconds = seconds
+        self._tls = tls
         self._session: aiohttp.ClientSession | None = None
 
     async def post(self, path: str, body: Body, once: bool = False) -> Body:
@@ -26,22 +34,27 @@ class HttpEtcd:
         if self._session is None:
             limit = aiohttp.ClientTimeout(total=self._seconds)
             self._session = aiohttp.ClientSession(timeout=limit)
-        at = self._at
-        for step in range(1 if once else len(self._endpoints)):
+        at, last = self._at, NoEtcd("no node of etcd")
+        for step in range(len(self._endpoints)):
             number = (at + step) % len(self._endpoints)
             try:
                 return await self._ask(self._session, self._endpoints[number] + path, body)
-            except NoEtcd:
+            except NoEtcd as fault:
+                last = fault
                 self._at = (number + 1) % len(self._endpoints)
-        raise NoEtcd("no node of etcd has answered")
+            if once and not isinstance(last, NotSent):
+                break
+        raise last
 
     async def _ask(self, session: aiohttp.ClientSession, url: str, body: Body) -> Body:
         try:
-            async with session.post(url, data=json.dumps(body)) as response:
+            async with session.post(url, data=json.dumps(body), ssl=self._tls) as response:
                 found = json.loads(await response.text())
                 status = response.status
+        except aiohttp.ClientConnectorError as fault:
+            raise NotSent(str(fault)) from None
         except (aiohttp.ClientError, asyncio.TimeoutError, OSError, ValueError) as fault:
-            raise NoEtcd(str(fault)) from None
+            raise NoEtcd(str(fault) or f"{url} gives no answer") from None
         if not isinstance(found, dict):
             raise NoEtcd("the answer is no object")
         if status == 200:

@@ -1,7 +1,7 @@
 """The record in etcd: a log that several gateways follow, and to which the one that leads appends.
 
 Keys, below `/alarmd/NAME/`: `last` has the number of the record and of its last entry; `entry/RECORD/NUMBER` each entry; `files` the
-sums of the plant's files; `leader` who leads; `request/MARK` an order that a gateway hands on to the leader. Each gateway has a copy of
+sums of the plant's files, `program` that of alarmd; `leader` who leads; `request/MARK` an order that a gateway hands on to the leader. Each gateway has a copy of
 the log on its own disk, `RECORD.1` and so on, which it plays to its server."""
 
 from __future__ import annotations
@@ -12,42 +12,34 @@ from collections.abc import Iterator, Sequence
 from pathlib import Path
 
 from . import etcd
-from .etcd import TXN, Body, Etcd, EtcdRefused, NoEtcd
+from .etcd import TXN, Body, Etcd, EtcdRefused, Kept, NoEtcd
+from .identity import Identity
 from .leader import Leader, leader_of
-from .link import tell
 from .log_view import Keys, Last, Marked, View, copy_path, last_by, last_of, marked, value_of
 from .model import GatewayFault, Plant
-from .record import Entry, FileRecord, Unsure, sums
+from .new_record import NewRecord
+from .record import Entry, FileRecord
+from .transactions import Deposed, NoCopy, Transactions
 
 PAGE = 500  # entries that are read at once
-BLOCK = 50  # entries of a new record that are written at once
-AGAIN = 0.1  # seconds between two tries
-PATIENCE = 5.0  # seconds for which an append is tried
-
-
-class Deposed(GatewayFault):
-    """The entry of this mark wasn't appended, as another gateway leads or the log has gone on. Where it isn't `sure`, no answer
-    came: if it is in the log, it is found by following it."""
-
-    def __init__(self, mark: str, sure: bool) -> None:
-        super().__init__("this gateway leads no more", 1)
-        self.mark = mark
-        self.sure = sure
+TIDY = 60.0  # seconds between two looks for records that are too old
 
 
 class EtcdLog:
     """The log as one gateway has it. What it knows is on its own disk before its server sees it."""
 
-    def __init__(self, etcd: Etcd, keys: Keys, record: Path, plant: Plant) -> None:
-        """`open` makes one that is ready."""
-        self.etcd = etcd
+    def __init__(self, client: Etcd, keys: Keys, record: Path, plant: Plant, program: Path) -> None:
+        """`open` makes one that is ready. `program` is the server's. Raises GatewayFault."""
         self.keys = keys
-        self.heard = 0.0  # when a transaction was answered last, by the loop's clock
+        self.asks = Transactions(client)
         self.leads_since: int | None = None  # the revision at which this gateway began to lead
+        self.uncopied = ""  # why the copy can't be written; empty where it can
         self._path = record
         self._plant = plant
+        self._own = Identity(keys, plant, program)
         self._copy: FileRecord | None = None
         self._known = Last(0, "", 0, 0)
+        self._tidied = -TIDY
 
     @property
     def known(self) -> Last:
@@ -60,33 +52,35 @@ class EtcdLog:
         assert self._copy is not None
         return self._copy
 
-    async def open(self) -> None:
-        """Begins the log where there is none, opens the copy, and brings it up to the log's end. Raises NoEtcd, and GatewayFault
-        (status 2) where the log or the copy is another plant's, or the copy of another log."""
-        files = sums(self._plant)
+    async def open(self, new_program: bool = False) -> None:
+        """Begins the log where there is none, opens the copy, and brings it up to the log's end. With `new_program` the log goes on
+        with this gateway's program. Raises NoEtcd, and GatewayFault: status 2 where the log or the copy is another plant's, the
+        log of another program, or the copy of another log; 1 where the copy can't be written."""
         first = {"record": 1, "log": uuid.uuid4().hex, "entries": 0}
-        begin = [etcd.put(self.keys.last, first), etcd.put(self.keys.files, files)]
-        await self._ask([etcd.absent(self.keys.last)], begin)
-        answer = await self._ask([], [etcd.get(self.keys.last), etcd.get(self.keys.files)])
+        begin = [etcd.put(self.keys.last, first), *self._own.begin()]
+        await self.asks.ask([etcd.absent(self.keys.last)], begin)
+        reads = [etcd.get(key) for key in (self.keys.last, self.keys.files, self.keys.program)]
+        answer = await self.asks.ask([], reads)
         (last,), (kept,) = etcd.found(answer, 0), etcd.found(answer, 1)
-        if kept.value != files:
-            changed = [
-                name for name in {**files, **kept.value} if files.get(name) != kept.value.get(name)
-            ]
-            words = f"the log {self.keys.prefix} is of another plant: {changed[0]} differs"
-            raise GatewayFault(words, 2)
+        self._own.judge_files(kept)
+        if new_program:
+            await self.asks.ask([], [self._own.program()])
+        else:
+            self._own.judge_program(etcd.found(answer, 2))
         await self.begin(last_by(last))
 
     async def begin(self, last: Last) -> None:
-        """Goes over to a record: its copy is opened, and brought up to this end. Raises NoEtcd, GatewayFault."""
+        """Goes over to a record: its copy is opened, and brought up to this end. Raises NoEtcd, NoCopy, GatewayFault."""
         path = copy_path(self._path, last.record)
-        copy = FileRecord(path, self._plant, last.log)
+        copy = self._opened(path, last.log)
         try:
             count, line = last_of(path)
             await self._compare(path, last.record, count, line)
             while count < last.entries:
                 fresh = await self._read(last.record, count)
-                await copy.extend([one.entry for one in fresh])
+                if not fresh:
+                    raise NoEtcd("the log has gone on to a newer record")
+                await self._extend(copy, [one.entry for one in fresh])
                 count += len(fresh)
         except BaseException:
             copy.close()
@@ -96,58 +90,79 @@ class EtcdLog:
         self._copy = copy
         self._known = Last(last.record, last.log, count, 0)
 
+    def _opened(self, path: Path, log: str) -> FileRecord:
+        """A copy that may be written. Raises NoCopy, and GatewayFault where it isn't of this log."""
+        try:
+            return FileRecord(path, self._plant, log)
+        except GatewayFault as fault:
+            if fault.status != 1:
+                raise
+            self.uncopied = fault.words
+            raise NoCopy(fault.words, 1) from None
+
+    async def _extend(self, copy: FileRecord, entries: Sequence[Entry]) -> None:
+        """These are in the copy once it has returned. Raises NoCopy, and then none of them is."""
+        try:
+            await copy.extend(entries)
+        except GatewayFault as fault:
+            self.uncopied = fault.words
+            raise NoCopy(fault.words, 1) from None
+        self.uncopied = ""
+
     async def _compare(self, path: Path, record: int, count: int, line: str) -> None:
         """Raises GatewayFault where the last line of the copy isn't in the log."""
         if count == 0:
             return
-        answer = await self._ask([], [etcd.get(self.keys.entry(record, count))])
+        answer = await self.asks.ask([], [etcd.get(self.keys.entry(record, count))])
         kept = etcd.found(answer, 0)
         if not kept or kept[0].value["line"] != line:
             raise GatewayFault(f"{path} has what isn't in the log: keep it elsewhere", 2)
 
-    async def _read(self, record: int, count: int) -> list[Marked]:
+    async def _read(self, record: int, count: int) -> tuple[Marked, ...]:
         """The entries of a record after so many, at most a page."""
-        answer = await self._ask([], [self._after(record, count)])
-        return [marked(kept) for kept in etcd.found(answer, 0)]
+        answer = await self.asks.ask([], [self._after(record, count)])
+        return self._next(record, count, etcd.found(answer, 0))
+
+    def _next(self, record: int, count: int, found: Sequence[Kept]) -> tuple[Marked, ...]:
+        """Those that come next after so many. An old record may have lost its beginning: then it is none."""
+        wanted = enumerate(found, count + 1)
+        return tuple(
+            marked(kept) for number, kept in wanted if kept.key == self.keys.entry(record, number)
+        )
 
     def _after(self, record: int, count: int) -> Body:
         begin, end = self.keys.entry(record, count + 1), etcd.after(self.keys.record(record))
         return etcd.get(begin, end, PAGE)
 
-    async def _ask(
-        self, compare: Sequence[Body], success: Sequence[Body], failure: Sequence[Body] = ()
-    ) -> Body:
-        """A transaction, and when it was answered. Raises NoEtcd, EtcdRefused."""
-        answer = await self.etcd.post(TXN, etcd.transaction(compare, success, failure))
-        self.heard = asyncio.get_running_loop().time()
-        return answer
-
     async def look(self) -> View:
-        """The log at this moment. Raises NoEtcd where no majority answers."""
+        """The log at this moment. Raises NoEtcd where no majority answers, GatewayFault where the log is gone, or goes on with
+        another program."""
         requests = etcd.get(self.keys.requests, etcd.after(self.keys.requests), PAGE)
         fresh = self._after(self._known.record, self._known.entries)
         reads = [etcd.get(self.keys.last), etcd.get(self.keys.leader), requests, fresh]
-        answer = await self._ask([], reads)
+        reads.append(etcd.get(self.keys.program))
+        answer = await self.asks.ask([], reads)
         last = etcd.found(answer, 0)
         if not last:
             raise GatewayFault(f"the log {self.keys.prefix} is gone", 2)
+        self._own.judge_program(etcd.found(answer, 4))
         waiting = sorted(etcd.found(answer, 2), key=lambda kept: kept.created)
         return View(
             last_by(last[0]),
             leader_of(etcd.found(answer, 1)),
             tuple(marked(kept) for kept in waiting),
-            tuple(marked(kept) for kept in etcd.found(answer, 3)),
+            self._next(self._known.record, self._known.entries, etcd.found(answer, 3)),
         )
 
     async def hear(self) -> None:
         """Asks for the log's end alone. Raises NoEtcd where no majority answers."""
-        await self._ask([], [etcd.get(self.keys.last)])
+        await self.asks.ask([], [etcd.get(self.keys.last)])
 
     async def keep(self, one: Marked) -> None:
-        """The next entry of the log is in the copy once this has returned. Raises GatewayFault (status 1)."""
+        """The next entry of the log is in the copy, and known, once this has returned. Raises NoCopy; then it isn't."""
         known = self._known
+        await self._extend(self.copy, [one.entry])
         self._known = Last(known.record, known.log, known.entries + 1, 0)
-        await self.copy.append(one.entry)
 
     def lead(self, leader: Leader, last: Last) -> bool:
         """Whether this gateway, which leads by `leader`, has the whole log, and so may append to it from now on."""
@@ -170,10 +185,11 @@ class EtcdLog:
     def check(self) -> None:
         """See Log."""
         self.copy.check()
+        self._own.check()
 
     async def append(self, entry: Entry) -> None:
-        """Appends where this gateway leads and knows the whole log. Raises Deposed, and GatewayFault where the copy can't be
-        written."""
+        """Appends where this gateway leads and knows the whole log. Raises Deposed, also where the copy can't be written: then the
+        entry is in the log, and isn't known here until it is in the copy."""
         await self.append_as(uuid.uuid4().hex, entry)
 
     async def append_as(self, mark: str, entry: Entry, request: bool = False) -> None:
@@ -186,6 +202,7 @@ class EtcdLog:
         compare = [
             etcd.created(self.keys.leader, since),
             etcd.modified(self.keys.last, known.revision),
+            self._own.holds(),
         ]
         success = [etcd.put(key, value_of(entry, mark)), etcd.put(self.keys.last, fields)]
         if request:
@@ -198,55 +215,54 @@ class EtcdLog:
             if not kept or kept[0].value["mark"] != mark:
                 raise Deposed(mark, True)
             revision = kept[0].modified
-        await self.copy.append(entry)
+        try:
+            await self._extend(self.copy, [entry])
+        except NoCopy:
+            self.follow()
+            raise Deposed(mark, False) from None
         self._known = Last(known.record, known.log, known.entries + 1, revision)
 
     async def _persist(
         self, mark: str, compare: Sequence[Body], success: Sequence[Body], key: str
     ) -> Body:
-        """A transaction that at most once holds, tried until it is answered. Where it doesn't hold, `key` is read. Raises
-        Deposed."""
-        loop = asyncio.get_running_loop()
-        end = loop.time() + PATIENCE
-        while True:
-            try:
-                return await self._ask(compare, success, [etcd.get(key)])
-            except NoEtcd:
-                if loop.time() > end:
-                    self.follow()
-                    raise Deposed(mark, False) from None
-            await asyncio.sleep(AGAIN)
+        """See Transactions. Nothing more is appended where no answer came."""
+        try:
+            return await self.asks.persist(mark, compare, success, key)
+        except Deposed:
+            self.follow()
+            raise
 
     async def request(self, mark: str, entry: Entry, lease: str) -> None:
         """Hands an order on to the leader; it is withdrawn where the lease ends. Raises NoEtcd where it isn't known whether it is
         handed on, EtcdRefused where it isn't."""
         value = etcd.put(self.keys.requests + mark, value_of(entry, mark), lease)
-        await self.etcd.post(TXN, etcd.transaction([], [value]), once=True)  # never twice
+        words = etcd.transaction([], [value])
+        await self.asks.etcd.post(TXN, words, once=True)  # never twice
 
     async def drop(self, mark: str) -> None:
         """Takes a request away that is no order. Raises NoEtcd."""
-        await self._ask([], [etcd.delete(self.keys.requests + mark)])
+        await self.asks.ask([], [etcd.delete(self.keys.requests + mark)])
 
     async def succeed(self, entries: Sequence[Entry]) -> str:
         """See Log. The new record is written beside the old one, and one transaction goes over to it. The old one stays in etcd
-        until the next time, and on the disk of each gateway that had it."""
+        until there is another, and on the disk of each gateway that had it. Raises Deposed where this gateway leads no more, or
+        can't write the copy: which record goes on is found by following the log."""
         known, since = self._known, self.leads_since
         if since is None:
             raise Deposed("", True)
-        leads, number = etcd.created(self.keys.leader, since), known.record + 1
+        fresh, number, log = (
+            NewRecord(self.asks, self.keys, since),
+            known.record + 1,
+            uuid.uuid4().hex,
+        )
         try:
-            await self._write(leads, number, entries)
+            await fresh.write(number, entries)
         except (NoEtcd, EtcdRefused) as fault:
             raise GatewayFault(f"etcd: {fault}", 1) from None
-        log = uuid.uuid4().hex
         fields = {"record": number, "log": log, "entries": len(entries)}
-        older = self.keys.record(known.record - 1)
-        over = [etcd.put(self.keys.last, fields), etcd.delete(older, etcd.after(older))]
-        compare = [leads, etcd.modified(self.keys.last, known.revision)]
-        try:
-            answer = await self._persist("", compare, over, self.keys.last)
-        except Deposed:
-            raise Unsure("it isn't known whether the new record has begun", 1) from None
+        compare = [fresh.leads, etcd.modified(self.keys.last, known.revision)]
+        over = [etcd.put(self.keys.last, fields)]
+        answer = await self._persist("", compare, over, self.keys.last)
         kept = etcd.found(answer, 0) if not etcd.held(answer) else []
         if not etcd.held(answer) and (not kept or kept[0].value != fields):
             raise Deposed("", True)
@@ -254,41 +270,22 @@ class EtcdLog:
         old = self.copy.path
         try:
             await self.begin(Last(number, log, len(entries), revision))
-        except (NoEtcd, GatewayFault) as fault:
-            raise Unsure(f"the copy of the new record: {fault}", 1) from None
-        self._known = Last(number, log, len(entries), revision)
+        except (NoEtcd, NoCopy):
+            self.follow()
+            raise Deposed("", False) from None
+        self._known, self._tidied = Last(number, log, len(entries), revision), -TIDY
         return old.name
 
-    async def _write(self, leads: Body, record: int, entries: Sequence[Entry]) -> None:
-        """Writes the entries of a new record, while this gateway leads."""
-        prefix = self.keys.record(record)
-        await self._while(leads, [etcd.delete(prefix, etcd.after(prefix))])
-        for begin in range(0, len(entries), BLOCK):
-            puts = [
-                etcd.put(self.keys.entry(record, number), value_of(entry, uuid.uuid4().hex))
-                for number, entry in enumerate(entries[begin : begin + BLOCK], begin + 1)
-            ]
-            await self._while(leads, puts)
-
-    async def _while(self, leads: Body, success: Sequence[Body]) -> None:
-        if not etcd.held(await self._ask([leads], success)):
-            raise Deposed("", True)
+    async def tidy(self) -> None:
+        """Rids etcd of a block of the records that are older than the one before this, where there is one. Raises NoEtcd,
+        EtcdRefused."""
+        now = asyncio.get_running_loop().time()
+        if self.leads_since is None or now - self._tidied < TIDY:
+            return
+        if not await NewRecord(self.asks, self.keys, self.leads_since).tidy(self._known.record):
+            self._tidied = now
 
     def close(self) -> None:
         """Waits for what is being written to the copy."""
         if self._copy is not None:
             self._copy.close()
-
-
-async def opened(log: EtcdLog) -> None:
-    """Opens the log; while etcd gives no answer it is tried again. Raises GatewayFault."""
-    told = False
-    while True:
-        try:
-            await log.open()
-            return
-        except (NoEtcd, EtcdRefused):
-            if not told:
-                tell("etcd gives no answer: it is waited for")
-            told = True
-            await asyncio.sleep(0.5)

@@ -5,9 +5,10 @@ from __future__ import annotations
 from dataclasses import dataclass
 from pathlib import Path
 
+from .disk import BY
 from .etcd import Body, Kept
 from .leader import Leader
-from .record import BY, Entry
+from .record import Entry
 
 
 @dataclass(frozen=True)
@@ -46,6 +47,7 @@ class Keys:
         self.last = f"{self.prefix}last"
         self.leader = f"{self.prefix}leader"
         self.files = f"{self.prefix}files"
+        self.program = f"{self.prefix}program"
         self.requests = f"{self.prefix}request/"
 
     def record(self, record: int) -> str:
@@ -55,6 +57,11 @@ class Keys:
     def entry(self, record: int, number: int) -> str:
         """The key of an entry, counted from 1."""
         return f"{self.record(record)}{number:09}"
+
+    def place(self, key: str) -> tuple[int, int]:
+        """The number of the record and of the entry of a key."""
+        record, number = key.split("/")[-2:]
+        return int(record), int(number)
 
 
 def value_of(entry: Entry, mark: str) -> Body:

@@ -10,7 +10,7 @@ from prometheus_client.core import CounterMetricFamily, GaugeMetricFamily, Metri
 from prometheus_client.registry import Collector
 
 from .core import Core
-from .model import MOST_EVENTS, Code
+from .model import MOST_EVENTS, Code, Figure
 from .tally import WAITING
 
 Count = Callable[[], int]
@@ -56,6 +56,7 @@ class Gatherer(Collector):
         yield self._ordered()
         for name, (what, count) in self._counts.items():
             yield gauge(name, what, count())
+        yield from map(labelled, self._core.figures())
 
     def _alarms(self) -> Iterable[Metric]:
         states = Counter((alarm.row.priority, alarm.code) for alarm in self._core.state.alarms)
@@ -112,6 +113,16 @@ class Gatherer(Collector):
 def gauge(name: str, what: str, value: float) -> Metric:
     """A figure without labels."""
     return GaugeMetricFamily(name, what, value=value)
+
+
+def labelled(figure: Figure) -> Metric:
+    """A figure of the core, with its label where it has one."""
+    if figure.label is None:
+        return gauge(figure.name, figure.what, figure.value)
+    key, value = figure.label
+    found = GaugeMetricFamily(figure.name, figure.what, labels=[key])
+    found.add_metric([value], figure.value)
+    return found
 
 
 class Metrics:

@@ -213,3 +213,13 @@ class GatewayFault(Exception):
 
 class ServerGone(GatewayFault):
     """`alarmd` has ended, or was silent for too long."""
+
+
+@dataclass(frozen=True)
+class Figure:
+    """A figure for `/metrics`: its name, what it is, its value, and a label where it has one."""
+
+    name: str
+    what: str
+    value: float
+    label: tuple[str, str] | None = None

@@ -8,7 +8,6 @@ from __future__ import annotations
 
 import asyncio
 import errno
-import fcntl
 import hashlib
 import json
 import os
@@ -16,18 +15,16 @@ from collections.abc import Iterator, Sequence
 from concurrent.futures import ThreadPoolExecutor
 from dataclasses import dataclass
 from pathlib import Path
-from typing import IO, Final, Protocol
+from typing import Final, Protocol
 
+from .disk import BY, archive, cut, locked, sync_folder, write
 from .model import GatewayFault, Plant
 from .plant import files
 
 _HEAD: Final = "# gateway record "
-BY: Final = "# by "
 _OLD_HEAD: Final = "# plant "
 _NO_HELP: Final = (errno.ENOENT, errno.ENOTDIR, errno.EISDIR, errno.EACCES, errno.EROFS)
 """Faults of opening a record that another start doesn't help."""
-
-_TAIL: Final = 65_536  # bytes that are read at once to find the last line
 
 
 @dataclass(frozen=True, slots=True)
@@ -147,9 +144,10 @@ class FileRecord:
         self._sums = sums(plant)
         self._thread = ThreadPoolExecutor(1, "record")
         try:
-            self._file = _locked(path)
+            self._file = locked(path)
             try:
                 self._begin()
+                self._size = self._file.seek(0, os.SEEK_END)  # all that was written wholly
             except BaseException:
                 self._file.close()
                 raise
@@ -157,7 +155,7 @@ class FileRecord:
             raise self._fault(fault, 2 if fault.errno in _NO_HELP else 1) from None
 
     def _begin(self) -> None:
-        _cut(self._file)
+        cut(self._file)
         self._file.seek(0)
         first = self._file.readline().decode("utf-8", "replace").rstrip("\n")
         if first:
@@ -165,8 +163,8 @@ class FileRecord:
             if _fields(first.removeprefix(_HEAD)).get("log") != self._log:
                 raise GatewayFault(f"{self.path} is no copy of this log: keep it elsewhere", 2)
         else:
-            _write(self._file, head(self._sums, log=self._log) + "\n")
-            _sync_folder(self.path)
+            write(self._file, head(self._sums, log=self._log) + "\n")
+            sync_folder(self.path)
 
     def _fault(self, fault: OSError, status: int = 1) -> GatewayFault:
         return GatewayFault(f"the record {self.path}: {fault.strerror}", status)
@@ -188,13 +186,21 @@ class FileRecord:
         await self.extend([entry])
 
     async def extend(self, entries: Sequence[Entry]) -> None:
-        """Appends all of them, and waits for the disk once. Raises GatewayFault (status 1)."""
+        """Appends all of them, and waits for the disk once. Raises GatewayFault (status 1); then none of them is in it, once
+        something else is."""
         text = "".join(f"{_remark(entry)}{entry.line}\n" for entry in entries)
         loop = asyncio.get_running_loop()
         try:
-            await loop.run_in_executor(self._thread, _write, self._file, text)
+            await loop.run_in_executor(self._thread, self._extend, text)
         except OSError as fault:
             raise self._fault(fault) from None
+
+    def _extend(self, text: str) -> None:
+        """What is left of a write that failed is cut off before."""
+        if self._file.seek(0, os.SEEK_END) != self._size:
+            self._file.truncate(self._size)
+        write(self._file, text)
+        self._size = self._file.seek(0, os.SEEK_END)
 
     async def succeed(self, entries: Sequence[Entry]) -> str:
         """The old record is kept as `record.1` (the next number that is free), and a new one takes its name."""
@@ -205,21 +211,22 @@ class FileRecord:
             raise self._fault(fault) from None
 
     def _succeed(self, entries: Sequence[Entry]) -> str:
-        kept, fresh = _archive(self.path), self.path.with_name(f"{self.path.name}.new")
+        kept, fresh = archive(self.path), self.path.with_name(f"{self.path.name}.new")
         fresh.unlink(missing_ok=True)
-        file = _locked(fresh)
+        file = locked(fresh)
         try:
             commands = "".join(f"{_remark(entry)}{entry.line}\n" for entry in entries)
-            _write(file, f"{head(self._sums, kept.name)}\n{commands}")
+            write(file, f"{head(self._sums, kept.name)}\n{commands}")
             os.replace(fresh, self.path)  # at each moment there is one of the two, whole
         except BaseException:
             file.close()
             fresh.unlink(missing_ok=True)
             raise
         old, self._file = self._file, file
+        self._size = file.seek(0, os.SEEK_END)
         old.close()
         try:
-            _sync_folder(self.path)
+            sync_folder(self.path)
         except OSError as fault:
             raise Unsure(f"the record {self.path}: {fault.strerror}", 1) from None
         return kept.name
@@ -238,67 +245,3 @@ def peek(path: Path, plant: Plant) -> Iterator[Entry]:
             yield from entries(iter(file))
     except OSError as fault:
         raise GatewayFault(f"the record {path}: {fault.strerror}", 2) from None
-
-
-def _locked(path: Path) -> IO[bytes]:
-    """The file of this name, locked."""
-    while True:
-        file = open(path, "a+b", buffering=0)
-        try:
-            fcntl.flock(file, fcntl.LOCK_EX | fcntl.LOCK_NB)
-            if os.path.samestat(os.fstat(file.fileno()), os.stat(path)):
-                return file
-        except BlockingIOError:
-            file.close()
-            raise GatewayFault(f"another gateway has the record {path}", 2) from None
-        except OSError:
-            file.close()
-            raise
-        file.close()  # a new record has taken the name meanwhile
-
-
-def _write(file: IO[bytes], text: str) -> None:
-    """All of it, on the disk."""
-    data = text.encode("utf-8", "surrogateescape")
-    while data:
-        data = data[file.write(data) :]
-    os.fsync(file.fileno())
-
-
-def _sync_folder(path: Path) -> None:
-    """The names of the folder are on the disk too."""
-    folder = os.open(path.parent, os.O_RDONLY | os.O_DIRECTORY)
-    try:
-        os.fsync(folder)
-    finally:
-        os.close(folder)
-
-
-def _cut(file: IO[bytes]) -> None:
-    """Cuts off a last line without its end, which was never sent, and a remark whose order was never written."""
-    size = file.seek(0, os.SEEK_END)
-    end, tail = size, b""
-    while end > 0 and tail.count(b"\n") < 2:
-        begin = max(0, end - _TAIL)
-        file.seek(begin)
-        tail = file.read(end - begin) + tail
-        end = begin
-    whole = tail[: tail.rfind(b"\n") + 1]
-    last = whole[whole[:-1].rfind(b"\n") + 1 :]
-    keep = end + len(whole) - (len(last) if last.startswith(BY.encode()) else 0)
-    if keep < size:
-        file.truncate(keep)
-        os.fsync(file.fileno())
-
-
-def _archive(path: Path) -> Path:
-    """The old record's further name, the next that is free; one that an earlier attempt gave it is taken again."""
-    number = 1
-    while True:
-        kept = path.with_name(f"{path.name}.{number}")
-        if not kept.exists():
-            os.link(path, kept)
-            return kept
-        if kept.samefile(path):
-            return kept
-        number += 1

@@ -36,14 +36,16 @@ class Part(Protocol):
 
 
 def main(words: list[str]) -> int:
-    """`serve CONFIG [--yes]`. The status is 0 where it was ended in order."""
+    """`serve CONFIG [--yes] [--new-alarmd]`. The status is 0 where it was ended in order."""
     parser = Words(prog="gateway serve", description="Serves a plant.")
     parser.add_argument("config", type=Path, help="the configuration, gateway.toml")
     parser.add_argument("--yes", action="store_true", help="answers questions at the start by yes")
+    parser.add_argument("--new-alarmd", action="store_true", help="a shared log goes on with it")
     given = parser.parse_args(words[1:])
     config = configs.read(given.config)
-    if given.yes:
-        config = dataclasses.replace(config, yes=True)
+    if given.new_alarmd and "etcd" not in config.tables:
+        raise GatewayFault("--new-alarmd is for a shared log, and there is no [etcd]", 2)
+    config = dataclasses.replace(config, yes=config.yes or given.yes, new_alarmd=given.new_alarmd)
     tell_of_libraries()
     asyncio.run(serve(config))
     return 0

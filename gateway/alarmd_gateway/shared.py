@@ -8,34 +8,34 @@ from __future__ import annotations
 
 import asyncio
 import contextlib
-import uuid
+from collections.abc import Iterator
 
 from . import commands
-from . import plant as plants
-from .away import UNKNOWN, Away
+from .away import UNKNOWN
 from .changes import ChangeKind
 from .commands import Scan
 from .config import Config
 from .core import Core, Job
 from .etcd import Etcd, EtcdRefused, NoEtcd
 from .etcd_http import HttpEtcd
-from .etcd_log import Deposed, EtcdLog, opened
+from .etcd_log import EtcdLog
+from .joining import joined
 from .leader import Candidate
 from .link import Link, start_server, tell
-from .log_view import Keys, Marked, View
-from .model import GatewayFault, Json, Order, Reply, Sample, ServerGone, Value
-from .player import Taken, play
-from .record import Entry
+from .log_view import Last, View
+from .log_watch import LogWatch
+from .model import MOST_EVENTS, Figure, Json, Order, Reply, Sample, ServerGone, Value
+from .player import play
 from .samples import SampleQueue
 from .shared_config import SharedConfig, shared_config
+from .shared_orders import SharedOrders
 from .snapshots import Snapshot
 from .state import Happening
+from .transactions import Deposed, NoCopy
 from .troubles import TroubleKind
 
 LOOK = 0.1  # seconds between two looks at the log
-SILENT = 3.0  # seconds without an answer of etcd before that is a trouble
 ORDER = 15.0  # seconds for which whoever gave an order is let wait
-LOST = "etcd gives no answer: nothing is taken, and what is shown may be old"
 
 
 class SharedCore(Core):
@@ -51,9 +51,11 @@ class SharedCore(Core):
         self.leads = False
         self._log = log
         self._candidate = candidate
+        self._watching = LogWatch(log, link.troubles, config.period_ms / 1000)
         self._latest: dict[str, Value] = {}  # of each input, the last sample
-        self._away = Away()
+        self._orders = SharedOrders(link, log, self._jobs, self._tell)
         self._leader = ""
+        self._end: Last | None = None  # the log's end at the last look
         self._looked = -1.0
         self._name = shared.gateway
 
@@ -61,38 +63,25 @@ class SharedCore(Core):
     async def start(cls, config: Config) -> SharedCore:
         """Starts the server, reads the plant, opens the log, waiting for etcd, and plays it. Raises GatewayFault as Core does."""
         shared = shared_config(config)
-        return await cls.join(config, shared, HttpEtcd(shared.endpoints, shared.seconds))
+        client = HttpEtcd(shared.endpoints, shared.seconds, shared.tls)
+        return await cls.join(config, shared, client)
 
     @classmethod
     async def join(cls, config: Config, shared: SharedConfig, client: Etcd) -> SharedCore:
         """The same with this etcd, which is closed where the core is, or can't be."""
-        keys = Keys(shared.log)
-        server = await start_server(config)
         try:
-            plant = plants.read(config.plant)
-            log = EtcdLog(client, keys, config.record, plant)
-            await opened(log)
+            link, log = await joined(config, shared, client)
         except BaseException:
-            await server.kill()
             await client.close()
             raise
-        link = Link(config, plant, server, log)
-        try:
-            link.book, held = await play(server, plant, log.replay())
-            if held is not None:
-                link.book.take(held)
-        except BaseException:
-            await link.close()
-            await client.close()
-            raise
-        candidate = Candidate(client, keys.leader, shared.gateway, shared.lease)
-        core = cls(config, link, log, candidate, shared)
+        key, seconds = log.keys.leader, shared.lease
+        core = cls(config, link, log, Candidate(client, key, shared.gateway, seconds), shared)
         core._renewal.look_at_history()
         return core
 
     async def run(self) -> None:
         """See Core."""
-        self._log.heard = asyncio.get_running_loop().time()
+        self._log.asks.heard = asyncio.get_running_loop().time()
         tasks = [asyncio.create_task(one) for one in (self._candidate.run(), self._watch())]
         try:
             await super().run()
@@ -100,9 +89,9 @@ class SharedCore(Core):
             for task in tasks:
                 task.cancel()
             await asyncio.gather(*tasks, return_exceptions=True)
-            self._away.fail()
+            self._orders.away.fail()
             await self._candidate.resign()
-            await self._log.etcd.close()
+            await self._log.asks.etcd.close()
 
     # what others ask of the core
 
@@ -118,7 +107,8 @@ class SharedCore(Core):
         if waiting is not None:
             self._jobs.remove(waiting)
         asked.cancel()
-        raise ServerGone(UNKNOWN if waiting is None else "the order wasn't taken: " + LOST, 1)
+        words = f"the order wasn't taken: {self._watching.words()}"
+        raise ServerGone(UNKNOWN if waiting is None else words, 1)
 
     async def offer(self, sample: Sample) -> None:
         """See Core. While another gateway leads, the last sample of each input is kept, for when this one does."""
@@ -141,19 +131,31 @@ class SharedCore(Core):
         }
         return Snapshot(whole.number, {**whole.data, "log": log})
 
+    def figures(self) -> Iterator[Figure]:
+        """See Core."""
+        known, end = self._log.known, self._end or self._log.known
+        behind = end.entries - known.entries if end.log == known.log else end.entries
+        silent = self._watching.silence(asyncio.get_running_loop().time())
+        yield Figure("alarmd_log_leads", "1 where this gateway leads, else 0", self.leads)
+        words = "1 for the gateway that leads, by its name"
+        yield Figure("alarmd_log_leader", words, bool(self._leader), ("gateway", self._leader))
+        yield Figure("alarmd_log_record", "Number of the log's record", known.record)
+        yield Figure("alarmd_log_entries", "Entries that this gateway has", known.entries)
+        words = "Entries that it lacked at its last look at the log"
+        yield Figure("alarmd_log_behind", words, max(0, behind))
+        yield Figure("alarmd_log_revision", "Revision of the log's end in etcd", end.revision)
+        yield Figure("alarmd_log_silent_seconds", "Since the last answer of etcd", silent)
+
     # the work: one look at the log after another
 
     async def _watch(self) -> None:
         """Where etcd gives no answer, that is a trouble, and this gateway leads no more."""
         loop = asyncio.get_running_loop()
         while True:
-            silent = loop.time() - self._log.heard
-            if silent > SILENT:
-                self.troubles.raises(TroubleKind.LOG, "", LOST)
+            state = self.state
+            if self._watching.look(loop.time(), state.scanned and state.events < MOST_EVENTS):
                 self._step_down()
-            else:
-                self.troubles.clear(TroubleKind.LOG, "")
-            if silent > 1:
+            if self._watching.silence(loop.time()) > 1:
                 with contextlib.suppress(NoEtcd, EtcdRefused):
                     await self._log.hear()
             await asyncio.sleep(LOOK)
@@ -164,29 +166,46 @@ class SharedCore(Core):
         try:
             if not self.leads or loop.time() - self._looked > LOOK:
                 view = await self._log.look()
-                self._looked = loop.time()
-                await self._take(view)
+                self._looked, self._end = loop.time(), view.last
+                await self._taken_over(view)
                 if not await self._may_lead(view):
                     return
             await super()._step()
         except Deposed:
             self._step_down()
-        except (NoEtcd, EtcdRefused):
+            if self._log.uncopied:
+                await self._candidate.resign()
+        except (NoCopy, NoEtcd, EtcdRefused):
             await self._pause()
+
+    def _own(self, view: View) -> bool:
+        """Whether this gateway's is the leader's key."""
+        return view.leader is not None and view.leader.mark == self._candidate.mark
+
+    async def _taken_over(self, view: View) -> None:
+        """Takes what is new. Where it can't be written to the copy, another gateway may lead at once. Raises NoCopy."""
+        try:
+            await self._take(view)
+        except NoCopy:
+            self._step_down()
+            if self._own(view):
+                await self._candidate.resign()
+            raise
 
     async def _may_lead(self, view: View) -> bool:
         """Whether this gateway leads, and has the whole log. Else it stands where nobody does, or waits."""
         leader = view.leader
         self._leader = leader.name if leader else ""
-        own = leader is not None and leader.mark == self._candidate.mark
-        if leader is not None and own and self._log.lead(leader, view.last):
+        if leader is not None and self._own(view) and self._log.lead(leader, view.last):
             self._step_up()
+            await self._log.tidy()
             for request in view.requests:
-                await self._request(request)
+                if not await self._orders.append_request(request):
+                    self._looked = -1.0  # the next look tells
             return True
         if self.leads:
             self._step_down()
-        await self._hand_on()
+        await self._orders.hand_on(self._candidate.lease)
         if leader is None and self._candidate.lease is not None:
             await self._candidate.stand()
         elif not view.fresh:
@@ -235,7 +254,7 @@ class SharedCore(Core):
                 entry = one.entry
                 answer, happened = await self._link.take(command, entry.user, entry.reason)
                 self._tell(command, answer, happened)
-                self._away.answer(one.mark, answer)
+                self._orders.away.answer(one.mark, answer)
         if not view.fresh and view.last.log != self._log.known.log:
             await self._go_over(view)
         if view.fresh:
@@ -258,62 +277,7 @@ class SharedCore(Core):
         self._announcer.happened(happened)
         if isinstance(command, Scan):
             self._announcer.scanned(answer[-1])
-
-    # orders
-
-    async def _order(self, job: Job) -> None:
-        """An order that was given here, where this gateway leads."""
-        mark = uuid.uuid4().hex
-        entry = Entry(job.order.line(), job.user, job.reason)
-        try:
-            await self._log.append_as(mark, entry)
-        except Deposed as deposed:
-            if deposed.sure:
-                self._jobs.appendleft(job)  # it is handed on
-            else:
-                self._away.add(mark, job)
-            raise
-        self._away.add(mark, job)
-        await self._appended(mark, job.order, entry)
-
-    async def _request(self, request: Marked) -> None:
-        """An order that another gateway has handed on."""
-        order = commands.read(self.plant, request.entry.line)
-        if not isinstance(order, Order):
-            await self._log.drop(request.mark)
-            return
-        try:
-            await self._log.append_as(request.mark, request.entry, request=True)
-        except Deposed as deposed:
-            if not deposed.sure:
-                raise
-            self._looked = -1.0  # it was withdrawn, or another gateway leads: the next look tells
-            return
-        await self._appended(request.mark, order, request.entry)
-
-    async def _appended(self, mark: str, order: Order, entry: Entry) -> None:
-        try:
-            answer, happened = await self._link.take(order, entry.user, entry.reason)
-        except GatewayFault as fault:
-            self._away.fail_one(mark, fault.words)
-            raise
-        self._away.answer(mark, answer)
-        self._tell(order, answer, happened)
         self._taken.set()
 
-    async def _hand_on(self) -> None:
-        """Hands the orders that were given here on to the leader."""
-        lease = self._candidate.lease
-        while self._jobs and lease is not None:
-            job, mark = self._jobs.popleft(), uuid.uuid4().hex
-            if job.reply.done():
-                continue
-            self._away.add(mark, job)
-            entry = Entry(job.order.line(), job.user, job.reason)
-            try:
-                await self._log.request(mark, entry, lease)
-            except EtcdRefused:
-                self._away.drop(mark)
-                self._jobs.appendleft(job)
-                raise
-        self._away.tidy()
+    async def _order(self, job: Job) -> None:
+        await self._orders.append(job)

@@ -34,7 +34,7 @@ def without_programs(folder: Path) -> Path:
     return path
 
 
-def config_for(alarmd: Path, plant: Path, **others: int | bool) -> Config:
+def config_for(alarmd: Path, plant: Path, **others: int | bool | Path) -> Config:
     """A configuration beside the plant's folder."""
     folder = plant.parent.parent
     config = Config(alarmd, plant, folder / "record", folder, patience_ms=60_000, period_ms=50)

@@ -2,21 +2,26 @@
 
 from __future__ import annotations
 
+import base64
 import contextlib
 import http.client
 import json
 import random
-import selectors
+import signal
 import socket
 import subprocess
-import threading
 import time
 from collections.abc import Callable
 from pathlib import Path
 from typing import IO, Any
 
+from certificates import Papers
+from full_disk import SmallDisk
 from http_help import Client
+from proxy import Proxy
 from whole_help import Gateway
+
+from alarmd_gateway.shared_config import client_tls
 
 LIMIT = 120.0  # seconds for which a condition is waited for
 
@@ -45,14 +50,27 @@ def wait(holds: Callable[[], object], what: str, limit: float = LIMIT) -> float:
 class Node:
     """A node of etcd."""
 
-    def __init__(self, folder: Path, number: int, client: int, peers: list[int]) -> None:
+    def __init__(
+        self, folder: Path, number: int, client: int, peers: list[int], tls: Papers | None = None
+    ) -> None:
         self.client = client
-        cluster = ",".join(f"n{at}=http://127.0.0.1:{port}" for at, port in enumerate(peers))
-        own, here = f"http://127.0.0.1:{peers[number]}", f"http://127.0.0.1:{client}"
-        self._words = ["etcd", "--name", f"n{number}", "--data-dir", str(folder / f"n{number}")]
+        self._tls = tls
+        ends = [f"http{'s' if tls else ''}://127.0.0.1:{port}" for port in (*peers, client)]
+        cluster = ",".join(f"n{at}={end}" for at, end in enumerate(ends[:-1]))
+        own, here = ends[number], ends[-1]
+        self._words = [
+            "etcd",
+            "--name",
+            f"n{number}",
+            "--data-dir",
+            str(folder / f"n{number}" / "data"),
+        ]
         self._words += ["--listen-client-urls", here, "--advertise-client-urls", here]
         self._words += ["--listen-peer-urls", own, "--initial-advertise-peer-urls", own]
+        self._words += ["--heartbeat-interval", "50", "--election-timeout", "500"]
         self._words += ["--initial-cluster", cluster, "--initial-cluster-token", str(peers)]
+        self._words += tls_words(tls) if tls else []
+        (folder / f"n{number}").mkdir(exist_ok=True)
         self._log: IO[bytes] = open(folder / f"n{number}.log", "ab")
         self._process: subprocess.Popen[bytes] | None = None
 
@@ -63,10 +81,20 @@ class Node:
         """Whether it answers, with a majority behind it."""
         assert self._process is not None and self._process.poll() is None, self._words
         with contextlib.suppress(OSError, ValueError, http.client.HTTPException):
-            client = Client(f"http://127.0.0.1:{self.client}")
-            client.patience = 2.0
-            return bool(client.ask("/health").json == {"health": "true"})
+            return bool(self._asks().ask("/health").json == {"health": "true"})
         return False
+
+    def _asks(self) -> Client:
+        client = Client(f"http://127.0.0.1:{self.client}")
+        client.patience = 2.0
+        if self._tls is not None:
+            own = self._tls.gateway
+            client.tls = client_tls(self._tls.ca.certificate, own.certificate, own.key)
+        return client
+
+    @property
+    def ended(self) -> bool:
+        return self._process is None or self._process.poll() is not None
 
     def kill(self) -> None:
         if self._process is not None:
@@ -74,76 +102,31 @@ class Node:
             self._process.wait()
             self._process = None
 
+    def signal(self, number: signal.Signals) -> None:
+        assert self._process is not None
+        self._process.send_signal(number)
+
+    def first(self) -> bool:
+        """Whether it leads the nodes."""
+        with contextlib.suppress(OSError, ValueError, http.client.HTTPException):
+            found = self._asks().post("/v3/maintenance/status", {}).json
+            return bool(found["leader"] == found["header"]["member_id"])
+        return False
+
     def close(self) -> None:
         self.kill()
         self._log.close()
 
 
-class Proxy:
-    """Hands bytes on to a port. While it is cut it takes them, and hands nothing on."""
-
-    def __init__(self, target: int) -> None:
-        self._target = target
-        self._listener = socket.create_server(("127.0.0.1", 0))
-        self.port = int(self._listener.getsockname()[1])
-        self.cut = False
-        self._ended = False
-        self._other: dict[socket.socket, socket.socket] = {}
-        self._selector = selectors.DefaultSelector()
-        self._selector.register(self._listener, selectors.EVENT_READ)
-        self._thread = threading.Thread(target=self._run, daemon=True)
-        self._thread.start()
-
-    def _run(self) -> None:
-        while not self._ended:
-            if self.cut:
-                time.sleep(0.02)
-                continue
-            for key, _ in self._selector.select(0.05):
-                if self.cut:
-                    break
-                assert isinstance(key.fileobj, socket.socket)
-                self._accept() if key.fileobj is self._listener else self._hand_on(key.fileobj)
-
-    def _accept(self) -> None:
-        near, _ = self._listener.accept()
-        try:
-            far = socket.create_connection(("127.0.0.1", self._target), 2)
-        except OSError:
-            near.close()
-            return
-        self._other[near], self._other[far] = far, near
-        for one in (near, far):
-            one.settimeout(2)
-            self._selector.register(one, selectors.EVENT_READ)
-
-    def _hand_on(self, one: socket.socket) -> None:
-        if one not in self._other:
-            return
-        try:
-            data = one.recv(65_536)
-            if data:
-                self._other[one].sendall(data)
-                return
-        except OSError:
-            pass
-        self._end(one)
-
-    def _end(self, one: socket.socket) -> None:
-        other = self._other.pop(one)
-        del self._other[other]
-        for each in (one, other):
-            self._selector.unregister(each)
-            each.close()
-
-    def close(self) -> None:
-        self._ended = True
-        self._thread.join()
-        for one in list(self._other):
-            if one in self._other:
-                self._end(one)
-        self._listener.close()
-        self._selector.close()
+def tls_words(papers: Papers) -> list[str]:
+    """What a node is told, so that clients and other nodes have to have certificates."""
+    files = {"cert": papers.node.certificate, "key": papers.node.key}
+    words = ["--client-cert-auth", "--peer-client-cert-auth"]
+    for whose in ("", "peer-"):
+        words += [f"--{whose}trusted-ca-file", str(papers.ca.certificate)]
+        for what, path in files.items():
+            words += [f"--{whose}{what}-file", str(path)]
+    return words
 
 
 SETTINGS = """
@@ -155,21 +138,44 @@ gateway = "{name}"
 """
 
 
+def papers_of(papers: Papers) -> str:
+    """What a gateway is told of its certificates."""
+    own = papers.gateway
+    return f'ca = "{papers.ca.certificate}"\ncertificate = "{own.certificate}"\nkey = "{own.key}"\n'
+
+
+DISKS = {"n0": 900}  # megabytes, of a gateway 64: etcd makes room for its own log beforehand
+
+
 class Cluster:
     """All of it. Gateways are called a, b and c."""
 
-    def __init__(self, folder: Path, alarmd: Path, plant: Path, count: int = 3) -> None:
+    def __init__(
+        self,
+        folder: Path,
+        alarmd: Path,
+        plant: Path,
+        count: int = 3,
+        disks: bool = False,
+        tls: Papers | None = None,
+    ) -> None:
+        """With `disks` each gateway, and the first node, has a small disk of its own."""
         ports = free_ports(6)
         clients, peers = ports[:3], ports[3:]
-        self.nodes = [Node(folder, number, clients[number], peers) for number in range(3)]
+        names = ["n0", *"abc"[:count]] if disks else []
+        self.disks = {name: SmallDisk(folder / name, DISKS.get(name, 64)) for name in names}
+        self.nodes = [Node(folder, number, clients[number], peers, tls) for number in range(3)]
         self.gateways: dict[str, Gateway] = {}
         self.proxies: dict[str, list[Proxy]] = {}
         for name in "abc"[:count]:
             self.proxies[name] = [Proxy(node.client) for node in self.nodes]
-            ends = [f"http://127.0.0.1:{proxy.port}" for proxy in self.proxies[name]]
+            scheme = "https" if tls else "http"
+            ends = [f"{scheme}://127.0.0.1:{proxy.port}" for proxy in self.proxies[name]]
             settings = SETTINGS.format(endpoints=json.dumps(ends), name=name)
-            (folder / name).mkdir()
+            settings += papers_of(tls) if tls else ""
+            (folder / name).mkdir(exist_ok=True)
             self.gateways[name] = Gateway(folder / name, alarmd, plant, 300, settings)
+            self.gateways[name].said = []
 
     def start(self) -> None:
         for node in self.nodes:
@@ -202,6 +208,30 @@ class Cluster:
         wait(one, f"no gateway leads but {but}", limit)
         return found[0]
 
+    def first_node(self) -> Node:
+        """The node of etcd that leads the nodes."""
+        wait(lambda: any(node.first() for node in self.nodes), "no node leads")
+        return next((node for node in self.nodes if node.first()), self.nodes[0])
+
+    def ask(self, path: str, body: dict[str, str]) -> Any:
+        """Asks a node of etcd, but not the first; None where neither answers."""
+        for node in self.nodes[1:]:
+            client = Client(f"http://127.0.0.1:{node.client}")
+            client.patience = 5.0
+            with contextlib.suppress(OSError, ValueError, http.client.HTTPException):
+                return client.post(path, body).json
+        return None
+
+    def swell(self) -> None:
+        """Half a megabyte comes into etcd, beside the log."""
+        key, value = base64.b64encode(b"filler").decode(), base64.b64encode(bytes(500_000)).decode()
+        self.ask("/v3/kv/put", {"key": key, "value": value})
+
+    def compact(self) -> None:
+        """etcd forgets what was before now."""
+        found = self.ask("/v3/kv/range", {"key": base64.b64encode(b"filler").decode()})
+        self.ask("/v3/kv/compaction", {"revision": found["header"]["revision"]})
+
     def cut(self, name: str, cut: bool) -> None:
         """Cuts a gateway off from etcd, or ends that."""
         for proxy in self.proxies[name]:
@@ -216,3 +246,5 @@ class Cluster:
                 proxy.close()
         for node in self.nodes:
             node.close()
+        for disk in self.disks.values():
+            disk.close()

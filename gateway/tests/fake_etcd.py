@@ -29,6 +29,7 @@ class FakeEtcd:
         self.leases: set[str] = set()
         self.deaf = 0  # so many requests get no answer, and aren't carried out
         self.dumb = 0  # so many are carried out, and get no answer
+        self.refusal = ""  # where there are words, whatever writes is refused with them
         self.late = 0  # so many come late: they get no answer, and are carried out by `arrive`
         self.before: dict[
             int, Callable[[], None]
@@ -45,6 +46,8 @@ class FakeEtcd:
             self.late -= 1
             self._under_way.append((path, body))
             raise NoEtcd("late")
+        if self.refusal and path == TXN and writes(body["success"]):
+            raise NoEtcd(self.refusal)
         if self.deaf:
             self.deaf -= 1
             raise NoEtcd("deaf")
@@ -88,8 +91,7 @@ class FakeEtcd:
     def _transaction(self, body: Body) -> Body:
         succeeded = all(self._holds(one) for one in body["compare"])
         asked = body["success" if succeeded else "failure"]
-        writes = any("request_range" not in one for one in asked)
-        self.revision += writes
+        self.revision += writes(asked)
         responses = [self._request(one) for one in asked]
         header = {"revision": str(self.revision)}
         answer: Body = {"header": header, "responses": responses}
@@ -97,6 +99,8 @@ class FakeEtcd:
 
     def _holds(self, one: Body) -> bool:
         kept = self.keys.get(decoded(one["key"]), Key("", 0, 0, 0, ""))
+        if one["target"] == "VALUE":
+            return bool(kept.value == one["value"])
         field = {"VERSION": kept.version, "CREATE": kept.created, "MOD": kept.modified}
         name = {"VERSION": "version", "CREATE": "create_revision", "MOD": "mod_revision"}
         wanted, has = int(one[name[one["target"]]]), field[one["target"]]
@@ -138,3 +142,8 @@ class FakeEtcd:
 
 def decoded(text: str) -> bytes:
     return base64.b64decode(text)
+
+
+def writes(asked: list[Body]) -> bool:
+    """Whether one of these writes."""
+    return any("request_range" not in one for one in asked)

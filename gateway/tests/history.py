@@ -66,10 +66,13 @@ class Load:
         self.history: list[Given] = []
         self._cluster = cluster
         self._ended = False
-        works = [threading.Thread(target=self._sample, args=(random.Random(seed),))]
+        self._going = threading.Event()  # unset while nothing is to be given
+        self._going.set()
+        self._idle = [threading.Event() for _ in range(len(cluster.gateways) + 1)]
+        works = [threading.Thread(target=self._sample, args=(self._idle[0], random.Random(seed)))]
         for number, name in enumerate(cluster.gateways):
-            chance = random.Random(seed * 10 + number)
-            works.append(threading.Thread(target=self._order, args=(name, chance)))
+            words = (self._idle[number + 1], name, random.Random(seed * 10 + number))
+            works.append(threading.Thread(target=self._order, args=words))
         self._threads = works
         for work in works:
             work.start()
@@ -78,8 +81,31 @@ class Load:
         """How many orders have been answered."""
         return sum(given.reply not in (None, "-") for given in tuple(self.history))
 
-    def _sample(self, chance: random.Random) -> None:
+    def pause(self) -> None:
+        """Nothing is given any more once this has returned, and all is answered, or has waited long enough."""
+        self._going.clear()
+        for idle in self._idle:
+            idle.wait()
+
+    def go_on(self) -> None:
+        """Samples and orders are given again."""
+        self._going.set()
+
+    def _rest(self, idle: threading.Event) -> None:
+        """Waits while nothing is to be given."""
+        if not self._going.is_set():
+            idle.set()
+            self._going.wait()
+            idle.clear()
+
+    def answered_by(self, name: str) -> int:
+        """How many of them by this gateway."""
+        given = (one for one in tuple(self.history) if one.mark.startswith(f"{name}-"))
+        return sum(one.reply not in (None, "-") for one in given)
+
+    def _sample(self, idle: threading.Event, chance: random.Random) -> None:
         while not self._ended:
+            self._rest(idle)
             level, flow = chance.choice((100, 250, 500, 950)), chance.choice((0, 100))
             for gateway in self._cluster.gateways.values():
                 try:
@@ -88,10 +114,11 @@ class Load:
                     pass  # it was killed
             time.sleep(0.3)
 
-    def _order(self, name: str, chance: random.Random) -> None:
+    def _order(self, idle: threading.Event, name: str, chance: random.Random) -> None:
         client: Client | None = None
         number = 0
         while not self._ended:
+            self._rest(idle)
             time.sleep(chance.uniform(0.05, 0.4))
             try:
                 if client is None:
@@ -125,5 +152,6 @@ class Load:
 
     def close(self) -> None:
         self._ended = True
+        self._going.set()
         for thread in self._threads:
             thread.join()

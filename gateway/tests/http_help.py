@@ -4,6 +4,7 @@ from __future__ import annotations
 
 import http.client
 import json
+import ssl
 from collections.abc import Mapping
 from dataclasses import dataclass
 from typing import Any
@@ -49,6 +50,7 @@ class Client:
         self.cookie = ""
         self.token = ""
         self.patience = PATIENCE
+        self.tls: ssl.SSLContext | None = None  # where it is asked by TLS
 
     def ask(
         self,
@@ -59,6 +61,10 @@ class Client:
     ) -> Answer:
         """A request as it is given, with the cookie."""
         connection = http.client.HTTPConnection(self.host, timeout=self.patience)
+        if self.tls is not None:
+            connection = http.client.HTTPSConnection(
+                self.host, timeout=self.patience, context=self.tls
+            )
         sent = {**({"Cookie": self.cookie} if self.cookie else {}), **headers}
         try:
             connection.request(method or ("GET" if body is None else "POST"), path, body, sent)

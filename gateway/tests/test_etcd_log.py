@@ -11,25 +11,28 @@ from pathlib import Path
 import pytest
 from fake_etcd import FakeEtcd
 
-from alarmd_gateway import etcd_log
+from alarmd_gateway import transactions
 from alarmd_gateway import plant as plants
 from alarmd_gateway.config import Config
 from alarmd_gateway.etcd import Etcd, EtcdRefused, NoEtcd, after, coded, plain
-from alarmd_gateway.etcd_log import Deposed, EtcdLog
+from alarmd_gateway.etcd_log import EtcdLog
 from alarmd_gateway.leader import Candidate
 from alarmd_gateway.log_view import Keys, newest_copy
 from alarmd_gateway.model import GatewayFault, Plant
 from alarmd_gateway.record import Entry
 from alarmd_gateway.shared_config import shared_config
+from alarmd_gateway.transactions import Deposed
 
 
 class Side:
     """A gateway's side of the log, without a server."""
 
-    def __init__(self, etcd: Etcd, folder: Path, plant: Plant, name: str) -> None:
+    def __init__(
+        self, etcd: Etcd, folder: Path, plant: Plant, name: str, program: Path | None = None
+    ) -> None:
         folder.mkdir(exist_ok=True)
         keys = Keys("trial")
-        self.log = EtcdLog(etcd, keys, folder / "record", plant)
+        self.log = EtcdLog(etcd, keys, folder / "record", plant, program or plant.path)
         self.candidate = Candidate(etcd, keys.leader, name, 3)
 
     async def look(self) -> bool:
@@ -177,8 +180,8 @@ def test_no_answer_for_long(
         view = await a.log.look()
         assert [one.mark for one in view.fresh] == (["mark"] if carried_out else [])
 
-    monkeypatch.setattr(etcd_log, "PATIENCE", 0.0)
-    monkeypatch.setattr(etcd_log, "AGAIN", 0.0)
+    monkeypatch.setattr(transactions, "PATIENCE", 0.0)
+    monkeypatch.setattr(transactions, "AGAIN", 0.0)
     trial(work, tmp_path, plant)
 
 
@@ -206,7 +209,7 @@ def test_a_command_that_comes_late(
         await b.lead()
         assert b.lines() == ["scan 8"]
 
-    monkeypatch.setattr(etcd_log, "PATIENCE", -1.0)
+    monkeypatch.setattr(transactions, "PATIENCE", -1.0)
     trial(work, tmp_path, plant)
 
 
@@ -229,7 +232,7 @@ def test_a_command_that_comes_late_and_first(
         await a.lead()
         assert a.lines() == ["scan 7"]
 
-    monkeypatch.setattr(etcd_log, "PATIENCE", -1.0)
+    monkeypatch.setattr(transactions, "PATIENCE", -1.0)
     trial(work, tmp_path, plant)
 
 
@@ -288,6 +291,7 @@ def test_a_new_record(tmp_path: Path, plant: Plant) -> None:
             tmp_path / "a" / "record.1"
         ).read_bytes()
         assert await a.log.succeed([Entry("scan 10")]) == "record.2"
+        await a.log.tidy()
         kept = {key.split(b"/")[4] for key in etcd.keys if b"/entry/" in key}
         assert kept == {b"000002", b"000003"}
         assert newest_copy(tmp_path / "a" / "record").name == "record.3"
@@ -335,7 +339,7 @@ def test_no_new_record_over_what_came_meanwhile(
         await b.look()
         assert b.log.known.record == 1 and b.lines() == ([] if lease_ends else ["scan 7"])
 
-    monkeypatch.setattr(etcd_log, "PATIENCE", -1.0)
+    monkeypatch.setattr(transactions, "PATIENCE", -1.0)
     trial(work, tmp_path, plant)
 
 
@@ -404,7 +408,7 @@ def test_keys_and_values() -> None:
         ({"log": "a/b"}, "'log'"),
         ({"gateway": ""}, "'gateway'"),
         ({"endpoints": []}, "'endpoints'"),
-        ({"endpoints": ["https://x"]}, "'endpoints'"),
+        ({"endpoints": ["ftp://x"]}, "'endpoints'"),
         ({"lease_s": 1}, "'lease_s'"),
         ({"more": 1}, "'more'"),
     ],
@@ -412,7 +416,7 @@ def test_keys_and_values() -> None:
 def test_a_table_that_is_wrong(tmp_path: Path, change: dict[str, object], words: str) -> None:
     table = {"endpoints": ["http://127.0.0.1:2379"], "log": "tank", "gateway": "a"}
     good = Config(tmp_path, tmp_path, tmp_path, tmp_path, tables={"etcd": table})
-    assert shared_config(good).lease == 3
+    assert shared_config(good).lease == 2
     bad = Config(tmp_path, tmp_path, tmp_path, tmp_path, tables={"etcd": {**table, **change}})
     with pytest.raises(GatewayFault, match=words) as fault:
         shared_config(bad)

@@ -5,234 +5,49 @@ Runs with `--faults` alone, and wants etcd (`gateway/setup --etcd`). `--rounds N
 from __future__ import annotations
 
 import asyncio
-import json
 import random
 import shutil
-import signal
-import subprocess
+import statistics
 import time
-from collections.abc import Callable, Iterator
+from collections.abc import Iterator
 from pathlib import Path
-from typing import Any
 
 import pytest
+from alike import alike, copies_agree, orders
+from certificates import papers
 from cluster import LIMIT, Cluster, wait
+from full_disk import may_mount
 from history import Load, faults
-from http_help import Client
 from test_etcd_log import Side
-from test_kills import by_the_record
+from trial import FAULTS, FULL_DISKS, Trial
+from whole_help import Gateway
 
 from alarmd_gateway import plant as plants
+from alarmd_gateway.etcd import TXN, NoEtcd
 from alarmd_gateway.etcd_http import HttpEtcd
-from alarmd_gateway.etcd_log import Deposed
 from alarmd_gateway.record import Entry
+from alarmd_gateway.shared_config import client_tls
+from alarmd_gateway.transactions import Deposed
 
 pytestmark = [pytest.mark.server, pytest.mark.etcd]
 
 LEADS_AFTER = 5.0  # seconds, where there is a majority
-LEASE = 3.0  # seconds, as the configuration has it without a word
 
 
-class Trial:
-    """A cluster under load, and the times after which another gateway led."""
-
-    def __init__(self, cluster: Cluster, load: Load) -> None:
-        self.cluster = cluster
-        self.load = load
-        self.times: dict[str, list[float]] = {}
-
-    def goes_on(self) -> None:
-        """Orders are answered again, by each gateway."""
-        before = self.load.answered()
-        wait(lambda: self.load.answered() > before + 5, "no order is answered", 240)
-
-    def another(self, fault: str, old: str) -> str:
-        """Another gateway leads; how long that took since the fault is noted."""
-        begin = time.monotonic()
-        new = self.cluster.leader(but=old)
-        self.times.setdefault(fault, []).append(time.monotonic() - begin)
-        return new
-
-
-def leader_killed(trial: Trial) -> None:
-    cluster, old = trial.cluster, trial.cluster.leader()
-    cluster.gateways[old].process.kill()
-    cluster.gateways[old].process.wait()
-    trial.another("leader killed", old)
-    trial.goes_on()
-    cluster.gateways[old].start()
-
-
-def leader_ended(trial: Trial) -> None:
-    cluster, old = trial.cluster, trial.cluster.leader()
-    assert cluster.gateways[old].end() == 0
-    trial.another("leader ended in order", old)
-    cluster.gateways[old].start()
-
-
-def leader_halted(trial: Trial) -> None:
-    cluster, old = trial.cluster, trial.cluster.leader()
-    cluster.gateways[old].signal(signal.SIGSTOP)
-    new = trial.another("leader halted", old)
-    time.sleep(LEASE)
-    cluster.gateways[old].signal(signal.SIGCONT)
-    wait(lambda: knows(cluster, old, lambda log: not log["leads"] and log["leader"] == new), old)
-    trial.goes_on()
-
-
-def leader_cut_off(trial: Trial) -> None:
-    cluster, old = trial.cluster, trial.cluster.leader()
-    cluster.cut(old, True)
-    trial.another("leader cut off", old)
-    wait(lambda: is_told(cluster, old), "the page says nothing")
-    trial.goes_on()
-    cluster.cut(old, False)
-    wait(lambda: not is_told(cluster, old), "the page still says that etcd isn't reached")
-
-
-def follower_cut_off(trial: Trial) -> None:
-    cluster, leader = trial.cluster, trial.cluster.leader()
-    name = next(name for name in cluster.gateways if name != leader)
-    cluster.cut(name, True)
-    wait(lambda: is_told(cluster, name), "the page says nothing")
-    trial.goes_on()
-    cluster.cut(name, False)
-    wait(lambda: not is_told(cluster, name), "the page still says that etcd isn't reached")
-
-
-def node_killed(trial: Trial) -> None:
-    node = trial.cluster.nodes[len(trial.times) % 3]
-    node.kill()
-    begin = time.monotonic()
-    trial.cluster.leader()
-    trial.goes_on()
-    trial.times.setdefault("one node of etcd killed", []).append(time.monotonic() - begin)
-    node.start()
-    wait(node.healthy, "the node doesn't come back")
-
-
-def majority_killed(trial: Trial) -> None:
-    cluster = trial.cluster
-    down = random.Random(len(trial.load.history)).sample(cluster.nodes, 2)
-    for node in down:
-        node.kill()
-    for name in cluster.gateways:
-        wait(lambda: is_told(cluster, name), f"the page of {name} says nothing")
-    wait(lambda: settled(cluster), "entries are taken still")
-    before = [log_of(cluster, name)["entries"] for name in cluster.gateways]
-    answered = trial.load.answered()
-    time.sleep(4)
-    assert [log_of(cluster, name)["entries"] for name in cluster.gateways] == before
-    assert trial.load.answered() == answered
-    for node in down:
-        node.start()
-    begin = time.monotonic()
-    wait(lambda: any(cluster.leads(name) for name in cluster.gateways), "nobody leads")
-    trial.times.setdefault("majority is back", []).append(time.monotonic() - begin)
-    for node in down:
-        wait(node.healthy, "the node doesn't come back")
-    trial.goes_on()
-
-
-FAULTS: tuple[Callable[[Trial], None], ...] = (
-    leader_killed,
-    leader_halted,
-    leader_cut_off,
-    follower_cut_off,
-    leader_ended,
-    node_killed,
-    majority_killed,
-)
-
-
-def log_of(cluster: Cluster, name: str) -> dict[str, Any]:
-    """What a gateway knows of the log."""
-    found: list[dict[str, Any]] = []
-
-    def asked() -> bool:
-        state = cluster.state(name)
-        found[:] = [] if state is None else [state["log"]]
-        return bool(found)
-
-    wait(asked, f"{name} answers nothing")
-    return found[0]
-
-
-def settled(cluster: Cluster) -> bool:
-    """Whether no gateway takes an entry in two seconds: each has taken what it had read before."""
-    before = [log_of(cluster, name)["entries"] for name in cluster.gateways]
-    time.sleep(2)
-    return before == [log_of(cluster, name)["entries"] for name in cluster.gateways]
-
-
-def knows(cluster: Cluster, name: str, holds: Callable[[dict[str, Any]], bool]) -> bool:
-    state = cluster.state(name)
-    return state is not None and holds(state["log"])
-
-
-def is_told(cluster: Cluster, name: str) -> bool:
-    """Whether the page of a gateway says that the log isn't reached."""
-    state = cluster.state(name)
-    return state is not None and any(one["kind"] == "log" for one in state["troubles"])
-
-
-# what has to hold after all
-
-
-def same(cluster: Cluster) -> None:
-    """State and journal of all gateways are the same bytes, at one moment at which they have the same log."""
-    last: list[object] = []
-
-    def compared() -> bool:
-        states, journals = [], []
-        for name in cluster.gateways:
-            state = cluster.state(name)
-            if state is None:
-                return False
-            for key in ("number", "now", "troubles", "questions"):
-                del state[key]
-            log = state.pop("log")
-            state["log"] = [log["record"], log["entries"]]
-            states.append(json.dumps(state))
-            journals.append(Client(cluster.gateways[name].url).ask("/api/journal.csv").body)
-        last[:] = [states, journals]
-        return len(set(states)) == 1 and len(set(journals)) == 1
-
-    wait(compared, f"they differ: {last}")
-
-
-def orders(cluster: Cluster) -> list[dict[str, Any]]:
-    """All rows of orders in the journal of the first gateway."""
-    client, rows, at = Client(next(iter(cluster.gateways.values())).url), [], 1
-    while at is not None:
-        found = client.ask(f"/api/journal?from={at}&count=1000").json
-        rows += [row for row in found["rows"] if row["kind"] == "order"]
-        at = found["next"]
-    return rows
-
-
-def copies_agree(cluster: Cluster, alarmd: Path, rows: list[dict[str, Any]]) -> int:
-    """The copies of the log are the same bytes, as far as each goes, and a fresh server has the same orders by them. Gives how
-    many commands there are."""
-    records = [gateway.folder / "record.1" for gateway in cluster.gateways.values()]
-    texts = sorted((path.read_bytes() for path in records), key=len)
-    assert all(texts[-1].startswith(text) for text in texts)
-    assert len(texts[-1].splitlines()) - len(texts[0].splitlines()) < 50
-    longest = next(path for path in records if path.read_bytes() == texts[-1])
-    listed = by_the_record(alarmd, longest.parent / "plant" / "plant.toml", longest)
-    replies = [line.rpartition(" ")[2] for line in listed if " ORDER " in line]
-    assert replies == [row["reply"] for row in rows]
-    return sum(not line.startswith(b"#") for line in texts[-1].splitlines())
-
-
-def tried(trial: Trial, rounds: int, seed: int) -> None:
-    """Each fault so often, in an order by chance."""
-    chance = random.Random(seed)
+def tried(trial: Trial, alarmd: Path, rounds: int, minutes: float) -> None:
+    """Each fault so often, in an order by chance; after each the gateways are compared, and after each round a server with
+    them. No round begins after so many minutes."""
+    chance = random.Random(67)
+    end = time.monotonic() + 60 * minutes
+    faults = FAULTS + (FULL_DISKS if trial.cluster.disks else ())
     for _ in range(rounds):
-        for fault in chance.sample(FAULTS, len(FAULTS)):
+        if time.monotonic() > end:
+            return
+        for number, fault in enumerate(chance.sample(faults, len(faults)), 1):
             begin = time.monotonic()
             try:
                 fault(trial)
+                trial.compare(alarmd if number == len(faults) else None)
             except AssertionError:
                 for name, gateway in trial.cluster.gateways.items():
                     state = trial.cluster.state(name) or {}
@@ -245,7 +60,7 @@ def tried(trial: Trial, rounds: int, seed: int) -> None:
 def cluster(alarmd: Path, examples: Path, tmp_path: Path) -> Iterator[Cluster]:
     if shutil.which("etcd") is None:
         pytest.skip("no etcd: gateway/setup --etcd")
-    found = Cluster(tmp_path, alarmd, examples / "tank")
+    found = Cluster(tmp_path, alarmd, examples / "tank", disks=may_mount(tmp_path / "small"))
     try:
         found.start()
         yield found
@@ -253,19 +68,30 @@ def cluster(alarmd: Path, examples: Path, tmp_path: Path) -> Iterator[Cluster]:
         found.close()
 
 
+def told(trial: Trial) -> None:
+    """What has been tried so far, and how long it took."""
+    for name, times in trial.times.items():
+        middle, most = statistics.median(times), max(times)
+        print(f"{name}: {len(times)} times, middle {middle:.1f} s, longest {most:.1f} s")
+    if not trial.cluster.disks:
+        print("no full disks were tried: only root can mount small ones")
+    print(f"{trial.compared} times list, journal and state of all gateways were the same bytes")
+    print(f"{len(trial.load.history)} orders, {trial.load.answered()} answered")
+
+
 def test_faults(cluster: Cluster, alarmd: Path, pytestconfig: pytest.Config) -> None:
     load = Load(cluster, 67)
     trial = Trial(cluster, load)
     try:
-        tried(trial, int(pytestconfig.getoption("--rounds")), 67)
+        rounds, minutes = (pytestconfig.getoption(name) for name in ("--rounds", "--minutes"))
+        tried(trial, alarmd, int(rounds), float(minutes))
     finally:
         load.close()
-    same(cluster)
+        told(trial)
+    alike(cluster)
     rows = orders(cluster)
     wrong = faults(load.history, rows)
-    for name, times in trial.times.items():
-        print(f"{name}: after {', '.join(f'{seconds:.1f}' for seconds in sorted(times))} s")
-    print(f"{len(load.history)} orders, {load.answered()} answered; wrong: {wrong}")
+    print(f"wrong: {wrong}")
     for gateway in cluster.gateways.values():
         assert gateway.end() == 0
     print(f"{copies_agree(cluster, alarmd, rows)} commands in the log")
@@ -313,3 +139,66 @@ def test_a_leader_that_slept_appends_nothing(alarmd: Path, examples: Path, tmp_p
         asyncio.run(work())
     finally:
         found.close()
+
+
+def test_nodes_with_certificates(alarmd: Path, examples: Path, tmp_path: Path) -> None:
+    """Clients and other nodes without one are refused; the gateways have theirs, and another one leads where the leader is gone."""
+    if shutil.which("etcd") is None:
+        pytest.skip("no etcd: gateway/setup --etcd")
+    made = papers(tmp_path / "papers")
+    found = Cluster(tmp_path, alarmd, examples / "tank", 2, tls=made)
+    try:
+        found.start()
+        old = found.leader()
+        found.gateways[old].process.kill()
+        found.gateways[old].process.wait()
+        assert found.leader(but=old) != old
+        ends = [f"https://127.0.0.1:{node.client}" for node in found.nodes]
+        bare = client_tls(made.ca.certificate, None, None)
+
+        async def refused() -> None:
+            client = HttpEtcd(ends, 5.0, bare)
+            with pytest.raises(NoEtcd):
+                await client.post(TXN, {})
+            await client.close()
+
+        asyncio.run(refused())
+    finally:
+        found.close()
+
+
+def test_another_program_and_plant(alarmd: Path, examples: Path, tmp_path: Path) -> None:
+    """They say so, and don't follow; told to go on with the other program, the first ones end."""
+    if shutil.which("etcd") is None:
+        pytest.skip("no etcd: gateway/setup --etcd")
+    found = Cluster(tmp_path, alarmd, examples / "tank", 3)
+    other = tmp_path / "alarmd"
+    other.write_text(f'#!/bin/sh\nexec {alarmd} "$@"\n')
+    other.chmod(0o755)
+    a, b, c = found.gateways.values()
+    try:
+        for node in found.nodes:
+            node.start()
+        a.start()
+        found.leader()
+        b.alarmd = other
+        assert "goes on with another alarmd" in refusal(b)
+        table = c.folder / "plant" / "alarms.csv"
+        table.write_text(table.read_text() + "\n")
+        assert "another plant: alarms.csv differs" in refusal(c)
+        b.more_words = ["--new-alarmd"]
+        b.start()
+        assert a.process.wait(LIMIT) == 2
+        wait(lambda: "goes on with another alarmd" in a.told[-1], "it doesn't say why")
+        assert found.leader(but="a") == "b"
+    finally:
+        found.close()
+
+
+def refusal(gateway: Gateway) -> str:
+    """What a gateway says that ends at its start with status 2."""
+    with pytest.raises(AssertionError):
+        gateway.start()
+    assert gateway.process.wait(LIMIT) == 2
+    wait(lambda: gateway.told, "it says nothing")
+    return gateway.told[-1]

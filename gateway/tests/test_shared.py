@@ -12,7 +12,9 @@ from around import config_for, plant_copy, until, without_programs
 from core_help import Served
 from fake_etcd import FakeEtcd
 
-from alarmd_gateway import shared
+from alarmd_gateway import log_watch, shared
+from alarmd_gateway.log_view import Last
+from alarmd_gateway.metrics import Metrics
 from alarmd_gateway.model import Code, Order, Sample, ServerGone, Verb
 from alarmd_gateway.shared import SharedCore
 from alarmd_gateway.shared_config import SharedConfig
@@ -31,12 +33,14 @@ class Pair:
         self._alarmd, self._folder, self._plant, self._more = alarmd, folder, plant, more
         self.served: list[Served] = []
 
-    async def join(self, name: str, **more: int | bool) -> SharedCore:
+    async def join(self, name: str, **more: int | bool | Path) -> SharedCore:
         """A gateway of this name, which is at work."""
         (self._folder / name).mkdir()
-        keys: dict[str, int | bool] = {**self._more, **more}
+        keys: dict[str, int | bool | Path] = {**self._more, **more}
         keys["yes"] = True
-        config = config_for(self._alarmd, self._plant(self._folder / name), **keys)
+        program = keys.pop("alarmd", self._alarmd)
+        assert isinstance(program, Path)
+        config = config_for(program, self._plant(self._folder / name), **keys)
         told = SharedConfig((), "trial", name, 3, 1.0)
         core = await SharedCore.join(config, told, self.etcd)
         self.served.append(Served(core))
@@ -157,7 +161,7 @@ def test_who_takes_over_goes_on_from_there(alarmd: Path, tmp_path: Path) -> None
 
 def test_no_answer_of_etcd(alarmd: Path, tmp_path: Path, monkeypatch: pytest.MonkeyPatch) -> None:
     monkeypatch.setattr(shared, "ORDER", 1.0)
-    monkeypatch.setattr(shared, "SILENT", 0.5)
+    monkeypatch.setattr(log_watch, "SILENT", 0.5)
 
     async def work(pair: Pair) -> None:
         a = await pair.join("a")
@@ -195,3 +199,41 @@ def test_a_new_record_for_both(alarmd: Path, tmp_path: Path) -> None:
         assert first[0] == first[1]
 
     trial(Pair(alarmd, tmp_path, without_programs, rotate_at=20), work)
+
+
+def test_figures_for_prometheus(alarmd: Path, tmp_path: Path) -> None:
+    def lines(core: SharedCore) -> list[str]:
+        return Metrics(core, {}, {}).text().decode().splitlines()
+
+    async def work(pair: Pair) -> None:
+        a = await pair.join("a")
+        await until(lambda: a.leads, "a leads")
+        b = await pair.join("b")
+        await give(a, running=True, level=250, flow=100)
+        await until(lambda: b.state.scanned and b.snapshot().data["log"] is not None, "a scan")
+        assert "alarmd_log_leads 1.0" in lines(a) and "alarmd_log_leads 0.0" in lines(b)
+        for core in (a, b):
+            assert 'alarmd_log_leader{gateway="a"} 1.0' in lines(core)
+            assert "alarmd_log_record 1.0" in lines(core)
+            entries, end = core._log.known.entries, core._end
+            assert f"alarmd_log_entries {float(entries)}" in lines(core)
+            assert end is not None
+            assert f"alarmd_log_behind {float(max(0, end.entries - entries))}" in lines(core)
+            assert f"alarmd_log_revision {float(end.revision)}" in lines(core)
+        b._end = Last(1, b._log.known.log, b._log.known.entries + 7, 99)
+        assert "alarmd_log_behind 7.0" in lines(b) and "alarmd_log_revision 99.0" in lines(b)
+        b._end = Last(2, "another", 3, 99)  # of the new record it has nothing yet
+        assert "alarmd_log_behind 3.0" in lines(b)
+        pair.etcd.deaf = 10**9
+        await until(lambda: silence(lines(b)) > 0.5, "silence")
+        pair.etcd.deaf = 0
+        await until(lambda: silence(lines(b)) < 0.5, "an answer")
+
+    trial(Pair(alarmd, tmp_path, tank), work)
+
+
+def silence(lines: list[str]) -> float:
+    """For how long etcd has given no answer."""
+    return next(
+        float(line.split()[1]) for line in lines if line.startswith("alarmd_log_silent_seconds ")
+    )

@@ -12,11 +12,13 @@ import time
 from collections.abc import Callable, Iterator
 from contextlib import contextmanager, suppress
 from pathlib import Path
+from typing import IO
 
 from http_help import two_users
 
 GATEWAY = Path(__file__).resolve().parents[1]
 PATIENCE = 240.0  # seconds
+SERVE = [sys.executable, "-B", "-m", "alarmd_gateway", "serve"]
 
 CONFIG = """
 alarmd = "{alarmd}"
@@ -40,10 +42,12 @@ class Gateway:
         self.folder = folder
         self.settings = settings
         self.alarmd = alarmd
+        self.more_words: list[str] = []
         self.period = period
         self.port = 0
         self.url = ""
         self.told: list[str] = []  # its standard error
+        self.said: list[str] | None = None  # its standard output, where somebody wants it
         self._process: subprocess.Popen[str] | None = None
         shutil.copytree(plant, folder / "plant")
 
@@ -69,24 +73,31 @@ class Gateway:
         )
         (self.folder / "gateway.toml").write_text(text)
         self._process = subprocess.Popen(
-            [sys.executable, "-B", "-m", "alarmd_gateway", "serve", "gateway.toml"],
+            [*SERVE, "gateway.toml", *self.more_words],
             cwd=self.folder,
             env={**os.environ, "PYTHONPATH": str(GATEWAY)},
             stdin=subprocess.PIPE,
-            stdout=subprocess.DEVNULL,
+            stdout=subprocess.DEVNULL if self.said is None else subprocess.PIPE,
             stderr=subprocess.PIPE,
             text=True,
         )
         self.told.clear()
-        threading.Thread(target=self._listen, args=(self._process,), daemon=True).start()
+        self._listen(self._process.stderr, self.told)
+        if self.said is not None:
+            self._listen(self._process.stdout, self.said)
         self.wait(lambda: any(line.startswith("PAGE ") for line in self.told))
         self.url = next(line for line in self.told if line.startswith("PAGE ")).split()[1]
         self.port = int(self.url.rstrip("/").rpartition(":")[2])
 
-    def _listen(self, process: subprocess.Popen[str]) -> None:
-        assert process.stderr is not None
-        for line in process.stderr:
-            self.told.append(line.strip())
+    def _listen(self, stream: IO[str] | None, lines: list[str]) -> None:
+        """Gathers the lines of a stream from now on."""
+        source = stream or ()
+
+        def gather() -> None:
+            for line in source:
+                lines.append(line.strip())
+
+        threading.Thread(target=gather, daemon=True).start()
 
     def wait(self, holds: Callable[[], object]) -> None:
         """Waits until something holds."""

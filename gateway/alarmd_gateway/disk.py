@@ -1,0 +1,77 @@
+"""Files as a record wants them: locked, written through to the disk, torn lines cut off."""
+
+from __future__ import annotations
+
+import fcntl
+import os
+from pathlib import Path
+from typing import IO, Final
+
+from .model import GatewayFault
+
+_TAIL: Final = 65_536  # bytes that are read at once to find the last line
+BY: Final = "# by "
+
+
+def locked(path: Path) -> IO[bytes]:
+    """The file of this name, locked."""
+    while True:
+        file = open(path, "a+b", buffering=0)
+        try:
+            fcntl.flock(file, fcntl.LOCK_EX | fcntl.LOCK_NB)
+            if os.path.samestat(os.fstat(file.fileno()), os.stat(path)):
+                return file
+        except BlockingIOError:
+            file.close()
+            raise GatewayFault(f"another gateway has the record {path}", 2) from None
+        except OSError:
+            file.close()
+            raise
+        file.close()  # a new record has taken the name meanwhile
+
+
+def write(file: IO[bytes], text: str) -> None:
+    """All of it, on the disk."""
+    data = text.encode("utf-8", "surrogateescape")
+    while data:
+        data = data[file.write(data) :]
+    os.fsync(file.fileno())
+
+
+def sync_folder(path: Path) -> None:
+    """The names of the folder are on the disk too."""
+    folder = os.open(path.parent, os.O_RDONLY | os.O_DIRECTORY)
+    try:
+        os.fsync(folder)
+    finally:
+        os.close(folder)
+
+
+def cut(file: IO[bytes]) -> None:
+    """Cuts off a last line without its end, which was never sent, and a remark whose order was never written."""
+    size = file.seek(0, os.SEEK_END)
+    end, tail = size, b""
+    while end > 0 and tail.count(b"\n") < 2:
+        begin = max(0, end - _TAIL)
+        file.seek(begin)
+        tail = file.read(end - begin) + tail
+        end = begin
+    whole = tail[: tail.rfind(b"\n") + 1]
+    last = whole[whole[:-1].rfind(b"\n") + 1 :]
+    keep = end + len(whole) - (len(last) if last.startswith(BY.encode()) else 0)
+    if keep < size:
+        file.truncate(keep)
+        os.fsync(file.fileno())
+
+
+def archive(path: Path) -> Path:
+    """The old record's further name, the next that is free; one that an earlier attempt gave it is taken again."""
+    number = 1
+    while True:
+        kept = path.with_name(f"{path.name}.{number}")
+        if not kept.exists():
+            os.link(path, kept)
+            return kept
+        if kept.samefile(path):
+            return kept
+        number += 1

@@ -1,0 +1,56 @@
+"""What is wrong with a shared log, as troubles: that etcd is silent, the copy can't be written, or nothing is scanned."""
+
+from __future__ import annotations
+
+from .etcd_log import EtcdLog
+from .log_view import Last
+from .troubles import TroubleKind, Troubles
+
+SILENT = 3.0  # seconds without an answer of etcd before that is a trouble
+GROWS = 6.0  # seconds in which the log of a plant that is scanned grows, where scans aren't fewer
+LOST = "etcd gives no answer: nothing is taken, and what is shown may be old"
+NOBODY = "no gateway scans: nothing comes into the log, and what is shown may be old"
+UNCOPIED = (
+    "the copy of the log can't be written, so what is shown here is old: use another gateway's page"
+)
+
+
+class LogWatch:
+    """Looked at some times a second."""
+
+    def __init__(self, log: EtcdLog, troubles: Troubles, period: float) -> None:
+        """`period` is the seconds between two scans."""
+        self._log = log
+        self._troubles = troubles
+        self._grows = max(GROWS, 3 * period)
+        self._known: Last | None = None
+        self._grown = 0.0
+
+    def silence(self, now: float) -> float:
+        """For how many seconds etcd has been silent."""
+        return now - self._log.asks.heard
+
+    def look(self, now: float, scans: bool) -> bool:
+        """Raises and clears the troubles; says whether etcd has been silent too long. `scans` says whether the plant is to be
+        scanned: it has been before, and its history isn't full."""
+        if self._log.known != self._known or not scans:
+            self._known, self._grown = self._log.known, now
+        silent = self.silence(now) > SILENT
+        still = now - self._grown > self._grows
+        fault = self._log.asks.fault
+        words = f"etcd takes no command: {fault}" if fault else NOBODY
+        uncopied = self._log.uncopied
+        self._set("", LOST if silent else "")
+        self._set("scans", words if still and not silent and not uncopied else "")
+        self._set("copy", f"{UNCOPIED} ({uncopied})" if uncopied else "")
+        return silent
+
+    def words(self) -> str:
+        """Why nothing is taken."""
+        return next((one.text for one in self._troubles if one.kind is TroubleKind.LOG), LOST)
+
+    def _set(self, subject: str, words: str) -> None:
+        if words:
+            self._troubles.raises(TroubleKind.LOG, subject, words)
+        else:
+            self._troubles.clear(TroubleKind.LOG, subject)

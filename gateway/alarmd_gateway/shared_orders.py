@@ -1,0 +1,91 @@
+"""Orders where several gateways share a log: the leader appends them, the others hand them on, and whoever gave one has the answer of
+the server behind his own gateway."""
+
+from __future__ import annotations
+
+import uuid
+from collections import deque
+from collections.abc import Callable
+
+from . import commands
+from .away import Away
+from .commands import Scan
+from .core import Job
+from .etcd import EtcdRefused
+from .etcd_log import EtcdLog
+from .link import Link
+from .log_view import Marked
+from .model import GatewayFault, Order
+from .record import Entry
+from .state import Happening
+from .transactions import Deposed
+
+Tell = Callable[[Scan | Order, list[str], list[Happening]], None]
+
+
+class SharedOrders:
+    """The orders of one gateway. `jobs` are those that wait for their turn, `away` those that may be in the log."""
+
+    def __init__(self, link: Link, log: EtcdLog, jobs: deque[Job], tell: Tell) -> None:
+        """`tell` is told of what has happened by an order."""
+        self.away = Away()
+        self._link = link
+        self._log = log
+        self._jobs = jobs
+        self._tell = tell
+
+    async def append(self, job: Job) -> None:
+        """An order that was given here, where this gateway leads. Raises Deposed."""
+        mark = uuid.uuid4().hex
+        entry = Entry(job.order.line(), job.user, job.reason)
+        try:
+            await self._log.append_as(mark, entry)
+        except Deposed as deposed:
+            if deposed.sure:
+                self._jobs.appendleft(job)  # it is handed on
+            else:
+                self.away.add(mark, job)
+            raise
+        self.away.add(mark, job)
+        await self._appended(mark, job.order, entry)
+
+    async def append_request(self, request: Marked) -> bool:
+        """An order that another gateway has handed on. Says whether this one may go on: else it was withdrawn, or another gateway
+        leads. Raises Deposed where it isn't known whether it is in the log."""
+        order = commands.read(self._link.plant, request.entry.line)
+        if not isinstance(order, Order):
+            await self._log.drop(request.mark)
+            return True
+        try:
+            await self._log.append_as(request.mark, request.entry, request=True)
+        except Deposed as deposed:
+            if not deposed.sure:
+                raise
+            return False
+        await self._appended(request.mark, order, request.entry)
+        return True
+
+    async def _appended(self, mark: str, order: Order, entry: Entry) -> None:
+        try:
+            answer, happened = await self._link.take(order, entry.user, entry.reason)
+        except GatewayFault as fault:
+            self.away.fail_one(mark, fault.words)
+            raise
+        self.away.answer(mark, answer)
+        self._tell(order, answer, happened)
+
+    async def hand_on(self, lease: str | None) -> None:
+        """Hands the orders that were given here on to the leader. Raises NoEtcd, EtcdRefused."""
+        while self._jobs and lease is not None:
+            job, mark = self._jobs.popleft(), uuid.uuid4().hex
+            if job.reply.done():
+                continue
+            self.away.add(mark, job)
+            entry = Entry(job.order.line(), job.user, job.reason)
+            try:
+                await self._log.request(mark, entry, lease)
+            except EtcdRefused:
+                self.away.drop(mark)
+                self._jobs.appendleft(job)
+                raise
+        self.away.tidy()

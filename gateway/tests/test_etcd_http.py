@@ -1,0 +1,209 @@
+"""Nodes of etcd over HTTP, as servers of the test's own: which is asked, what their answers mean, and TLS."""
+
+from __future__ import annotations
+
+import asyncio
+import contextlib
+import ssl
+from collections.abc import AsyncIterator, Awaitable, Callable
+from pathlib import Path
+from typing import Any
+
+import pytest
+from aiohttp import web
+from certificates import Authority, Certificate
+
+from alarmd_gateway.config import Config
+from alarmd_gateway.etcd import TXN, EtcdRefused, NoEtcd
+from alarmd_gateway.etcd_http import HttpEtcd
+from alarmd_gateway.model import GatewayFault
+from alarmd_gateway.shared_config import client_tls, shared_config
+
+Handler = Callable[[], Awaitable[web.Response]]
+CLOSED = "http://127.0.0.1:1"  # nobody listens there
+
+
+class Node:
+    """Answers each request the same, and counts them."""
+
+    def __init__(self, status: int = 200, answer: object = {"succeeded": True}) -> None:
+        self.asked = 0
+        self.halted = False
+        self.url = ""
+        self._status = status
+        self._answer = answer
+
+    async def handle(self, request: web.Request) -> web.Response:
+        await request.read()
+        self.asked += 1
+        if self.halted:
+            await asyncio.sleep(60)
+        return web.json_response(self._answer, status=self._status)
+
+
+@contextlib.asynccontextmanager
+async def nodes(*served: Node, tls: ssl.SSLContext | None = None) -> AsyncIterator[list[str]]:
+    """Serves them."""
+    runners = []
+    for node in served:
+        app = web.Application()
+        app.router.add_post(TXN, node.handle)
+        runner = web.AppRunner(app)
+        runners.append(runner)
+        await runner.setup()
+        site = web.TCPSite(runner, "127.0.0.1", 0, shutdown_timeout=0.1, ssl_context=tls)
+        await site.start()
+        assert site._server is not None
+        port = site._server.sockets[0].getsockname()[1]  # type: ignore[attr-defined]
+        node.url = f"{'https' if tls else 'http'}://127.0.0.1:{port}"
+    try:
+        yield [node.url for node in served]
+    finally:
+        for runner in runners:
+            await runner.cleanup()
+
+
+def asked(work: Callable[[], Awaitable[Any]]) -> Any:
+    async def run() -> Any:
+        return await asyncio.wait_for(work(), 60)
+
+    return asyncio.run(run())
+
+
+async def post(endpoints: list[str], once: bool = False, **more: Any) -> Any:
+    client = HttpEtcd(endpoints, more.pop("seconds", 5.0), **more)
+    try:
+        return await client.post(TXN, {}, once)
+    finally:
+        await client.close()
+
+
+def test_the_next_node_is_asked() -> None:
+    async def work() -> None:
+        good, bad = Node(), Node(503, {"error": "etcdserver: no leader"})
+        async with nodes(good, bad):
+            client = HttpEtcd([CLOSED, bad.url, good.url + "/"], 5.0)
+            assert await client.post(TXN, {}) == {"succeeded": True}
+            assert await client.post(TXN, {}) == {"succeeded": True}
+            await client.close()
+            assert (good.asked, bad.asked) == (2, 1)  # it stays at the one that answers
+
+    asked(work)
+
+
+@pytest.mark.parametrize("once", [True, False])
+def test_nobody_answers(once: bool) -> None:
+    async def work() -> None:
+        node = Node(429, {"message": "etcdserver: mvcc: database space exceeded"})
+        async with nodes(node):
+            with pytest.raises(NoEtcd, match="database space exceeded"):
+                await post([node.url, node.url], once)
+            assert node.asked == (1 if once else 2)
+        with pytest.raises(NoEtcd):
+            await post([CLOSED, CLOSED], once)
+
+    asked(work)
+
+
+def test_what_may_be_asked_once_alone() -> None:
+    """It goes on to the next node where the first one wasn't reached, and not where it may have come."""
+
+    async def work() -> None:
+        good, silent = Node(), Node()
+        silent.halted = True
+        async with nodes(good, silent):
+            assert await post([CLOSED, good.url], True) == {"succeeded": True}
+            with pytest.raises(NoEtcd, match="gives no answer"):
+                await post([silent.url, good.url], True, seconds=0.3)
+            assert (good.asked, silent.asked) == (1, 1)
+            assert await post([silent.url, good.url], seconds=0.3) == {"succeeded": True}
+
+    asked(work)
+
+
+@pytest.mark.parametrize(
+    ("status", "answer", "fault"),
+    [
+        (404, {"message": "etcdserver: requested lease not found"}, EtcdRefused),
+        (503, {"error": "etcdserver: request timed out"}, NoEtcd),
+        (200, ["no object"], NoEtcd),
+    ],
+)
+def test_answers(status: int, answer: object, fault: type[Exception]) -> None:
+    async def work() -> None:
+        node = Node(status, answer)
+        async with nodes(node):
+            with pytest.raises(fault):
+                await post([node.url])
+
+    asked(work)
+
+
+def server_tls(own: Certificate, ca: Certificate) -> ssl.SSLContext:
+    """A node that takes clients of this authority alone."""
+    context = ssl.create_default_context(ssl.Purpose.CLIENT_AUTH, cafile=ca.certificate)
+    context.verify_mode = ssl.CERT_REQUIRED
+    context.load_cert_chain(own.certificate, own.key)
+    return context
+
+
+def test_tls(tmp_path: Path) -> None:
+    """The node is known by its authority, and knows its clients by it."""
+    ca, other = Authority(tmp_path, "ca"), Authority(tmp_path / "other", "other")
+    node_certificate, own = ca.certificate("node"), ca.certificate("left")
+    foreign = other.certificate("left")
+
+    async def work() -> None:
+        node = Node()
+        async with nodes(node, tls=server_tls(node_certificate, ca.own)) as urls:
+            good = client_tls(ca.own.certificate, own.certificate, own.key)
+            assert await post(urls, tls=good) == {"succeeded": True}
+            for wrong in (
+                client_tls(ca.own.certificate, None, None),  # no certificate of its own
+                client_tls(ca.own.certificate, foreign.certificate, foreign.key),
+                client_tls(other.own.certificate, own.certificate, own.key),
+                client_tls(None, own.certificate, own.key),  # the system knows no such node
+                None,
+            ):
+                with pytest.raises(NoEtcd):
+                    await post(urls, tls=wrong)
+            assert node.asked == 1
+            elsewhere = [urls[0].replace("127.0.0.1", "127.0.0.2")]
+            with pytest.raises(NoEtcd):
+                await post(elsewhere, tls=good)
+
+    asked(work)
+
+
+def configured(folder: Path, **table: object) -> Config:
+    """A configuration with this table."""
+    whole: dict[str, object] = {
+        "endpoints": ["https://127.0.0.1:2379"],
+        "log": "tank",
+        "gateway": "a",
+        **table,
+    }
+    return Config(folder, folder, folder, folder, tables={"etcd": whole})
+
+
+def test_tls_in_the_configuration(tmp_path: Path) -> None:
+    ca = Authority(tmp_path)
+    ca.certificate("left")
+    keys: dict[str, object] = {"ca": "ca.pem", "certificate": "left.pem", "key": "left.key"}
+    assert shared_config(configured(tmp_path, **keys)).tls is not None
+    assert shared_config(configured(tmp_path, ca="ca.pem")).tls is not None
+    assert shared_config(configured(tmp_path)).tls is not None
+    plain = ["http://127.0.0.1:2379"]
+    assert shared_config(configured(tmp_path, endpoints=plain)).tls is None
+    wrongs: list[tuple[dict[str, object], str]] = [
+        ({**keys, "key": "ca.key"}, "left.pem"),
+        ({"ca": "none.pem"}, "none.pem: No such file"),
+        ({"ca": "left.key"}, "left.key"),
+        ({"certificate": "left.pem"}, "belong together"),
+        ({**keys, "endpoints": plain}, "https"),
+        ({"endpoints": [*plain, "https://127.0.0.1:2379"]}, "'endpoints'"),
+    ]
+    for wrong, words in wrongs:
+        with pytest.raises(GatewayFault, match=words) as fault:
+            shared_config(configured(tmp_path, **wrong))
+        assert fault.value.status == 2
