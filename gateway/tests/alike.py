@@ -7,7 +7,7 @@ import time
 from pathlib import Path
 from typing import Any
 
-from cluster import Cluster, wait
+from cluster import LIMIT, Cluster, wait
 from http_help import Client
 from test_kills import by_the_record
 from whole_help import Gateway
@@ -20,7 +20,7 @@ def listed(gateway: Gateway) -> list[str]:
     assert gateway.said is not None
     gateway.said.clear()
     gateway.give("list\njournal\n")
-    end = time.monotonic() + 60
+    end = time.monotonic() + LIMIT
     while sum(line.startswith("END ") for line in tuple(gateway.said)) < 2:
         assert time.monotonic() < end, gateway.told[-5:]
         time.sleep(0.005)
@@ -52,7 +52,7 @@ def same_states(cluster: Cluster) -> None:
             assert len(set(each.values())) == 1, f"states differ: {each}"
         return bool(whole)
 
-    wait(compared, f"never seen after as many events: {[*seen]}", 60)
+    wait(compared, f"never seen after as many events: {[*seen]}")
 
 
 def alike(cluster: Cluster) -> list[str]:
@@ -69,7 +69,7 @@ def alike(cluster: Cluster) -> list[str]:
 
     same_states(cluster)
     try:
-        wait(compared, "they differ", 60)
+        wait(compared, "they differ")
     except AssertionError:
         raise AssertionError(f"they differ: {differing(last)}") from None
     return last[0][0].split("\n")

@@ -23,7 +23,7 @@ from whole_help import Gateway
 
 from alarmd_gateway.shared_config import client_tls
 
-LIMIT = 120.0  # seconds for which a condition is waited for
+LIMIT = 300.0  # seconds for which a condition is waited for
 
 
 def free_ports(count: int) -> list[int]:
@@ -158,6 +158,8 @@ class Cluster:
         count: int = 3,
         disks: bool = False,
         tls: Papers | None = None,
+        period: int = 300,
+        proxied: bool = True,
     ) -> None:
         """With `disks` each gateway, and the first node, has a small disk of its own."""
         ports = free_ports(6)
@@ -168,13 +170,14 @@ class Cluster:
         self.gateways: dict[str, Gateway] = {}
         self.proxies: dict[str, list[Proxy]] = {}
         for name in "abc"[:count]:
-            self.proxies[name] = [Proxy(node.client) for node in self.nodes]
+            self.proxies[name] = [Proxy(node.client) for node in self.nodes] if proxied else []
             scheme = "https" if tls else "http"
-            ends = [f"{scheme}://127.0.0.1:{proxy.port}" for proxy in self.proxies[name]]
+            ports = [proxy.port for proxy in self.proxies[name]] if proxied else clients
+            ends = [f"{scheme}://127.0.0.1:{port}" for port in ports]
             settings = SETTINGS.format(endpoints=json.dumps(ends), name=name)
             settings += papers_of(tls) if tls else ""
             (folder / name).mkdir(exist_ok=True)
-            self.gateways[name] = Gateway(folder / name, alarmd, plant, 300, settings)
+            self.gateways[name] = Gateway(folder / name, alarmd, plant, period, settings)
             self.gateways[name].said = []
 
     def start(self) -> None:
@@ -187,7 +190,7 @@ class Cluster:
     def state(self, name: str) -> dict[str, Any] | None:
         """What a gateway says that stands; None where it says nothing."""
         client = Client(self.gateways[name].url)
-        client.patience = 2.0
+        client.patience = 5.0
         with contextlib.suppress(OSError, ValueError, http.client.HTTPException):
             found = client.ask("/api/state").json
             return found if isinstance(found, dict) else None

@@ -1,4 +1,4 @@
-"""What all tests share: the built alarmd, the examples, and the options --long, --faults, --rounds and --minutes."""
+"""What all tests share: the built alarmd, the examples, and the options --long, --faults, --rounds, --seed and --minutes."""
 
 from __future__ import annotations
 
@@ -14,6 +14,7 @@ def pytest_addoption(parser: pytest.Parser) -> None:
     parser.addoption("--long", action="store_true", help="runs the long trials too")
     parser.addoption("--faults", action="store_true", help="runs the faults of a shared log too")
     parser.addoption("--rounds", default=1, type=int, help="how often each fault is tried")
+    parser.addoption("--seed", default=67, type=int, help="what chance begins with")
     parser.addoption("--minutes", default=1e9, type=float, help="no round begins after so many")
 
 

@@ -5,7 +5,6 @@ Runs with `--faults` alone, and wants etcd (`gateway/setup --etcd`). `--rounds N
 from __future__ import annotations
 
 import asyncio
-import random
 import shutil
 import statistics
 import time
@@ -37,13 +36,12 @@ LEADS_AFTER = 5.0  # seconds, where there is a majority
 def tried(trial: Trial, alarmd: Path, rounds: int, minutes: float) -> None:
     """Each fault so often, in an order by chance; after each the gateways are compared, and after each round a server with
     them. No round begins after so many minutes."""
-    chance = random.Random(67)
     end = time.monotonic() + 60 * minutes
     faults = FAULTS + (FULL_DISKS if trial.cluster.disks else ())
     for _ in range(rounds):
         if time.monotonic() > end:
             return
-        for number, fault in enumerate(chance.sample(faults, len(faults)), 1):
+        for number, fault in enumerate(trial.chance.sample(faults, len(faults)), 1):
             begin = time.monotonic()
             try:
                 fault(trial)
@@ -80,8 +78,9 @@ def told(trial: Trial) -> None:
 
 
 def test_faults(cluster: Cluster, alarmd: Path, pytestconfig: pytest.Config) -> None:
-    load = Load(cluster, 67)
-    trial = Trial(cluster, load)
+    seed = int(pytestconfig.getoption("--seed"))
+    load = Load(cluster, seed)
+    trial = Trial(cluster, load, seed)
     try:
         rounds, minutes = (pytestconfig.getoption(name) for name in ("--rounds", "--minutes"))
         tried(trial, alarmd, int(rounds), float(minutes))

@@ -20,23 +20,23 @@ LEASE = 2.0  # seconds, as the configuration has it without a word
 class Trial:
     """A cluster under load, and the times after which another gateway led."""
 
-    def __init__(self, cluster: Cluster, load: Load) -> None:
+    def __init__(self, cluster: Cluster, load: Load, seed: int) -> None:
         self.cluster = cluster
         self.load = load
         self.times: dict[str, list[float]] = {}
         self.compared = 0
-        self.chance = random.Random(67)
+        self.chance = random.Random(seed)
 
     def goes_on(self) -> None:
         """Orders are answered again, by each gateway."""
         before = self.load.answered()
-        wait(lambda: self.load.answered() > before + 5, "no order is answered", 240)
+        wait(lambda: self.load.answered() > before + 5, "no order is answered")
 
     def answered_by_each(self, names: list[str]) -> None:
         """Orders are answered again, by each of these gateways."""
         before = [self.load.answered_by(name) for name in names]
         for name, count in zip(names, before):
-            wait(partial(self._answered_more, name, count + 3), f"{name} answers nothing", 240)
+            wait(partial(self._answered_more, name, count + 3), f"{name} answers nothing")
 
     def _answered_more(self, name: str, count: int) -> bool:
         return self.load.answered_by(name) >= count
@@ -65,7 +65,7 @@ class Trial:
             self.compared += 1
             if alarmd is not None:
                 played = partial(plays, self.cluster, alarmd, listing)
-                wait(played, "a server differs", 60)
+                wait(played, "a server differs")
         finally:
             self.load.go_on()
 
