@@ -4,6 +4,7 @@ ghost use Rattle.std.specs.Prelude.{◌<◌, ◌≤◌};
 ghost use Rattle.std.specs.Thread.{IsSync};
 
 use crate::gates::{Holding, Watch};
+use crate::losing::Losing;
 use crate::scans::push_scans;
 use crew::{Alone, BoxedGate, CrewFault, Scoped};
 use engine::{Done, Job, Plant, Start};
@@ -18,7 +19,7 @@ type Workers = Standing<Job, Start, Done, Holding>;
 
 /// Takes a plant's scans by the caller alone.
 pub fn push_alone<H>(rt: &H, alloc: Global, page: &mut Page, watch: &Watch, plant: Plant) {
-    push_scans(rt, alloc, page, &mut Alone, watch, plant);
+    push_scans(rt, alloc, page, &mut Alone, watch, plant, 2);
 }
 
 /// Takes a plant's scans by two workers of one call.
@@ -36,7 +37,7 @@ pub fn push_scoped<H: Threads + Sync>(
         Ok(gate) => {
             let gate: BoxedGate = gate;
             let mut crew = Scoped::new(2, gate);
-            push_scans(rt, alloc, page, &mut crew, watch, plant);
+            push_scans(rt, alloc, page, &mut crew, watch, plant, 2);
         }
         Err(_) => {
             drop(plant);
@@ -80,11 +81,44 @@ pub fn push_standing<H: Threads + Wait + Clone + Send + Drop + 'static>(
             if kind.are_gone {
                 crew.retire(rt);
             }
-            push_scans(rt, alloc, page, &mut crew, watch, plant);
+            push_scans(rt, alloc, page, &mut crew, watch, plant, 2);
             crew.close(rt);
         }
         Err(_) => {
             drop(plant);
+            page.refuse();
+        }
+    }
+}
+
+/// The plant in whose scan a run is lost, and the plant of the row.
+pub struct Plants {
+    pub first: Plant,
+    pub then: Plant,
+}
+
+/// Takes a scan of a plant by workers that stand ready, of whose runs one is lost, and then another plant's scans by the same.
+pub fn push_losing<H: Threads + Wait + Clone + Send + Drop + 'static>(
+    rt: &H,
+    alloc: Global,
+    page: &mut Page,
+    watch: &Watch,
+    gate: Holding,
+    kind: Kind,
+    plants: Plants,
+) {
+    let Plants { first, then } = plants;
+    let workers = if kind.are_two { 2 } else { 1 };
+    match standing(rt, alloc, workers, gate, kind.least) {
+        Ok(workers) => {
+            let mut crew = Losing::new(workers);
+            push_scans(rt, alloc, page, &mut crew, watch, first, 1);
+            push_scans(rt, alloc, page, &mut crew, watch, then, 2);
+            crew.close(rt);
+        }
+        Err(_) => {
+            drop(first);
+            drop(then);
             page.refuse();
         }
     }

@@ -7,7 +7,9 @@
 //! - `scoped`: two workers of one call;
 //! - `standing`: two workers that stand ready, as the server makes them; `one`: a single one;
 //! - `never`: two workers that stand ready and share nothing out, whatever jobs cost; `always`: such that share out all;
-//! - `gone`: two workers that are gone; `one-gone`: a single one that is gone.
+//! - `gone`: two workers that are gone; `one-gone`: a single one that is gone;
+//! - `lost`: two workers of whose runs one is lost; `one-lost`: a single one, of whose runs one is lost. Here a scan of two programs is taken
+//!   first, in which the run is lost, and printed as the others.
 //!
 //! Of each are taken two scans, at the moments 1 and 2. Printed are the line, and of each scan its moment, what the gate saw and the two outputs, or
 //! why it was refused. `AT ONCE` is that the first program was held until the second had passed, `ONE AFTER ANOTHER` that it was held until the limit
@@ -17,12 +19,13 @@
 
 mod crews;
 mod gates;
+mod losing;
 mod plants;
 mod scans;
 
 ghost use Rattle.std.specs.Thread.{IsSync};
 
-use crews::{Kind, push_alone, push_scoped, push_standing};
+use crews::{Kind, Plants, push_alone, push_losing, push_scoped, push_standing};
 use engine::Plant;
 use gates::{Holding, Watch};
 use plants::read_plant;
@@ -81,7 +84,36 @@ fn push_row<R: Threads + Wait + Clone + Send + Sync + Drop + 'static>(
     match row.crew {
         "alone" => push_alone(rt, alloc, page, &*watch, plant),
         "scoped" => push_scoped(rt, alloc, page, &*watch, gate, plant),
+        "lost" | "one-lost" => {
+            push_lost(rt, alloc, page, &*watch, gate, kind_of(row.crew), plant);
+        }
         crew => push_standing(rt, alloc, page, &*watch, gate, kind_of(crew), plant),
+    }
+}
+
+/// Takes the scans of a row by workers of whose runs one is lost, in a scan of two programs before.
+fn push_lost<R: Threads + Wait + Clone + Send + Sync + Drop + 'static>(
+    rt: &R,
+    alloc: Global,
+    page: &mut Page,
+    watch: &Watch,
+    gate: Holding,
+    kind: Kind,
+    plant: Plant,
+) {
+    match read_plant(rt, alloc, "b := b;") {
+        Ok(Some(first)) => {
+            let plants = Plants { first, then: plant };
+            push_losing(rt, alloc, page, watch, gate, kind, plants);
+        }
+        Ok(None) => {
+            drop(plant);
+            page.line("NO PLANT");
+        }
+        Err(_) => {
+            drop(plant);
+            page.refuse();
+        }
     }
 }
 

@@ -41,7 +41,8 @@ fn push_scan<H, C: Crew<Job, Start, Done, H>>(
     }
 }
 
-/// Takes two scans of a plant by a crew, at an odd and at an even moment. An engine is let go here alone.
+/// Takes so many scans of a plant by a crew, at the moments from 1 on: of two, one at an odd and one at an even moment. An engine is let go
+/// here alone.
 pub fn push_scans<H, C: Crew<Job, Start, Done, H>>(
     rt: &H,
     alloc: Global,
@@ -49,13 +50,15 @@ pub fn push_scans<H, C: Crew<Job, Start, Done, H>>(
     crew: &mut C,
     watch: &Watch,
     plant: Plant,
+    many: u64,
 )
     requires { C.asks }
 {
     match Engine::new(alloc, plant) {
         Ok(mut engine) => {
-            push_scan(rt, alloc, page, &mut engine, crew, watch, 1);
-            push_scan(rt, alloc, page, &mut engine, crew, watch, 2);
+            for moment in 1..=many {
+                push_scan(rt, alloc, page, &mut engine, crew, watch, moment);
+            }
             drop(engine);
         }
         Err(_) => page.refuse(),
