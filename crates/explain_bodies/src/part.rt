@@ -1,0 +1,53 @@
+//! What a walk has found of an expression.
+
+use plant_types::{Kind, Trap};
+
+/// What an expression is at its top.
+#[derive(Clone, Copy, PartialEq, Eq, Drop)]
+pub enum Form {
+    /// The integer 0 or 1, as it is written.
+    Bit,
+    Literal,
+    /// A comparison by order, as `a < b`.
+    Order,
+    Other,
+}
+
+/// What is known of the value of an expression.
+#[derive(Clone, Copy, Drop)]
+pub enum Worth {
+    /// It reads a variable or an output, first at the token of a number.
+    Varies(usize),
+    /// It is constant.
+    Is(i64),
+    /// It is constant and has no value, by the operator at the token of a number.
+    Traps(usize, Trap),
+}
+
+/// An expression: its kind, where that is known, the number of its first token and of the one behind its last, and its value.
+#[derive(Clone, Copy, Drop)]
+pub struct Part {
+    pub kind: Option<Kind>,
+    pub first: usize,
+    pub behind: usize,
+    pub form: Form,
+    pub worth: Worth,
+}
+
+impl Part {
+    /// A variable at the token of a number.
+    pub fn variable(kind: Option<Kind>, number: usize) -> Part {
+        Part {
+            kind,
+            first: number,
+            behind: number.saturating_add(1),
+            form: Form::Other,
+            worth: Worth::Varies(number),
+        }
+    }
+
+    /// Whether it is constant, as the integer 0.
+    pub fn is_zero(&self) -> bool {
+        matches!(self.worth, Worth::Is(0))
+    }
+}
