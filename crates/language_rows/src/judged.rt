@@ -70,24 +70,21 @@ fn push_fault(page: &mut Page, files: &[File], units: &[Unit], fault: TypeFault)
 }
 
 /// Adds what the check of units answers, of which there may be fewer than sources.
-fn push_checked(alloc: Global, page: &mut Page, files: &[File], units: &[Unit]) {
+fn push_checked(alloc: Global, page: &mut Page, files: &[File], units: Vec<Unit>) {
     if let Some(file) = files.get(units.len()) {
         page.add("NO UNIT");
         return page.word(file.name.as_str());
     }
     match check(alloc, units) {
         Ok(_) => page.add("OK"),
-        Err(fault) => push_fault(page, files, units, fault),
+        Err(mistyped) => push_fault(page, files, mistyped.units.as_slice(), mistyped.fault),
     }
 }
 
 /// Adds what the check of sources answers, with a line in place of `..`.
 pub fn push_judged(alloc: Global, page: &mut Page, files: &[File], given: &str) {
     match units_of(alloc, files, given) {
-        Ok(units) => {
-            push_checked(alloc, page, files, &units);
-            drop(units);
-        }
+        Ok(units) => push_checked(alloc, page, files, units),
         Err(_) => page.refuse(),
     }
 }

@@ -1,10 +1,14 @@
 //! Programs with blocks, made ready and run over cells (`plant_walk`), and each limit that a source may be past.
 
-ghost use Rattle.std.specs.Prelude.{◌≡◌, ◌<◌, length};
+ghost use Rattle.std.specs.Prelude.{◌≡◌, ◌<◌, List, [], ◌∷◌, length};
+ghost use Rattle.st_parser.specs.Units.{PlainUnit};
+ghost use Rattle.plant_sources.specs.Sources.{HaveUnits};
 ghost use Rattle.plant_logic.specs.Units.{source_in};
 
+use crate::sources::typed_of;
 use plant_cells::Cells;
 use plant_limits::LimitFault;
+use plant_sources::one_answer;
 use plant_walk::{Framed, Stack, Walked, run_counted, standing_cells_are_there};
 use row_text::Page;
 use source_walks::Walker;
@@ -94,10 +98,13 @@ fn push_counted(alloc: Global, page: &mut Page, framed: &Framed) {
     }
 }
 
-/// Adds the globals of sources by name, and then what a walk of their first program does to their cells.
-fn push_walk(alloc: Global, page: &mut Page, typed: &Typed<'_>, framed: &Framed)
-    requires { framed.now ≡ source_in typed.now }
+/// Adds the globals of a source by name, and then what a walk of its first program does to their cells.
+fn push_walk(alloc: Global, page: &mut Page, source: &str, framed: &Framed)
+    requires { (units : List PlainUnit) → HaveUnits (source.now ∷ []) units → framed.now ≡ source_in units }
 {
+    let Some(typed) = typed_of(alloc, source) else {
+        return page.refuse();
+    };
     match Walker::of(alloc, typed) {
         Ok(walker) => {
             push_walked(alloc, page, framed, &walker);
@@ -107,22 +114,25 @@ fn push_walk(alloc: Global, page: &mut Page, typed: &Typed<'_>, framed: &Framed)
     }
 }
 
-/// Adds what the row's word asks of sources that are made ready to run.
-fn push_framed(alloc: Global, page: &mut Page, word: &str, typed: &Typed<'_>, framed: &Framed)
-    requires { framed.now ≡ source_in typed.now }
+/// Adds what the row's word asks of a source that is made ready to run.
+fn push_framed(alloc: Global, page: &mut Page, word: &str, source: &str, framed: &Framed)
+    requires { (units : List PlainUnit) → HaveUnits (source.now ∷ []) units → framed.now ≡ source_in units }
 {
     match word {
-        "walk" => push_walk(alloc, page, typed, framed),
+        "walk" => push_walk(alloc, page, source, framed),
         "count" => push_counted(alloc, page, framed),
         _ => page.add("-"),
     }
 }
 
 /// Adds the limit that a source is past, or what the row's word asks of it. What is made ready is let go here alone.
-pub fn push_judged(alloc: Global, page: &mut Page, word: &str, typed: &Typed<'_>) {
+pub fn push_judged(alloc: Global, page: &mut Page, word: &str, source: &str, typed: Typed)
+    requires { HaveUnits (source.now ∷ []) typed }
+{
+    one_answer();
     match Framed::of(alloc, typed) {
         Ok(framed) => {
-            push_framed(alloc, page, word, typed, &framed);
+            push_framed(alloc, page, word, source, &framed);
             drop(framed);
         }
         Err(LimitFault::Memory) => page.refuse(),

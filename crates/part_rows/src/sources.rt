@@ -1,7 +1,9 @@
 //! A source: its logic (`plant_logic`), what it costs and the limits that it may be past (`plant_limits`).
 
+ghost use Rattle.std.specs.Prelude.{[], ◌∷◌, IfSome};
 ghost use Rattle.plant_logic.specs.Blocks.{AreBelow};
 ghost use Rattle.plant_logic.specs.Source.{source_of};
+ghost use Rattle.plant_sources.specs.Sources.{HaveUnits};
 
 use crate::runs::push_judged;
 use plant_limits::{LimitFault, limits};
@@ -75,31 +77,39 @@ fn push_logic_of(
     alloc: Global,
     page: &mut Page,
     word: &str,
-    typed: &Typed<'_>,
+    typed: Typed,
 ) -> Result<(), AllocError> {
     order_is_of_source();
-    let _units = typed.units();
-    let order = typed.order();
-    let logic = logic_of(alloc, typed)?;
-    push_seen(alloc, page, word, &logic, order);
+    let (logic, order) = logic_of(alloc, typed)?;
+    push_seen(alloc, page, word, &logic, &order);
     drop(logic);
     Ok(())
 }
 
+/// The units of a source, if it has well-formed ones and memory was there.
+pub fn typed_of(alloc: Global, source: &str) -> Option<Typed>
+    ensures { IfSome result (HaveUnits (source.now ∷ [])) }
+{
+    let Ok(units) = units(alloc, &[("p.st", source.as_bytes())]) else {
+        return None;
+    };
+    match check(alloc, units) {
+        Ok(typed) => Some(typed),
+        Err(_) => None,
+    }
+}
+
 /// Adds what the row's word asks of a source.
 pub fn push_source(alloc: Global, page: &mut Page, word: &str, source: &str) {
-    let Ok(units) = units(alloc, &[("p.st", source.as_bytes())]) else {
-        return page.refuse();
-    };
-    let Ok(typed) = check(alloc, &units) else {
+    let Some(typed) = typed_of(alloc, source) else {
         return page.refuse();
     };
     match word {
         "look" | "cost" => {
-            if push_logic_of(alloc, page, word, &typed).is_err() {
+            if push_logic_of(alloc, page, word, typed).is_err() {
                 page.refuse();
             }
         }
-        _ => push_judged(alloc, page, word, &typed),
+        _ => push_judged(alloc, page, word, source, typed),
     }
 }

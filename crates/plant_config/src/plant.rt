@@ -1,21 +1,19 @@
 //! The plant, its parts and their names.
 
-ghost use Rattle.std.specs.Prelude.{◌≡◌, ◌<◌, ◌++◌, Some, get_or, length, map, option_map, position, string_bytes, IfSome, IfOk, IfErr, MatchResult};
+ghost use Rattle.std.specs.Prelude.{◌≡◌, ◌<◌, ◌++◌, None, Some, get_or, length, map, option_map, position, string_bytes, IfSome, IfOk, IfErr, MatchResult};
 ghost use Rattle.std.specs.List.{list_any};
 ghost use Rattle.plant_types.specs.Words.{same_word};
 ghost use Rattle.st_parser.specs.Units.{view_unit};
 ghost use Rattle.plant_file.specs.Read.{plant_file_in};
 ghost use Rattle.plant_walk.specs.declared.headings.Heading.{Heading};
 ghost use Rattle.plant_config.specs.Files.{files_of, texts_of};
-ghost use Rattle.alarm_db.specs.Databases.{IsDatabase, rows_of, tags_of as database_tags};
+ghost use Rattle.alarm_db.specs.Databases.{IsDatabase, first_fault, rows_of, tags_of as database_tags};
 ghost use Rattle.plant_limits.specs.Counts.{program_costs};
-ghost use Rattle.plant_logic.specs.Units.{source_in};
 ghost use Rattle.plant_file.specs.PlantFiles.{IsPlantFile};
-ghost use Rattle.plant_config.specs.Alarms.{alarms_of};
-ghost use Rattle.plant_config.specs.Logics.{IsLogic};
+ghost use Rattle.plant_config.specs.Logics.{AreKnown, HasLogic};
 ghost use Rattle.plant_config.specs.Plants.{PlainPlant, IsPlant, plant_with, tags_of};
 ghost use Rattle.plant_config.specs.Orderers.{has_area, SayWho};
-ghost use Rattle.plant_config.specs.Stages.{Accepted, AreParts, HasAlarms, HasEpoch, HasUnits, IsLimited, IsSized, IsWellFormed};
+ghost use Rattle.plant_config.specs.Stages.{Accepted, AreParts, HasEpoch, HasUnits, IsLimited, IsWellFormed};
 ghost use Rattle.plant_config.specs.Refusals.{IsFileFault, IsRefused};
 ghost use Rattle.plant_config.specs.declared.fault.ConfigFault.TheVariants as fault;
 ghost use Rattle.plant_config.specs.Names.{alarm_number, globals_of, global_number, program_number, programs_of, program_at, body_paths, body_path, tag_of, area_of, global_of, priority_of};
@@ -26,7 +24,7 @@ use crate::files::{Files, Handed, file_of, files_of, listed};
 use crate::orderers::{is_orderer, limited_orderers, orderers_in};
 use crate::rows::{AlarmRow, copy_rows};
 use crate::running::{database_of, known_alarms, logic_of};
-use crate::spelling::{mistyped, units_of};
+use crate::spelling::{refused, units_of};
 use alarm_db::Tags;
 use plant_file::{Console, PlantFile};
 use plant_logic::Variable;
@@ -109,20 +107,19 @@ fn alarms_in(
     handed: &Handed<'_>,
     file: &PlantFile,
     epoch: Epoch,
-    typed: &Typed<'_>,
     logic: &Framed,
 ) -> Result<(Vec<AlarmRow>, Tags), ConfigFault>
-    requires sized { IsSized handed.now file.now epoch typed.now }
-    requires logic { IsLogic typed.now logic.now }
-    ensures alarms { MatchResult result (λ found. HasAlarms handed.now file.now epoch typed.now × (found.0.items ≡ alarms_of file.now.areas (source_in typed.now).globals (rows_of handed.now.alarms))) (IsRefused handed.now) }
+    requires { HasLogic handed.now file.now epoch logic.now }
+    ensures alarms { MatchResult result (λ found. AreKnown handed.now file.now logic.now found.0.items) (IsRefused handed.now) }
     ensures tags { IfOk result (λ found. found.1 ≡ database_tags (rows_of handed.now.alarms)) }
+    ensures right { IfOk result (λ _. first_fault handed.now.alarms ≡ None) }
     ensures database { IfOk result (λ _. IsDatabase (rows_of handed.now.alarms)) }
     ensures file { IfOk result (λ _. IsPlantFile file.now) }
 {
-    match database_of(alloc, handed, file, epoch, typed) {
+    match database_of(alloc, handed, file, epoch, logic) {
         Ok(database) => {
             let (rows, tags) = database.into_parts();
-            match known_alarms(alloc, handed, file, epoch, typed, logic, rows) {
+            match known_alarms(alloc, handed, file, epoch, logic, rows) {
                 Ok(alarms) => Ok((alarms, tags)),
                 Err(fault) => Err(fault),
             }
@@ -137,32 +134,30 @@ fn with_logic(
     handed: &Handed<'_>,
     file: &PlantFile,
     epoch: Epoch,
-    typed: &Typed<'_>,
     logic: Framed,
 ) -> Result<(Framed, Vec<AlarmRow>, Tags), ConfigFault>
-    requires sized { IsSized handed.now file.now epoch typed.now }
-    requires logic { IsLogic typed.now logic }
+    requires { HasLogic handed.now file.now epoch logic }
     ensures { MatchResult result (λ parts. AreParts handed.now file.now epoch parts.0 parts.1.items parts.2) (IsRefused handed.now) }
 {
-    match alarms_in(alloc, handed, file, epoch, typed, &logic) {
+    match alarms_in(alloc, handed, file, epoch, &logic) {
         Ok((alarms, tags)) => Ok((logic, alarms, tags)),
         Err(fault) => Err(fault),
     }
 }
 
-/// The parts of the plant of well-formed sources, or why there are none.
+/// The parts of the plant of well-formed sources, or why there are none. The sources are let go as soon as they have their codes.
 fn parts_of(
     alloc: Global,
     handed: &Handed<'_>,
     file: &PlantFile,
     epoch: Epoch,
-    typed: &Typed<'_>,
+    typed: Typed,
 ) -> Result<(Framed, Vec<AlarmRow>, Tags), ConfigFault>
-    requires { IsWellFormed handed.now file.now epoch typed.now }
+    requires { IsWellFormed handed.now file.now epoch typed }
     ensures { MatchResult result (λ parts. AreParts handed.now file.now epoch parts.0 parts.1.items parts.2) (IsRefused handed.now) }
 {
     match logic_of(alloc, handed, file, epoch, typed) {
-        Ok(logic) => with_logic(alloc, handed, file, epoch, typed, logic),
+        Ok(logic) => with_logic(alloc, handed, file, epoch, logic),
         Err(fault) => Err(fault),
     }
 }
@@ -173,14 +168,14 @@ fn with_units(
     handed: &Handed<'_>,
     file: &PlantFile,
     epoch: Epoch,
-    units: &[Unit],
+    units: Vec<Unit>,
 ) -> Result<(Framed, Vec<AlarmRow>, Tags), ConfigFault>
-    requires { HasUnits handed.now file.now epoch (map view_unit units.now) }
+    requires { HasUnits handed.now file.now epoch (map view_unit units.items) }
     ensures { MatchResult result (λ parts. AreParts handed.now file.now epoch parts.0 parts.1.items parts.2) (IsRefused handed.now) }
 {
     match check(alloc, units) {
-        Ok(typed) => parts_of(alloc, handed, file, epoch, &typed),
-        Err(fault) => Err(mistyped(alloc, handed, units, fault)),
+        Ok(typed) => parts_of(alloc, handed, file, epoch, typed),
+        Err(mistyped) => Err(refused(alloc, handed, &mistyped)),
     }
 }
 
@@ -196,7 +191,7 @@ fn parts_in<H: Threads + Sync>(
     ensures { MatchResult result (λ parts. AreParts handed.now file.now epoch parts.0 parts.1.items parts.2) (IsRefused handed.now) }
 {
     match units_of(rt, alloc, handed, file, epoch) {
-        Ok(units) => with_units(alloc, handed, file, epoch, units.as_slice()),
+        Ok(units) => with_units(alloc, handed, file, epoch, units),
         Err(fault) => Err(fault),
     }
 }

@@ -1,12 +1,10 @@
 //! From well-formed sources to a plant.
 
-ghost use Rattle.std.specs.Prelude.{◌≡◌, ◌≤◌, MatchResult, length};
-ghost use Rattle.plant_logic.specs.Units.{source_in};
-ghost use Rattle.alarm_db.specs.Databases.{rows_of};
+ghost use Rattle.std.specs.Prelude.{◌≡◌, ◌≤◌, MatchResult, None, length};
+ghost use Rattle.alarm_db.specs.Databases.{first_fault, rows_of};
 ghost use Rattle.plant_file.specs.PlantFiles.{IsPlantFile};
-ghost use Rattle.plant_config.specs.Alarms.{alarms_of};
-ghost use Rattle.plant_config.specs.Logics.{IsLogic};
-ghost use Rattle.plant_config.specs.Stages.{IsWellFormed, IsSized, HasDatabase, HasAlarms};
+ghost use Rattle.plant_config.specs.Logics.{AreKnown, HasLogic};
+ghost use Rattle.plant_config.specs.Stages.{IsWellFormed};
 ghost use Rattle.plant_config.specs.Refusals.{IsRefused};
 
 use crate::alarms::{AlarmFault, alarms_of};
@@ -21,17 +19,17 @@ use st_typing::Typed;
 use stamps::Epoch;
 use std::alloc::Global;
 
-/// The logic of well-formed sources, made ready to run, or the first limit on slots, size and cost that it is past: C10.
+/// The logic of well-formed sources, made ready to run, or the first limit on slots, size and cost that it is past: C10. The sources are let go.
 #[tactic(auto, unfolding(crate::specs::Refusals::IsRefused))]
 pub fn logic_of(
     alloc: Global,
     handed: &Handed<'_>,
     file: &PlantFile,
     epoch: Epoch,
-    typed: &Typed<'_>,
+    typed: Typed,
 ) -> Result<Framed, ConfigFault>
-    requires { IsWellFormed handed.now file.now epoch typed.now }
-    ensures { MatchResult result (λ logic. IsSized handed.now file.now epoch typed.now × IsLogic typed.now logic) (IsRefused handed.now) }
+    requires { IsWellFormed handed.now file.now epoch typed }
+    ensures { MatchResult result (HasLogic handed.now file.now epoch) (IsRefused handed.now) }
 {
     match Framed::of(alloc, typed) {
         Ok(logic) => Ok(logic),
@@ -49,10 +47,10 @@ pub fn database_of(
     handed: &Handed<'_>,
     file: &PlantFile,
     epoch: Epoch,
-    typed: &Typed<'_>,
+    logic: &Framed,
 ) -> Result<AlarmDatabase, ConfigFault>
-    requires { IsSized handed.now file.now epoch typed.now }
-    ensures { MatchResult result (λ rows. HasDatabase handed.now file.now epoch typed.now × (rows ≡ rows_of handed.now.alarms)) (IsRefused handed.now) }
+    requires { HasLogic handed.now file.now epoch logic.now }
+    ensures { MatchResult result (λ rows. (first_fault handed.now.alarms ≡ None) × (rows ≡ rows_of handed.now.alarms)) (IsRefused handed.now) }
 {
     match alarm_db::read(alloc, handed.alarms) {
         Ok(database) => Ok(database),
@@ -71,15 +69,14 @@ pub fn known_alarms(
     handed: &Handed<'_>,
     file: &PlantFile,
     epoch: Epoch,
-    typed: &Typed<'_>,
     logic: &Framed,
     rows: Vec<DatabaseRow>,
 ) -> Result<Vec<AlarmRow>, ConfigFault>
-    requires database { HasDatabase handed.now file.now epoch typed.now }
+    requires logic { HasLogic handed.now file.now epoch logic.now }
+    requires database { first_fault handed.now.alarms ≡ None }
     requires rows { rows.items ≡ rows_of handed.now.alarms }
     requires few { length rows.items ≤ 20000 }
-    requires logic { IsLogic typed.now logic.now }
-    ensures alarms { MatchResult result (λ alarms. HasAlarms handed.now file.now epoch typed.now × (alarms.items ≡ alarms_of file.now.areas (source_in typed.now).globals (rows_of handed.now.alarms))) (IsRefused handed.now) }
+    ensures alarms { MatchResult result (λ alarms. AreKnown handed.now file.now logic.now alarms.items) (IsRefused handed.now) }
     ensures file { IsPlantFile file.now }
 {
     match alarms_of(alloc, file.areas(), logic, rows) {

@@ -16,7 +16,7 @@ use plant_sources::{SourceFault, unit_name};
 use plant_types::Text;
 use st_names::UnitPlace;
 use st_parser::Unit;
-use st_typing::TypeFault;
+use st_typing::{Mistyped, TypeFault};
 use stamps::Epoch;
 use std::alloc::{AllocError, Global};
 use std::thread::Threads;
@@ -92,7 +92,7 @@ fn names_of(
 
 /// The refusal for sources that aren't well formed.
 #[tactic(auto, unfolding(crate::specs::Refusals::IsRefused))]
-pub fn mistyped(alloc: Global, handed: &Handed<'_>, units: &[Unit], fault: TypeFault) -> ConfigFault
+fn mistyped(alloc: Global, handed: &Handed<'_>, units: &[Unit], fault: TypeFault) -> ConfigFault
     requires { IsTypeFault (map view_unit units.now) fault }
     ensures { (file : PlainPlantFile) (epoch : ℕ) → HasUnits handed.now file epoch (map view_unit units.now) → IsRefused handed.now result }
 {
@@ -118,4 +118,12 @@ pub fn mistyped(alloc: Global, handed: &Handed<'_>, units: &[Unit], fault: TypeF
         TypeFault::BlockDepth => ConfigFault::Limit(Limit::BlockDepth),
         TypeFault::Programs => ConfigFault::Limit(Limit::Programs),
     }
+}
+
+/// The refusal for sources that were judged, and aren't well formed.
+pub fn refused(alloc: Global, handed: &Handed<'_>, judged: &Mistyped) -> ConfigFault
+    requires { IsTypeFault (map view_unit judged.now.units.items) judged.now.fault }
+    ensures { (file : PlainPlantFile) (epoch : ℕ) → HasUnits handed.now file epoch (map view_unit judged.now.units.items) → IsRefused handed.now result }
+{
+    mistyped(alloc, handed, judged.units.as_slice(), judged.fault)
 }

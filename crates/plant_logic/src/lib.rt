@@ -5,7 +5,6 @@
 //! standard block the list of its calls. Nothing here runs a routine.
 #![tactic(auto)]
 
-mod copy;
 mod laws;
 mod logic;
 mod pous;

@@ -7,27 +7,20 @@ ghost use Rattle.plant_logic.specs.Pous.{pous_of, block_pous, program_pous, pou_
 
 use st_parser::{Pou, PouKind, Unit};
 use std::alloc::{AllocError, Global};
+use std::mem::replace;
 use word_index::Names;
 
 /// The blocks, and apart from them the programs.
-pub struct Pous<'a> {
-    pub blocks: Vec<&'a Pou>,
-    pub programs: Vec<&'a Pou>,
-}
-
-impl Drop for Pous<'_> {
-    fn drop(self) {
-        let Pous {
-            blocks: _,
-            programs: _,
-        } = self;
-    }
+#[derive(Drop)]
+pub struct Pous {
+    pub blocks: Vec<Pou>,
+    pub programs: Vec<Pou>,
 }
 
 /// Adds the blocks and programs of a unit. Fails if allocation fails.
-fn push_pous<'a>(list: &mut Pous<'a>, pous: &'a [Pou]) -> Result<(), AllocError>
-    ensures blocks { IfOk result (λ _. map (λ p. view_pou p.now) list.new.blocks.items ≡ map (λ p. view_pou p.now) list.old.blocks.items ++ block_pous (map view_pou pous.now)) }
-    ensures programs { IfOk result (λ _. map (λ p. view_pou p.now) list.new.programs.items ≡ map (λ p. view_pou p.now) list.old.programs.items ++ program_pous (map view_pou pous.now)) }
+fn push_pous(list: &mut Pous, pous: Vec<Pou>) -> Result<(), AllocError>
+    ensures blocks { IfOk result (λ _. map view_pou list.new.blocks.items ≡ map view_pou list.old.blocks.items ++ block_pous (map view_pou pous.items)) }
+    ensures programs { IfOk result (λ _. map view_pou list.new.programs.items ≡ map view_pou list.old.programs.items ++ program_pous (map view_pou pous.items)) }
 {
     for pou in pous {
         match pou.kind {
@@ -38,25 +31,33 @@ fn push_pous<'a>(list: &mut Pous<'a>, pous: &'a [Pou]) -> Result<(), AllocError>
     Ok(())
 }
 
+/// The blocks and programs of a unit, of which the rest is let go.
+fn pous_in(alloc: Global, unit: Unit) -> Vec<Pou>
+    ensures { result.items ≡ unit.pous.items }
+{
+    let mut unit = unit;
+    replace(&mut unit.pous, Vec::new(alloc))
+}
+
 /// The blocks and the programs of all units. Fails if allocation fails.
-pub fn pous_of<'a>(alloc: Global, units: &'a [Unit]) -> Result<Pous<'a>, AllocError>
-    ensures blocks { IfOk result (λ list. map (λ p. view_pou p.now) list.blocks.items ≡ block_pous (pous_of (map view_unit units.now))) }
-    ensures programs { IfOk result (λ list. map (λ p. view_pou p.now) list.programs.items ≡ program_pous (pous_of (map view_unit units.now))) }
+pub fn pous_of(alloc: Global, units: Vec<Unit>) -> Result<Pous, AllocError>
+    ensures blocks { IfOk result (λ list. map view_pou list.blocks.items ≡ block_pous (pous_of (map view_unit units.items))) }
+    ensures programs { IfOk result (λ list. map view_pou list.programs.items ≡ program_pous (pous_of (map view_unit units.items))) }
 {
     let mut list = Pous {
         blocks: Vec::new(alloc),
         programs: Vec::new(alloc),
     };
     for unit in units {
-        push_pous(&mut list, &unit.pous)?;
+        push_pous(&mut list, pous_in(alloc, unit))?;
     }
     Ok(list)
 }
 
 /// The names of blocks as declared, in order, of which no two are the same word. Fails if allocation fails.
-pub fn names_of(alloc: Global, blocks: &[&Pou]) -> Result<Names, AllocError>
-    requires { repeats (map pou_word (map (λ p. view_pou p.now) blocks.now)) ≡ false }
-    ensures { IfOk result (λ names. names ≡ map (λ (p : PlainPou). p.name) (map (λ p. view_pou p.now) blocks.now)) }
+pub fn names_of(alloc: Global, blocks: &[Pou]) -> Result<Names, AllocError>
+    requires { repeats (map pou_word (map view_pou blocks.now)) ≡ false }
+    ensures { IfOk result (λ names. names ≡ map (λ (p : PlainPou). p.name) (map view_pou blocks.now)) }
 {
     let mut names = Names::new(alloc);
     for block in blocks {

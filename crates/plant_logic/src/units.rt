@@ -3,7 +3,10 @@
 ghost use Rattle.std.specs.Prelude.{◌≡◌, ◌++◌, IfOk, map, flat_map, false, not};
 ghost use Rattle.st_names.specs.Scopes.{is_external};
 ghost use Rattle.st_tree.specs.View.{view_stmt, view_body};
-ghost use Rattle.st_parser.specs.Units.{view_pou, view_unit};
+ghost use Rattle.block_order.specs.Blocks.{AreOrdered};
+ghost use Rattle.st_typing.specs.Blocks.{blocks_of};
+ghost use Rattle.st_typing.specs.Faults.{AreTyped};
+ghost use Rattle.st_parser.specs.Units.{view_pou, view_section, view_unit};
 ghost use Rattle.st_names.specs.DeclaredNames.{declared_in};
 ghost use Rattle.st_names.specs.Taken.{repeats};
 ghost use Rattle.plant_logic.specs.Pous.{pous_of, block_pous, pou_word};
@@ -11,13 +14,14 @@ ghost use Rattle.plant_logic.specs.Source.{view_routine, source_of};
 ghost use Rattle.plant_logic.specs.Units.{block_ref, global_of, local_of, instance_of, start_of, starts_in, routine_of, declared_globals, source_in};
 
 use crate::logic::{BlockRef, Instance, Local, Logic, Routine, Variable};
-use crate::pous::{names_of, pous_of};
+use crate::pous::{Pous, names_of, pous_of};
 use plant_types::{Text, same_word};
 use st_names::{Declared, declared_in};
-use st_parser::{Pou, SectionKind, Sort, Unit};
-use st_tree::{Stmt, copy_body, copy_expr};
+use st_parser::{Pou, Section, SectionKind, Sort, Unit};
+use st_tree::{Stmt, copy_expr};
 use st_typing::Typed;
 use std::alloc::{AllocError, Global};
+use std::mem::replace;
 use word_index::Names;
 
 /// Adds a declared variable to the globals; an instance is none. Fails if allocation fails.
@@ -168,27 +172,62 @@ fn starts_of(alloc: Global, list: &[Declared<'_>]) -> Result<Vec<Stmt<Text>>, Al
     Ok(starts)
 }
 
-/// The routine of a block or program. Fails if allocation fails.
-fn routine_of(alloc: Global, names: &Names, pou: &Pou) -> Result<Routine, AllocError>
-    ensures { IfOk result (λ routine. view_routine routine ≡ routine_of names.now (view_pou pou.now)) }
+/// What the sections of a block or program declare.
+#[derive(Drop)]
+struct Heads {
+    locals: Vec<Local>,
+    instances: Vec<Instance>,
+    starts: Vec<Stmt<Text>>,
+}
+
+/// What sections declare. Fails if allocation fails.
+fn heads_of(alloc: Global, names: &Names, sections: &[Section]) -> Result<Heads, AllocError>
+    ensures locals { IfOk result (λ heads. heads.locals.items ≡ flat_map local_of (declared_in (map view_section sections.now))) }
+    ensures instances { IfOk result (λ heads. heads.instances.items ≡ flat_map (instance_of names.now) (declared_in (map view_section sections.now))) }
+    ensures starts { IfOk result (λ heads. view_body heads.starts.items ≡ starts_in (declared_in (map view_section sections.now))) }
 {
-    let declared = declared_in(alloc, &pou.sections)?;
-    Ok(Routine {
-        name: pou.name.copy(alloc)?,
+    let declared = declared_in(alloc, sections)?;
+    Ok(Heads {
         locals: locals_of(alloc, &declared)?,
         instances: instances_of(alloc, names, &declared)?,
         starts: starts_of(alloc, &declared)?,
-        body: copy_body(alloc, &pou.body)?,
+    })
+}
+
+/// The body of a block or program, of which the rest is let go.
+fn body_of(alloc: Global, pou: Pou) -> Vec<Stmt<Text>>
+    ensures { result.items ≡ pou.body.items }
+{
+    let mut pou = pou;
+    replace(&mut pou.body, Vec::new(alloc))
+}
+
+/// The routine of a block or program. Its body is moved. Fails if allocation fails.
+fn routine_of(alloc: Global, names: &Names, pou: Pou) -> Result<Routine, AllocError>
+    ensures { IfOk result (λ routine. view_routine routine ≡ routine_of names.now (view_pou pou)) }
+{
+    let name = pou.name.copy(alloc)?;
+    let Heads {
+        locals,
+        instances,
+        starts,
+    } = heads_of(alloc, names, &pou.sections)?;
+    Ok(Routine {
+        name,
+        locals,
+        instances,
+        starts,
+        body: body_of(alloc, pou),
     })
 }
 
 /// The routines of blocks or programs, in order. Fails if allocation fails.
-fn routines_of(alloc: Global, names: &Names, pous: &[&Pou]) -> Result<Vec<Routine>, AllocError>
-    ensures { IfOk result (λ routines. map view_routine routines.items ≡ map (routine_of names.now) (map (λ p. view_pou p.now) pous.now)) }
+fn routines_of(alloc: Global, names: &Names, pous: Vec<Pou>) -> Result<Vec<Routine>, AllocError>
+    ensures { IfOk result (λ routines. map view_routine routines.items ≡ map (routine_of names.now) (map view_pou pous.items)) }
 {
     let mut routines = Vec::new(alloc);
     for pou in pous {
-        routines.push(routine_of(alloc, names, *pou)?)?;
+        routines.push(routine_of(alloc, names, pou)?)?;
     }
     Ok(routines)
 }
@@ -215,27 +254,44 @@ fn declared_globals<'a>(alloc: Global, units: &'a [Unit]) -> Result<Vec<Declared
     Ok(list)
 }
 
-/// The source that units make, where no two blocks have one name. Fails if allocation fails.
-fn logic_in(alloc: Global, units: &[Unit]) -> Result<Logic, AllocError>
-    requires { repeats (map pou_word (block_pous (pous_of (map view_unit units.now)))) ≡ false }
-    ensures { IfOk result (λ logic. source_of logic ≡ source_in (map view_unit units.now)) }
+/// The globals of units, and their initial values. Fails if allocation fails.
+fn globals_in(
+    alloc: Global,
+    units: &[Unit],
+) -> Result<(Vec<Variable>, Vec<Stmt<Text>>), AllocError>
+    ensures globals { IfOk result (λ made. made.0.items ≡ flat_map global_of (declared_globals (map view_unit units.now))) }
+    ensures starts { IfOk result (λ made. view_body made.1.items ≡ starts_in (declared_globals (map view_unit units.now))) }
 {
     let declared = declared_globals(alloc, units)?;
-    let pous = pous_of(alloc, units)?;
-    let names = names_of(alloc, &pous.blocks)?;
+    let globals = globals_of(alloc, &declared)?;
+    Ok((globals, starts_of(alloc, &declared)?))
+}
+
+/// The source that units make, where no two blocks have one name. Fails if allocation fails.
+fn logic_in(alloc: Global, units: Vec<Unit>) -> Result<Logic, AllocError>
+    requires { repeats (map pou_word (block_pous (pous_of (map view_unit units.items)))) ≡ false }
+    ensures { IfOk result (λ logic. source_of logic ≡ source_in (map view_unit units.items)) }
+{
+    let (globals, starts) = globals_in(alloc, units.as_slice())?;
+    let Pous { blocks, programs } = pous_of(alloc, units)?;
+    let names = names_of(alloc, blocks.as_slice())?;
     Ok(Logic {
-        globals: globals_of(alloc, &declared)?,
-        starts: starts_of(alloc, &declared)?,
-        programs: routines_of(alloc, &names, &pous.programs)?,
-        blocks: routines_of(alloc, &names, &pous.blocks)?,
+        globals,
+        starts,
+        programs: routines_of(alloc, &names, programs)?,
+        blocks: routines_of(alloc, &names, blocks)?,
     })
 }
 
 /// The source that well-formed units make: their globals, their programs and their block types, each list in order of text. An instance
-/// has the number of its block type among these. Fails if allocation fails.
+/// has the number of its block type among these. The bodies are those of the units. Fails if allocation fails.
 #[tactic(auto, using(crate::proofs::Apart::typed_blocks_apart))]
-pub fn logic_of(alloc: Global, typed: &Typed<'_>) -> Result<Logic, AllocError>
-    ensures { IfOk result (λ logic. source_of logic ≡ source_in typed.now) }
+pub fn logic_of(alloc: Global, typed: Typed) -> Result<(Logic, Vec<usize>), AllocError>
+    ensures source { IfOk result (λ made. source_of made.0 ≡ source_in typed) }
+    ensures typed { IfOk result (λ made. AreTyped typed) }
+    ensures order { IfOk result (λ made. AreOrdered (blocks_of typed) made.1.items) }
 {
-    logic_in(alloc, typed.units())
+    let (units, order) = typed.into_parts();
+    let logic = logic_in(alloc, units)?;
+    Ok((logic, order))
 }

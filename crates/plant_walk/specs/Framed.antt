@@ -29,8 +29,8 @@ pub record HasStart (source : Source) (table : List Frame) : Type 0 where
   pub table_is : table ≡ start ∷ []
   pub is_start : IsStart source start
 
--- a sound source has its frames, the names of its globals, and where the values, the standard blocks and the paths of each program begin; each path number is one of 32 bits; and it has the code of each program, which tells what the program costs
-pub record IsFramed (source : Source) (order : List ℕ) (frames : List Frame) (names : List (List ℕ)) (values clocks paths : List ℕ) (codes : List PlainCode) : Type 0 where
+-- a sound source has its frames, the names of its globals, and where the values, the standard blocks and the paths of each program begin; each path number is one of 32 bits
+pub record IsLaid (source : Source) (order : List ℕ) (frames : List Frame) (names : List (List ℕ)) (values clocks paths : List ℕ) : Type 0 where
   pub sound : IsSound source
   pub below : AreBelow source.blocks order
   pub are_frames : IsFrames source order frames
@@ -39,4 +39,8 @@ pub record IsFramed (source : Source) (order : List ℕ) (frames : List Frame) (
   pub clocks_begin : AreBases (program_clocks_base source) (length source.programs) clocks
   pub paths_begin : AreBases (program_paths_base source) (length source.programs) paths
   pub paths_fit : program_paths_base source (length source.programs) < 2 ^ 32
+
+-- and it has the code of each program, which tells what the program costs
+pub record IsFramed (source : Source) (order : List ℕ) (frames : List Frame) (names : List (List ℕ)) (values clocks paths : List ℕ) (codes : List PlainCode) : Type 0 where
+  pub laid : IsLaid source order frames names values clocks paths
   pub codes_are : AreCodes frames (global_cells source) (length order) values clocks (program_costs source) codes

@@ -1,7 +1,7 @@
 //! The logic of a plant, made ready to run.
 
 ghost use Rattle.std.specs.Prelude.{◌≡◌, ◌<◌, ◌≤◌, ◌+◌, ◌*◌, ◌^◌, ◌++◌, [], IfErr, IfOk, IfSome, MatchResult, get_or, length, map, slice_index_or, string_bytes};
-ghost use Rattle.plant_logic.specs.Source.{source_of};
+ghost use Rattle.plant_logic.specs.Source.{global_cells, source_of};
 ghost use Rattle.plant_logic.specs.Names.{find_global};
 ghost use Rattle.plant_logic.specs.Units.{source_in};
 ghost use Rattle.plant_logic.specs.Blocks.{AreBelow, HasItsTypes};
@@ -13,7 +13,9 @@ ghost use Rattle.plant_limits.specs.Limits.{KeepsLimits, IsLimitFault};
 ghost use Rattle.block_frames.specs.Frames.{IsFrames};
 ghost use Rattle.block_frames.specs.Small.{IsSmall};
 ghost use Rattle.block_frames.specs.Stands.{StandFor};
-ghost use Rattle.plant_walk.specs.Framed.{HasStart, IsFramed, all_standards};
+ghost use Rattle.program_codes.specs.Codes.{AreCodes};
+ghost use Rattle.plant_walk.specs.Framed.{HasStart, IsLaid, all_standards};
+ghost use Rattle.plant_walk.specs.Kept.{IsKept};
 ghost use Rattle.plant_walk.specs.Headings.{heading_of, view_heading};
 ghost use Rattle.plant_walk.specs.Sound.{IsSound};
 ghost use Rattle.plant_walk.specs.Bases.{program_paths_base};
@@ -97,7 +99,7 @@ impl Model for Framed {
     ghost invariant = { λ framed. IsFramed (source_of framed.logic) framed.order.items framed.frames framed.names framed.values.items framed.clocks.items framed.paths.items framed.codes.items × IsKept (source_of framed.logic) framed.order.items framed.first framed.globals.items framed.programs.items framed.cells };
 }
 
-/// What is made of a source, so that it can run.
+/// What is made of a source, so that its programs can get their codes.
 #[derive(Drop)]
 struct Made {
     frames: Vec<Frame>,
@@ -106,7 +108,19 @@ struct Made {
     standards: Standards,
     values: Vec<usize>,
     paths: Vec<u32>,
-    codes: Vec<Code>,
+}
+
+/// What is kept of a source whose programs can get their codes: all but these.
+#[derive(Drop)]
+struct Laid {
+    seats: SeatTable,
+    globals: Vec<Variable>,
+    programs: Vec<Heading>,
+    names: Names,
+    cells: Cells,
+    values: Vec<usize>,
+    clocks: Vec<usize>,
+    paths: Vec<u32>,
 }
 
 /// The frame of a source's initial values, in a table of its own. Fails if allocation fails.
@@ -137,30 +151,19 @@ fn tables_of(
     Ok((frames_of(alloc, logic, order)?, start))
 }
 
-/// What is made of a sound source, by what its programs cost. Fails if allocation fails.
-fn made_of(alloc: Global, logic: &Logic, order: &[usize], costs: &[u64]) -> Result<Made, AllocError>
+/// What is made of a sound source. Fails if allocation fails.
+fn made_of(alloc: Global, logic: &Logic, order: &[usize]) -> Result<Made, AllocError>
     requires sound { IsSound (source_of logic.now) }
     requires below { AreBelow (source_of logic.now).blocks order.now }
-    requires costs { costs.now ≡ program_costs (source_of logic.now) }
-    ensures framed { IfOk result (λ m. IsFramed (source_of logic.now) order.now m.frames.items m.names m.values.items m.standards.bases.items m.paths.items m.codes.items) }
+    ensures laid { IfOk result (λ m. IsLaid (source_of logic.now) order.now m.frames.items m.names m.values.items m.standards.bases.items m.paths.items) }
     ensures start { IfOk result (λ m. HasStart (source_of logic.now) m.start.items) }
     ensures standards { IfOk result (λ m. m.standards.list.items ≡ all_standards (source_of logic.now)) }
 {
     block_type_counts();
-    typed_names_are_known();
     let values = value_bases(alloc, logic, order)?;
     let (frames, start) = tables_of(alloc, logic, order)?;
     let paths = path_bases(alloc, logic, order, &frames)?;
     let standards = standards_of(alloc, logic, order, &frames)?;
-    let codes = codes_of(
-        alloc,
-        &frames,
-        logic.globals.len(),
-        order.len(),
-        &values,
-        &standards.bases,
-        costs,
-    )?;
     Ok(Made {
         names: global_names(alloc, &logic.globals)?,
         frames,
@@ -168,13 +171,12 @@ fn made_of(alloc: Global, logic: &Logic, order: &[usize], costs: &[u64]) -> Resu
         standards,
         values,
         paths,
-        codes,
     })
 }
 
 /// The cells before the first scan, by what is made of a source. Fails if allocation fails.
 fn opened(alloc: Global, logic: &Logic, order: &[usize], made: &Made) -> Result<Cells, AllocError>
-    requires framed { IsFramed (source_of logic.now) order.now made.now.frames.items made.now.names made.now.values.items made.now.standards.bases.items made.now.paths.items made.now.codes.items }
+    requires laid { IsLaid (source_of logic.now) order.now made.now.frames.items made.now.names made.now.values.items made.now.standards.bases.items made.now.paths.items }
     requires start { HasStart (source_of logic.now) made.now.start.items }
     requires standards { made.now.standards.list.items ≡ all_standards (source_of logic.now) }
     ensures { IfOk result (λ cells. StandFor (source_of logic.now) cells (opening (source_of logic.now))) }
@@ -195,54 +197,104 @@ fn opened(alloc: Global, logic: &Logic, order: &[usize], made: &Made) -> Result<
     Ok(cells)
 }
 
-/// What is made of a sound source, with the cells before the first scan. Fails if allocation fails.
-fn opened_of(
+/// What is kept of a sound source, and the frames that its codes are made of. Fails if allocation fails.
+fn laid_of(
     alloc: Global,
     logic: &Logic,
     order: &[usize],
-    costs: &[u64],
-) -> Result<(Made, SeatTable, Cells), AllocError>
+) -> Result<(Laid, Vec<Frame>), AllocError>
     requires sound { IsSound (source_of logic.now) }
     requires below { AreBelow (source_of logic.now).blocks order.now }
-    requires costs { costs.now ≡ program_costs (source_of logic.now) }
-    ensures framed { IfOk result (λ m. IsFramed (source_of logic.now) order.now m.1 m.0.names m.0.values.items m.0.standards.bases.items m.0.paths.items m.0.codes.items) }
-    ensures opens { IfOk result (λ m. StandFor (source_of logic.now) m.2 (opening (source_of logic.now))) }
-{
-    let made = made_of(alloc, logic, order, costs)?;
-    let opening = opened(alloc, logic, order, &made)?;
-    let frames = SeatTable::of(alloc, &made.frames)?;
-    Ok((made, frames, opening))
-}
-
-/// A sound source made ready to run, by what its programs cost. Of its statements nothing is kept. Fails if allocation fails.
-fn ready(
-    alloc: Global,
-    logic: &Logic,
-    order: &Vec<usize>,
-    costs: &[u64],
-) -> Result<Framed, AllocError>
-    requires sound { IsSound (source_of logic.now) }
-    requires below { AreBelow (source_of logic.now).blocks order.now.items }
-    requires costs { costs.now ≡ program_costs (source_of logic.now) }
-    ensures { IfOk result (λ framed. framed ≡ source_of logic.now) }
+    ensures seats { IfOk result (λ m. m.0.seats ≡ m.1.items) }
+    ensures laid { IfOk result (λ m. IsLaid (source_of logic.now) order.now m.1.items m.0.names m.0.values.items m.0.clocks.items m.0.paths.items) }
+    ensures kept { IfOk result (λ m. IsKept (source_of logic.now) order.now (length order.now) m.0.globals.items m.0.programs.items m.0.cells) }
 {
     let globals = copy_variables(alloc, &logic.globals)?;
     let programs = headings_of(alloc, &logic.programs)?;
-    let (made, frames, cells) = opened_of(alloc, logic, order, costs)?;
+    let made = made_of(alloc, logic, order)?;
+    let cells = opened(alloc, logic, order, &made)?;
+    let seats = SeatTable::of(alloc, &made.frames)?;
     let Made {
+        frames,
         names,
         standards,
         values,
         paths,
-        codes,
         ..
     } = made;
+    let laid = Laid {
+        seats,
+        globals,
+        programs,
+        names,
+        cells,
+        values,
+        clocks: standards.bases,
+        paths,
+    };
+    Ok((laid, frames))
+}
+
+/// The codes of the programs of a source, by what is kept of it and what its programs cost. Its frames are let go. Fails if allocation fails.
+fn codes_in(
+    alloc: Global,
+    logic: &Shown<Logic>,
+    order: &[usize],
+    laid: &Laid,
+    frames: Vec<Frame>,
+    costs: &[u64],
+) -> Result<Vec<Code>, AllocError>
+    requires laid { IsLaid (source_of logic.now) order.now frames.items laid.now.names laid.now.values.items laid.now.clocks.items laid.now.paths.items }
+    requires globals { laid.now.globals.items ≡ (source_of logic.now).globals }
+    requires costs { costs.now ≡ program_costs (source_of logic.now) }
+    ensures { IfOk result (λ codes. AreCodes frames.items (global_cells (source_of logic.now)) (length order.now) laid.now.values.items laid.now.clocks.items (program_costs (source_of logic.now)) codes.items) }
+{
+    block_type_counts();
+    typed_names_are_known();
+    let codes = codes_of(
+        alloc,
+        frames,
+        laid.globals.len(),
+        order.len(),
+        &laid.values,
+        &laid.clocks,
+        costs,
+    )?;
+    Ok(codes)
+}
+
+/// A source made ready to run, by what is kept of it, by its frames, which are let go, and by what its programs cost. Fails if allocation fails.
+fn framed_by(
+    alloc: Global,
+    logic: Shown<Logic>,
+    order: &Vec<usize>,
+    laid: Laid,
+    frames: Vec<Frame>,
+    costs: &[u64],
+) -> Result<Framed, AllocError>
+    requires seats { laid.seats ≡ frames.items }
+    requires laid { IsLaid (source_of logic) order.now.items frames.items laid.names laid.values.items laid.clocks.items laid.paths.items }
+    requires kept { IsKept (source_of logic) order.now.items (length order.now.items) laid.globals.items laid.programs.items laid.cells }
+    requires costs { costs.now ≡ program_costs (source_of logic) }
+    ensures { IfOk result (λ framed. framed ≡ source_of logic) }
+{
+    let codes = codes_in(alloc, &logic, order, &laid, frames, costs)?;
+    let Laid {
+        seats,
+        globals,
+        programs,
+        names,
+        cells,
+        values,
+        clocks,
+        paths,
+    } = laid;
     Ok(Framed {
-        logic: Shown::of(logic),
+        logic,
         order: Shown::of(order),
         values: Shown::of(&values),
-        clocks: Shown::of(&standards.bases),
-        frames,
+        clocks: Shown::of(&clocks),
+        frames: seats,
         first: order.len(),
         globals,
         programs,
@@ -253,15 +305,40 @@ fn ready(
     })
 }
 
+/// A sound source made ready to run, by what its programs cost. Its statements are let go as soon as it has its frames, and these as its programs
+/// get their codes: nothing of either is kept. Fails if allocation fails.
+fn ready(
+    alloc: Global,
+    logic: Logic,
+    order: &Vec<usize>,
+    costs: &[u64],
+) -> Result<Framed, AllocError>
+    requires sound { IsSound (source_of logic) }
+    requires below { AreBelow (source_of logic).blocks order.now.items }
+    requires costs { costs.now ≡ program_costs (source_of logic) }
+    ensures { IfOk result (λ framed. framed ≡ source_of logic) }
+{
+    let shown = Shown::of(&logic);
+    let made = laid_of(alloc, &logic, order);
+    drop(logic);
+    let (laid, frames) = made?;
+    framed_by(alloc, shown, order, laid, frames, costs)
+}
+
 /// A source made ready to run, if it keeps the limits; else the first limit that it is past, or `Memory` where an allocation failed.
-fn judged(alloc: Global, logic: &Logic, order: &Vec<usize>) -> Result<Framed, LimitFault>
-    requires sound { KeepsLimits (source_of logic.now) → IsSound (source_of logic.now) }
-    requires below { AreBelow (source_of logic.now).blocks order.now.items }
-    ensures made { MatchResult result (λ framed. (framed ≡ source_of logic.now) × KeepsLimits (source_of logic.now)) (IsLimitFault (source_of logic.now)) }
+fn judged(alloc: Global, logic: Logic, order: &Vec<usize>) -> Result<Framed, LimitFault>
+    requires sound { KeepsLimits (source_of logic) → IsSound (source_of logic) }
+    requires below { AreBelow (source_of logic).blocks order.now.items }
+    ensures made { MatchResult result (λ framed. (framed ≡ source_of logic) × KeepsLimits (source_of logic)) (IsLimitFault (source_of logic)) }
     ensures sound { IfOk result IsSound }
 {
-    let costs = limits(alloc, logic, order)?;
-    Ok(ready(alloc, logic, order, &costs)?)
+    match limits(alloc, &logic, order) {
+        Ok(costs) => Ok(ready(alloc, logic, order, &costs)?),
+        Err(fault) => {
+            drop(logic);
+            Err(fault)
+        }
+    }
 }
 
 /// How a run of the program whose first path has a number ends, by how the run of its frame ended.
@@ -282,20 +359,16 @@ pub fn walked(base: u32, ended: Result<(), Stop>) -> Walked
 }
 
 impl Framed {
-    /// Makes the logic of well-formed units ready to run.
+    /// Makes the logic of well-formed units ready to run. The units are let go.
     ///
     /// Fails with the first limit that it is past: `Slots`, `Size` or `Cost`; and with `Memory` where an allocation failed.
-    pub fn of(alloc: Global, typed: &Typed<'_>) -> Result<Framed, LimitFault>
-        ensures made { MatchResult result (λ framed. (framed ≡ source_in typed.now) × KeepsLimits (source_in typed.now)) (IsLimitFault (source_in typed.now)) }
+    pub fn of(alloc: Global, typed: Typed) -> Result<Framed, LimitFault>
+        ensures made { MatchResult result (λ framed. (framed ≡ source_in typed) × KeepsLimits (source_in typed)) (IsLimitFault (source_in typed)) }
         ensures sound { IfOk result IsSound }
     {
         order_is_of_source();
-        let _units = typed.units();
-        let logic = logic_of(alloc, typed)?;
-        let order = Vec::from_slice(alloc, typed.order())?;
-        let framed = judged(alloc, &logic, &order);
-        drop(logic);
-        framed
+        let (logic, order) = logic_of(alloc, typed)?;
+        judged(alloc, logic, &order)
     }
 
     /// The same logic. Fails if allocation fails.

@@ -49,26 +49,27 @@ fn code_of(
 /// The codes of the programs of a table, which are its frames from a number on, in their order. The rows have the numbers at which the values
 /// and the clocks of each program begin, and behind them where those of the last one end. The costs are told by the codes: no program costs more
 /// before its constants are folded. Each slot and each clock that a program names is to be a number of 32 bits, and each frame so small that its
-/// lines are numbered so, too. Fails if allocation fails.
+/// lines are numbered so, too. The table is let go: of each frame as soon as its constants are folded, and all of it with the last code. Fails if
+/// allocation fails.
 pub fn codes_of(
     alloc: Global,
-    frames: &[Frame],
+    frames: Vec<Frame>,
     globals: usize,
     first: usize,
     values: &[usize],
     clocks: &[usize],
     costs: &[u64],
 ) -> Result<Vec<Code>, AllocError>
-    requires in_turn { AreInTurn frames.now }
-    requires steady { AreSteady frames.now }
-    requires named { AllNamesFit frames.now globals first values.now clocks.now costs.now }
-    requires small { AreSmall frames.now }
-    requires values { length frames.now + 1 ≡ first + length values.now }
+    requires in_turn { AreInTurn frames.items }
+    requires steady { AreSteady frames.items }
+    requires named { AllNamesFit frames.items globals first values.now clocks.now costs.now }
+    requires small { AreSmall frames.items }
+    requires values { length frames.items + 1 ≡ first + length values.now }
     requires clocks { length clocks.now ≡ length values.now }
     requires costs { length costs.now + 1 ≡ length values.now }
-    requires there { first ≤ length frames.now }
-    requires enough { CostNoMore frames.now first costs.now }
-    ensures { IfOk result (λ codes. AreCodes frames.now globals first values.now clocks.now costs.now codes.items) }
+    requires there { first ≤ length frames.items }
+    requires enough { CostNoMore frames.items first costs.now }
+    ensures { IfOk result (λ codes. AreCodes frames.items globals first values.now clocks.now costs.now codes.items) }
 {
     folded_body_does_same::<usize, Cells>();
     folded_constants_are_literals::<usize>();

@@ -91,16 +91,14 @@ fn judged(alloc: Global, logic: Logic, order: Vec<usize>) -> Result<Walker, Limi
 }
 
 impl Walker {
-    /// The source of well-formed units, with its frames.
+    /// The source of well-formed units, with its frames. The bodies of the units are kept as they are.
     ///
     /// Fails with the first limit that it is past: `Slots`, `Size` or `Cost`; and with `Memory` if memory was refused.
-    pub fn of(alloc: Global, typed: &Typed<'_>) -> Result<Walker, LimitFault>
-        ensures { MatchResult result (λ walker. walker ≡ source_in typed.now) (IsLimitFault (source_in typed.now)) }
+    pub fn of(alloc: Global, typed: Typed) -> Result<Walker, LimitFault>
+        ensures { MatchResult result (λ walker. walker ≡ source_in typed) (IsLimitFault (source_in typed)) }
     {
         order_is_of_source();
-        let _units = typed.units();
-        let logic = logic_of(alloc, typed)?;
-        let order = Vec::from_slice(alloc, typed.order())?;
+        let (logic, order) = logic_of(alloc, typed)?;
         judged(alloc, logic, order)
     }
 

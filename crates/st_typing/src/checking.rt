@@ -1,12 +1,12 @@
 //! Checks sources: names, kinds, blocks, constants, then limits.
 
-ghost use Rattle.std.specs.Prelude.{◌≡◌, MatchResult, map};
+ghost use Rattle.std.specs.Prelude.{◌≡◌, IfErr, MatchResult, map};
 ghost use Rattle.st_parser.specs.Units.{view_unit};
 ghost use Rattle.st_typing.specs.Faults.{AreKinded, AreApart, AreConstant, IsTyped, IsNested, IsTypeFault};
 
 use crate::blocks::blocks_of;
 use crate::constants::{globals_inconstant, pou_inconstant};
-use crate::fault::TypeFault;
+use crate::fault::{Mistyped, TypeFault};
 use crate::kinds::{globals_misfit, pou_misfit};
 use crate::limits::{some_long, too_many};
 use crate::typed::Typed;
@@ -125,12 +125,9 @@ fn check_limits(
     Ok(order)
 }
 
-/// Checks all sources of a plant: names (C6), kinds (C7), blocks that hold themselves (C8), constants (C9), then turns, depth of blocks
-/// and the number of programs (C10).
-///
-/// Fails for the first of these rules that is broken, at the first unit, in order of text, that breaks it, or if allocation fails.
-pub fn check<'a>(alloc: Global, units: &'a [Unit]) -> Result<Typed<'a>, TypeFault>
-    ensures { MatchResult result (λ typed. typed ≡ map view_unit units.now) (IsTypeFault (map view_unit units.now)) }
+/// The order of the function blocks of well-formed sources. Fails as `check` does.
+fn order_of(alloc: Global, units: &[Unit]) -> Result<Vec<usize>, TypeFault>
+    ensures { MatchResult result (λ order. IsTyped (map view_unit units.now) order.items) (IsTypeFault (map view_unit units.now)) }
 {
     let shared = SharedNames::new(alloc, units)?;
     if let Err(fault) = check_kinds(alloc, &shared) {
@@ -143,8 +140,20 @@ pub fn check<'a>(alloc: Global, units: &'a [Unit]) -> Result<Typed<'a>, TypeFaul
     if let Err(fault) = check_constants(alloc, &shared) {
         return Err(fault);
     }
-    match check_limits(alloc, units, order) {
-        Ok(order) => Ok(Typed::new(shared, order)),
-        Err(fault) => Err(fault),
+    check_limits(alloc, units, order)
+}
+
+/// Checks all sources of a plant: names (C6), kinds (C7), blocks that hold themselves (C8), constants (C9), then turns, depth of blocks
+/// and the number of programs (C10). What is well formed keeps the sources, and copies nothing of them.
+///
+/// Fails for the first of these rules that is broken, at the first unit, in order of text, that breaks it, or if allocation fails; and gives the
+/// sources back.
+pub fn check(alloc: Global, units: Vec<Unit>) -> Result<Typed, Mistyped>
+    ensures judged { MatchResult result (λ typed. typed ≡ map view_unit units.items) (λ mistyped. IsTypeFault (map view_unit units.items) mistyped.fault) }
+    ensures given_back { IfErr result (λ mistyped. mistyped.units.items ≡ units.items) }
+{
+    match order_of(alloc, units.as_slice()) {
+        Ok(order) => Ok(Typed::new(units, order)),
+        Err(fault) => Err(Mistyped { fault, units }),
     }
 }

@@ -1,6 +1,7 @@
 //! Why a plant's sources are refused.
 
 use st_names::UnitPlace;
+use st_parser::Unit;
 use std::alloc::AllocError;
 
 /// Why sources aren't well formed. A place is the first unit, in order of text, that has the fault.
@@ -34,5 +35,17 @@ impl From<AllocError> for TypeFault {
 
     fn from(_: AllocError) -> TypeFault {
         TypeFault::Memory
+    }
+}
+
+/// Sources that aren't well formed: why, and the sources, which are given back to whom they were taken from.
+pub struct Mistyped {
+    pub fault: TypeFault,
+    pub units: Vec<Unit>,
+}
+
+impl Drop for Mistyped {
+    fn drop(self) {
+        let Mistyped { fault: _, units: _ } = self;
     }
 }

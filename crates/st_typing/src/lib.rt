@@ -15,6 +15,6 @@ mod typed;
 
 pub use checking::check;
 pub use constants::for_turns;
-pub use fault::TypeFault;
+pub use fault::{Mistyped, TypeFault};
 pub use laws::{one_type_fault, spelled_globals_stand, typed_or_not};
 pub use typed::Typed;

@@ -6,29 +6,26 @@ ghost use Rattle.st_parser.specs.Units.{view_unit};
 ghost use Rattle.st_typing.specs.Blocks.{blocks_of};
 ghost use Rattle.st_typing.specs.Faults.{AreTyped, IsTyped};
 
-use st_names::SharedNames;
 use st_parser::Unit;
 use std::marker::Model;
 
 /// The sources of a plant, well formed: each name in them stands for something, each expression has the kind that it must have, no
-/// function block holds itself, initial values and the bounds of FOR are constant, and the limits are kept. Contracts see the sources.
-pub struct Typed<'a> {
-    shared: SharedNames<'a>,
+/// function block holds itself, initial values and the bounds of FOR are constant, and the limits are kept. It owns the sources. Contracts see
+/// these.
+pub struct Typed {
+    units: Vec<Unit>,
     order: Vec<usize>,
 }
 
-impl Drop for Typed<'_> {
+impl Drop for Typed {
     fn drop(self) {
-        let Typed {
-            shared: _,
-            order: _,
-        } = self;
+        let Typed { units: _, order: _ } = self;
     }
 }
 
-impl<'a> Model for Typed<'a> {
-    ghost use Rattle.std.specs.Prelude.{List};
-    ghost use Rattle.st_parser.specs.Units.{PlainUnit};
+impl Model for Typed {
+    ghost use Rattle.std.specs.Prelude.{List, map};
+    ghost use Rattle.st_parser.specs.Units.{PlainUnit, view_unit};
     ghost use Rattle.st_names.specs.Code.{units_code};
     ghost use Rattle.st_typing.specs.Faults.{IsTyped};
 
@@ -36,39 +33,42 @@ impl<'a> Model for Typed<'a> {
 
     ghost coded = { units_code };
 
-    ghost view = { λ typed. typed.shared };
+    ghost view = { λ typed. map view_unit typed.units.items };
 
-    ghost invariant = { λ typed. IsTyped typed.shared typed.order.items };
+    ghost invariant = { λ typed. IsTyped (map view_unit typed.units.items) typed.order.items };
 }
 
-impl<'a> Typed<'a> {
-    /// Well-formed sources, by the names that they share and an order of their function blocks.
-    pub(crate) fn new(shared: SharedNames<'a>, order: Vec<usize>) -> Typed<'a>
-        requires { IsTyped shared order.items }
-        ensures { result ≡ shared.entry }
+impl Typed {
+    /// Well-formed sources, with an order of their function blocks.
+    pub(crate) fn new(units: Vec<Unit>, order: Vec<usize>) -> Typed
+        requires { IsTyped (map view_unit units.items) order.items }
+        ensures { result ≡ map view_unit units.items }
     {
-        Typed { shared, order }
+        Typed { units, order }
     }
 
     /// The sources.
-    pub fn units(&self) -> &'a [Unit]
+    pub fn units(&self) -> &[Unit]
         ensures units { map view_unit result.now ≡ self.now }
         ensures typed { AreTyped self.now }
     {
-        self.shared.units()
-    }
-
-    /// The names that the sources share.
-    pub fn shared(&self) -> &SharedNames<'a>
-        ensures { result.now ≡ self.now }
-    {
-        &self.shared
+        self.units.as_slice()
     }
 
     /// The numbers of the function blocks, from 0 in their order of text, each after those that it declares.
     pub fn order(&self) -> &[usize]
         ensures { AreOrdered (blocks_of self.now) result.now }
     {
-        &self.order
+        self.order.as_slice()
+    }
+
+    /// The sources and the order of their function blocks, apart: the sources are moved out, and nothing of them is copied.
+    pub fn into_parts(self) -> (Vec<Unit>, Vec<usize>)
+        ensures units { map view_unit result.0.items ≡ self }
+        ensures typed { AreTyped self }
+        ensures order { AreOrdered (blocks_of self) result.1.items }
+    {
+        let Typed { units, order } = self;
+        (units, order)
     }
 }

@@ -4,7 +4,6 @@ use plant_limits::LimitFault;
 use plant_sources::{SourceFault, units};
 use plant_walk::Framed;
 use source_walks::Walker;
-use st_parser::Unit;
 use st_typing::{TypeFault, Typed, check};
 use std::alloc::Global;
 
@@ -34,66 +33,47 @@ fn why_not(fault: LimitFault) -> Unready {
     }
 }
 
-/// The logic of well-formed units, to be walked.
-fn walker_of(alloc: Global, typed: &Typed<'_>) -> Result<Walker, Unready> {
-    match Walker::of(alloc, typed) {
-        Ok(walker) => Ok(walker),
+/// The well-formed units of sources, each by its name and its text.
+fn typed_of(alloc: Global, sources: &[(&str, &[u8])]) -> Result<Typed, Unready> {
+    match units(alloc, sources) {
+        Ok(units) => match check(alloc, units) {
+            Ok(typed) => Ok(typed),
+            Err(mistyped) => match mistyped.fault {
+                TypeFault::Memory => Err(Unready::Memory),
+                _ => Err(Unready::Unfit),
+            },
+        },
+        Err(SourceFault::Memory) => Err(Unready::Memory),
+        Err(_) => Err(Unready::Unfit),
+    }
+}
+
+/// The logic of a source, to be run by its codes.
+fn framed_of(alloc: Global, source: &[u8]) -> Result<Framed, Unready> {
+    let typed = typed_of(alloc, &[("p.st", source)])?;
+    match Framed::of(alloc, typed) {
+        Ok(framed) => Ok(framed),
         Err(fault) => Err(why_not(fault)),
     }
 }
 
-/// The logic of well-formed units, in both forms.
-fn both_of(alloc: Global, typed: &Typed<'_>) -> Result<Ready, Unready> {
-    let walker = walker_of(alloc, typed)?;
-    match Framed::of(alloc, typed) {
-        Ok(framed) => Ok(Ready { framed, walker }),
-        Err(fault) => {
-            drop(walker);
-            Err(why_not(fault))
-        }
-    }
-}
-
-/// The logic of units, in both forms.
-fn both_in(alloc: Global, units: &[Unit]) -> Result<Ready, Unready> {
-    match check(alloc, units) {
-        Ok(typed) => both_of(alloc, &typed),
-        Err(TypeFault::Memory) => Err(Unready::Memory),
-        Err(_) => Err(Unready::Unfit),
-    }
-}
-
-/// The logic of units, to be walked.
-fn walker_in(alloc: Global, units: &[Unit]) -> Result<Walker, Unready> {
-    match check(alloc, units) {
-        Ok(typed) => walker_of(alloc, &typed),
-        Err(TypeFault::Memory) => Err(Unready::Memory),
-        Err(_) => Err(Unready::Unfit),
-    }
-}
-
-/// The logic of a source, in both forms. Fails where it can't be run.
+/// The logic of a source, in both forms, each of which is made of units of its own. Fails where it can't be run.
 pub fn made_ready(alloc: Global, source: &[u8]) -> Result<Ready, Unready> {
-    match units(alloc, &[("p.st", source)]) {
-        Ok(units) => {
-            let ready = both_in(alloc, &units);
-            drop(units);
-            ready
+    let walker = walker_of_sources(alloc, &[("p.st", source)])?;
+    match framed_of(alloc, source) {
+        Ok(framed) => Ok(Ready { framed, walker }),
+        Err(why) => {
+            drop(walker);
+            Err(why)
         }
-        Err(SourceFault::Memory) => Err(Unready::Memory),
-        Err(_) => Err(Unready::Unfit),
     }
 }
 
 /// The logic of sources, each by its name and its text, to be walked. Fails where it can't be run.
 pub fn walker_of_sources(alloc: Global, sources: &[(&str, &[u8])]) -> Result<Walker, Unready> {
-    match units(alloc, sources) {
-        Ok(units) => {
-            let walker = walker_in(alloc, &units);
-            drop(units);
-            walker
-        }
-        Err(SourceFault::Memory) => Err(Unready::Memory),
-        Err(_) => Err(Unready::Unfit),
+    let typed = typed_of(alloc, sources)?;
+    match Walker::of(alloc, typed) {
+        Ok(walker) => Ok(walker),
+        Err(fault) => Err(why_not(fault)),
     }
 }

@@ -5,5 +5,5 @@ use Rattle.part_rows.proofs.sources.push_logic_of.Goals as goal
 
 pub push_seen-requires : goal.push_seen-requires
 push_seen-requires c =
-    subst (λ (s : Source). AreBelow s.blocks c.order-order.result.now) (sym c.in_ok-logic.ensures)
-    (c.order_is_of_source.ensures c.args.typed.now c.order-order.result.now c.units-units.ensures.typed c.order-order.ensures)
+    let made = c.in_ok-logic.ensures in
+    subst (λ (s : Source). AreBelow s.blocks c.deref.result.now) (sym made.source) (c.order_is_of_source.ensures c.args.typed c.deref.result.now made.typed (subst _ (sym c.deref.ensures.value) made.order))

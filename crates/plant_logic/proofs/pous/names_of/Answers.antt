@@ -8,10 +8,10 @@ use Rattle.plant_logic.proofs.pous.names_of.Goals as goal
 
 pub loop-block-preserved : goal.loop-block-preserved
 loop-block-preserved c =
-    let apart : repeats (map (λ p. pou_word (view_pou p.now)) c.args.blocks.now) ≡ false = ap repeats (fused pou_word (λ p. view_pou p.now) c.args.blocks.now) ∙ c.requires in
-    names_more (λ p. p.now.name) c.args.blocks.now c.loop-block.block-index c.block-item.result c.loop-block-test.true c.block-item.is c.loop-block.names c.add.new.self c.in_ok-_is_new._is_new apart c.loop-block.invariant (rw c.as_str.ensures at c.in_ok-_is_new.ensures.added) (rw c.as_str.ensures at c.in_ok-_is_new.ensures.names)
+    let apart : repeats (map (λ p. pou_word (view_pou p)) c.args.blocks.now) ≡ false = ap repeats (fused pou_word view_pou c.args.blocks.now) ∙ c.requires in
+    names_more (λ p. p.name) c.args.blocks.now c.loop-block.block-index c.block-item.result c.loop-block-test.true c.block-item.is c.loop-block.names c.add.new.self c.in_ok-_is_new._is_new apart c.loop-block.invariant (rw c.as_str.ensures at c.in_ok-_is_new.ensures.added) (rw c.as_str.ensures at c.in_ok-_is_new.ensures.names)
 
 pub returns : goal.returns
 returns c =
-    c.loop-block.invariant ∙ ap (λ ps. map (λ p. p.now.name) ps) (take_all c.loop-block.block-index c.args.blocks.now c.loop-block-test.false)
-    ∙ fused (λ (p : PlainPou). p.name) (λ p. view_pou p.now) c.args.blocks.now
+    c.loop-block.invariant ∙ ap (λ ps. map (λ p. p.name) ps) (take_all c.loop-block.block-index c.args.blocks.now c.loop-block-test.false)
+    ∙ fused (λ (p : PlainPou). p.name) view_pou c.args.blocks.now

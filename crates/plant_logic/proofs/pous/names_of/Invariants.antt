@@ -3,4 +3,4 @@ use Rattle.plant_logic.proofs.pous.names_of.Given as goal
 
 -- the names so far
 abbrev pub invariant-loop-block : goal.invariant-loop-block
-invariant-loop-block l = l.names ≡ map (λ p. p.now.name) (take l.block-index l.blocks)
+invariant-loop-block l = l.names ≡ map (λ p. p.name) (take l.block-index l.blocks)

@@ -5,6 +5,6 @@ use Rattle.program_codes.proofs.codes.codes_of.Given as goal
 abbrev pub invariant-loop-n : goal.invariant-loop-n
 invariant-loop-n l = record {
   many : length l.codes.items ≡ l.n;
-  each : EachIsCode l.frames l.globals l.first l.values l.clocks l.costs l.codes.items;
-  made : EachIsMade l.frames l.globals l.first l.values l.clocks l.costs l.codes.items;
+  each : EachIsCode l.fn.frames.items l.globals l.first l.values l.clocks l.costs l.codes.items;
+  made : EachIsMade l.fn.frames.items l.globals l.first l.values l.clocks l.costs l.codes.items;
 }

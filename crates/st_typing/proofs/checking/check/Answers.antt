@@ -1,10 +1,7 @@
-use Rattle.std.proofs.Common.{◌≡◌, subst, map}
+use Rattle.std.proofs.Common.{subst, map}
 use Rattle.st_parser.specs.Units.{view_unit}
 use Rattle.st_typing.specs.Faults.{IsTypeFault}
 use Rattle.st_typing.proofs.checking.check.Goals as goal
 
-pub returns-in-Err : goal.returns-in-Err
-returns-in-Err c = subst (λ units. IsTypeFault units c.in-Err.fault) c.in_ok-shared.ensures c.in-Err.ensures
-
-pub returns-in-Err-check_constants : goal.returns-in-Err-check_constants
-returns-in-Err-check_constants c = subst (λ units. IsTypeFault units c.in-Err-check_constants.fault) c.in_ok-shared.ensures c.in-Err-check_constants.ensures
+pub returns-in-Err-clause-judged : goal.returns-in-Err-clause-judged
+returns-in-Err-clause-judged c = subst (λ l. IsTypeFault (map view_unit l) c.in-Err.fault) c.as_slice.ensures.value c.in-Err.ensures

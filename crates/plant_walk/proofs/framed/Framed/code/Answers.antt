@@ -18,16 +18,16 @@ pub returns : goal.returns
 returns c =
     let inside = c.self.inside in
     let source = source_of inside.logic in
-    let are = c.self.invariant.0 in
+    let are = c.self.invariant.0.laid in
     let frames = inside.frames in
     let order = inside.order.items in
     let n = c.args.program in
     let there : n < length source.programs = subst (λ (s : Source). n < length s.programs) (sym c.self.view_is) c.requires in
-    let long = are.codes_are.long in
+    let long = c.self.invariant.0.codes_are.long in
     let rows = are.values_begin.long in
     let code = c.index-code.result.now in
     let at : slice_get inside.codes.items n ≡ Some code = slice_get_read inside.codes.items (length inside.codes.items) n code refl (omega (arith, there, long, rows)) c.index-code.ensures in
-    let made = are.codes_are.each n code at in
+    let made = c.self.invariant.0.codes_are.each n code at in
     let values_are = are.values_begin.each n (omega (arith, there)) in
     let clocks_are = are.clocks_begin.each n (omega (arith, there)) in
     let base_is : base_in inside.values.items inside.clocks.items n ≡ program_base source n = λ i. record { values = values_are i; clocks = clocks_are i } in

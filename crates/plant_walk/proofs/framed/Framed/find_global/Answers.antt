@@ -10,10 +10,10 @@ use Rattle.plant_walk.proofs.framed.Framed.find_global.Goals as goal
 
 pub returns-clause-number : goal.returns-clause-number
 returns-clause-number c =
-    c.find.ensures.number ∙ ap (λ names. find_name names c.args.name.now) c.self.invariant.0.names_are ∙ global_found c.self.inside.logic.globals.items c.args.name.now
+    c.find.ensures.number ∙ ap (λ names. find_name names c.args.name.now) c.self.invariant.0.laid.names_are ∙ global_found c.self.inside.logic.globals.items c.args.name.now
     ∙ ap (λ (s : Source). find_global s.globals c.args.name.now) c.self.view_is
 
 pub returns-clause-within : goal.returns-clause-within
 returns-clause-within c =
-    let many = ap length c.self.invariant.0.names_are ∙ length-map c.self.inside.logic.globals.items (λ (g : Variable). g.name) ∙ ap (λ (s : Source). length s.globals) c.self.view_is in
+    let many = ap length c.self.invariant.0.laid.names_are ∙ length-map c.self.inside.logic.globals.items (λ (g : Variable). g.name) ∙ ap (λ (s : Source). length s.globals) c.self.view_is in
     subst (λ n. IfSome c.find.result (λ number. number < n)) many c.find.ensures.within

@@ -11,7 +11,7 @@ pub returns-clause-base : goal.returns-clause-base
 returns-clause-base c =
     let inside = c.self.inside in
     let source = source_of inside.logic in
-    let are = c.self.invariant.0 in
+    let are = c.self.invariant.0.laid in
     let n = c.args.program in
     let there : n < length source.programs = subst (λ (s : Source). n < length s.programs) (sym c.self.view_is) c.requires in
     let long = are.paths_begin.long in
@@ -24,6 +24,6 @@ returns-clause-fits c =
     let n = c.args.program in
     let there : n < length source.programs = subst (λ (s : Source). n < length s.programs) (sym c.self.view_is) c.requires in
     let within = paths_within source n (the_program source n) (is_there source n there) in
-    let all = c.self.invariant.0.paths_fit in
+    let all = c.self.invariant.0.laid.paths_fit in
     let fits : program_paths_base source n + length (paths_in source n) < 2 ^ 32 = omega (arith, within, all) in
     subst (λ (s : Source). program_paths_base s n + length (paths_in s n) < 2 ^ 32) c.self.view_is fits

@@ -19,14 +19,14 @@ use Rattle.plant_walk.proofs.framed.Framed.push_path.Goals as goal
 pub program_of-program-requires-clause-begins : goal.program_of-program-requires-clause-begins
 program_of-program-requires-clause-begins c =
     let source = source_of c.self.inside.logic in
-    let are = c.self.invariant.0 in
+    let are = c.self.invariant.0.laid in
     let first = ap (λ l. get_or l 0 0) c.deref.ensures.value ∙ are.paths_begin.each 0 (omega arith) ∙ paths_begin source in
     omega (arith, first)
 
 pub program_of-program-requires-clause-within : goal.program_of-program-requires-clause-within
 program_of-program-requires-clause-within c =
     let source = source_of c.self.inside.logic in
-    let are = c.self.invariant.0 in
+    let are = c.self.invariant.0.laid in
     let many = ap length c.as_slice-programs.ensures.value in
     let plain = as_many c.self.inside.programs.items source.programs c.self.invariant.1.programs_are in
     let count : length c.as_slice-programs.result.now ≡ length source.programs = omega (arith, many, plain) in
@@ -38,7 +38,7 @@ pub push_path-requires-clause-path : goal.push_path-requires-clause-path
 push_path-requires-clause-path c =
     let inside = c.self.inside in
     let source = source_of inside.logic in
-    let are = c.self.invariant.0 in
+    let are = c.self.invariant.0.laid in
     let frames = inside.frames in
     let order = inside.order.items in
     let row = inside.paths.items in
@@ -61,7 +61,7 @@ pub returns : goal.returns
 returns c =
     let inside = c.self.inside in
     let source = source_of inside.logic in
-    let are = c.self.invariant.0 in
+    let are = c.self.invariant.0.laid in
     let frames = inside.frames in
     let order = inside.order.items in
     let row = inside.paths.items in
