@@ -4,7 +4,7 @@ use crate::copies::Copies;
 use crate::greeting::greet;
 use crate::missing::why_missing;
 use plant_config::{ConfigFault, Plant};
-use plant_explain::{explain, is_searched, warn};
+use plant_explain::{explain, explain_units, is_searched, warn};
 use plant_service::{Folder, Listener, PlantTexts, listing};
 use std::alloc::Global;
 use std::rt::Files;
@@ -80,6 +80,10 @@ impl<'a, R: Files + Eprint> Listener for Telling<'a, R> {
     }
 
     fn refused(&mut self, alloc: Global, texts: &PlantTexts<'_>, fault: &ConfigFault) {
+        if let Ok(Some(text)) = explain_units(alloc, texts, fault) {
+            self.text = Some(text);
+            return;
+        }
         if is_searched(texts) {
             self.copies = Copies::of(alloc, texts).ok();
         }

@@ -1,4 +1,4 @@
-//! With what the sources of a refused plant are past a limit of their own: the FOR of too many turns, the instance that makes blocks too deep, the
+//! With what the sources of a refused plant are past a limit of their own: the instance that makes blocks too deep, the
 //! program that is one too many, or the body that runs most often.
 //!
 //! It goes by tokens, so of texts that it doesn't understand it finds nothing. What it finds is a sentence for a person, and tried on examples.
@@ -12,4 +12,4 @@ mod turns;
 pub use deep::too_deep;
 pub use numbered::one_too_many;
 pub use spots::spot_at;
-pub use turns::{busiest, too_many_turns};
+pub use turns::busiest;

@@ -1,16 +1,11 @@
-//! A FOR of too many turns (C10 TURNS), and how often the body of a FOR runs.
+//! How often the body of a FOR runs.
 
-use plant_folder::PlantTexts;
-use plant_places::{FileOf, Spot};
 use st_lexer::{Keyword, Token, TokenKind};
 use std::alloc::{AllocError, Global};
-use token_causes::{cause_at, kind_at, span_of, tokens_of};
+use token_causes::kind_at;
 
 /// Where the limits of the language stand.
 pub const LIMITS: &str = "docs/LANGUAGE.md, \"Limits (this profile)\"";
-
-/// The most turns that a FOR may have.
-const MOST_TURNS: u64 = 10_000;
 
 /// The number that stands at a number of a token, without a sign.
 fn integer_at(tokens: &[Token], number: usize) -> Option<u64> {
@@ -48,37 +43,6 @@ fn turns_at(tokens: &[Token], number: usize) -> Option<u64> {
     let way = to.checked_sub(from)?;
     let step = step_at(tokens, number)?;
     Some(way.checked_div(step)?.saturating_add(1))
-}
-
-/// The first FOR of a text with plain numbers and too many turns: its bytes to the second bound, and how many turns.
-fn long_loop(alloc: Global, text: &[u8]) -> Result<Option<((usize, usize), u64)>, AllocError> {
-    let tokens = tokens_of(alloc, text)?;
-    let tokens = tokens.as_slice();
-    for (number, _) in tokens.iter().enumerate() {
-        if let Some(turns) = turns_at(tokens, number) {
-            if turns > MOST_TURNS {
-                let mark = span_of(text, tokens, number, number.saturating_add(6));
-                return Ok(Some((mark, turns)));
-            }
-        }
-    }
-    Ok(None)
-}
-
-/// The FOR that has too many turns, where plain numbers tell it; else `None`.
-pub fn too_many_turns(alloc: Global, refused: &PlantTexts<'_>) -> Result<Option<Spot>, AllocError> {
-    for (number, source) in refused.sources.iter().enumerate() {
-        if let Some((mark, turns)) = long_loop(alloc, source.1)? {
-            let said = format!(in alloc;
-                "this FOR has {turns} turns, and at most 10000 are allowed"
-            )?;
-            return Ok(Some(Spot {
-                file: FileOf::Source(number),
-                cause: cause_at(mark, said, LIMITS),
-            }));
-        }
-    }
-    Ok(None)
 }
 
 /// How often the body of a FOR runs, by how often the FOR does and its turns; `None` where one isn't known.

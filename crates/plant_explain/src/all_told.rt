@@ -1,12 +1,13 @@
 //! All faults that are found, explained.
 
-ghost use Rattle.std.specs.Prelude.{◌≢◌, IfOk, string_bytes};
+ghost use Rattle.std.specs.Prelude.{◌≢◌, IfOk, IfSome, string_bytes};
 ghost use Rattle.plant_config.specs.declared.fault.ConfigFault.TheVariants as config_fault;
 ghost use Rattle.plant_folder.specs.Verdicts.{refusal_line};
 ghost use Rattle.plant_explain.specs.Told.{BeginsWith};
 
 use crate::search::{MOST_FAULTS, find_all};
 use crate::telling::under;
+use crate::units::spots_in_units;
 use plant_config::ConfigFault;
 use plant_folder::PlantTexts;
 use plant_places::{Spot, shown, shown_alone};
@@ -44,6 +45,21 @@ fn all_shown(alloc: Global, texts: &PlantTexts<'_>, spots: &[Spot]) -> Result<St
     Ok(told)
 }
 
+/// The line of a refusal, and below it what is said of faults.
+fn with_line(
+    alloc: Global,
+    texts: &PlantTexts<'_>,
+    fault: &ConfigFault,
+    spots: &[Spot],
+) -> Result<String, AllocError>
+    requires { fault.now ≢ config_fault.Memory }
+    ensures { IfOk result (λ text. BeginsWith (refusal_line fault.now) (string_bytes text)) }
+{
+    let line = fault.line(alloc)?;
+    let rest = all_shown(alloc, texts, spots)?;
+    under(alloc, line.as_str(), rest.as_str())
+}
+
 /// What a person is told when a plant is refused: first the line of the refusal, then its explanation, then those of further faults of the same stage that
 /// are certain, 20 in all at most, each in the plant's own texts, and how many are told.
 pub fn explain_all<H: Threads + Sync>(
@@ -55,8 +71,22 @@ pub fn explain_all<H: Threads + Sync>(
     requires { fault.now ≢ config_fault.Memory }
     ensures { IfOk result (λ text. BeginsWith (refusal_line fault.now) (string_bytes text)) }
 {
-    let line = fault.line(alloc)?;
     let spots = find_all(rt, alloc, texts, fault)?;
-    let rest = all_shown(alloc, texts, spots.as_slice())?;
-    under(alloc, line.as_str(), rest.as_str())
+    with_line(alloc, texts, fault, spots.as_slice())
+}
+
+/// The same of a plant that is refused for one of its units, for which no text is read again; `None` where it is refused for anything else.
+pub fn explain_units(
+    alloc: Global,
+    texts: &PlantTexts<'_>,
+    fault: &ConfigFault,
+) -> Result<Option<String>, AllocError>
+    requires { fault.now ≢ config_fault.Memory }
+    ensures { IfOk result (λ told. IfSome told (λ text. BeginsWith (refusal_line fault.now) (string_bytes text))) }
+{
+    let Some(spots) = spots_in_units(alloc, texts, fault)? else {
+        return Ok(None);
+    };
+    let text = with_line(alloc, texts, fault, spots.as_slice())?;
+    Ok(Some(text))
 }

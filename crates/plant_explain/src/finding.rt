@@ -2,8 +2,8 @@
 
 use crate::globals::unknown;
 use crate::past::too_costly;
-use crate::units::cause_in;
-use limit_causes::{one_too_many, too_deep, too_many_turns};
+use crate::units::{source_named, spots_in_units};
+use limit_causes::{one_too_many, too_deep};
 use plant_config::{ConfigFault, Limit};
 use plant_folder::PlantTexts;
 use plant_places::{
@@ -13,19 +13,6 @@ use plant_places::{
 use plant_types::Text;
 use std::alloc::{AllocError, Global};
 use token_causes::{Cause, misspelled, ungrammatical};
-use unit_causes::Rule;
-
-/// The number of the source of a name, from 0; how many there are if there is none.
-fn source_named(refused: &PlantTexts<'_>, name: &Text) -> usize {
-    let found = refused
-        .sources
-        .iter()
-        .position(|source| source.0 == name.as_str());
-    match found {
-        Some(number) => number,
-        None => refused.sources.len(),
-    }
-}
 
 /// The cause of a fault of spelling or grammar, at a line and a column.
 fn in_text(
@@ -44,22 +31,6 @@ fn in_text(
         ungrammatical(alloc, text, at)?
     };
     Ok(Spot { file, cause })
-}
-
-/// The cause of a fault in a unit of a source.
-fn in_unit(
-    alloc: Global,
-    refused: &PlantTexts<'_>,
-    name: &Text,
-    unit: &Text,
-    rule: Rule,
-) -> Result<Spot, AllocError> {
-    let number = source_named(refused, name);
-    let cause = cause_in(alloc, refused, number, unit.as_str(), rule)?;
-    Ok(Spot {
-        file: FileOf::Source(number),
-        cause,
-    })
 }
 
 /// The cause of a fault in the plant file, or in the alarm database.
@@ -84,7 +55,6 @@ fn in_table(
 /// Where a limit isn't kept: at a word of a source, where one tells it.
 fn over(alloc: Global, refused: &PlantTexts<'_>, limit: Limit) -> Result<Spot, AllocError> {
     let found = match limit {
-        Limit::Turns => too_many_turns(alloc, refused)?,
         Limit::Cost => too_costly(alloc, refused)?,
         Limit::BlockDepth => too_deep(alloc, refused)?,
         Limit::Programs | Limit::Slots => one_too_many(alloc, refused, limit)?,
@@ -96,8 +66,8 @@ fn over(alloc: Global, refused: &PlantTexts<'_>, limit: Limit) -> Result<Spot, A
     }
 }
 
-/// The file in which a refused plant has a fault, and its cause there.
-pub fn find(
+/// The file in which a refused plant has a fault that is of no unit, and its cause there.
+fn find_elsewhere(
     alloc: Global,
     refused: &PlantTexts<'_>,
     fault: &ConfigFault,
@@ -110,14 +80,6 @@ pub fn find(
         ConfigFault::Grammar { file, line, column } => {
             in_text(alloc, refused, file, (*line, *column), false)
         }
-        ConfigFault::Name { file, unit } => in_unit(alloc, refused, file, unit, Rule::Names),
-        ConfigFault::Kind { file, unit } => in_unit(alloc, refused, file, unit, Rule::Kinds),
-        ConfigFault::HoldsItself { file, unit } => {
-            in_unit(alloc, refused, file, unit, Rule::Blocks)
-        }
-        ConfigFault::Constant { file, unit } => {
-            in_unit(alloc, refused, file, unit, Rule::Constants)
-        }
         ConfigFault::NotToml | ConfigFault::PlantFile | ConfigFault::Epoch => Ok(Spot {
             file: FileOf::Plant,
             cause: in_table(alloc, refused, fault)?,
@@ -127,4 +89,19 @@ pub fn find(
             cause: in_table(alloc, refused, fault)?,
         }),
     }
+}
+
+/// The file in which a refused plant has a fault, and its cause there.
+pub fn find(
+    alloc: Global,
+    refused: &PlantTexts<'_>,
+    fault: &ConfigFault,
+) -> Result<Spot, AllocError> {
+    if let Some(found) = spots_in_units(alloc, refused, fault)? {
+        let mut found = found;
+        if !found.is_empty() {
+            return Ok(found.remove(0));
+        }
+    }
+    find_elsewhere(alloc, refused, fault)
 }

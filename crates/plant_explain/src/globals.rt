@@ -1,11 +1,11 @@
 //! What is wrong with a name in the alarm database that the plant hasn't (C14): an area, or the BOOL global of a condition or a suppression.
 
+use explain_bodies::Nearest;
 use plant_folder::PlantTexts;
 use plant_places::{Field, no_area, unquoted};
 use std::alloc::{AllocError, Global};
 use std::str;
 use token_causes::{Cause, cause_at, cause_of};
-use unit_causes::Nearest;
 use unit_words::{Entry, What, entries_of, global_named, is_same, sources_of};
 
 /// Where alarms are described.

@@ -5,17 +5,14 @@
 //! refusal, and that a place is that of the byte at which its cause begins; what else is said is tried on examples. Of a plant that is accepted `warn`
 //! tells what is likely to be wrong in it.
 //!
-//! Of a limit that the sources don't keep, the line of the refusal names no unit: where no word tells it, the program or the FOR with which they are past it is
+//! Of a limit that the sources don't keep, the line of the refusal names no unit: where no word tells it, the program with which they are past it is
 //! found by reading the plant again without some of these.
 //!
-//! For further faults the plant is read again without what was at fault: in a copy of its texts blanks stand in place of that, and all else stands where it
-//! stood. Why this copy is refused is by `Plant::read` too, and so on. A fault of another stage ends the search, since it may come of what was left out. So
-//! what is told is a fault of the plant itself:
+//! What is wrong in units (C6 to C9) explain_bodies finds all at once. For further faults of the others the plant is read again without what was at fault: in
+//! a copy of its texts blanks stand in place of that, and all else stands where it stood. Why this copy is refused is by `Plant::read` too, and so on. A fault
+//! of another stage ends the search, since it may come of what was left out. So what is told is a fault of the plant itself:
 //!
 //! - **C4, C5**: how a source is spelled is a matter of its text alone. The whole source is left out.
-//! - **C6, C7, C9**: what is asked of a unit is asked of each of its declarations and statements, and what a word there means is by declarations. Left out
-//!   is a statement; where none can be told, a body; and where the body has none, what a program declares, which no other unit sees. The names of
-//!   units, globals, and all that a block declares stay, so that each word left means what it meant. Where these are at fault, the search ends.
 //! - **C11 to C14**: what is asked of a row is asked of the row alone, or that no earlier row has its tag, by the plant file and the globals, which stay. The row is
 //!   left out. Where the header is at fault, the search ends.
 //!
@@ -37,7 +34,7 @@ mod units;
 mod uses;
 mod warnings;
 
-pub use all_told::explain_all;
+pub use all_told::{explain_all, explain_units};
 pub use finding::find;
 pub use plant_folder::PlantTexts;
 pub use plant_places::{FileOf, Place, Spot, place_of};

@@ -1,10 +1,8 @@
-//! The program with which the sources of a plant get past a limit (C10 SLOTS, SIZE, COST), or the FOR (C10 TURNS): the texts are read again without some of
-//! them.
+//! The program with which the sources of a plant get past a limit (C10 SLOTS, SIZE, COST): the texts are read again without some of them.
 
-use crate::narrow::MOST_BYTES;
 use crate::parting::{NO_PARTS, first_wrong};
-use crate::rest::{Part, push_parts};
-use crate::search::{is_searched, size_of};
+use crate::rest::Part;
+use crate::search::is_searched;
 use limit_causes::{busiest, spot_at};
 use plant_config::Limit;
 use plant_folder::PlantTexts;
@@ -12,8 +10,7 @@ use plant_places::{FileOf, Spot};
 use st_lexer::{Keyword, Token, TokenKind, place_of};
 use std::alloc::{AllocError, Global};
 use std::thread::Threads;
-use text_blanks::compound_statements;
-use token_causes::{cause_at, kind_at, span_of, start_of};
+use token_causes::{kind_at, span_of};
 use unit_words::{Entry, Source, What, entries_of, sources_of};
 
 /// Where it stands what programs cost.
@@ -161,47 +158,7 @@ fn at_program<H: Threads + Sync>(
     }
 }
 
-/// The parts of the sources that their IF, CASE and FOR are, in order of text; inner ones too.
-fn compounds_of(alloc: Global, texts: &PlantTexts<'_>) -> Result<Vec<Part>, AllocError> {
-    let sources = sources_of(alloc, texts.sources)?;
-    let entries = entries_of(alloc, sources.as_slice())?;
-    let mut parts = Vec::new(alloc);
-    for entry in entries.as_slice() {
-        let is_title = matches!(entry.what, What::Block | What::Program);
-        if let (true, Some(source)) = (is_title, sources.get(entry.source)) {
-            let tokens = source.tokens.as_slice();
-            let at = start_of(source.text, tokens, entry.token);
-            let found = compound_statements(alloc, tokens, at)?;
-            push_parts(&mut parts, entry.source, found.as_slice())?;
-        }
-    }
-    Ok(parts)
-}
-
-/// The FOR that has too many turns.
-fn at_loop<H: Threads + Sync>(
-    rt: &H,
-    alloc: Global,
-    texts: &PlantTexts<'_>,
-    line: &str,
-    spot: Spot,
-) -> Result<Spot, AllocError> {
-    let parts = compounds_of(alloc, texts)?;
-    let Some(number) = first_wrong(rt, alloc, texts, line, (NO_PARTS, parts.as_slice()))? else {
-        return Ok(spot);
-    };
-    let Some(part) = parts.get(number) else {
-        return Ok(spot);
-    };
-    let said = String::from_str(alloc, "this FOR has more than 10000 turns")?;
-    Ok(Spot {
-        file: FileOf::Source(part.source),
-        cause: cause_at(part.bytes, said, spot.cause.page),
-    })
-}
-
-/// Where the sources get past a limit, which is told with the line of the refusal: at the first program or FOR with which they do, unless another limit's place
-/// is known.
+/// Where the sources get past a limit, which is told with the line of the refusal: at the first program with which they do, unless another limit's place is known.
 pub fn past_limit<H: Threads + Sync>(
     rt: &H,
     alloc: Global,
@@ -216,9 +173,6 @@ pub fn past_limit<H: Threads + Sync>(
     match limit {
         Limit::Cost => at_program(rt, alloc, texts, (limit, line), spot),
         Limit::Slots | Limit::Size if is_open => at_program(rt, alloc, texts, (limit, line), spot),
-        Limit::Turns if is_open && size_of(texts) <= MOST_BYTES => {
-            at_loop(rt, alloc, texts, line, spot)
-        }
         _ => Ok(spot),
     }
 }

@@ -1,11 +1,9 @@
 //! What is left of the texts of a plant without what was at fault.
 
-use crate::stage::Stage;
 use plant_folder::PlantTexts;
 use plant_places::{FileOf, Spot, first_field, next_field};
 use std::alloc::{AllocError, Global};
-use text_blanks::{blanked, part_at};
-use token_causes::tokens_of;
+use text_blanks::blanked;
 
 /// The sources of a plant and its alarm database with blanks in place of what was at fault. Each byte that is left has the number that it had.
 #[derive(Drop)]
@@ -19,21 +17,6 @@ pub struct Rest {
 pub struct Part {
     pub source: usize,
     pub bytes: (usize, usize),
-}
-
-/// Adds parts of a source, by their bytes. Fails if allocation fails.
-pub fn push_parts(
-    parts: &mut Vec<Part>,
-    source: usize,
-    found: &[(usize, usize)],
-) -> Result<(), AllocError> {
-    for bytes in found {
-        parts.push(Part {
-            source,
-            bytes: *bytes,
-        })?;
-    }
-    Ok(())
 }
 
 /// Puts blanks in place of a part of a text, but for its line feeds.
@@ -72,23 +55,6 @@ fn row_at(text: &[u8], at: usize) -> Option<(usize, usize)> {
     None
 }
 
-/// The bytes of a source that are left out for what is wrong at one of them; `None` where nothing can be.
-fn part_of(
-    alloc: Global,
-    text: &[u8],
-    stage: Stage,
-    at: usize,
-) -> Result<Option<(usize, usize)>, AllocError> {
-    match stage {
-        Stage::Sources => Ok(Some((0, text.len()))),
-        Stage::Units => {
-            let tokens = tokens_of(alloc, text)?;
-            Ok(part_at(tokens.as_slice(), at))
-        }
-        Stage::Rows => Ok(None),
-    }
-}
-
 impl Rest {
     /// All of the texts.
     pub fn of(alloc: Global, texts: &PlantTexts<'_>) -> Result<Rest, AllocError> {
@@ -122,21 +88,12 @@ impl Rest {
         }
     }
 
-    /// Leaves out the part of a source that is wrong at a byte; whether anything can be left out.
-    fn leave_out_part(
-        &mut self,
-        alloc: Global,
-        stage: Stage,
-        number: usize,
-        at: usize,
-    ) -> Result<bool, AllocError> {
+    /// Leaves out a source; whether there is one of the number.
+    fn leave_out_source(&mut self, alloc: Global, number: usize) -> Result<bool, AllocError> {
         let Some(text) = self.sources.get_mut(number) else {
             return Ok(false);
         };
-        let Some(part) = part_of(alloc, text.as_slice(), stage, at)? else {
-            return Ok(false);
-        };
-        *text = blanked(alloc, text.as_slice(), part, b' ')?;
+        *text = blanked(alloc, text.as_slice(), (0, text.len()), b' ')?;
         Ok(true)
     }
 
@@ -149,19 +106,14 @@ impl Rest {
         Ok(true)
     }
 
-    /// Leaves out what is at fault, by the stage of the fault; whether anything can be left out.
-    pub fn leave_out(
-        &mut self,
-        alloc: Global,
-        stage: Stage,
-        spot: &Spot,
-    ) -> Result<bool, AllocError> {
+    /// Leaves out what is at fault: the source, or the row of the alarm database; whether anything can be left out.
+    pub fn leave_out(&mut self, alloc: Global, spot: &Spot) -> Result<bool, AllocError> {
         let Some(mark) = spot.cause.mark else {
             return Ok(false);
         };
         match spot.file {
             FileOf::Plant => Ok(false),
-            FileOf::Source(number) => self.leave_out_part(alloc, stage, number, mark.0),
+            FileOf::Source(number) => self.leave_out_source(alloc, number),
             FileOf::Alarms => self.leave_out_row(alloc, mark.0),
         }
     }

@@ -8,6 +8,7 @@ use crate::narrow::narrowed;
 use crate::refusal::refusal;
 use crate::rest::Rest;
 use crate::stage::{Stage, stage_of};
+use crate::units::spots_in_units;
 use plant_config::ConfigFault;
 use plant_folder::PlantTexts;
 use plant_places::Spot;
@@ -24,7 +25,7 @@ const MOST_READINGS: usize = 40;
 const MOST_BYTES: usize = 1_048_576;
 
 /// How many bytes the texts of a plant have together.
-pub fn size_of(texts: &PlantTexts<'_>) -> usize {
+fn size_of(texts: &PlantTexts<'_>) -> usize {
     let mut size = texts.plant.len().saturating_add(texts.alarms.len());
     for source in texts.sources {
         size = size.saturating_add(source.1.len());
@@ -83,7 +84,7 @@ fn add_further<H: Threads + Sync>(
         let Some(last) = found.last() else {
             return Ok(());
         };
-        if found.len() >= MOST_FAULTS || !rest.leave_out(alloc, stage, last)? {
+        if found.len() >= MOST_FAULTS || !rest.leave_out(alloc, last)? {
             return Ok(());
         }
         let Some(spot) = next_fault(rt, alloc, texts, &rest, stage)? else {
@@ -96,8 +97,8 @@ fn add_further<H: Threads + Sync>(
     Ok(())
 }
 
-/// The fault of a refused plant, and further ones of the same stage, in the order in which they are found; 20 at most. Where memory is short further ones
-/// may be missing, but not the first.
+/// The fault of a refused plant, and further ones of the same stage; 20 at most. Those of units are all found in one reading, in order of text; others in the
+/// order in which they are found, and where memory is short these may be missing, but not the first.
 pub fn find_all<H: Threads + Sync>(
     rt: &H,
     alloc: Global,
@@ -108,6 +109,9 @@ pub fn find_all<H: Threads + Sync>(
     ensures least { IfOk result (λ found. 1 ≤ length found.items) }
     ensures most { IfOk result (λ found. length found.items ≤ 20) }
 {
+    if let Some(found) = spots_in_units(alloc, texts, fault)? {
+        return Ok(found);
+    }
     let mut found = Vec::new(alloc);
     let spot = find(alloc, texts, fault)?;
     found.push(narrowed(rt, alloc, texts, fault, spot)?)?;

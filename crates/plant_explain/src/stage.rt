@@ -1,4 +1,4 @@
-//! The stages in which a plant is judged, as far as further faults are told of them.
+//! The stages in which a plant is judged, as far as it is read again for further faults of them.
 
 use plant_config::ConfigFault;
 
@@ -7,19 +7,14 @@ use plant_config::ConfigFault;
 pub enum Stage {
     /// The text of each source by itself (C4, C5).
     Sources,
-    /// The units of all sources (C6, C7, C9).
-    Units,
     /// The rows of the alarm database (C11 to C14).
     Rows,
 }
 
-/// The stage of a fault; `None` where no further faults are told.
+/// The stage of a fault; `None` where the plant isn't read again for further faults.
 pub fn stage_of(fault: &ConfigFault) -> Option<Stage> {
     match fault {
         ConfigFault::Spelling { .. } | ConfigFault::Grammar { .. } => Some(Stage::Sources),
-        ConfigFault::Name { .. } | ConfigFault::Kind { .. } | ConfigFault::Constant { .. } => {
-            Some(Stage::Units)
-        }
         ConfigFault::Header
         | ConfigFault::Field { .. }
         | ConfigFault::Twice { .. }

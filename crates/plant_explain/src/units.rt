@@ -1,13 +1,15 @@
-//! What is wrong in a unit of a source (C6 to C9).
+//! What is wrong in the units of the sources (C6 to C9).
 
+ghost use Rattle.std.specs.Prelude.{◌≤◌, length, IfOk, IfSome};
+
+use explain_bodies::{MOST_MISTAKES, Mistake, Rule, mistakes};
+use plant_config::{ConfigFault, Limit};
 use plant_folder::PlantTexts;
-use plant_places::{FileOf, text_of};
-use plant_types::same_word;
+use plant_places::{FileOf, Spot, over_limit, text_of};
+use plant_types::{Text, same_word};
 use st_lexer::{Keyword, Token, TokenKind};
 use std::alloc::{AllocError, Global};
 use token_causes::{Cause, Role, cause_at, role_of, span_of, tokens_of, word_at};
-use unit_causes::{Rule, cause_in_unit};
-use unit_words::{entries_of, sources_of};
 
 /// The numbers of the first token of a unit, by its name, and of the one that ends it; of `VAR_GLOBAL` those up to the first block or program. Of
 /// units with one name it is the last.
@@ -57,7 +59,7 @@ fn in_general(rule: Rule) -> (&'static str, &'static str) {
             "one of its instances leads back to it",
             "docs/LANGUAGE.md, \"Function blocks\"",
         ),
-        Rule::Constants => (
+        Rule::Constants | Rule::Turns => (
             "an initial value, a bound or a step of a FOR isn't constant, or what controls a FOR may not or is assigned inside it",
             "docs/LANGUAGE.md, \"Statements\"",
         ),
@@ -76,19 +78,107 @@ fn whole_unit(alloc: Global, text: &[u8], unit: &str, rule: Rule) -> Result<Caus
     Ok(cause_at(mark, said, page))
 }
 
-/// The cause of a unit that doesn't keep a rule: the first token that is certainly wrong, else the unit. Its source is told by its number.
-pub fn cause_in(
+/// The number of the source of a name, from 0; how many there are if there is none.
+pub fn source_named(refused: &PlantTexts<'_>, name: &Text) -> usize {
+    let found = refused
+        .sources
+        .iter()
+        .position(|source| source.0 == name.as_str());
+    match found {
+        Some(number) => number,
+        None => refused.sources.len(),
+    }
+}
+
+/// The rule of units that a plant breaks by a fault; `None` for a fault that is of no unit.
+fn rule_of(fault: &ConfigFault) -> Option<Rule> {
+    match fault {
+        ConfigFault::Name { .. } => Some(Rule::Names),
+        ConfigFault::Kind { .. } => Some(Rule::Kinds),
+        ConfigFault::HoldsItself { .. } => Some(Rule::Blocks),
+        ConfigFault::Constant { .. } => Some(Rule::Constants),
+        ConfigFault::Limit(Limit::Turns) => Some(Rule::Turns),
+        _ => None,
+    }
+}
+
+/// What is told of a fault of a unit where no mistake is known: the unit that it names.
+fn in_whole(
     alloc: Global,
     refused: &PlantTexts<'_>,
-    source: usize,
-    unit: &str,
+    fault: &ConfigFault,
     rule: Rule,
-) -> Result<Cause, AllocError> {
-    let sources = sources_of(alloc, refused.sources)?;
-    let entries = entries_of(alloc, sources.as_slice())?;
-    let place = (source, unit);
-    match cause_in_unit(alloc, sources.as_slice(), entries.as_slice(), place, rule)? {
-        Some(cause) => Ok(cause),
-        None => whole_unit(alloc, text_of(refused, FileOf::Source(source)), unit, rule),
+) -> Result<Spot, AllocError> {
+    match fault {
+        ConfigFault::Name { file, unit }
+        | ConfigFault::Kind { file, unit }
+        | ConfigFault::HoldsItself { file, unit }
+        | ConfigFault::Constant { file, unit } => {
+            let file = FileOf::Source(source_named(refused, file));
+            let cause = whole_unit(alloc, text_of(refused, file), unit.as_str(), rule)?;
+            Ok(Spot { file, cause })
+        }
+        _ => over_limit(alloc, refused, Limit::Turns),
     }
+}
+
+/// Adds mistakes.
+fn add_spots(spots: &mut Vec<Spot>, mistakes: Vec<Mistake>) -> Result<(), AllocError> {
+    for mistake in mistakes {
+        let Mistake {
+            rule: _,
+            source,
+            cause,
+        } = mistake;
+        spots.push(Spot {
+            file: FileOf::Source(source),
+            cause,
+        })?;
+    }
+    Ok(())
+}
+
+/// Whether the first of mistakes breaks a rule.
+fn begin_with(mistakes: &[Mistake], rule: Rule) -> bool {
+    match mistakes.first() {
+        Some(first) => first.rule == rule,
+        None => false,
+    }
+}
+
+/// The mistakes of a plant's units: first the one for which the plant is refused, by the unit that the refusal names where no more of it is known.
+fn spots_of(
+    alloc: Global,
+    refused: &PlantTexts<'_>,
+    fault: &ConfigFault,
+    rule: Rule,
+) -> Result<Vec<Spot>, AllocError> {
+    let found = mistakes(alloc, refused.sources, rule)?;
+    let mut spots = Vec::new(alloc);
+    if !begin_with(found.as_slice(), rule) {
+        spots.push(in_whole(alloc, refused, fault, rule)?)?;
+    }
+    add_spots(&mut spots, found)?;
+    Ok(spots)
+}
+
+/// What is wrong in the units of a plant that is refused for one: first why it is refused, and then others in order of text, 20 at most; `None` for a fault
+/// that is of no unit.
+pub fn spots_in_units(
+    alloc: Global,
+    refused: &PlantTexts<'_>,
+    fault: &ConfigFault,
+) -> Result<Option<Vec<Spot>>, AllocError>
+    ensures least { IfOk result (λ found. IfSome found (λ spots. 1 ≤ length spots.items)) }
+    ensures most { IfOk result (λ found. IfSome found (λ spots. length spots.items ≤ 20)) }
+{
+    let Some(rule) = rule_of(fault) else {
+        return Ok(None);
+    };
+    let mut spots = spots_of(alloc, refused, fault, rule)?;
+    if spots.is_empty() {
+        spots.push(in_whole(alloc, refused, fault, rule)?)?;
+    }
+    spots.truncate(MOST_MISTAKES);
+    Ok(Some(spots))
 }
