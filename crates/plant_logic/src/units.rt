@@ -255,10 +255,7 @@ fn declared_globals<'a>(alloc: Global, units: &'a [Unit]) -> Result<Vec<Declared
 }
 
 /// The globals of units, and their initial values. Fails if allocation fails.
-fn globals_in(
-    alloc: Global,
-    units: &[Unit],
-) -> Result<(Vec<Variable>, Vec<Stmt<Text>>), AllocError>
+fn globals_in(alloc: Global, units: &[Unit]) -> Result<(Vec<Variable>, Vec<Stmt<Text>>), AllocError>
     ensures globals { IfOk result (λ made. made.0.items ≡ flat_map global_of (declared_globals (map view_unit units.now))) }
     ensures starts { IfOk result (λ made. view_body made.1.items ≡ starts_in (declared_globals (map view_unit units.now))) }
 {

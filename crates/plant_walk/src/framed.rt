@@ -198,11 +198,7 @@ fn opened(alloc: Global, logic: &Logic, order: &[usize], made: &Made) -> Result<
 }
 
 /// What is kept of a sound source, and the frames that its codes are made of. Fails if allocation fails.
-fn laid_of(
-    alloc: Global,
-    logic: &Logic,
-    order: &[usize],
-) -> Result<(Laid, Vec<Frame>), AllocError>
+fn laid_of(alloc: Global, logic: &Logic, order: &[usize]) -> Result<(Laid, Vec<Frame>), AllocError>
     requires sound { IsSound (source_of logic.now) }
     requires below { AreBelow (source_of logic.now).blocks order.now }
     ensures seats { IfOk result (λ m. m.0.seats ≡ m.1.items) }
