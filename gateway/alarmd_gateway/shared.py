@@ -173,8 +173,6 @@ class SharedCore(Core):
             await super()._step()
         except Deposed:
             self._step_down()
-            if self._log.uncopied:
-                await self._candidate.resign()
         except (NoCopy, NoEtcd, EtcdRefused):
             await self._pause()
 

@@ -26,6 +26,7 @@ class FakeEtcd:
     def __init__(self) -> None:
         self.keys: dict[bytes, Key] = {}
         self.revision = 1
+        self.once = 0  # so many requests were asked once alone
         self.leases: set[str] = set()
         self.deaf = 0  # so many requests get no answer, and aren't carried out
         self.dumb = 0  # so many are carried out, and get no answer
@@ -39,6 +40,7 @@ class FakeEtcd:
 
     async def post(self, path: str, body: Body, once: bool = False) -> Body:
         await asyncio.sleep(0)
+        self.once += once
         if path == TXN:
             self.before = {number - 1: fault for number, fault in self.before.items()}
             self.before.pop(0, lambda: None)()

@@ -244,12 +244,13 @@ def test_an_order_that_is_handed_on_is_taken_once(tmp_path: Path, plant: Plant) 
         assert b.candidate.lease is not None
         entry = Entry("ack 1 LAL-101", "bert", "why")
         await b.log.request("m1", entry, b.candidate.lease)
+        assert etcd.once == 1  # a second time it might be taken again
         (request,) = (await a.log.look()).requests
         assert (request.mark, request.entry) == ("m1", entry)
         await a.log.append_as("m1", entry, request=True)
         with pytest.raises(Deposed):
             await a.log.append_as("m1", entry, request=True)
-        assert (await a.log.look()).requests == ()
+        assert (await a.log.look()).requests == () and etcd.once == 1
         assert [one.mark for one in (await b.log.look()).fresh] == ["m1"]
 
     trial(work, tmp_path, plant)
@@ -291,7 +292,8 @@ def test_a_new_record(tmp_path: Path, plant: Plant) -> None:
             tmp_path / "a" / "record.1"
         ).read_bytes()
         assert await a.log.succeed([Entry("scan 10")]) == "record.2"
-        await a.log.tidy()
+        for _ in range(5):
+            await a.log.tidy()
         kept = {key.split(b"/")[4] for key in etcd.keys if b"/entry/" in key}
         assert kept == {b"000002", b"000003"}
         assert newest_copy(tmp_path / "a" / "record").name == "record.3"
@@ -358,7 +360,13 @@ def test_a_copy_goes_on(tmp_path: Path, plant: Plant) -> None:
         assert again.log.copy.path.read_bytes() == a.log.copy.path.read_bytes()
         again.log.close()
         path = tmp_path / "b" / "record.1"
-        path.write_bytes(path.read_bytes() + b"scan 5000\n")
+        whole = path.read_bytes()
+        path.write_bytes(
+            whole.replace(b"scan 1199\n", b"scan 1198\n")
+        )  # as many, and another last one
+        with pytest.raises(GatewayFault, match="what isn't in the log"):
+            await side("b")
+        path.write_bytes(whole + b"scan 5000\n")
         with pytest.raises(GatewayFault, match="what isn't in the log") as fault:
             await side("b")
         assert fault.value.status == 2

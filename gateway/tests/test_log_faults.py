@@ -16,12 +16,10 @@ from test_etcd_log import Side, Sides, plant, trial
 from test_shared import Pair, give, same, tank
 from test_shared import trial as pair_trial
 
-from alarmd_gateway import disk, log_watch, new_record, record, shared, transactions
-from alarmd_gateway.etcd import NoEtcd
+from alarmd_gateway import disk, log_watch, new_record, record, serve, shared, transactions
 from alarmd_gateway.model import Code, GatewayFault, Order, Plant, ServerGone, Verb
 from alarmd_gateway.record import Entry, FileRecord
 from alarmd_gateway.shared import SharedCore
-
 from alarmd_gateway.transactions import Deposed, NoCopy
 from alarmd_gateway.troubles import TroubleKind
 
@@ -202,6 +200,14 @@ def test_a_program_that_is_not_there(tmp_path: Path, plant: Plant) -> None:
     assert fault.value.status == 2
 
 
+def test_a_new_alarmd_wants_a_shared_log(tmp_path: Path) -> None:
+    path = tmp_path / "gateway.toml"
+    path.write_text('alarmd = "a"\nplant = "p"\nrecord = "r"\n')
+    with pytest.raises(GatewayFault, match="there is no .etcd.") as fault:
+        serve.main(["serve", str(path), "--new-alarmd"])
+    assert fault.value.status == 2
+
+
 @pytest.mark.server
 def test_the_leaders_disk_is_full(alarmd: Path, tmp_path: Path, full: Full) -> None:
     """Another one leads, the page says why, nothing that was answered is lost; with room it follows again."""
@@ -215,7 +221,8 @@ def test_the_leaders_disk_is_full(alarmd: Path, tmp_path: Path, full: Full) -> N
         assert (await first.order(Order(Verb.ACK, 1, "LAL-101"))).code == "OK"
         full.folder = tmp_path / ("a" if a.leads else "b")
         await until(lambda: second.leads and not first.leads, "another one leads")
-        assert told(first, "copy") and not told(second, "copy")
+        await until(lambda: told(first, "copy"), "the page says so")
+        assert not told(second, "copy")
         events = first.state.events
         assert (await second.order(Order(Verb.REMOVE, 1, "FAL-103"))).code == "OK"
         await until(lambda: second.state.events > events + 9, "scans go on")

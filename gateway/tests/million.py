@@ -1,0 +1,134 @@
+"""A log of a million commands in etcd, and what a new record leaves of it: how long it is read, and how large etcd's files are.
+
+    PYTHONPATH=gateway /usr/bin/python3 gateway/tests/million.py [--commands N] [--nodes 1 or 3]
+
+The log is filled by a writer of its own, a hundred commands in each transaction; then a gateway's side of it, without a server, reads
+all of it into its copy, leads, begins two new records, and rids etcd of the first."""
+
+from __future__ import annotations
+
+import argparse
+import asyncio
+import tempfile
+import time
+import uuid
+from pathlib import Path
+
+from around import ROOT
+from cluster import Node, free_ports, wait
+from test_etcd_log import Side
+
+from alarmd_gateway import etcd
+from alarmd_gateway import plant as plants
+from alarmd_gateway.etcd_http import HttpEtcd
+from alarmd_gateway.log_view import value_of
+from alarmd_gateway.record import Entry
+
+TOGETHER = 100  # commands of one transaction
+
+
+class Stopwatch:
+    """Tells how long what was done took, and how large the files of the nodes are."""
+
+    def __init__(self, folder: Path) -> None:
+        self._folder = folder
+        self._begin = time.monotonic()
+
+    def tell(self, what: str) -> None:
+        seconds, self._begin = time.monotonic() - self._begin, time.monotonic()
+        files = sorted(self._folder.glob("n*/data/member/snap/db"))
+        sizes = ", ".join(f"{path.stat().st_size / 1e6:.0f} MB" for path in files)
+        print(f"{what}: {seconds:.1f} s; files of the nodes: {sizes}", flush=True)
+
+
+async def fill(side: Side, count: int) -> None:
+    """Appends so many commands as one that leads would, a hundred at a time."""
+    log, keys = side.log, side.log.keys
+    known = log.known
+    for begin in range(0, count, TOGETHER):
+        puts = [
+            etcd.put(keys.entry(1, number), value_of(command(number), uuid.uuid4().hex))
+            for number in range(begin + 1, begin + TOGETHER + 1)
+        ]
+        fields = {"record": 1, "log": known.log, "entries": begin + TOGETHER}
+        await log.asks.ask([], [*puts, etcd.put(keys.last, fields)])
+
+
+def command(number: int) -> Entry:
+    """Scans, and an order after each ninety-nine."""
+    if number % TOGETHER == 0:
+        return Entry("ack 1 LAL-101", "anna", "seen")
+    return Entry(f"scan {number * 1000} level={number % 1000}")
+
+
+async def emptied(side: Side) -> tuple[int, float]:
+    """Rids etcd of what is too old. Gives how many blocks that took, and the longest."""
+    blocks, longest = 0, 0.0
+    while side.log.known.record and blocks < 10_000:
+        side.log._tidied = -1e9
+        begin = time.monotonic()
+        await side.log.tidy()
+        longest = max(longest, time.monotonic() - begin)
+        if side.log._tidied > 0:
+            break
+        blocks += 1
+    return blocks, longest
+
+
+async def tried(folder: Path, client: HttpEtcd, commands: int) -> None:
+    plant = plants.read(ROOT / "examples" / "tank" / "plant.toml")
+    first, second = (Side(client, folder / name, plant, name) for name in "ab")
+    watch = Stopwatch(folder)
+    await first.log.open()
+    await fill(first, commands)
+    watch.tell(f"{commands:,} commands written")
+    await second.log.open()
+    assert second.log.known.entries == commands
+    size = (folder / "b" / "record.1").stat().st_size / 1e6
+    watch.tell(f"all of it read into a copy of {size:.0f} MB")
+    await second.lead()
+    for record in (2, 3):
+        await second.log.succeed([Entry(f"scan {commands * 1000 + record}")])
+    watch.tell("two new records begun")
+    blocks, longest = await emptied(second)
+    watch.tell(f"the first one deleted, {blocks} blocks, the longest {longest * 1000:.0f} ms")
+    answer = await client.post(etcd.TXN, etcd.transaction([], [etcd.get(second.log.keys.last)]))
+    await client.post(
+        "/v3/kv/compaction", {"revision": str(etcd.revision(answer)), "physical": True}
+    )
+    watch.tell("compacted")
+    await client.post("/v3/maintenance/defragment", {})
+    watch.tell("one node defragmented")
+    for side in (first, second):
+        side.log.close()
+
+
+def main() -> None:
+    parser = argparse.ArgumentParser(description=__doc__)
+    parser.add_argument("--commands", type=int, default=1_000_000)
+    parser.add_argument("--nodes", type=int, default=3, choices=(1, 3))
+    words = parser.parse_args()
+    with tempfile.TemporaryDirectory(prefix="million-") as room:
+        folder, ports = Path(room), free_ports(2 * words.nodes)
+        peers = ports[words.nodes :]
+        nodes = [Node(folder, at, ports[at], peers) for at in range(words.nodes)]
+        try:
+            for node in nodes:
+                node.start()
+            for node in nodes:
+                wait(node.healthy, "etcd doesn't start")
+            ends = [f"http://127.0.0.1:{node.client}" for node in nodes]
+
+            async def run() -> None:
+                client = HttpEtcd(ends, 600.0)
+                await tried(folder, client, words.commands)
+                await client.close()
+
+            asyncio.run(run())
+        finally:
+            for node in nodes:
+                node.close()
+
+
+if __name__ == "__main__":
+    main()
