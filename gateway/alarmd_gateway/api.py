@@ -10,6 +10,7 @@ from collections.abc import AsyncIterator
 
 from aiohttp import web
 
+from .cells import guarded
 from .core import Core
 from .guard import Guard, Refused, answer, body, number
 from .journal import Row
@@ -195,7 +196,8 @@ class Api:
     async def report_csv(self, request: web.Request) -> web.Response:
         """The same as CSV."""
         text = io.StringIO()
-        csv.writer(text).writerows(table(self.core.plant, await self.make_report(request)))
+        lines = table(self.core.plant, await self.make_report(request))
+        csv.writer(text).writerows([guarded(cell) for cell in line] for line in lines)
         return web.Response(body=text.getvalue().encode(), headers=download("figures.csv"))
 
     async def make_report(self, request: web.Request) -> Report:

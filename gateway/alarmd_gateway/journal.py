@@ -10,6 +10,7 @@ from dataclasses import dataclass
 from typing import Final
 
 from . import statements
+from .cells import guarded
 from .model import Json, Order, Plant, civil
 from .tokens import BadSource
 
@@ -139,7 +140,7 @@ class Journal:
         return (row.json(self._plant, places) for row in self.rows(first, count))
 
     def csv(self, first: int = 1, count: int | None = None) -> Iterator[str]:
-        """A header, then the same rows as CSV, each with its line end."""
+        """A header, then the same rows as CSV, each with its line end. Texts that look like formulas are guarded."""
         line = io.StringIO(newline="")
         writer = csv.DictWriter(line, CSV_COLUMNS, extrasaction="ignore")
         writer.writeheader()
@@ -147,7 +148,7 @@ class Journal:
         for row in self.json(first, count):
             line.seek(0)
             line.truncate()
-            writer.writerow(row)
+            writer.writerow({name: guarded(cell) for name, cell in row.items()})
             yield line.getvalue()
 
     def scan(self, answer: Sequence[str]) -> None:

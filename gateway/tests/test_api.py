@@ -319,6 +319,14 @@ def test_a_long_journal_as_csv(open_plant: Served) -> None:
     assert client.ask("/api/report?hours=0").json["rates"][0]["count"] == 1002
 
 
+def test_figures_as_csv_have_no_formulas(
+    open_plant: Served, monkeypatch: pytest.MonkeyPatch
+) -> None:
+    lines = [["figure", "of"], ["most frequent", "-T1"]]
+    monkeypatch.setattr("alarmd_gateway.api.table", lambda plant, report: lines)
+    assert text(Client(open_plant.url), "report.csv") == "figure,of\r\nmost frequent,'-T1\r\n"
+
+
 def test_what_every_answer_brings(open_plant: Served) -> None:
     client = Client(open_plant.url)
     for path in (

@@ -3,6 +3,7 @@
 from __future__ import annotations
 
 import csv
+import io
 from pathlib import Path
 
 import pytest
@@ -96,6 +97,21 @@ def test_rows_as_csv(book: Book) -> None:
     assert [row["number"] for row in rows] == ["6", "7", "8"]
     assert rows[0]["text"] == "Tank too hot, look at the heater"
     assert (rows[2]["milliseconds"], rows[2]["tag"]) == ("60000", "")
+
+
+FORMULAS = ('=HYPERLINK("http://x")', "+1", "-1", "@SUM(A1)", "\t=1", "\r=1")
+PLAIN = ("seen", "", " =1", "level = 3", "'=1", "1-2")
+
+
+@pytest.mark.parametrize("reason", (*FORMULAS, *PLAIN))
+def test_a_text_that_a_spreadsheet_would_compute_has_an_apostrophe(book: Book, reason: str) -> None:
+    order = commands.read(book.plant, "remove 1 LAL-101")
+    assert isinstance(order, Order)
+    book.take(Taken(order, ["REPLY OK", "ALARM 3000 LAL-101 NORM OOS"], "-anna", reason))
+    (row,) = csv.DictReader(io.StringIO("".join(book.journal.csv(23, 1)), newline=""))
+    assert row["reason"] == (f"'{reason}" if reason in FORMULAS else reason)
+    assert (row["user"], row["target"], row["number"]) == ("'-anna", "LAL-101", "23")
+    assert next(book.journal.json(23, 1))["reason"] == reason  # JSON has it as it is
 
 
 def test_the_state_after_it(book: Book) -> None:
