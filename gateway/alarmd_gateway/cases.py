@@ -18,7 +18,7 @@ from .config import WORDS_STATUS
 from .model import GatewayFault, Plant
 from .programs import find_alarmd
 from .state import State
-from .words import Words
+from .words import Words, called
 
 
 @dataclass(frozen=True)
@@ -160,7 +160,7 @@ def test_file(alarmd: Path, plant: Plant, path: Path, seconds: float) -> tuple[i
 
 def main(words: list[str]) -> int:
     """`test PLANT CASES ..`."""
-    parser = Words(prog="gateway test", description="Runs cases, and prints what differs.")
+    parser = Words(prog=called("test"), description="Runs cases, and prints what differs.")
     parser.add_argument("plant", type=Path, metavar="PLANT")
     parser.add_argument("cases", type=Path, metavar="CASES", nargs="+")
     parser.add_argument(

@@ -9,9 +9,11 @@ import traceback
 
 from .link import tell
 from .model import GatewayFault
+from .words import called
 
 COMMANDS = {  # the word, its module, what it does. A new command is one line
     "serve": ("serve", "CONFIG: serve a plant"),
+    "check": ("check", "CONFIG: whether a plant can be served, without serving it"),
     "state": ("show", "CONFIG: what stands, by the record"),
     "journal": ("show", "CONFIG [--from N] [--csv]: the journal, by the record"),
     "password": ("password", "a password as the file of users keeps it"),
@@ -22,7 +24,7 @@ COMMANDS = {  # the word, its module, what it does. A new command is one line
 
 def usage() -> str:
     """All commands, a line each."""
-    return "\n".join(f"gateway {word} {what}" for word, (_, what) in COMMANDS.items())
+    return "\n".join(f"{called(word)} {what}" for word, (_, what) in COMMANDS.items())
 
 
 def main(words: list[str]) -> int:
@@ -61,7 +63,7 @@ def _run(words: list[str]) -> int:
     if not words or words[0] not in COMMANDS:
         wrong = f"no command is called {words[0]!r}" if words else "a command is wanted"
         raise GatewayFault(
-            f"{wrong}: {', '.join(COMMANDS)} (`gateway help` says what each does)", 2
+            f"{wrong}: {', '.join(COMMANDS)} (`{called('help')}` says what each does)", 2
         )
     module = importlib.import_module(f".{COMMANDS[words[0]][0]}", __package__)
     return int(module.main(words))

@@ -9,6 +9,9 @@ from typing import Any
 
 from .model import GatewayFault
 
+TABLES = ("etcd", "fields", "simulate", "web")
+"""The tables of other modules."""
+
 WORDS_STATUS = 2
 """The status of the process where words, a configuration or a record are wrong."""
 
@@ -142,6 +145,7 @@ def read(path: Path) -> Config:
     folder = path.resolve().parent
     others = {key: value for key, value in values.items() if isinstance(value, dict | list)}
     own = {key: value for key, value in values.items() if key not in others}
+    Table("", {key: value for key, value in others.items() if key not in TABLES}, folder).end()
     table = Table("", own, folder)
     config = Config(
         alarmd=table.path("alarmd"),

@@ -13,7 +13,7 @@ from .fields.lines import LineSource
 from .fields.modbus import ModbusClient
 from .fields.mqtt import MqttClient
 from .fields.source import Intake, Source
-from .map_file import read
+from .map_file import of_config
 from .mapping import Map
 from .model import Value
 from .output import Output
@@ -120,7 +120,5 @@ def sources(map: Map, intake: Intake, core: Core) -> list[Source]:
 
 async def attach(core: Core, config: Config) -> Field | None:
     """Starts the sources of the map that `[fields]` names; None where there is none. Raises GatewayFault (status 2)."""
-    table = config.table("fields")
-    path = table.path("map") if table.has("map") else None
-    table.end()
-    return None if path is None else Field(core, read(path, core.plant))
+    map = of_config(config, core.plant)
+    return None if map is None else Field(core, map)

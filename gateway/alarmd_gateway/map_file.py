@@ -7,7 +7,7 @@ from decimal import Decimal
 from fractions import Fraction
 from pathlib import Path
 
-from .config import WORDS_STATUS, Table
+from .config import WORDS_STATUS, Config, Table
 from .mapping import (
     Area,
     Form,
@@ -205,3 +205,11 @@ def read(path: Path, plant: Plant) -> Map:
         return Reader(plant).read(Table("", values, path.resolve().parent))
     except GatewayFault as fault:
         raise GatewayFault(f"{path}: {fault.words}", fault.status) from None
+
+
+def of_config(config: Config, plant: Plant) -> Map | None:
+    """The map that `[fields]` names; None where it names none. Raises GatewayFault (status 2)."""
+    table = config.table("fields")
+    path = table.path("map") if table.has("map") else None
+    table.end()
+    return None if path is None else read(path, plant)

@@ -8,12 +8,15 @@ import sys
 from .config import WORDS_STATUS
 from .model import GatewayFault
 from .users import hash_of
+from .words import called
 
 
 def main(words: list[str]) -> int:
     """Asks twice at a terminal, else reads one line of standard input. Raises GatewayFault (status 2)."""
     if words[1:]:
-        raise GatewayFault("gateway password has no words: it asks for the password", WORDS_STATUS)
+        raise GatewayFault(
+            f"{called('password')} has no words: it asks for the password", WORDS_STATUS
+        )
     if sys.stdin.isatty():
         password = getpass.getpass("Password: ")
         if getpass.getpass("Once more: ") != password:

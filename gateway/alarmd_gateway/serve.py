@@ -20,7 +20,7 @@ from .link import tell, tell_of_libraries
 from .model import GatewayFault
 from .output import Output
 from .troubles import TroubleKind
-from .words import Words
+from .words import Words, called
 
 PARTS: tuple[str, ...] = ("field", "simulate", "web")
 """The modules of the parts. Each has `async attach(core, config) -> Part | None`, None where its table isn't there."""
@@ -36,16 +36,19 @@ class Part(Protocol):
 
 
 def main(words: list[str]) -> int:
-    """`serve CONFIG [--yes] [--new-alarmd]`. The status is 0 where it was ended in order."""
-    parser = Words(prog="gateway serve", description="Serves a plant.")
+    """`serve CONFIG [--yes] [--check] [--new-alarmd]`. The status is 0 where it was ended in order."""
+    parser = Words(prog=called("serve"), description="Serves a plant.")
     parser.add_argument("config", type=Path, help="the configuration, gateway.toml")
     parser.add_argument("--yes", action="store_true", help="answers questions at the start by yes")
+    parser.add_argument("--check", action="store_true", help="first does what `check` does")
     parser.add_argument("--new-alarmd", action="store_true", help="a shared log goes on with it")
     given = parser.parse_args(words[1:])
     config = configs.read(given.config)
     if given.new_alarmd and "etcd" not in config.tables:
         raise GatewayFault("--new-alarmd is for a shared log, and there is no [etcd]", 2)
     config = dataclasses.replace(config, yes=config.yes or given.yes, new_alarmd=given.new_alarmd)
+    if given.check:
+        importlib.import_module(".check", __package__).check(config)
     tell_of_libraries()
     asyncio.run(serve(config))
     return 0

@@ -19,12 +19,12 @@ from .log_view import newest_copy
 from .player import Book, play
 from .record import peek
 from .state import State, time_of
-from .words import Words
+from .words import Words, called
 
 
 def main(words: list[str]) -> int:
     """`state CONFIG [--json]` or `journal CONFIG [--from N] [--count N] [--csv | --json]`, of another record by `--record`."""
-    parser = Words(prog=f"gateway {words[0]}", description=__doc__)
+    parser = Words(prog=called(words[0]), description=__doc__)
     parser.add_argument("config", type=Path, help="the configuration, gateway.toml")
     parser.add_argument("--record", type=Path, help="another record of this plant, an old one")
     form = parser.add_mutually_exclusive_group()

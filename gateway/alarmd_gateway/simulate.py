@@ -26,7 +26,7 @@ from .programs import find_alarmd
 from .server import Server
 from .state import State
 from .troubles import TroubleKind
-from .words import Words
+from .words import Words, called
 
 ELAPSED = "elapsed_ms"
 SOURCE = "model"
@@ -172,17 +172,30 @@ def shared(mine: Mapping[str, Variable], theirs: Mapping[str, Variable]) -> dict
     return found
 
 
-async def attach(core: Core, config: Config) -> Simulation | None:
-    """Starts the model that `[simulate]` names; None where there is none. Raises GatewayFault."""
+def model_path(config: Config) -> Path | None:
+    """The plant file of the model that `[simulate]` names; None where there is none. Raises GatewayFault (status 2)."""
     table = config.table("simulate")
     path = table.path("model") if table.has("model") else None
     table.end()
-    if path is None:
-        return None
+    return path
+
+
+def read_model(path: Path, plant: Plant) -> Plant:
+    """A model that `alarmd` accepts. Raises GatewayFault: status 3 where it can't be read, 2 where it is no model of the plant."""
     model = plants.read(path)
-    if not shared(core.plant.inputs, model.outputs):
+    if not shared(plant.inputs, model.outputs):
         words = f"no output of the model {path} bears the name of an input of the plant"
         raise GatewayFault(words, WORDS_STATUS)
+    shared(model.inputs, plant.outputs)
+    return model
+
+
+async def attach(core: Core, config: Config) -> Simulation | None:
+    """Starts the model that `[simulate]` names; None where there is none. Raises GatewayFault."""
+    path = model_path(config)
+    if path is None:
+        return None
+    model = read_model(path, core.plant)
     simulation = Simulation(core, config, model)
     await simulation.begin()
     core.disturbances, core.before_scan = simulation, simulation.step
@@ -191,7 +204,7 @@ async def attach(core: Core, config: Config) -> Simulation | None:
 
 def main(words: list[str]) -> int:
     """`simulate PLANT MODEL`. The status is 0 where it was ended in order."""
-    parser = Words(prog="gateway simulate", description="Serves a plant whose field is a model.")
+    parser = Words(prog=called("simulate"), description="Serves a plant whose field is a model.")
     parser.add_argument("plant", type=Path, metavar="PLANT")
     parser.add_argument("model", type=Path, metavar="MODEL")
     parser.add_argument(

@@ -22,6 +22,8 @@ from dataclasses import dataclass, field
 from pathlib import Path
 from typing import Any
 
+from .words import called
+
 COST, BLOCK, LANES = 32768, 8, 1  # of scrypt: 32 MB and about a tenth of a second for each try
 LARGEST_COST = 1 << 18
 KEY_BYTES = 32
@@ -171,8 +173,9 @@ def user_of(table: Mapping[str, Any], consoles: Collection[int]) -> User:
     if missing:
         raise ValueError(f"the plant has no console {missing[0]}")
     if not isinstance(password, str):
-        raise ValueError("password is what `gateway password` prints")
+        raise ValueError(f"password is what `{called('password')}` prints")
     try:
         return User(name, tuple(sorted(set(numbers))), read_hash(password))
     except BadHash as fault:
-        raise ValueError(f"password isn't what `gateway password` prints: {fault}") from fault
+        words = f"password isn't what `{called('password')}` prints: {fault}"
+        raise ValueError(words) from fault

@@ -1,0 +1,116 @@
+"""`gateway check CONFIG` and `serve --check`: what is wrong is told before anything is served, with the status of `serve`."""
+
+from __future__ import annotations
+
+import re
+import shutil
+import subprocess
+from pathlib import Path
+
+import pytest
+from around import LIMIT, ROOT, config_file, plant_copy, run
+
+pytestmark = pytest.mark.server
+
+
+@pytest.fixture
+def plant(tmp_path: Path) -> Path:
+    return plant_copy("tank", tmp_path)
+
+
+@pytest.fixture
+def config(alarmd: Path, plant: Path) -> Path:
+    return config_file(alarmd, plant)
+
+
+def check(config: Path) -> tuple[int, str, str]:
+    """The status and both outputs of `gateway check`."""
+    words = [str(ROOT / "gateway" / "gateway"), "check", str(config)]
+    done = subprocess.run(words, capture_output=True, text=True, timeout=LIMIT, check=False)
+    return done.returncode, done.stdout, done.stderr
+
+
+def add(config: Path, text: str) -> None:
+    config.write_text(config.read_text() + text)
+
+
+def test_a_plant_that_can_be_served_is_told_as_accepted(config: Path) -> None:
+    assert check(config) == (0, "ACCEPTED PROGRAMS 4 ALARMS 5\n", "")
+    assert not (config.parent / "record").exists()  # nothing was begun
+
+
+def test_its_model_is_judged_too(config: Path, plant: Path) -> None:
+    add(config, '[simulate]\nmodel = "plant/model/plant.toml"\n')
+    status, out, _ = check(config)
+    assert (status, out.splitlines()[1:]) == (0, ["ACCEPTED PROGRAMS 1 ALARMS 0"])
+    model = plant.parent / "model" / "model.st"
+    model.write_text(re.sub(r"\blevel\b", "height", model.read_text()))
+    assert check(config)[0] == 0  # flow and temperature bear names still
+    shutil.copy(plant, plant.parent / "model" / "plant.toml")
+    assert check(config)[0] == 3  # whose sources aren't there
+
+
+def test_warnings_are_told(config: Path, plant: Path) -> None:
+    points = plant.parent / "points.st"
+    points.write_text(points.read_text().replace("VAR_GLOBAL", "VAR_GLOBAL\n  idle : BOOL;", 1))
+    status, out, err = check(config)
+    assert status == 0 and out.startswith("ACCEPTED") and "idle" in err
+
+
+def test_a_refused_plant_is_status_3_with_its_words(config: Path, plant: Path) -> None:
+    plant.write_text(plant.read_text().replace('"watch.st"', '"watsch.st"'))
+    status, out, err = check(config)
+    assert status == 3 and out == ""
+    assert "SERVER alarmd refuses the plant: FILE" in err and "watsch.st" in err
+
+
+WRONG = [
+    ("[fields]\nmap = 'map.toml'\n", "map.toml: No such file"),
+    ("[web]\nlisten = '192.0.2.1:80'\n", "beyond this machine"),
+    ("[web]\nusers = 'users.toml'\n", "users.toml"),
+    ("[web]\nlisten = '127.0.0.1'\n", "listen"),
+    ("[etcd]\nlog = 'tank'\n", "lacks"),
+    ("[wbe]\nlisten = '127.0.0.1:0'\n", "'wbe', unknown"),
+    ("[simulate]\nmodel = 'model.toml'\n", "FILE"),
+]
+
+
+@pytest.mark.parametrize("text,told", WRONG)
+def test_what_serve_would_refuse_is_refused(config: Path, text: str, told: str) -> None:
+    add(config, text)
+    status, out, err = check(config)
+    assert (status, out) == (3 if "simulate" in text else 2, "")
+    assert told in err and err.splitlines()[-1].startswith("SERVER ")
+
+
+def test_a_missing_alarmd_is_status_2(config: Path, alarmd: Path) -> None:
+    config.write_text(config.read_text().replace(str(alarmd), "/nowhere/alarmd"))
+    status, _, err = check(config)
+    assert status == 2 and "can't be started" in err
+
+
+def test_a_record_has_to_be_of_this_plant(config: Path, plant: Path) -> None:
+    assert run(config, "running=TRUE level=250\n")[0] == 0
+    before = (config.parent / "record").read_bytes()
+    assert check(config)[0] == 0
+    alarms = plant.parent / "alarms.csv"
+    alarms.write_text(alarms.read_text() + "\n")
+    status, _, err = check(config)
+    assert status == 2 and "alarms.csv has changed since it began" in err
+    assert (config.parent / "record").read_bytes() == before
+
+
+def test_an_empty_record_is_begun(config: Path) -> None:
+    (config.parent / "record").touch()
+    assert check(config)[0] == 0
+
+
+def test_serve_checks_first_where_it_is_told(config: Path, plant: Path) -> None:
+    points = plant.parent / "points.st"
+    points.write_text(points.read_text().replace("VAR_GLOBAL", "VAR_GLOBAL\n  idle : BOOL;", 1))
+    status, out, err = run(config, "running=TRUE level=250\n", "--check")
+    assert status == 0 and "idle" in "\n".join(err)
+    assert not any(line.startswith("ACCEPTED") for line in out)
+    add(config, "[fields]\nmap = 'map.toml'\n")
+    status, out, err = run(config, "", "--check")
+    assert status == 2 and not out and "map.toml" in err[-1]
