@@ -1,4 +1,4 @@
-"""What all tests share: the built alarmd, the examples, and the options --long, --faults, --rounds, --seed and --minutes."""
+"""What all tests share: the built alarmd, the examples, and the options --long, --faults, --rounds, --seed, --minutes and --package."""
 
 from __future__ import annotations
 
@@ -13,6 +13,7 @@ ROOT = Path(__file__).resolve().parents[2]
 def pytest_addoption(parser: pytest.Parser) -> None:
     parser.addoption("--long", action="store_true", help="runs the long trials too")
     parser.addoption("--faults", action="store_true", help="runs the faults of a shared log too")
+    parser.addoption("--package", action="store_true", help="runs the package on a machine too")
     parser.addoption("--rounds", default=1, type=int, help="how often each fault is tried")
     parser.addoption("--seed", default=67, type=int, help="what chance begins with")
     parser.addoption("--minutes", default=1e9, type=float, help="no round begins after so many")
@@ -22,6 +23,8 @@ def pytest_collection_modifyitems(config: pytest.Config, items: list[pytest.Item
     for item in items:
         if "long" in item.keywords and not config.getoption("--long"):
             item.add_marker(pytest.mark.skip(reason="a long trial: runs with --long"))
+        if "package" in item.keywords and not config.getoption("--package"):
+            item.add_marker(pytest.mark.skip(reason="wants a machine: runs with --package"))
         if "etcd" in item.keywords and not config.getoption("--faults"):
             item.add_marker(pytest.mark.skip(reason="wants etcd: runs with --faults"))
 

@@ -76,6 +76,14 @@ def test_it_installs_what_is_missing_once(tmp_path: Path) -> None:
     assert len(machine.asked()) == 4
 
 
+def test_names_are_printed_and_nothing_is_done(tmp_path: Path) -> None:
+    machine = Machine(tmp_path, 0)
+    told = machine.setup("--serving", "--names")
+    assert told.returncode == 0 and told.stdout.split()[:2] == ["python3", "python3-aiohttp"]
+    assert "chromium" not in told.stdout and not machine.asked()
+    assert "etcd-server" in machine.setup("--serving", "--etcd", "--names").stdout.split()
+
+
 def test_only_root_installs(tmp_path: Path) -> None:
     machine = Machine(tmp_path, 1000)
     told = machine.setup()
