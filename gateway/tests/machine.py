@@ -33,7 +33,6 @@ mkdir "$0/dev/pts" "$0/dev/shm"
 mount -t devpts -o newinstance,ptmxmode=0666,mode=620 devpts "$0/dev/pts"
 ln -s pts/ptmx "$0/dev/ptmx"
 ln -s /proc/self/fd "$0/dev/fd"
-hostname plant
 exec env -i container=test PATH=/usr/sbin:/usr/bin chroot "$0" /lib/systemd/systemd --show-status=no
 """
 SPACES = ("--mount", "--pid", "--cgroup", "--uts", "--ipc")

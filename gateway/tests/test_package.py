@@ -64,6 +64,15 @@ def test_the_same_files_give_the_same_package(alarmd: Path, package: Path, tmp_p
     assert again.name == package.name and again.read_bytes() == package.read_bytes()
 
 
+def test_the_unit_is_the_one_that_operation_explains() -> None:
+    page = (GATEWAY.parent / "docs" / "OPERATION.md").read_text()
+    shown = page[page.index("    [Unit]\n") :].partition("| line | why |")[0]
+    lines = [line.removeprefix("    ") for line in shown.splitlines() if line]
+    unit = (GATEWAY / "debian" / "alarmd.service").read_text().splitlines()
+    left = iter(line for line in unit if not line.startswith("Documentation="))
+    assert len(lines) > 20 and all(line in left for line in lines)  # in this order
+
+
 STAND_INS = {
     "there is none": ("", "build it by `rt run`"),
     "it is no program for this machine": ("#!/bin/sh\necho alarmd 0.1.0\n", "no program for amd64"),
