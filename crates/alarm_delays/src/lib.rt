@@ -5,5 +5,6 @@
 #![tactic(auto)]
 
 mod delays;
+mod seen;
 
 pub use delays::{Delays, alarms_follow, delays_agree};
