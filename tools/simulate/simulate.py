@@ -34,9 +34,9 @@ WAYS = ["missing", "folder", "loop", "no target", "endless", "failing", "too lon
 FULL_EVERY = 5000
 NOBODY = 65_534
 # What stands on standard error where an end fails: the refusal's line, and the system's reason.
-RESET = b"RUN READ\nstandard input: Connection reset by peer (os error 104)\n"
-PIPE = b"RUN WRITE\nstandard output: Broken pipe (os error 32)\n"
-FULL = b"RUN WRITE\nstandard output: No space left on device (os error 28)\n"
+INPUT_RESET = b"RUN READ\nstandard input: Connection reset by peer (os error 104)\n"
+READER_GONE = b"RUN WRITE\nstandard output: Broken pipe (os error 32)\n"
+DISK_FULL = b"RUN WRITE\nstandard output: No space left on device (os error 28)\n"
 # The lines of the table at the end.
 ORDER = ["plants", "full histories, of 1,000,000 events each", "commands", "whole inputs", "inputs in pieces", "cut inputs", "inputs that fail", "broken pipes", "full disks"]
 ORDER += ["inputs with little memory", "inputs without more memory", "folders with little memory", "memory refused", "memory refused before anything was written"]
@@ -159,7 +159,7 @@ class Trial:
         if at < len(self.parts):
             given += self.parts[at].split(b"\n")[0][: self.some.choice([0, 5, 10**9])]
         ran = unwarned(runs.cut_off(words, given, len(wanted), self.bench.seconds))
-        self.judge("inputs that fail", "", words, given, wanted, ran, ran == Ran(wanted, RESET, 1))
+        self.judge("inputs that fail", "", words, given, wanted, ran, ran == Ran(wanted, INPUT_RESET, 1))
 
     # ---- outputs
 
@@ -170,7 +170,7 @@ class Trial:
         most = some.choice([some.randrange(len(answers) + 1), len(answers)])
         wanted = self.wanted[:most]
         ran = unwarned(runs.broken(words, before, most, self.given[len(before) :], self.bench.seconds))
-        fits = ran == Ran(wanted, PIPE, 1) or (len(answers) == len(self.wanted) and ran == Ran(wanted, b"", 0))
+        fits = ran == Ran(wanted, READER_GONE, 1) or (len(answers) == len(self.wanted) and ran == Ran(wanted, b"", 0))
         self.judge("broken pipes", f"after {most} bytes, and {len(before)} of the input", words, self.given, wanted, ran, fits)
 
     def full_sink(self):
@@ -179,7 +179,7 @@ class Trial:
             words = self.words(self.any_workers())
             with open("/dev/full", "wb") as out:
                 ran = unwarned(runs.run(words, self.given, self.bench.seconds, out=out))
-            fits = ran == (Ran(b"", FULL, 1) if self.wanted else Ran(b"", b"", 0))
+            fits = ran == (Ran(b"", DISK_FULL, 1) if self.wanted else Ran(b"", b"", 0))
             self.judge("full disks", "", words, self.given, b"", ran, fits)
 
     # ---- memory
