@@ -121,12 +121,13 @@ class Station:
         self.say(f"TAKEN {taken} STOPPED {'TRUE' if stopped else 'FALSE'}")
 
     def are_gone(self, asked):
-        """Whether the workers are gone for a scan that would be taken. A scan takes a round for each level, also for one whose programs are all faulted. There is a level at least, and at most one for each program: how
-        many is what came."""
-        if not self.server.faulted or self.server.copy().scan(*asked[1:])[0].startswith("REFUSED"):
+        """Whether the workers are gone for a scan that would be taken. A scan takes a round for each level, also for one whose programs are all faulted, and one round, with no job, where the plant has no programs. There is
+        at most one level for each program: how many is what came."""
+        if self.server.copy().scan(*asked[1:])[0].startswith("REFUSED"):
             return False
         self.asked += 1
-        self.gone = self.gone or self.asked > self.left or (self.asked * len(self.server.faulted) > self.left and self.next() == "REFUSED E5")
+        most = self.asked * max(1, len(self.server.faulted))
+        self.gone = self.gone or self.asked > self.left or (most > self.left and self.next() == "REFUSED E5")
         return self.gone
 
     def take(self, most):
