@@ -6,6 +6,7 @@
 
 mod code;
 mod flat;
+mod flat_instr;
 mod instr;
 mod own;
 mod run;
@@ -13,5 +14,6 @@ mod step;
 mod words;
 
 pub use code::Code;
+pub use flat_instr::{FlatInstr, flat_instrs};
 pub use instr::{Instr, Named, Operation};
 pub use own::{Own, Shared};

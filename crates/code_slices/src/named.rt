@@ -4,11 +4,11 @@ ghost use Rattle.std.specs.Prelude.{◌≡◌, ◌++◌};
 ghost use Rattle.acc_vm.specs.Operands.{listed};
 ghost use Rattle.code_slices.specs.Slots.{slots_read, slots_written, clocks_of};
 
-use acc_vm::Instr;
+use acc_vm::FlatInstr;
 
 /// The slots that an instruction reads.
 #[inline(always)]
-pub(crate) fn read_by(i: &Instr) -> (Option<u32>, Option<u32>)
+pub(crate) fn read_by(i: &FlatInstr) -> (Option<u32>, Option<u32>)
     ensures { listed result.0 ++ listed result.1 ≡ slots_read i.now }
 {
     i.named().reads
@@ -16,7 +16,7 @@ pub(crate) fn read_by(i: &Instr) -> (Option<u32>, Option<u32>)
 
 /// The slot that an instruction writes, if it writes one.
 #[inline(always)]
-pub(crate) fn written_by(i: &Instr) -> Option<u32>
+pub(crate) fn written_by(i: &FlatInstr) -> Option<u32>
     ensures { listed result ≡ slots_written i.now }
 {
     i.named().write
@@ -24,7 +24,7 @@ pub(crate) fn written_by(i: &Instr) -> Option<u32>
 
 /// The clock that an instruction names, if it names one.
 #[inline(always)]
-pub(crate) fn clock_by(i: &Instr) -> Option<u32>
+pub(crate) fn clock_by(i: &FlatInstr) -> Option<u32>
     ensures { listed result ≡ clocks_of i.now }
 {
     i.named().clock

@@ -10,7 +10,7 @@ ghost use Rattle.acc_vm.specs.Operands.{listed};
 ghost use Rattle.code_slices.specs.Noting.{IsNoted, AreOnce, Notes};
 
 use crate::named::{clock_by, read_by, written_by};
-use acc_vm::Instr;
+use acc_vm::FlatInstr;
 use std::alloc::AllocError;
 
 /// Whether a number is noted.
@@ -62,7 +62,7 @@ fn note_some(
 pub(crate) fn note_written(
     places: &mut [u32],
     numbers: &mut Vec<u32>,
-    instrs: &[Instr],
+    instrs: &[FlatInstr],
 ) -> Result<(), AllocError>
     requires there { (pc : ℕ) (i : Instr) → slice_get instrs.now pc ≡ Some i → values_past i ≤ length places.old }
     requires few { length places.old ≤ 2 ^ 32 }
@@ -79,7 +79,7 @@ pub(crate) fn note_written(
 pub(crate) fn note_read(
     places: &mut [u32],
     numbers: &mut Vec<u32>,
-    instrs: &[Instr],
+    instrs: &[FlatInstr],
 ) -> Result<(), AllocError>
     requires there { (pc : ℕ) (i : Instr) → slice_get instrs.now pc ≡ Some i → values_past i ≤ length places.old }
     requires few { length places.old ≤ 2 ^ 32 }
@@ -98,7 +98,7 @@ pub(crate) fn note_read(
 pub(crate) fn note_clocks(
     places: &mut [u32],
     numbers: &mut Vec<u32>,
-    instrs: &[Instr],
+    instrs: &[FlatInstr],
 ) -> Result<(), AllocError>
     requires there { (pc : ℕ) (i : Instr) → slice_get instrs.now pc ≡ Some i → clocks_past i ≤ length places.old }
     requires few { length places.old ≤ 2 ^ 32 }

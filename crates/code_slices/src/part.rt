@@ -8,7 +8,7 @@ ghost use Rattle.code_slices.specs.Parts.{IsPart, IsPartOf, HasPart, AreSlots, A
 use crate::noting::{note_clocks, note_read, note_written};
 use crate::printed_code::PrintedCode;
 use crate::renaming::renamed_all;
-use acc_vm::{Code, Instr};
+use acc_vm::{Code, FlatInstr};
 use plant_cells::{Cells, Clock};
 use std::alloc::{AllocError, Global};
 use std::marker::Model;
@@ -46,7 +46,7 @@ impl Model for Part {
 fn named_slots(
     alloc: Global,
     places: &mut [u32],
-    instrs: &[Instr],
+    instrs: &[FlatInstr],
 ) -> Result<(Vec<u32>, usize), AllocError>
     requires there { (pc : ℕ) (i : Instr) → slice_get instrs.now pc ≡ Some i → values_past i ≤ length places.old }
     requires few { length places.old ≤ 2 ^ 32 }
@@ -60,7 +60,11 @@ fn named_slots(
 }
 
 /// The clocks that instructions name. Fails if memory was refused.
-fn named_clocks(alloc: Global, places: &mut [u32], instrs: &[Instr]) -> Result<Vec<u32>, AllocError>
+fn named_clocks(
+    alloc: Global,
+    places: &mut [u32],
+    instrs: &[FlatInstr],
+) -> Result<Vec<u32>, AllocError>
     requires there { (pc : ℕ) (i : Instr) → slice_get instrs.now pc ≡ Some i → clocks_past i ≤ length places.old }
     requires few { length places.old ≤ 2 ^ 32 }
     ensures { IfOk result (λ clocks. AreClocks instrs.now places.new clocks.items) }
@@ -97,7 +101,7 @@ pub fn relocate(
         clocks.len(),
         code.stack(),
         code.cost(),
-    )?;
+    );
     let printed = PrintedCode::new(alloc, moved)?;
     Ok(Part {
         code: printed,

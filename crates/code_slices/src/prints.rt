@@ -5,7 +5,7 @@ ghost use Rattle.std.specs.List.{flat_map};
 ghost use Rattle.acc_vm.specs.Operands.{listed};
 ghost use Rattle.code_slices.specs.Prints.{ArePlacesOf, ArePrintsOf, HaveSameItems, unary_number, binary_number, with_kinds, with_numbers, with_literals, kinds_of, numbers_of, literals_of, step_of, told_of, counts_of};
 
-use acc_vm::{Code, Instr, Named, Operation};
+use acc_vm::{Code, FlatInstr, Named, Operation};
 use plant_types::Place;
 use st_tree::{Binary, Unary};
 use std::alloc::{AllocError, Global};
@@ -128,7 +128,7 @@ fn add_literals(literals: &mut Vec<i64>, of: &Operation) -> Result<(), AllocErro
 }
 
 /// Writes the print of an instruction behind others. Fails if memory was refused.
-fn add_print(prints: &mut Prints, i: &Instr) -> Result<(), AllocError>
+fn add_print(prints: &mut Prints, i: &FlatInstr) -> Result<(), AllocError>
     ensures kinds { IfOk result (λ _. prints.new.kinds.items ≡ prints.old.kinds.items ++ kinds_of i.now) }
     ensures numbers { IfOk result (λ _. prints.new.numbers.items ≡ prints.old.numbers.items ++ numbers_of i.now) }
     ensures literals { IfOk result (λ _. prints.new.literals.items ≡ prints.old.literals.items ++ literals_of i.now) }
@@ -188,7 +188,7 @@ fn place_prints(alloc: Global, places: &[Place]) -> Result<PlacePrints, AllocErr
 /// The prints of instructions, and places. Fails if memory was refused.
 pub(crate) fn prints_of(
     alloc: Global,
-    instrs: &[Instr],
+    instrs: &[FlatInstr],
     places: &[Place],
 ) -> Result<Prints, AllocError>
     ensures { IfOk result (ArePrintsOf instrs.now places.now) }

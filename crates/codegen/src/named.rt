@@ -4,7 +4,7 @@ ghost use Rattle.std.specs.Prelude.{◌≡◌};
 ghost use Rattle.acc_vm.specs.Operands.{listed, past_all};
 ghost use Rattle.acc_vm.specs.Codes.{values_past, clocks_past, values_named, clocks_named};
 
-use acc_vm::Instr;
+use acc_vm::FlatInstr;
 
 /// The number after one that may be there; 0 if it isn't.
 fn past(number: Option<u32>) -> usize
@@ -17,8 +17,8 @@ fn past(number: Option<u32>) -> usize
 }
 
 /// The number after the last slot that an instruction names; 0 if it names none.
-fn values_past(instr: Instr) -> usize
-    ensures { result ≡ values_past instr }
+fn values_past(instr: &FlatInstr) -> usize
+    ensures { result ≡ values_past instr.now }
 {
     let named = instr.named();
     past(named.reads.0)
@@ -27,30 +27,30 @@ fn values_past(instr: Instr) -> usize
 }
 
 /// The number after the clock that an instruction names; 0 if it names none.
-fn clocks_past(instr: Instr) -> usize
-    ensures { result ≡ clocks_past instr }
+fn clocks_past(instr: &FlatInstr) -> usize
+    ensures { result ≡ clocks_past instr.now }
 {
     past(instr.named().clock)
 }
 
 /// How many slots instructions name, from 0 on.
-pub(crate) fn values_named(instrs: &[Instr]) -> usize
+pub(crate) fn values_named(instrs: &[FlatInstr]) -> usize
     ensures { result ≡ values_named instrs.now }
 {
     let mut named: usize = 0;
     for instr in instrs {
-        named = named.max(values_past(*instr));
+        named = named.max(values_past(instr));
     }
     named
 }
 
 /// How many clocks instructions name, from 0 on.
-pub(crate) fn clocks_named(instrs: &[Instr]) -> usize
+pub(crate) fn clocks_named(instrs: &[FlatInstr]) -> usize
     ensures { result ≡ clocks_named instrs.now }
 {
     let mut named: usize = 0;
     for instr in instrs {
-        named = named.max(clocks_past(*instr));
+        named = named.max(clocks_past(instr));
     }
     named
 }

@@ -27,8 +27,8 @@ renamed_all-requires-clause-clocks c = λ pc i at.
     let h = c.instrs-program.ensures.sound.within pc i (ap (λ xs. slice_get xs pc) (sym c.instrs-program.ensures.is) ∙ at) in
     let n = c.requires.clocks in let b = h.1 in let long = c.named_clocks.auto.places in omega arith
 
-pub new-requires : goal.new-requires
-new-requires c =
+pub new-moved-requires : goal.new-moved-requires
+new-moved-requires c =
     let code = c.args.code.now in
     let are : AreSlots code.instrs c.named_slots.new.places c.in_ok-slots.slots.items c.in_ok-slots.written
     = subst (λ (p : List Instr). AreSlots p c.named_slots.new.places c.in_ok-slots.slots.items c.in_ok-slots.written) c.instrs-program.ensures.is c.in_ok-slots.ensures in
@@ -56,7 +56,7 @@ invariant_of-result c =
     let clocks : c.len-2.result ≡ length c.in_ok-clocks.clocks.items = let h = c.len-2.ensures in let ok = c.in_ok-clocks.clocks.ok.0 in omega (arith, h, ok) in
     let is : IsPartOf code (record { code = c.in_ok-printed.printed; slots = c.in_ok-slots.slots.items; written = c.in_ok-slots.written; clocks = c.in_ok-clocks.clocks.items })
     = is_part_of code c.named_slots.new.places c.named_clocks.new.places c.in_ok-slots.slots.items c.in_ok-clocks.clocks.items c.in_ok-slots.written are clock_are c.in_ok-printed.printed
-    (c.in_ok-printed.ensures ∙ c.in_ok-moved.ensures ∙ (same_code code c.named_slots.new.places c.named_clocks.new.places c.in_ok-slots.slots.items c.in_ok-clocks.clocks.items c.in_ok-slots.written are clock_are _ _ _ _ _ _ _
+    (c.in_ok-printed.ensures ∙ c.new-moved.ensures ∙ (same_code code c.named_slots.new.places c.named_clocks.new.places c.in_ok-slots.slots.items c.in_ok-clocks.clocks.items c.in_ok-slots.written are clock_are _ _ _ _ _ _ _
     moved (c.in_ok-places.ensures.items ∙ c.places.ensures) c.paths.ensures slots clocks c.stack.ensures c.cost.ensures)) in
     part_is code (record { code = c.in_ok-printed.printed; slots = c.in_ok-slots.slots.items; written = c.in_ok-slots.written; clocks = c.in_ok-clocks.clocks.items }) is
 
@@ -73,6 +73,6 @@ returns c =
     let clocks : c.len-2.result ≡ length c.in_ok-clocks.clocks.items = let h = c.len-2.ensures in let ok = c.in_ok-clocks.clocks.ok.0 in omega (arith, h, ok) in
     let is : IsPartOf code (record { code = c.in_ok-printed.printed; slots = c.in_ok-slots.slots.items; written = c.in_ok-slots.written; clocks = c.in_ok-clocks.clocks.items })
     = is_part_of code c.named_slots.new.places c.named_clocks.new.places c.in_ok-slots.slots.items c.in_ok-clocks.clocks.items c.in_ok-slots.written are clock_are c.in_ok-printed.printed
-    (c.in_ok-printed.ensures ∙ c.in_ok-moved.ensures ∙ (same_code code c.named_slots.new.places c.named_clocks.new.places c.in_ok-slots.slots.items c.in_ok-clocks.clocks.items c.in_ok-slots.written are clock_are _ _ _ _ _ _ _
+    (c.in_ok-printed.ensures ∙ c.new-moved.ensures ∙ (same_code code c.named_slots.new.places c.named_clocks.new.places c.in_ok-slots.slots.items c.in_ok-clocks.clocks.items c.in_ok-slots.written are clock_are _ _ _ _ _ _ _
     moved (c.in_ok-places.ensures.items ∙ c.places.ensures) c.paths.ensures slots clocks c.stack.ensures c.cost.ensures)) in
     is
