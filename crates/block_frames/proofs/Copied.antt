@@ -9,7 +9,7 @@ use Rattle.std.proofs.lemmas.Option.{slice_get-map, none-some, same_Some}
 use Rattle.st_tree.specs.declared.tree.Stmt.{Stmt}
 use Rattle.st_tree.specs.Plain.{PlainBody, done, next}
 use Rattle.st_tree.specs.View.{view_body}
-use Rattle.plant_logic.specs.Source.{PlainRoutine, Source}
+use Rattle.plant_logic.specs.Source.{PlainRoutine, Source, own_cells}
 use Rattle.block_walk.specs.declared.frame.Seat.{Seat}
 use Rattle.block_walk.specs.declared.frame.Frame.{Frame}
 use Rattle.block_walk.specs.Frames.{of_frame, of_first, routine_paths, frame_paths, InTurn, AreInTurn}
@@ -103,7 +103,7 @@ module _ (fs gs : List Frame) (same : map view_frame gs ≡ map view_frame fs) w
 module _ (source : Source) (order : List ℕ) (f g : Frame) (e : view_frame g ≡ view_frame f) where
   frame_copied : (r : PlainRoutine) → IsFrame source order r f → IsFrame source order r g
   frame_copied r h = record {
-    seats_are = subst (λ (s : List Seat). AreSeats source.blocks r order (length r.locals) 0 r.instances s) (sym (ap (λ (p : PlainFrame). p.seats) e)) h.seats_are;
+    seats_are = subst (λ (s : List Seat). AreSeats source.blocks r order (own_cells r) 0 r.instances s) (sym (ap (λ (p : PlainFrame). p.seats) e)) h.seats_are;
     starts_are = ap (λ (p : PlainFrame). p.starts) e ∙ h.starts_are;
     body_is = ap (λ (p : PlainFrame). p.body) e ∙ h.body_is;
   }

@@ -8,9 +8,10 @@ use Rattle.plant_types.specs.declared.values.Kind.TheVariants as kind
 use Rattle.st_tree.specs.Plain.{PlainExpr, literal, read, output_of, unary, binary, PlainArgument, input, output}
 use Rattle.st_tree.specs.Plain.{PlainStmt, empty, assign, call, if_else, case_of, for_to, PlainBody, done, next, Branches, no_branch, branch, Choices, no_choice, choice}
 use Rattle.st_tree.specs.Kinds.{unary_kind, binary_kind, kind_of_expr, is_kind, is_bit, same_kind}
-use Rattle.st_tree.specs.Fits.{Context, is_of, option_is_of, fits_option, takes, argument_fits, stmt_fits, all_fit, branches_fit, choices_fit}
+use Rattle.st_tree.specs.Fits.{Context, sorts_of, is_of, option_is_of, fits_option, takes, argument_fits, stmt_fits, all_fit, branches_fit, choices_fit}
 use Rattle.st_tree.specs.Every.{every, every_inside, every_branch, every_choice}
 use Rattle.st_tree.specs.Mapping.{Known, expr_known, option_known, argument_known, stmt_known, body_known, branches_known, choices_known}
+use Rattle.block_frames.specs.Numbers.{KnowsNames}
 
 pub and_then_some : {A B : Type 0} (f : A → Option B) (o : Option A) (b : B) → option_and_then f o ≡ Some b → (a : A) × (o ≡ Some a) × (f a ≡ Some b)
 and_then_some f None b is = absurd (cc)
@@ -24,24 +25,22 @@ pub both : (a b : Bool) → a ≡ true → b ≡ true → (a && b) ≡ true
 both true b is also = also
 both false b is also = is
 
-module _ {V : Type 0} (context : Context V) (known : Known V) (variables : (v : V) (k : Kind) → context.variable_kind v ≡ Some k → known.has_variable v ≡ true) (assigned : (v : V) → context.may_assign v ≡ true → known.has_variable v ≡ true)
-    (instances : (v : V) → context.is_instance v ≡ true → known.has_instance v ≡ true) (inputs : (instance name : V) (k : Kind) → context.input_kind instance name ≡ Some k → known.has_input instance name ≡ true)
-    (outputs : (instance name : V) (k : Kind) → context.output_kind instance name ≡ Some k → known.has_output instance name ≡ true) (rule : PlainStmt V → Bool)
+module _ {V : Type 0} (context : Context V) (known : Known V) (are : KnowsNames context known) (rule : PlainStmt V → Bool)
     (controlled : (number : ℕ) (v : V) (from to : PlainExpr V) (by : Option (PlainExpr V)) (body : PlainBody V) → rule (for_to number v from to by body) ≡ true → known.has_variable v ≡ true) where
-  kind_known : (e : PlainExpr V) (k : Kind) → kind_of_expr context.variable_kind context.output_kind e ≡ Some k → expr_known known e ≡ true
+  kind_known : (e : PlainExpr V) (k : Kind) → kind_of_expr (sorts_of context) e ≡ Some k → expr_known known e ≡ true
   kind_known (literal n) k is = refl
-  kind_known (read v) k is = variables v k is
-  kind_known (output_of instance name) k is = outputs instance name k is
+  kind_known (read v) k is = are.variables v k is
+  kind_known (output_of instance name) k is = are.outputs instance name k is
   kind_known (unary op a) k is =
-      let first = and_then_some (unary_kind op) (kind_of_expr context.variable_kind context.output_kind a) k is in
+      let first = and_then_some (unary_kind op) (kind_of_expr (sorts_of context) a) k is in
       kind_known a first.0 first.1
   kind_known (binary op a b) k is =
-      let first = and_then_some (λ j. option_and_then (binary_kind op j) (kind_of_expr context.variable_kind context.output_kind b)) (kind_of_expr context.variable_kind context.output_kind a) k is in
-      let second = and_then_some (binary_kind op first.0) (kind_of_expr context.variable_kind context.output_kind b) k first.2 in
+      let first = and_then_some (λ j. option_and_then (binary_kind op j) (kind_of_expr (sorts_of context) b)) (kind_of_expr (sorts_of context) a) k is in
+      let second = and_then_some (binary_kind op first.0) (kind_of_expr (sorts_of context) b) k first.2 in
       both (expr_known known a) (expr_known known b) (kind_known a first.0 first.1) (kind_known b second.0 second.1)
 
   of_known : (k : Kind) (e : PlainExpr V) → is_of context k e ≡ true → expr_known known e ≡ true
-  of_known k e is = let found = some_kind k (kind_of_expr context.variable_kind context.output_kind e) is in kind_known e found.0 found.1
+  of_known k e is = let found = some_kind k (kind_of_expr (sorts_of context) e) is in kind_known e found.0 found.1
 
   option_of_known : (k : Kind) (e : Option (PlainExpr V)) → option_is_of context k e ≡ true → option_known known e ≡ true
   option_of_known k None is = refl
@@ -68,12 +67,12 @@ module _ {V : Type 0} (context : Context V) (known : Known V) (variables : (v : 
   taken_known : (v : V) (e : PlainExpr V) → takes context v e ≡ true → (known.has_variable v ≡ true) × (expr_known known e ≡ true)
   taken_known v e is =
       let parts = and_parts (context.may_assign v) (fits_option context (context.variable_kind v) e) is in
-      (assigned v parts.0, (fitting_known (context.variable_kind v) e parts.1).2)
+      (are.assigned v parts.0, (fitting_known (context.variable_kind v) e parts.1).2)
 
   argument_is : (instance : V) (a : PlainArgument V) → argument_fits context instance a ≡ true → argument_known known instance a ≡ true
   argument_is instance (input name e) is =
       let it = fitting_known (context.input_kind instance name) e is in
-      both (known.has_input instance name) (expr_known known e) (inputs instance name it.0 it.1) it.2
+      both (known.has_input instance name) (expr_known known e) (are.inputs instance name it.0 it.1) it.2
   argument_is instance (output name v) is =
       let it = taken_known v (output_of instance name) is in
       both (known.has_output instance name) (known.has_variable v) it.1 it.0
@@ -90,7 +89,7 @@ module _ {V : Type 0} (context : Context V) (known : Known V) (variables : (v : 
     stmt_is (assign number v e) is own inside = let it = taken_known v e is in both (known.has_variable v) (expr_known known e) it.0 it.1
     stmt_is (call number instance arguments) is own inside =
         let parts = and_parts (context.is_instance instance) (list_all (argument_fits context instance) arguments) is in
-        both (known.has_instance instance) (list_all (argument_known known instance) arguments) (instances instance parts.0) (arguments_are instance arguments parts.1)
+        both (known.has_instance instance) (list_all (argument_known known instance) arguments) (are.instances instance parts.0) (arguments_are instance arguments parts.1)
     stmt_is (if_else number branches last) is own inside =
         let parts = and_parts (branches_fit context branches) (all_fit context last) is in
         let also = and_parts (every_branch rule branches) (every rule last) inside in

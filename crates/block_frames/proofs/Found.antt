@@ -9,7 +9,7 @@ use Rattle.plant_types.specs.Words.{folded}
 use Rattle.plant_logic.specs.declared.logic.Variable.{Variable}
 use Rattle.plant_logic.specs.declared.logic.Instance.{Instance}
 use Rattle.plant_logic.specs.declared.logic.BlockRef.{BlockRef}
-use Rattle.plant_logic.specs.Source.{PlainRoutine, Source}
+use Rattle.plant_logic.specs.Source.{PlainRoutine, Source, global_cells}
 use Rattle.plant_logic.specs.Names.{global_words, own_words, find_word, instance_named, block_named}
 use Rattle.plant_logic.specs.Seats.{own_or_global, value_number}
 use Rattle.plant_logic.proofs.Members.{instance_of_number}
@@ -39,9 +39,9 @@ global_within globals name j found =
 
 -- a variable that has a number in a body has one in the cells
 pub slot_is : (source : Source) (r : PlainRoutine) (base : Base) (name : List ℕ) → is_some (variable_number source r name) ≡ true
-    → value_number source.globals r base.values name ≡ Some (slot_of (length source.globals) base (unwrap_or (variable_number source r name) 0))
+    → value_number source.globals r base.values name ≡ Some (slot_of (global_cells source) base (unwrap_or (variable_number source r name) 0))
 slot_is source r base name there =
-    slot_by (length source.globals) base (find_word (own_words r.locals) name) (find_word (global_words source.globals) name) (global_within source.globals name) there
+    slot_by (global_cells source) base (find_word (own_words r.locals) name) (find_word (global_words source.globals) name) (global_within source.globals name) there
 
 -- the instance that a name finds
 pub record Found (r : PlainRoutine) (name : List ℕ) (k : ℕ) (i : Instance) : Type 0 where

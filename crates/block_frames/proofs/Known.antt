@@ -19,7 +19,7 @@ use Rattle.st_parser.specs.declared.unit.Sort.{Sort}
 use Rattle.st_parser.specs.declared.unit.Sort.TheVariants as sort
 use Rattle.st_parser.specs.Units.{PlainDeclaration, PlainSection, PlainPou, PlainUnit}
 use Rattle.st_names.specs.First.{first_that}
-use Rattle.st_names.specs.DeclaredNames.{PlainDeclared, declared_as, declared_together, declared_by, declared_in, sort_kind}
+use Rattle.st_names.specs.DeclaredNames.{PlainDeclared, declared_as, declared_together, declared_by, declared_in, sort_kind, is_instance_sort}
 use Rattle.st_names.specs.Shared.{Shared, global, pou, shared_name, shared_in, is_block, as_global, global_named}
 use Rattle.st_names.specs.Scopes.{variable_kind, region_named, is_input, is_assignable, is_control}
 use Rattle.st_names.specs.Taken.{or_place}
@@ -27,7 +27,7 @@ use Rattle.st_names.specs.Faults.{first_pou, first_unit}
 use Rattle.st_typing.specs.Kinds.{context_of, instance_fits, sort_fits, declared_fits, is_global_section, is_global, globals_misfit, pou_misfit}
 use Rattle.st_typing.specs.Constants.{initial_constant, bounds_allowed, never_assigns, stmt_allowed, globals_inconstant, pou_inconstant}
 use Rattle.st_typing.specs.Faults.{AreTyped}
-use Rattle.plant_logic.specs.Source.{PlainRoutine, Source}
+use Rattle.plant_logic.specs.Source.{PlainRoutine, Source, global_cells}
 use Rattle.plant_logic.specs.Pous.{pous_of, block_pous, program_pous, block_names}
 use Rattle.plant_logic.specs.Units.{routine_of, declared_globals, source_in}
 use Rattle.plant_logic.specs.Names.{global_words, own_words, find_word}
@@ -73,7 +73,7 @@ sections_global (s ∷ ss) all =
 
 -- a name that stands in VAR_GLOBAL and fits is a variable
 abbrev is_variable : PlainDeclared → Bool
-is_variable d = is_some (sort_kind d.sort)
+is_variable d = not (is_instance_sort d.sort)
 
 no_global_instance : (section : SectionKind) (o : Option (PlainExpr (List ℕ))) → is_global_section section ≡ true → instance_fits section o ≡ false
 no_global_instance sections.Local o is = absurd (cc)
@@ -82,7 +82,7 @@ no_global_instance sections.Input o is = refl
 no_global_instance sections.Output o is = refl
 no_global_instance sections.Global o is = refl
 
-variable_by : (units : List PlainUnit) (own : List PlainDeclared) (d : PlainDeclared) (s : Sort) → stands_global d ≡ true → sort_fits units own d s ≡ true → is_some (sort_kind s) ≡ true
+variable_by : (units : List PlainUnit) (own : List PlainDeclared) (d : PlainDeclared) (s : Sort) → stands_global d ≡ true → sort_fits units own d s ≡ true → not (is_instance_sort s) ≡ true
 variable_by units own d (sort.Kind k) stands fit = refl
 variable_by units own d (sort.Block word) stands fit = let none = no_global_instance d.section d.initial stands in absurd (cc)
 
@@ -125,10 +125,14 @@ global_is None d is = absurd (cc)
 global_is (Some (global e)) d is = let same : e ≡ d = cc in ap (λ x. Some (global x)) same
 global_is (Some (pou p)) d is = absurd (cc)
 
+not_true : (b : Bool) → not b ≡ true → b ≡ false
+not_true true is = absurd (cc)
+not_true false is = refl
+
 -- no global is an instance where all are variables
-no_global_is_instance : (units : List PlainUnit) → list_all is_variable (declared_globals units) ≡ true → (name : List ℕ) (d : PlainDeclared) → global_named units name ≡ Some d → is_some (sort_kind d.sort) ≡ true
+no_global_is_instance : (units : List PlainUnit) → list_all is_variable (declared_globals units) ≡ true → (name : List ℕ) (d : PlainDeclared) → global_named units name ≡ Some d → is_instance_sort d.sort ≡ false
 no_global_is_instance units all name d found =
-    first_passes (λ s. same_word (shared_name s) name) no_instance (shared_in units) (global d) (shared_pass units all) (global_is (first_that (λ s. same_word (shared_name s) name) (shared_in units)) d found)
+    not_true (is_instance_sort d.sort) (first_passes (λ s. same_word (shared_name s) name) no_instance (shared_in units) (global d) (shared_pass units all) (global_is (first_that (λ s. same_word (shared_name s) name) (shared_in units)) d found))
 
 module _ (units : List PlainUnit) where
   abbrev source : Source
@@ -138,7 +142,7 @@ module _ (units : List PlainUnit) where
   routine p = routine_of (block_names units) p
 
   -- each name in a routine's body, and in its initial values, has a number
-  module _ (variables : (name : List ℕ) (d : PlainDeclared) → global_named units name ≡ Some d → is_some (sort_kind d.sort) ≡ true) (p : PlainPou) (fits : pou_misfit units p ≡ false) (constant : pou_inconstant p ≡ false) where
+  module _ (variables : (name : List ℕ) (d : PlainDeclared) → global_named units name ≡ Some d → is_instance_sort d.sort ≡ false) (p : PlainPou) (fits : pou_misfit units p ≡ false) (constant : pou_inconstant p ≡ false) where
     abbrev own : List PlainDeclared
     own = declared_in p.sections
 
@@ -162,13 +166,20 @@ module _ (units : List PlainUnit) where
 
     body_numbered : body_known (numbered_in source (routine p)) p.body ≡ true
     body_numbered =
-        body_is (context_of units own) (numbered_in source (routine p)) (variable_numbered units p fits) assigned_numbered (instance_numbered units p fits variables) (input_numbered units p fits variables) (output_numbered units p fits variables)
+        body_is (context_of units own) (numbered_in source (routine p))
+        (record {
+          variables = variable_numbered units p fits;
+          assigned = assigned_numbered;
+          instances = instance_numbered units p fits variables;
+          inputs = input_numbered units p fits variables;
+          outputs = output_numbered units p fits variables;
+        })
         (stmt_allowed own) allowed_numbered p.body body_fits constants.1
 
     start_numbered : (d : PlainDeclared) → Among own d → (e : PlainExpr (List ℕ)) → d.initial ≡ Some e → (variables_in source (routine p)).has_variable d.name ≡ true
     start_numbered d among e is =
         let v = initial_variable units own d e is (passes_among (declared_fits units own) own d (declared_all units p fits) among) in
-        own_first (length source.globals) (find_word (own_words (routine p).locals) d.name) (find_word (global_words source.globals) d.name)
+        own_first (global_cells source) (find_word (own_words (routine p).locals) d.name) (find_word (global_words source.globals) d.name)
         (placed_some (bytes_eq (folded d.name)) (own_words (routine p).locals) (own_among own d v.0 among v.2 v.1))
 
     has_its_names : HasItsNames source (routine p)
@@ -181,7 +192,7 @@ module _ (units : List PlainUnit) where
       numbered : (d : PlainDeclared) → Among (declared_globals units) d → (e : PlainExpr (List ℕ)) → d.initial ≡ Some e → (variables_in source (globals_routine source)).has_variable d.name ≡ true
       numbered d among e is =
           let v = initial_variable units [] d e is (passes_among (declared_fits units []) (declared_globals units) d fit among) in
-          global_next (length source.globals) (find_word (own_words (globals_routine source).locals) d.name) (find_word (global_words source.globals) d.name)
+          global_next (global_cells source) (find_word (own_words (globals_routine source).locals) d.name) (find_word (global_words source.globals) d.name)
           (placed_some (bytes_eq (folded d.name)) (global_words source.globals) (global_among (declared_globals units) d v.0 among v.1))
 
   all_have : ((p : PlainPou) → pou_misfit units p ≡ false → pou_inconstant p ≡ false → HasItsNames source (routine p)) → (ps : List PlainPou) → All (λ p. pou_misfit units p ≡ false) ps → All (λ p. pou_inconstant p ≡ false) ps
@@ -196,7 +207,7 @@ module _ (units : List PlainUnit) where
   constant_globals ss constant = not_false (list_all initial_constant (declared_in ss)) constant
 
 -- no global of well-formed units is an instance
-pub typed_globals : (units : List PlainUnit) → AreTyped units → (name : List ℕ) (d : PlainDeclared) → global_named units name ≡ Some d → is_some (sort_kind d.sort) ≡ true
+pub typed_globals : (units : List PlainUnit) → AreTyped units → (name : List ℕ) (d : PlainDeclared) → global_named units name ≡ Some d → is_instance_sort d.sort ≡ false
 typed_globals units typed =
     no_global_is_instance units (each_global (globals_misfit units) (pou_misfit units) is_variable (variables_only units) 0 units typed.are_shallow.are_short.constant.are_apart.kinded.kinds)
 

@@ -8,7 +8,7 @@ use Rattle.block_order.specs.Chains.{Among}
 use Rattle.plant_logic.specs.declared.logic.Instance.{Instance}
 use Rattle.plant_logic.specs.declared.logic.BlockRef.{BlockRef}
 use Rattle.plant_logic.specs.declared.logic.BlockRef.TheVariants.{Ton, Tof, RTrig, Declared}
-use Rattle.plant_logic.specs.Source.{PlainRoutine, Source}
+use Rattle.plant_logic.specs.Source.{PlainRoutine, Source, own_cells}
 use Rattle.plant_logic.specs.Blocks.{AreBelow, HasItsTypes, DeclaresThere, Declares, AsksDeclared}
 use Rattle.plant_logic.specs.Worlds.{Path}
 use Rattle.plant_logic.specs.Paths.{is_called, block_paths, instance_paths, paths_rule, type_paths}
@@ -97,10 +97,10 @@ module _ (blocks : List PlainRoutine) (order : List ℕ) (r : PlainRoutine) wher
 
 -- the seats of a frame, with or without its body
 framed_standards : (blocks : List PlainRoutine) (order : List ℕ) (b : Bool) (r : PlainRoutine) (standards : ℕ → List Standard) (inner : ℕ → Path → List ClockAt) (seats : List Seat) (p : Path)
-    → AreSeats blocks (framed b r) order (length (framed b r).locals) 0 (framed b r).instances seats → ((n : ℕ) (q : Path) → Declares r n → standards (place_in order n) ≡ map (λ (c : ClockAt). standard_of c.of) (inner n q))
+    → AreSeats blocks (framed b r) order (own_cells (framed b r)) 0 (framed b r).instances seats → ((n : ℕ) (q : Path) → Declares r n → standards (place_in order n) ≡ map (λ (c : ClockAt). standard_of c.of) (inner n q))
     → seats_standards standards seats ≡ map (λ (c : ClockAt). standard_of c.of) (clocks_rule inner r p)
-framed_standards blocks order true r standards inner seats p are same = seats_standards_are blocks order r standards inner r.instances seats (length r.locals) 0 p are (λ i n q here of_is. same n q (i, here, of_is))
-framed_standards blocks order false r standards inner seats p are same = seats_standards_are blocks order (framed false r) standards inner r.instances seats (length r.locals) 0 p are (λ i n q here of_is. same n q (i, here, of_is))
+framed_standards blocks order true r standards inner seats p are same = seats_standards_are blocks order r standards inner r.instances seats (own_cells r) 0 p are (λ i n q here of_is. same n q (i, here, of_is))
+framed_standards blocks order false r standards inner seats p are same = seats_standards_are blocks order (framed false r) standards inner r.instances seats (own_cells r) 0 p are (λ i n q here of_is. same n q (i, here, of_is))
 
 module _ (source : Source) (order : List ℕ) (frames : List Frame) (are : IsFrames source order frames) (below : AreBelow source.blocks order) (types : HasItsTypes source) where
   frame_there : (k : ℕ) → k < length order + length source.programs → (frame : Frame) × (slice_get frames k ≡ Some frame)
@@ -133,7 +133,7 @@ module _ (source : Source) (order : List ℕ) (frames : List Frame) (are : IsFra
       let frame = frame_there k (omega (arith, within)) in
       let there = all_at (DeclaresThere source.blocks) source.programs n p types.in_programs at in
       let less = slice_get_within frames k frame.0 frame.1 in
-      let seats = seats_paths_are source.blocks order p (frame_paths frames k) (type_paths source.blocks) p.instances frame.0.seats.items (length p.locals) 0 (are.of_programs n p frame.0 at frame.1).seats_are
+      let seats = seats_paths_are source.blocks order p (frame_paths frames k) (type_paths source.blocks) p.instances frame.0.seats.items (own_cells p) 0 (are.of_programs n p frame.0 at frame.1).seats_are
       (λ i b here of_is calls.
       let declares : Declares p b = (i, here, of_is) in
       let q = placed_there order b (below.whole b (there b declares)) in

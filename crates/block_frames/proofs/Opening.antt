@@ -1,7 +1,7 @@
 -- The cells before the first scan stand for the world before it.
 use Rattle.std.proofs.Common.{◌≡◌, ◌∙◌, ap, sym, subst, refl, arith, ℕ, pos, ◌+◌, List, [], ◌∷◌, map, length, slice_get}
 use Rattle.std.specs.Prelude.{replicate}
-use Rattle.plant_logic.specs.Source.{Source}
+use Rattle.plant_logic.specs.Source.{Source, global_cells}
 use Rattle.plant_logic.specs.Blocks.{AreBelow, HasItsTypes, Declares}
 use Rattle.plant_logic.specs.Worlds.{Path, routine_begun, begun, globals_routine, zero_world, opening}
 use Rattle.plant_logic.specs.Layout.{ClockAt, cell_paths, all_clocks, IsDistinctlyNamed}
@@ -43,13 +43,13 @@ module _ (source : Source) (order : List ℕ) (start : Frame) (frames : List Fra
   none_declared : (n : ℕ) → Declares (globals_routine source) n → ⊥
   none_declared n declares = declares.1
 
-  globals_begin : StandFor source (frame_begun (length source.globals) (start ∷ []) 1 0 base (cells_of source)) (begun source (globals_routine source) [] zero_world)
+  globals_begin : StandFor source (frame_begun (global_cells source) (start ∷ []) 1 0 base (cells_of source)) (begun source (globals_routine source) [] zero_world)
   globals_begin =
-      subst (λ c. StandFor source c (begun source (globals_routine source) [] zero_world)) (sym (begun_is (length source.globals) (start ∷ []) 1 0 base (cells_of source) start (omega arith) refl))
-      (routine_starts source order below named (globals_routine source) start (routine_begun source) (frame_begun (length source.globals) (start ∷ []) 0) globals_are globals_named
+      subst (λ c. StandFor source c (begun source (globals_routine source) [] zero_world)) (sym (begun_is (global_cells source) (start ∷ []) 1 0 base (cells_of source) start (omega arith) refl))
+      (routine_starts source order below named (globals_routine source) start (routine_begun source) (frame_begun (global_cells source) (start ∷ []) 0) globals_are globals_named
       (λ n declares. absurd (none_declared n declares)) [] base (nothing_stands (cell_paths source) 0) (nothing_stands (all_clocks source) 0) zero_world (cells_of source) (cells_stand source))
 
   pub opening_stands : StandFor source (opening_cells source order start frames) (opening source)
   opening_stands =
       programs_begin source order below named frames are types names source.programs 0 (λ j p at. ap (slice_get source.programs) (let same : 0 + j ≡ j = omega arith in same) ∙ at)
-      (begun source (globals_routine source) [] zero_world) (frame_begun (length source.globals) (start ∷ []) 1 0 base (cells_of source)) globals_begin
+      (begun source (globals_routine source) [] zero_world) (frame_begun (global_cells source) (start ∷ []) 1 0 base (cells_of source)) globals_begin

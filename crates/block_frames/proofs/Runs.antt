@@ -5,8 +5,8 @@ use Rattle.st_tree.specs.View.{view_body}
 use Rattle.st_tree.specs.Meaning.{Ran, Done, run_all}
 use Rattle.st_tree.specs.Alike.{Agree}
 use Rattle.st_tree.proofs.AnyValueLaws.{body_same}
-use Rattle.plant_logic.specs.Source.{PlainRoutine, Source}
-use Rattle.plant_logic.specs.Names.{kind_named, output_kind_named, meant_in}
+use Rattle.plant_logic.specs.Source.{PlainRoutine, Source, global_cells}
+use Rattle.plant_logic.specs.Names.{kinds_named, meant_in}
 use Rattle.plant_logic.specs.Blocks.{AreBelow, HasItsTypes, DeclaresThere}
 use Rattle.plant_logic.specs.Worlds.{Path, World, routine_space, run_rule, run_routine, run_in, run_program}
 use Rattle.plant_logic.specs.Layout.{values_rule, routine_values, clocks_rule, routine_clocks, IsDistinctlyNamed}
@@ -38,7 +38,7 @@ element (x ∷ xs) (suc n) less = element xs n (omega (arith, less))
 module _ (source : Source) (order : List ℕ) (below : AreBelow source.blocks order) (named : IsDistinctlyNamed source) (t : ℕ) where
   -- what a frame does, where what the frames that it calls do is given
   abbrev run_body : (ℕ → Base → Path → PlainCells → Ran PlainCells) → Frame → Base → Path → PlainCells → Ran PlainCells
-  run_body inner frame base path cells = run_all (frame_space t (length source.globals) inner frame.seats.items base path) (view_body frame.body.items) cells
+  run_body inner frame base path cells = run_all (frame_space t (global_cells source) inner frame.seats.items base path) (view_body frame.body.items) cells
 
   -- a routine's frame does what the routine does, if the frames that it calls do what its block types do
   pub body_does : (r : PlainRoutine) (frame : Frame) (inner : ℕ → Path → World → Ran World) (lower : ℕ → Base → Path → PlainCells → Ran PlainCells) → IsFrame source order r frame → HasItsNames source r
@@ -47,15 +47,15 @@ module _ (source : Source) (order : List ℕ) (below : AreBelow source.blocks or
   body_does r frame inner lower it names callees path base values clocks w cells stands =
       let seats = frame.seats.items in
       let from = routine_space t inner r path in
-      let to = frame_space t (length source.globals) lower seats base path in
+      let to = frame_space t (global_cells source) lower seats base path in
       let known = called_known source r in
       subst (λ body. Agree (Matches source) (run_rule source t inner r path w) (run_all to body cells)) (sym it.body_is)
       (body_same known (numbers source r) from to (Matches source) (spaces_lawful source order below named r seats it.seats_are path base values clocks t inner lower callees)
-      (meant_in source r r.body) (meant_known known (kind_named source.globals r) (output_kind_named source.blocks r) r.body ∙ calls_known source r names.in_body) w cells stands)
+      (meant_in source r r.body) (meant_known known (kinds_named source r) r.body ∙ calls_known source r names.in_body) w cells stands)
 
   module _ (frames : List Frame) (are : IsFrames source order frames) (types : HasItsTypes source) (names : HasAllNames source) where
     abbrev lower : ℕ → ℕ → Base → Path → PlainCells → Ran PlainCells
-    lower limit k = run_frame t (length source.globals) frames limit k
+    lower limit k = run_frame t (global_cells source) frames limit k
 
     abbrev BlockDoes : (limit k n : ℕ) → Type 0
     BlockDoes limit k n = Does source (run_routine source t n) (lower limit k) (routine_values source.blocks n) (routine_clocks source.blocks n)
@@ -65,7 +65,7 @@ module _ (source : Source) (order : List ℕ) (below : AreBelow source.blocks or
 
     -- the frame at a place does what its body does
     unfolded : (limit k : ℕ) (frame : Frame) → k < limit → slice_get frames k ≡ Some frame → lower limit k ≡ run_body (lower k) frame
-    unfolded limit k frame less at = λ j base path cells. frame_is frames limit k t (length source.globals) base cells frame path less at j
+    unfolded limit k frame less at = λ j base path cells. frame_is frames limit k t (global_cells source) base cells frame path less at j
 
     block_known : (limit k n : ℕ) (r : PlainRoutine) (frame : Frame) → k < limit → slice_get source.blocks n ≡ Some r → slice_get frames k ≡ Some frame
         → Does source (run_rule source t (run_routine source t) r) (run_body (lower k) frame) (values_rule (routine_values source.blocks) r) (clocks_rule (routine_clocks source.blocks) r) → BlockDoes limit k n
@@ -120,7 +120,7 @@ module _ (source : Source) (order : List ℕ) (below : AreBelow source.blocks or
 -- the frame of a program agrees with the program
 pub frames_agree : (source : Source) (order : List ℕ) (frames : List Frame) → IsFrames source order frames → AreBelow source.blocks order → HasItsTypes source → IsDistinctlyNamed source → HasAllNames source
     → (t n : ℕ) (p : PlainRoutine) → slice_get source.programs n ≡ Some p → (w : World) (cells : PlainCells) → StandFor source cells w
-    → Agree (λ w cells. StandFor source cells w) (run_program source n t w) (run_frame t (length source.globals) frames (length frames) (length order + n) (program_base source n) (p.name ∷ []) cells)
+    → Agree (λ w cells. StandFor source cells w) (run_program source n t w) (run_frame t (global_cells source) frames (length frames) (length order + n) (program_base source n) (p.name ∷ []) cells)
 frames_agree source order frames are below types named names t n p at w cells stands =
-    subst (λ o. Agree (Matches source) (run_in source t o w) (run_frame t (length source.globals) frames (length frames) (length order + n) (program_base source n) (p.name ∷ []) cells)) (sym at)
+    subst (λ o. Agree (Matches source) (run_in source t o w) (run_frame t (global_cells source) frames (length frames) (length order + n) (program_base source n) (p.name ∷ []) cells)) (sym at)
     (program_does source order below named t frames are types names n p at (p.name ∷ []) (program_base source n) (program_stands source n p at) (program_clocks_stand source n p at) w cells stands)

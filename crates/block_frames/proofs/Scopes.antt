@@ -11,7 +11,7 @@ use Rattle.plant_types.specs.declared.values.Kind.{Kind}
 use Rattle.plant_types.specs.declared.values.Kind.TheVariants as kind
 use Rattle.st_tree.specs.Plain.{PlainBody}
 use Rattle.st_tree.specs.Mapping.{mapped_body}
-use Rattle.st_tree.specs.Kinds.{resolved_body}
+use Rattle.st_tree.specs.Kinds.{KindsOf, resolved_body}
 use Rattle.st_tree.specs.Numbers.{numbered}
 use Rattle.st_names.specs.Scopes.{or_other}
 use Rattle.word_index.specs.Names.{find_name}
@@ -20,13 +20,13 @@ use Rattle.plant_logic.specs.declared.logic.Variable.{Variable}
 use Rattle.plant_logic.specs.declared.logic.Instance.{Instance}
 use Rattle.plant_logic.specs.declared.logic.BlockRef.{BlockRef}
 use Rattle.plant_logic.specs.declared.logic.BlockRef.TheVariants.{Ton, Tof, RTrig, Declared}
-use Rattle.plant_logic.specs.Source.{PlainRoutine, Source}
-use Rattle.plant_logic.specs.Names.{find_word, own_words, global_words, instance_words, own_kind, global_kind, block_named, kind_named, output_kind_of, output_kind_named, meant_in}
+use Rattle.plant_logic.specs.Source.{PlainRoutine, Source, global_cells}
+use Rattle.plant_logic.specs.Names.{find_word, own_words, global_words, instance_words, own_kind, global_kind, block_named, kind_named, output_kind_of, output_kind_named, kinds_named, meant_in}
 use Rattle.plant_logic.specs.Seats.{own_or_global, member_number}
 use Rattle.block_frames.specs.declared.names.Variables.{Variables}
 use Rattle.block_frames.specs.declared.scope.Scope.{Scope}
 use Rattle.block_frames.specs.Numbers.{shown_number, numbers}
-use Rattle.block_frames.specs.Scoped.{kind_among, block_among, AreVariables, AreMembers, IsScope, local_names, local_kinds, global_names, global_kinds, scope_variable, scope_kind, scope_instance, own_number, own_kind_of, input_among, output_among, output_kind_by, scope_input, scope_output, scope_output_kind, flat_body}
+use Rattle.block_frames.specs.Scoped.{kind_among, block_among, AreVariables, AreMembers, IsScope, local_names, local_kinds, own_variables, global_variables, scope_variable, scope_kind, scope_instance, own_number, own_kind_of, input_among, output_among, output_kind_by, scope_input, scope_output, scope_output_kind, scope_kinds, flat_body}
 
 prefix-map : {X Y : Type 0} (p : Y → Bool) (f : X → Y) (xs : List X) → prefix_len (λ x. p (f x)) xs ≡ prefix_len p (map f xs)
 prefix-map p f [] = refl
@@ -47,17 +47,17 @@ field_at f xs (Some k) = slice_get-map f xs k
 local_name : Local → List ℕ
 local_name l = l.name
 
-own_found : (ls : List Local) (v : Variables) → AreVariables (local_names ls) (local_kinds ls) v → (name : List ℕ) → find_name v.names name ≡ find_word (own_words ls) name
+own_found : (ls : List Local) (v : Variables) → AreVariables (own_variables ls) v → (name : List ℕ) → find_name v.names name ≡ find_word (own_words ls) name
 own_found ls v are name = ap (λ ns. find_name ns name) are.names_are ∙ found (λ (l : Local). l.name) ls name
 
-own_kind_found : (ls : List Local) (v : Variables) → AreVariables (local_names ls) (local_kinds ls) v → (name : List ℕ) → kind_among v name ≡ option_map (λ (l : Local). l.kind) (option_and_then (slice_get ls) (find_word (own_words ls) name))
+own_kind_found : (ls : List Local) (v : Variables) → AreVariables (own_variables ls) v → (name : List ℕ) → kind_among v name ≡ option_map (λ (l : Local). l.kind) (option_and_then (slice_get ls) (find_word (own_words ls) name))
 own_kind_found ls v are name =
     (λ i. option_and_then (slice_get (are.kinds_are i)) (own_found ls v are name i)) ∙ field_at (λ (l : Local). l.kind) ls (find_word (own_words ls) name)
 
-global_found : (gs : List Variable) (v : Variables) → AreVariables (global_names gs) (global_kinds gs) v → (name : List ℕ) → find_name v.names name ≡ find_word (global_words gs) name
+global_found : (gs : List Variable) (v : Variables) → AreVariables (global_variables gs) v → (name : List ℕ) → find_name v.names name ≡ find_word (global_words gs) name
 global_found gs v are name = ap (λ ns. find_name ns name) are.names_are ∙ found (λ (g : Variable). g.name) gs name
 
-global_kind_found : (gs : List Variable) (v : Variables) → AreVariables (global_names gs) (global_kinds gs) v → (name : List ℕ) → kind_among v name ≡ global_kind gs name
+global_kind_found : (gs : List Variable) (v : Variables) → AreVariables (global_variables gs) v → (name : List ℕ) → kind_among v name ≡ global_kind gs name
 global_kind_found gs v are name =
     (λ i. option_and_then (slice_get (are.kinds_are i)) (global_found gs v are name i)) ∙ field_at (λ (g : Variable). g.kind) gs (find_word (global_words gs) name)
 
@@ -66,7 +66,7 @@ module _ (blocks : List PlainRoutine) (members : List Variables) (are : AreMembe
   pub members_long : length members ≡ length blocks
   members_long = sym (length-map members (λ (v : Variables). v.names)) ∙ ap length are.names_are ∙ length-map blocks (λ (b : PlainRoutine). local_names b.locals)
 
-  pub members_each : (n : ℕ) (b : PlainRoutine) (v : Variables) → slice_get blocks n ≡ Some b → slice_get members n ≡ Some v → AreVariables (local_names b.locals) (local_kinds b.locals) v
+  pub members_each : (n : ℕ) (b : PlainRoutine) (v : Variables) → slice_get blocks n ≡ Some b → slice_get members n ≡ Some v → AreVariables (own_variables b.locals) v
   members_each n b v there known =
       let names : Some v.names ≡ Some (local_names b.locals) =
       ap (option_map (λ (x : Variables). x.names)) (sym known) ∙ sym (slice_get-map (λ (x : Variables). x.names) members n) ∙ ap (λ l. slice_get l n) are.names_are ∙ slice_get-map (λ (x : PlainRoutine). local_names x.locals) blocks n ∙ ap (option_map (λ (x : PlainRoutine). local_names x.locals)) there in
@@ -75,7 +75,7 @@ module _ (blocks : List PlainRoutine) (members : List Variables) (are : AreMembe
       record { names_are = cc; kinds_are = cc }
 
 module _ (source : Source) (r : PlainRoutine) (scope : Scope) (is : IsScope source r scope) where
-  long : length scope.globals.now.names ≡ length source.globals
+  long : length scope.globals.now.names ≡ global_cells source
   long = ap length is.globals_are.names_are ∙ length-map source.globals (λ (g : Variable). g.name)
 
   variable_is : (name : List ℕ) → scope_variable scope name ≡ (numbers source r).variable name
@@ -160,9 +160,12 @@ module _ (source : Source) (r : PlainRoutine) (scope : Scope) (is : IsScope sour
   output_kind_is : (instance name : List ℕ) → scope_output_kind scope instance name ≡ output_kind_named source.blocks r instance name
   output_kind_is instance name = kind_by (block_among scope.instances.now instance) name ∙ ap (λ o. output_kind_of source.blocks o name) (block_is instance)
 
-  abbrev maps_at : (body : PlainBody (List ℕ)) → (variable : List ℕ → ℕ) (instance : List ℕ → ℕ) (input output : List ℕ → List ℕ → ℕ) (k : List ℕ → Kind) (o : List ℕ → List ℕ → Kind) → PlainBody ℕ
-  maps_at body variable instance input output k o = mapped_body (record { variable = variable; instance = instance; input_name = input; output_name = output; node = λ e. e }) (resolved_body k o (numbered 1 body))
+  kinds_are : scope_kinds scope ≡ kinds_named source r
+  kinds_are = λ i. record { variable = λ name. kind_is name i; output = λ instance name. output_kind_is instance name i }
+
+  abbrev maps_at : (body : PlainBody (List ℕ)) → (variable : List ℕ → ℕ) (instance : List ℕ → ℕ) (input output : List ℕ → List ℕ → ℕ) (kinds : KindsOf (List ℕ)) → PlainBody ℕ
+  maps_at body variable instance input output kinds = mapped_body (record { variable = variable; instance = instance; input_name = input; output_name = output; node = λ e. e }) (resolved_body kinds (numbered 1 body))
 
   -- a body over numbers is the one that the definition gives
   pub flat_is : (body : PlainBody (List ℕ)) → flat_body scope 1 body ≡ mapped_body (numbers source r) (meant_in source r body)
-  flat_is body = λ i. maps_at body (λ name. variable_is name i) (λ name. instance_is name i) (λ instance name. input_is instance name i) (λ instance name. output_is instance name i) (λ name. kind_is name i) (λ instance name. output_kind_is instance name i)
+  flat_is body = λ i. maps_at body (λ name. variable_is name i) (λ name. instance_is name i) (λ instance name. input_is instance name i) (λ instance name. output_is instance name i) (kinds_are i)

@@ -15,7 +15,7 @@ use Rattle.st_parser.specs.declared.unit.Sort.{Sort}
 use Rattle.st_parser.specs.declared.unit.Sort.TheVariants as sort
 use Rattle.st_parser.specs.Units.{PlainPou, PlainUnit}
 use Rattle.st_names.specs.First.{first_that}
-use Rattle.st_names.specs.DeclaredNames.{PlainDeclared, declared_in, first_declared, find_declared, sort_kind}
+use Rattle.st_names.specs.DeclaredNames.{PlainDeclared, declared_in, first_declared, find_declared, sort_kind, is_instance_sort}
 use Rattle.st_names.specs.Shared.{Shared, global, pou, shared_name, shared_in, is_block, as_block, block_named, global_named}
 use Rattle.st_names.specs.BlockTypes.{BlockType, ton, tof, r_trig, declared_block, block_type, Member, is_input_section, is_output_section, member_of, members_in, timer_inputs, timer_outputs, inputs_of, outputs_of, find_member}
 use Rattle.st_names.specs.Scopes.{or_other, is_external, sort_type, instance_type, input_kind, output_kind}
@@ -235,7 +235,7 @@ module _ (name : List ℕ) (words : List (List ℕ)) where
           let passes : same_word name e.name ≡ true = same_turned name e.name ∙ is in
           rw inside (rw block (rw passes (ap (λ (x : PlainDeclared). Some (record { name = x.name; of = block_ref words word })) same)))
 
-module _ (units : List PlainUnit) (p : PlainPou) (fits : pou_misfit units p ≡ false) (variables : (name : List ℕ) (d : PlainDeclared) → global_named units name ≡ Some d → is_some (sort_kind d.sort) ≡ true) where
+module _ (units : List PlainUnit) (p : PlainPou) (fits : pou_misfit units p ≡ false) (variables : (name : List ℕ) (d : PlainDeclared) → global_named units name ≡ Some d → is_instance_sort d.sort ≡ false) where
   abbrev own : List PlainDeclared
   own = declared_in p.sections
 
@@ -258,7 +258,7 @@ module _ (units : List PlainUnit) (p : PlainPou) (fits : pou_misfit units p ≡ 
   own_type name of d (sort.Kind k) sorted found is = absurd (cc)
   own_type name of d (sort.Block word) sorted found is = (word, is, own_instance name d word found sorted)
 
-  no_type : (name : List ℕ) (of : BlockType) (s : Sort) → is_some (sort_kind s) ≡ true → sort_type units s ≡ Some of → IsOf name of
+  no_type : (name : List ℕ) (of : BlockType) (s : Sort) → is_instance_sort s ≡ false → sort_type units s ≡ Some of → IsOf name of
   no_type name of (sort.Kind k) variable is = absurd (cc)
   no_type name of (sort.Block word) variable is = absurd (cc)
 

@@ -107,7 +107,7 @@ module _ (blocks : List PlainRoutine) (run : List Bool) (table : List Callee) wh
         let values = ends.values_is in
         let clocks = ends.clocks_is in
         let paths = ends.paths_is in
-        let own = own_count r.locals [] in
+        let own = own_count r [] in
         let sum = length-append (own_values r.locals []) (instance_values (routine_values blocks) r.instances []) in
         let one : length (paths_rule (type_paths blocks) r) ≡ suc (length (instance_paths (type_paths blocks) r r.instances)) = refl in
         record { values_is = omega (arith, values, own, sum); clocks_is = omega (arith, clocks); paths_is = omega (arith, paths, one) }

@@ -13,7 +13,7 @@ use Rattle.block_order.specs.Chains.{Among}
 use Rattle.plant_logic.specs.declared.logic.Instance.{Instance}
 use Rattle.plant_logic.specs.declared.logic.BlockRef.{BlockRef}
 use Rattle.plant_logic.specs.declared.logic.BlockRef.TheVariants.{Ton, Tof, RTrig, Declared}
-use Rattle.plant_logic.specs.Source.{PlainRoutine, Source}
+use Rattle.plant_logic.specs.Source.{PlainRoutine, Source, own_cells, global_cells}
 use Rattle.plant_logic.specs.Names.{block_named, instance_named}
 use Rattle.plant_logic.specs.Blocks.{AreBelow}
 use Rattle.plant_logic.specs.Paths.{is_called}
@@ -65,7 +65,7 @@ shown_trigger : (q : Bool) (clock : Clock) (m : ℕ) (a : Bool) → clock.q ≡ 
 shown_trigger q clock m true first numbered = let zero_is : 0 ≡ m = cc in ap truth (sym first) ∙ ap (shown_by (Some clock)) zero_is
 shown_trigger q clock m false first numbered = absurd (cc)
 
-module _ (source : Source) (order : List ℕ) (below : AreBelow source.blocks order) (named : IsDistinctlyNamed source) (r : PlainRoutine) (seats : List Seat) (are : AreSeats source.blocks r order (length r.locals) 0 r.instances seats)
+module _ (source : Source) (order : List ℕ) (below : AreBelow source.blocks order) (named : IsDistinctlyNamed source) (r : PlainRoutine) (seats : List Seat) (are : AreSeats source.blocks r order (own_cells r) 0 r.instances seats)
     (path : Path) (base : Base) (values : StandsFrom (cell_paths source) base.values (values_rule (routine_values source.blocks) r (words_of path)))
     (clocks : StandsFrom (all_clocks source) base.clocks (clocks_rule (routine_clocks source.blocks) r (words_of path))) where
   -- a seat at which an instance's values and standard blocks stand, by its path in small letters
@@ -76,7 +76,7 @@ module _ (source : Source) (order : List ℕ) (below : AreBelow source.blocks or
 
   seated_at : (name : List ℕ) (k : ℕ) (i : Instance) → Found r name k i → (seat : Seat) × (slice_get seats k ≡ Some seat) × (seat.name ≡ i.name) × Sits seat i.of (words_of (i.name ∷ path)) × (seat.is_called ≡ is_called r i.name)
   seated_at name k i f =
-      let s = seat_found source.blocks r order r.instances seats (length r.locals) 0 k i are f.at in
+      let s = seat_found source.blocks r order r.instances seats (own_cells r) 0 k i are f.at in
       let it = s.2 in
       let first = it.values_is in
       let second = it.clocks_is in (
@@ -101,9 +101,9 @@ module _ (source : Source) (order : List ℕ) (below : AreBelow source.blocks or
   seat_is name k i f seat at = ap (λ o. slice_get seats (unwrap_or o 0)) f.number ∙ at
 
   module _ (w : World) (cells : PlainCells) (stands : StandFor source cells w) where
-    variable_at : (name : List ℕ) → is_some (variable_number source r name) ≡ true → slice_get (cell_paths source) (slot_of (length source.globals) base (unwrap_or (variable_number source r name) 0)) ≡ Some (path_in r path name)
+    variable_at : (name : List ℕ) → is_some (variable_number source r name) ≡ true → slice_get (cell_paths source) (slot_of (global_cells source) base (unwrap_or (variable_number source r name) 0)) ≡ Some (path_in r path name)
     variable_at name there =
-        named_value_stands source r path base.values name (slot_of (length source.globals) base (unwrap_or (variable_number source r name) 0)) values (slot_is source r base name there)
+        named_value_stands source r path base.values name (slot_of (global_cells source) base (unwrap_or (variable_number source r name) 0)) values (slot_is source r base name there)
 
     module _ (seat : Seat) (p : Path) where
       clock_sits : (b : BlockRef) → is_of_standard b ≡ true → Sits seat b p → slice_get (all_clocks source) (base.clocks + seat.clocks) ≡ Some (record { of = b; path = p })
@@ -208,11 +208,11 @@ module _ (source : Source) (order : List ℕ) (below : AreBelow source.blocks or
         (input_put w cells stands s.0 (words_of (instance ∷ path)) f.1.of (sits_named instance f.0 f.1 f.2 s.0 s.3) name m x numbered)
 
     -- numbers for names are lawful
-    pub spaces_lawful : IsLawfulForAny (called_known source r) (numbers source r) (routine_space t inner r path) (frame_space t (length source.globals) frame seats base path) (Matches source)
+    pub spaces_lawful : IsLawfulForAny (called_known source r) (numbers source r) (routine_space t inner r path) (frame_space t (global_cells source) frame seats base path) (Matches source)
     spaces_lawful = record {
       path_is = refl;
-      variable_is = λ v w cells is m. sym (value_held source cells w m (slot_of (length source.globals) base (unwrap_or (variable_number source r v) 0)) (path_in r path v) (variable_at w cells m v is));
-      put_matches = λ v x w cells is m. value_put source cells w m named (slot_of (length source.globals) base (unwrap_or (variable_number source r v) 0)) (path_in r path v) x (variable_at w cells m v is);
+      variable_is = λ v w cells is m. sym (value_held source cells w m (slot_of (global_cells source) base (unwrap_or (variable_number source r v) 0)) (path_in r path v) (variable_at w cells m v is));
+      put_matches = λ v x w cells is m. value_put source cells w m named (slot_of (global_cells source) base (unwrap_or (variable_number source r v) 0)) (path_in r path v) x (variable_at w cells m v is);
       output_is = λ instance name w cells is m. shows instance name w cells is m;
       put_input_matches = λ instance name x w cells is m. takes instance name x w cells is m;
       enter_agrees = λ instance w cells is m. let parts = and_parts (is_some (instance_number r instance)) (is_called r instance) is in entered instance w cells parts.0 parts.1 m;

@@ -11,8 +11,8 @@ use Rattle.block_order.specs.Chains.{Among}
 use Rattle.plant_logic.specs.declared.logic.Instance.{Instance}
 use Rattle.plant_logic.specs.declared.logic.BlockRef.{BlockRef}
 use Rattle.plant_logic.specs.declared.logic.BlockRef.TheVariants.{Ton, Tof, RTrig, Declared}
-use Rattle.plant_logic.specs.Source.{PlainRoutine, Source}
-use Rattle.plant_logic.specs.Names.{kind_named, output_kind_named, meant_in}
+use Rattle.plant_logic.specs.Source.{PlainRoutine, Source, own_cells, global_cells}
+use Rattle.plant_logic.specs.Names.{kinds_named, meant_in}
 use Rattle.plant_logic.specs.Blocks.{AreBelow, HasItsTypes, Declares, DeclaresThere}
 use Rattle.plant_logic.specs.Worlds as worlds
 use Rattle.plant_logic.specs.Worlds.{Path, World, words_of, path_in, routine_space, no_calls, begun, block_begun, instances_begun, begin_rule, routine_begun, programs_begun}
@@ -70,17 +70,17 @@ module _ (source : Source) (order : List ℕ) (below : AreBelow source.blocks or
 
   module _ (r : PlainRoutine) (path : Path) (base : Base) (values : StandsFrom (cell_paths source) base.values (values_rule (routine_values source.blocks) r (words_of path))) where
     abbrev inner : ℕ → Base → Path → PlainCells → Ran PlainCells
-    inner k at below_it cells = under below_it (run_within 0 (length source.globals) [] 0 k at cells)
+    inner k at below_it cells = under below_it (run_within 0 (global_cells source) [] 0 k at cells)
 
-    variable_at : (name : List ℕ) → is_some (variable_number source r name) ≡ true → slice_get (cell_paths source) (slot_of (length source.globals) base (unwrap_or (variable_number source r name) 0)) ≡ Some (path_in r path name)
+    variable_at : (name : List ℕ) → is_some (variable_number source r name) ≡ true → slice_get (cell_paths source) (slot_of (global_cells source) base (unwrap_or (variable_number source r name) 0)) ≡ Some (path_in r path name)
     variable_at name there =
-        named_value_stands source r path base.values name (slot_of (length source.globals) base (unwrap_or (variable_number source r name) 0)) values (slot_is source r base name there)
+        named_value_stands source r path base.values name (slot_of (global_cells source) base (unwrap_or (variable_number source r name) 0)) values (slot_is source r base name there)
 
-    starts_lawful : IsLawfulForAny (variables_in source r) (numbers source r) (routine_space 0 no_calls r path) (frame_space 0 (length source.globals) inner [] base path) (Matches source)
+    starts_lawful : IsLawfulForAny (variables_in source r) (numbers source r) (routine_space 0 no_calls r path) (frame_space 0 (global_cells source) inner [] base path) (Matches source)
     starts_lawful = record {
       path_is = refl;
-      variable_is = λ v w cells is m. sym (value_held source cells w m (slot_of (length source.globals) base (unwrap_or (variable_number source r v) 0)) (path_in r path v) (variable_at v is));
-      put_matches = λ v x w cells is m. value_put source cells w m named (slot_of (length source.globals) base (unwrap_or (variable_number source r v) 0)) (path_in r path v) x (variable_at v is);
+      variable_is = λ v w cells is m. sym (value_held source cells w m (slot_of (global_cells source) base (unwrap_or (variable_number source r v) 0)) (path_in r path v) (variable_at v is));
+      put_matches = λ v x w cells is m. value_put source cells w m named (slot_of (global_cells source) base (unwrap_or (variable_number source r v) 0)) (path_in r path v) x (variable_at v is);
       output_is = λ instance name w cells is m. absurd (cc);
       put_input_matches = λ instance name x w cells is m. absurd (cc);
       enter_agrees = λ instance w cells is m. absurd (cc);
@@ -89,18 +89,18 @@ module _ (source : Source) (order : List ℕ) (below : AreBelow source.blocks or
 
     -- the initial values of a routine's own variables
     own_begun : (frame : Frame) → IsFrame source order r frame → HasItsNames source r → (w : World) (cells : PlainCells) → StandFor source cells w
-        → StandFor source (left_by (run_all (start_space (length source.globals) base) (view_body frame.starts.items) cells)) (begun source r path w)
+        → StandFor source (left_by (run_all (start_space (global_cells source) base) (view_body frame.starts.items) cells)) (begun source r path w)
     own_begun frame it names w cells stands =
         let body = mapped_body (numbers source r) (meant_in source r r.starts) in
         let from = routine_space 0 no_calls r path in
-        let to = frame_space 0 (length source.globals) inner [] base path in
+        let to = frame_space 0 (global_cells source) inner [] base path in
         let known = variables_in source r in
         let same = body_same known (numbers source r) from to (Matches source) starts_lawful (meant_in source r r.starts)
-        (meant_known known (kind_named source.globals r) (output_kind_named source.blocks r) r.starts ∙ names.in_starts) w cells stands in
-        let moved = body_moved 0 (length source.globals) inner (run_within 0 (length source.globals) [] 0) (λ k at below_it c. refl) [] base path body cells in
-        let left : left_by (run_all to body cells) ≡ left_by (run_all (start_space (length source.globals) base) (view_body frame.starts.items) cells) =
-        ap left_by moved ∙ left_under path (run_all (start_space (length source.globals) base) body cells)
-        ∙ ap (λ b. left_by (run_all (start_space (length source.globals) base) b cells)) (sym it.starts_are) in
+        (meant_known known (kinds_named source r) r.starts ∙ names.in_starts) w cells stands in
+        let moved = body_moved 0 (global_cells source) inner (run_within 0 (global_cells source) [] 0) (λ k at below_it c. refl) [] base path body cells in
+        let left : left_by (run_all to body cells) ≡ left_by (run_all (start_space (global_cells source) base) (view_body frame.starts.items) cells) =
+        ap left_by moved ∙ left_under path (run_all (start_space (global_cells source) base) body cells)
+        ∙ ap (λ b. left_by (run_all (start_space (global_cells source) base) b cells)) (sym it.starts_are) in
         subst (λ c. StandFor source c (begun source r path w)) left (left_stands source (run_all from (meant_in source r r.starts) w) (run_all to body cells) same)
 
   -- the instances in turn
@@ -142,16 +142,16 @@ module _ (source : Source) (order : List ℕ) (below : AreBelow source.blocks or
 
   -- what a frame begins with, where what the frames that it calls begin with is given
   abbrev start_rule : (ℕ → Base → PlainCells → PlainCells) → Frame → Base → PlainCells → PlainCells
-  start_rule g frame base cells = seats_begun g frame.seats.items base (left_by (run_all (start_space (length source.globals) base) (view_body frame.starts.items) cells))
+  start_rule g frame base cells = seats_begun g frame.seats.items base (left_by (run_all (start_space (global_cells source) base) (view_body frame.starts.items) cells))
 
   pub routine_starts : (r : PlainRoutine) (frame : Frame) (f : ℕ → Path → World → World) (g : ℕ → Base → PlainCells → PlainCells) → IsFrame source order r frame → HasItsNames source r
       → ((n : ℕ) → Declares r n → Begins source (f n) (g (place_in order n)) (values_of n) (clocks_of n)) → Begins source (begin_rule source f r) (start_rule g frame) (values_rule values_of r) (clocks_rule clocks_of r)
   routine_starts r frame f g it names callees path base values clocks w cells stands =
-      let many = own_count r.locals (words_of path) in
-      instances_start f g path base r r.instances frame.seats.items (length r.locals) 0 it.seats_are (λ i n here of_is. callees n (i, here, of_is))
-      (stands_right (cell_paths source) base.values (base.values + length r.locals) (own_values r.locals (words_of path)) (instance_values values_of r.instances (words_of path)) (omega (arith, many)) values)
+      let many = own_count r (words_of path) in
+      instances_start f g path base r r.instances frame.seats.items (own_cells r) 0 it.seats_are (λ i n here of_is. callees n (i, here, of_is))
+      (stands_right (cell_paths source) base.values (base.values + own_cells r) (own_values r.locals (words_of path)) (instance_values values_of r.instances (words_of path)) (omega (arith, many)) values)
       (stands_moved (all_clocks source) base.clocks (base.clocks + 0) (instance_clocks clocks_of r.instances (words_of path)) (omega arith) clocks)
-      (begun source r path w) (left_by (run_all (start_space (length source.globals) base) (view_body frame.starts.items) cells)) (own_begun r path base values frame it names w cells stands)
+      (begun source r path w) (left_by (run_all (start_space (global_cells source) base) (view_body frame.starts.items) cells)) (own_begun r path base values frame it names w cells stands)
 
   -- the frame of a routine without its body begins as the routine does
   framed_starts : (b : Bool) (r : PlainRoutine) (frame : Frame) (f : ℕ → Path → World → World) (g : ℕ → Base → PlainCells → PlainCells) → IsFrame source order (framed b r) frame → HasItsNames source r
@@ -161,7 +161,7 @@ module _ (source : Source) (order : List ℕ) (below : AreBelow source.blocks or
 
   module _ (frames : List Frame) (are : IsFrames source order frames) (types : HasItsTypes source) (names : HasAllNames source) where
     abbrev start : ℕ → ℕ → Base → PlainCells → PlainCells
-    start limit k = frame_begun (length source.globals) frames limit k
+    start limit k = frame_begun (global_cells source) frames limit k
 
     abbrev BlockBegins : (limit k n : ℕ) → Type 0
     BlockBegins limit k n = Begins source (routine_begun source n) (start limit k) (values_of n) (clocks_of n)
@@ -170,7 +170,7 @@ module _ (source : Source) (order : List ℕ) (below : AreBelow source.blocks or
     frame_there k less = let many = are.whole in element frames k (omega (arith, less, many))
 
     unfolded : (limit k : ℕ) (frame : Frame) → k < limit → slice_get frames k ≡ Some frame → start limit k ≡ start_rule (start k) frame
-    unfolded limit k frame less at = λ j base cells. begun_is (length source.globals) frames limit k base cells frame less at j
+    unfolded limit k frame less at = λ j base cells. begun_is (global_cells source) frames limit k base cells frame less at j
 
     block_known : (limit k n : ℕ) (r : PlainRoutine) (frame : Frame) → k < limit → slice_get source.blocks n ≡ Some r → slice_get frames k ≡ Some frame
         → Begins source (begin_rule source (routine_begun source) r) (start_rule (start k) frame) (values_rule values_of r) (clocks_rule clocks_of r) → BlockBegins limit k n

@@ -15,7 +15,7 @@ use Rattle.block_order.specs.Blocks.{Once}
 use Rattle.plant_logic.specs.declared.logic.Instance.{Instance}
 use Rattle.plant_logic.specs.declared.logic.BlockRef.{BlockRef}
 use Rattle.plant_logic.specs.declared.logic.BlockRef.TheVariants.{Ton, Tof, RTrig, Declared}
-use Rattle.plant_logic.specs.Source.{PlainRoutine, Source}
+use Rattle.plant_logic.specs.Source.{PlainRoutine, Source, own_cells}
 use Rattle.plant_logic.specs.Blocks.{Declares, AreBelow}
 use Rattle.plant_logic.specs.Paths.{is_called}
 use Rattle.plant_logic.specs.Names.{meant_in}
@@ -179,7 +179,7 @@ module _ (source : Source) (order : List ℕ) (frames : List Frame) (table : Lis
 
   pub made_is_frame : IsFrame source order r frame
   made_is_frame = record {
-    seats_are = subst (AreSeats source.blocks r order (length r.locals) 0 r.instances) (sym made.seats_are) (seats_are source.blocks order frames table r (first_of r) r.instances knows_all);
+    seats_are = subst (AreSeats source.blocks r order (own_cells r) 0 r.instances) (sym made.seats_are) (seats_are source.blocks order frames table r (first_of r) r.instances knows_all);
     starts_are = made.starts_are;
     body_is = made.body_is;
   }
@@ -217,7 +217,7 @@ module _ (source : Source) (order : List ℕ) (frames : List Frame) (table : Lis
   made_values =
       let e = ap (λ (x : Extent). x.values) made.end_is ∙ (ends_at source.blocks order frames table r (first_of r) r.instances knows_all).values_is in
       let sum = length-append (own_values r.locals []) (instance_values (routine_values source.blocks) r.instances []) in
-      let own = own_count r.locals [] in
+      let own = own_count r [] in
       omega (arith, e, sum, own)
 
   pub made_clocks : end.clocks ≡ length (clocks_rule (routine_clocks source.blocks) r [])

@@ -16,7 +16,7 @@ use Rattle.st_parser.specs.declared.unit.Sort.{Sort}
 use Rattle.st_parser.specs.declared.unit.Sort.TheVariants as sort
 use Rattle.st_parser.specs.Units.{PlainPou, PlainUnit}
 use Rattle.st_names.specs.First.{first_that}
-use Rattle.st_names.specs.DeclaredNames.{PlainDeclared, declared_in, find_declared, sort_kind}
+use Rattle.st_names.specs.DeclaredNames.{PlainDeclared, declared_in, find_declared, sort_kind, is_instance_sort}
 use Rattle.st_names.specs.Shared.{Shared, global, pou, shared_name, shared_in, as_global, global_named}
 use Rattle.st_names.specs.Scopes as scopes
 use Rattle.st_names.specs.Scopes.{or_other, is_external, variable_kind, can_control, is_control, sort_type, instance_type}
@@ -27,7 +27,7 @@ use Rattle.plant_logic.specs.declared.logic.Variable.{Variable}
 use Rattle.plant_logic.specs.declared.logic.Local.{Local}
 use Rattle.plant_logic.specs.declared.logic.Instance.{Instance}
 use Rattle.plant_types.specs.declared.values.Kind.TheVariants as kinds
-use Rattle.plant_logic.specs.Source.{PlainRoutine, Source}
+use Rattle.plant_logic.specs.Source.{PlainRoutine, Source, global_cells}
 use Rattle.plant_logic.specs.Pous.{block_names}
 use Rattle.plant_logic.specs.Units.{local_of, instance_of, routine_of, source_in}
 use Rattle.plant_logic.specs.Names.{global_words, own_words, instance_words, find_word}
@@ -166,12 +166,12 @@ module _ (units : List PlainUnit) (p : PlainPou) (fits : pou_misfit units p ≡ 
 
   local_numbered : (name : List ℕ) (d : PlainDeclared) (k : Kind) → find_declared own name ≡ Some d → is_external d.section ≡ false → sort_kind d.sort ≡ Some k → is_some (variable_number source r name) ≡ true
   local_numbered name d k found inside kind =
-      own_first (length source.globals) (find_word (own_words r.locals) name) (find_word (global_words source.globals) name)
+      own_first (global_cells source) (find_word (own_words r.locals) name) (find_word (global_words source.globals) name)
       (placed_some (bytes_eq (folded name)) (own_words r.locals) (own_has name own d k found inside (kind_is d.sort k kind)))
 
   global_numbered : (name : List ℕ) (d : PlainDeclared) (k : Kind) → global_named units name ≡ Some d → sort_kind d.sort ≡ Some k → is_some (variable_number source r name) ≡ true
   global_numbered name d k found kind =
-      global_next (length source.globals) (find_word (own_words r.locals) name) (find_word (global_words source.globals) name) (global_has name units d k found (kind_is d.sort k kind))
+      global_next (global_cells source) (find_word (own_words r.locals) name) (find_word (global_words source.globals) name) (global_has name units d k found (kind_is d.sort k kind))
 
   external_kind : (d : PlainDeclared) (k : Kind) → is_external d.section ≡ true → sort_kind d.sort ≡ Some k → declared_fits units own d ≡ true → is_kind k (scopes.global_kind units d.name) ≡ true
   external_kind d k outside kind fit =
@@ -185,7 +185,7 @@ module _ (units : List PlainUnit) (p : PlainPou) (fits : pou_misfit units p ≡ 
       let some = some_kind k (scopes.global_kind units d.name) (external_kind d k outside kind fit) in
       let g = and_then_some (λ (e : PlainDeclared). sort_kind e.sort) (global_named units d.name) some.0 some.1 in
       let same : folded d.name ≡ folded name = (bytes_decides (folded d.name) (folded name)).0 (first_is (λ (e : PlainDeclared). same_word e.name name) own d found) in
-      global_next (length source.globals) (find_word (own_words r.locals) name) (find_word (global_words source.globals) name)
+      global_next (global_cells source) (find_word (own_words r.locals) name) (find_word (global_words source.globals) name)
       (subst (λ w. is_some (position (bytes_eq w) (global_words source.globals)) ≡ true) same (global_has d.name units g.0 some.0 g.1 (kind_is g.0.sort some.0 g.2)))
 
   declared_numbered : (name : List ℕ) (d : PlainDeclared) (k : Kind) → find_declared own name ≡ Some d → sort_kind d.sort ≡ Some k → is_some (variable_number source r name) ≡ true
@@ -226,7 +226,7 @@ module _ (units : List PlainUnit) (p : PlainPou) (fits : pou_misfit units p ≡ 
   not_external sections.Output e fit = refl
   not_external sections.Global e fit = refl
 
-  instance_by_search : (name : List ℕ) (o q : Option PlainDeclared) → find_declared own name ≡ o → global_named units name ≡ q → ((d : PlainDeclared) → q ≡ Some d → is_some (sort_kind d.sort) ≡ true)
+  instance_by_search : (name : List ℕ) (o q : Option PlainDeclared) → find_declared own name ≡ o → global_named units name ≡ q → ((d : PlainDeclared) → q ≡ Some d → is_instance_sort d.sort ≡ false)
       → is_some (option_and_then (λ (d : PlainDeclared). sort_type units d.sort) (or_other o q)) ≡ true → is_some (instance_number r name) ≡ true
   instance_by_search name (Some d) q found other globals there =
       let block = block_of d d.sort there in
@@ -235,10 +235,10 @@ module _ (units : List PlainUnit) (p : PlainPou) (fits : pou_misfit units p ≡ 
       placed_some (bytes_eq (folded name)) (instance_words r.instances) (instances_have name (block_names units) own d block.0 found (not_external d.section d.initial local) block.1)
   instance_by_search name None (Some d) found other globals there =
       let block = block_of d d.sort there in
-      let variable : is_some (sort_kind (sort.Block block.0)) ≡ true = ap (λ s. is_some (sort_kind s)) (sym block.1) ∙ globals d refl in
+      let variable : is_instance_sort (sort.Block block.0) ≡ false = ap is_instance_sort (sym block.1) ∙ globals d refl in
       absurd (cc)
   instance_by_search name None None found other globals there = absurd (cc)
 
   -- an instance has a number, if no global is an instance
-  pub instance_numbered : ((name : List ℕ) (d : PlainDeclared) → global_named units name ≡ Some d → is_some (sort_kind d.sort) ≡ true) → (name : List ℕ) → is_some (instance_type units own name) ≡ true → is_some (instance_number r name) ≡ true
+  pub instance_numbered : ((name : List ℕ) (d : PlainDeclared) → global_named units name ≡ Some d → is_instance_sort d.sort ≡ false) → (name : List ℕ) → is_some (instance_type units own name) ≡ true → is_some (instance_number r name) ≡ true
   instance_numbered globals name there = instance_by_search name (find_declared own name) (global_named units name) refl refl (globals name) there

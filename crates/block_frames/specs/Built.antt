@@ -5,7 +5,7 @@ use Rattle.st_tree.specs.Numbers.{count_body}
 use Rattle.st_tree.specs.View.{view_body}
 use Rattle.block_order.specs.Chains.{Among}
 use Rattle.st_tree.specs.Mapping.{mapped_body}
-use Rattle.plant_logic.specs.Source.{PlainRoutine, Source}
+use Rattle.plant_logic.specs.Source.{PlainRoutine, Source, own_cells}
 use Rattle.plant_logic.specs.Names.{meant_in}
 use Rattle.plant_logic.specs.Paths.{is_called, type_paths}
 use Rattle.plant_logic.specs.Blocks.{HasItsTypes}
@@ -23,15 +23,15 @@ use Rattle.block_frames.specs.Reached.{flagged, AreReached}
 use Rattle.block_frames.specs.Small.{HasFewCells, HasFewSteps}
 use Rattle.block_frames.specs.Frames.{place_in, IsFrame, framed, IsBlank}
 use Rattle.block_frames.specs.declared.scope.Scope.{Scope}
-use Rattle.block_frames.specs.Scoped.{AreVariables, AreMembers, IsNumberedIn, global_names, global_kinds}
+use Rattle.block_frames.specs.Scoped.{AreVariables, AreMembers, IsNumberedIn, global_variables}
 
 -- where the first instance of a routine begins
 abbrev pub first_of : PlainRoutine → Extent
-first_of r = extent (length r.locals) 0 1
+first_of r = extent (own_cells r) 0 1
 
 -- names and kinds are those of a source
 pub record AreOf (source : Source) (globals : Variables) (members : List Variables) : Type 0 where
-  pub globals_are : AreVariables (global_names source.globals) (global_kinds source.globals) globals
+  pub globals_are : AreVariables (global_variables source.globals) globals
   pub members_are : AreMembers source.blocks members
 
 -- the flags are those of what a source's programs reach, by instances and by calls, and what is flagged is little; names and kinds are the source's

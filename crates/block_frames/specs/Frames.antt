@@ -6,7 +6,7 @@ use Rattle.st_tree.specs.Mapping.{mapped_body}
 use Rattle.plant_logic.specs.declared.logic.Instance.{Instance}
 use Rattle.plant_logic.specs.declared.logic.BlockRef.{BlockRef}
 use Rattle.plant_logic.specs.declared.logic.BlockRef.TheVariants.{Ton, Tof, RTrig, Declared}
-use Rattle.plant_logic.specs.Source.{PlainRoutine, Source}
+use Rattle.plant_logic.specs.Source.{PlainRoutine, Source, own_cells}
 use Rattle.plant_logic.specs.Names.{meant_in}
 use Rattle.plant_logic.specs.Paths.{is_called}
 use Rattle.plant_logic.specs.Worlds.{globals_routine}
@@ -52,7 +52,7 @@ AreSeats blocks r order values clocks (i ∷ is) (seat ∷ seats) =
 
 -- a frame is a routine's: its instances are its seats, whose values come after the routine's own variables, and its statements are those that are meant, with numbers for names
 pub record IsFrame (source : Source) (order : List ℕ) (r : PlainRoutine) (frame : Frame) : Type 0 where
-  pub seats_are : AreSeats source.blocks r order (length r.locals) 0 r.instances frame.seats.items
+  pub seats_are : AreSeats source.blocks r order (own_cells r) 0 r.instances frame.seats.items
   pub starts_are : view_body frame.starts.items ≡ mapped_body (numbers source r) (meant_in source r r.starts)
   pub body_is : view_body frame.body.items ≡ mapped_body (numbers source r) (meant_in source r r.body)
 

@@ -2,6 +2,8 @@
 use Rattle.std.specs.Prelude.{◌≡◌, ℕ, true, false, if◌then◌else◌, List, length, Option, Some, None, is_some, option_and_then, unwrap_or, codes}
 use Rattle.std.specs.List.{All}
 use Rattle.plant_types.specs.Words.{same_word}
+use Rattle.plant_types.specs.declared.values.Kind.{Kind}
+use Rattle.st_tree.specs.Fits.{Context}
 use Rattle.st_tree.specs.Mapping.{Mapping, Known, body_known}
 use Rattle.plant_logic.specs.declared.logic.BlockRef.{BlockRef}
 use Rattle.plant_logic.specs.declared.logic.BlockRef.TheVariants.{Ton, Tof, RTrig, Declared}
@@ -64,6 +66,14 @@ variables_in source r = record {
   has_input = λ instance name. false;
   has_output = λ instance name. false;
 }
+
+-- what is declared of a body's names is known: each variable, each instance, and each input and output of an instance
+pub record KnowsNames {V : Type 0} (context : Context V) (known : Known V) : Type 0 where
+  pub variables : (v : V) (k : Kind) → context.variable_kind v ≡ Some k → known.has_variable v ≡ true
+  pub assigned : (v : V) → context.may_assign v ≡ true → known.has_variable v ≡ true
+  pub instances : (v : V) → context.is_instance v ≡ true → known.has_instance v ≡ true
+  pub inputs : (instance name : V) (k : Kind) → context.input_kind instance name ≡ Some k → known.has_input instance name ≡ true
+  pub outputs : (instance name : V) (k : Kind) → context.output_kind instance name ≡ Some k → known.has_output instance name ≡ true
 
 -- each name in a routine's body, and in its initial values, has a number
 pub record HasItsNames (source : Source) (r : PlainRoutine) : Type 0 where

@@ -5,7 +5,7 @@ use Rattle.plant_types.specs.declared.values.Kind.{Kind}
 use Rattle.plant_types.specs.declared.values.Kind.TheVariants as kind
 use Rattle.st_tree.specs.Plain.{PlainExpr, PlainArgument, PlainStmt, PlainBody, Branches, Choices}
 use Rattle.st_tree.specs.Numbers.{numbered_stmt, numbered, numbered_branches, numbered_choices}
-use Rattle.st_tree.specs.Kinds.{resolved_expr, resolved_argument, resolved_stmt, resolved_body, resolved_branches, resolved_choices}
+use Rattle.st_tree.specs.Kinds.{KindsOf, resolved_expr, resolved_argument, resolved_stmt, resolved_body, resolved_branches, resolved_choices}
 use Rattle.st_tree.specs.Mapping.{Mapping, mapped_expr, mapped_argument, mapped_stmt, mapped_body, mapped_branches, mapped_choices}
 use Rattle.st_names.specs.Scopes.{or_other}
 use Rattle.word_index.specs.Names.{find_name}
@@ -30,10 +30,15 @@ kind_among variables name = option_and_then (slice_get variables.kinds.items) (f
 abbrev pub block_among : Instances → List ℕ → Option BlockRef
 block_among instances name = option_and_then (slice_get instances.blocks.items) (find_name instances.names name)
 
--- names and kinds are those of variables, in order
-pub record AreVariables (words : List (List ℕ)) (kinds : List Kind) (variables : Variables) : Type 0 where
-  pub names_are : variables.names ≡ words
-  pub kinds_are : variables.kinds.items ≡ kinds
+-- what is known of variables, in order: the name and the kind of each
+pub record PlainVariables : Type 0 where
+  pub names : List (List ℕ)
+  pub kinds : List Kind
+
+-- what the code knows of variables is this
+pub record AreVariables (plain : PlainVariables) (variables : Variables) : Type 0 where
+  pub names_are : variables.names ≡ plain.names
+  pub kinds_are : variables.kinds.items ≡ plain.kinds
 
 abbrev pub local_names : List Local → List (List ℕ)
 local_names locals = map (λ (l : Local). l.name) locals
@@ -41,11 +46,19 @@ local_names locals = map (λ (l : Local). l.name) locals
 abbrev pub local_kinds : List Local → List Kind
 local_kinds locals = map (λ (l : Local). l.kind) locals
 
+-- of a routine's own variables
+abbrev pub own_variables : List Local → PlainVariables
+own_variables locals = record { names = local_names locals; kinds = local_kinds locals }
+
 abbrev pub global_names : List Variable → List (List ℕ)
 global_names globals = map (λ (g : Variable). g.name) globals
 
 abbrev pub global_kinds : List Variable → List Kind
 global_kinds globals = map (λ (g : Variable). g.kind) globals
+
+-- of globals
+abbrev pub global_variables : List Variable → PlainVariables
+global_variables globals = record { names = global_names globals; kinds = global_kinds globals }
 
 -- names and blocks are those of instances, in order
 pub record AreInstances (list : List Instance) (instances : Instances) : Type 0 where
@@ -104,6 +117,10 @@ scope_output scope instance name = unwrap_or (output_among scope.members.now (bl
 abbrev pub scope_output_kind : Scope → List ℕ → List ℕ → Kind
 scope_output_kind scope instance name = output_kind_by scope.members.now (block_among scope.instances.now instance) name
 
+-- the kinds of the names
+abbrev pub scope_kinds : Scope → KindsOf (List ℕ)
+scope_kinds scope = record { variable = scope_kind scope; output = scope_output_kind scope }
+
 -- the numbers in the places of the names
 abbrev pub mapping_of : Scope → Mapping (List ℕ) ℕ
 mapping_of scope = record {
@@ -117,27 +134,27 @@ mapping_of scope = record {
 module _ (scope : Scope) where
   -- an expression over numbers, each operator chosen by the kind of its operands
   abbrev pub flat_expr : PlainExpr (List ℕ) → PlainExpr ℕ
-  flat_expr e = mapped_expr (mapping_of scope) (resolved_expr (scope_kind scope) (scope_output_kind scope) e)
+  flat_expr e = mapped_expr (mapping_of scope) (resolved_expr (scope_kinds scope) e)
 
   abbrev pub flat_option : Option (PlainExpr (List ℕ)) → Option (PlainExpr ℕ)
   flat_option None = None
   flat_option (Some e) = Some (flat_expr e)
 
   abbrev pub flat_argument : List ℕ → PlainArgument (List ℕ) → PlainArgument ℕ
-  flat_argument instance a = mapped_argument (mapping_of scope) instance (resolved_argument (scope_kind scope) (scope_output_kind scope) a)
+  flat_argument instance a = mapped_argument (mapping_of scope) instance (resolved_argument (scope_kinds scope) a)
 
   -- a statement over numbers, each operator chosen by the kind of its operands, the statements numbered from n on
   abbrev pub flat_stmt : ℕ → PlainStmt (List ℕ) → PlainStmt ℕ
-  flat_stmt n s = mapped_stmt (mapping_of scope) (resolved_stmt (scope_kind scope) (scope_output_kind scope) (numbered_stmt n s))
+  flat_stmt n s = mapped_stmt (mapping_of scope) (resolved_stmt (scope_kinds scope) (numbered_stmt n s))
 
   abbrev pub flat_body : ℕ → PlainBody (List ℕ) → PlainBody ℕ
-  flat_body n body = mapped_body (mapping_of scope) (resolved_body (scope_kind scope) (scope_output_kind scope) (numbered n body))
+  flat_body n body = mapped_body (mapping_of scope) (resolved_body (scope_kinds scope) (numbered n body))
 
   abbrev pub flat_branches : ℕ → Branches (List ℕ) → Branches ℕ
-  flat_branches n branches = mapped_branches (mapping_of scope) (resolved_branches (scope_kind scope) (scope_output_kind scope) (numbered_branches n branches))
+  flat_branches n branches = mapped_branches (mapping_of scope) (resolved_branches (scope_kinds scope) (numbered_branches n branches))
 
   abbrev pub flat_choices : ℕ → Choices (List ℕ) → Choices ℕ
-  flat_choices n choices = mapped_choices (mapping_of scope) (resolved_choices (scope_kind scope) (scope_output_kind scope) (numbered_choices n choices))
+  flat_choices n choices = mapped_choices (mapping_of scope) (resolved_choices (scope_kinds scope) (numbered_choices n choices))
 
 -- what is known of the variables of each block type
 pub record AreMembers (blocks : List PlainRoutine) (members : List Variables) : Type 0 where
@@ -146,8 +163,8 @@ pub record AreMembers (blocks : List PlainRoutine) (members : List Variables) : 
 
 -- a scope is that of a routine of a source
 pub record IsScope (source : Source) (r : PlainRoutine) (scope : Scope) : Type 0 where
-  pub globals_are : AreVariables (global_names source.globals) (global_kinds source.globals) scope.globals.now
-  pub own_are : AreVariables (local_names r.locals) (local_kinds r.locals) scope.own.now
+  pub globals_are : AreVariables (global_variables source.globals) scope.globals.now
+  pub own_are : AreVariables (own_variables r.locals) scope.own.now
   pub instances_are : AreInstances r.instances scope.instances.now
   pub members_are : AreMembers source.blocks scope.members.now
 

@@ -8,7 +8,7 @@ ghost use Rattle.plant_logic.specs.Source.{Source, view_routine, source_of};
 ghost use Rattle.plant_logic.specs.Paths.{is_called};
 ghost use Rattle.plant_logic.specs.Blocks.{AreBelow, DeclaresThere, HasItsTypes};
 ghost use Rattle.plant_logic.specs.Layout.{AreNamedApart, IsDistinctlyNamed};
-ghost use Rattle.block_frames.specs.Scoped.{AreInstances, AreMembers, AreVariables, IsNumberedIn, local_kinds, local_names};
+ghost use Rattle.block_frames.specs.Scoped.{AreInstances, AreMembers, AreVariables, IsNumberedIn, own_variables};
 ghost use Rattle.block_frames.specs.Reached.{flagged};
 ghost use Rattle.block_frames.specs.Small.{IsSmall};
 ghost use Rattle.block_frames.specs.Frames.{framed, IsBlank, IsFrames, IsStart};
@@ -97,7 +97,7 @@ fn frame_in(
     routine: &Routine,
     is_run: bool,
 ) -> Result<(Frame, Extent), AllocError>
-    requires own { AreVariables (local_names (view_routine routine.now).locals) (local_kinds (view_routine routine.now).locals) scope.now.own.now }
+    requires own { AreVariables (own_variables (view_routine routine.now).locals) scope.now.own.now }
     requires instances { AreInstances (view_routine routine.now).instances scope.now.instances.now }
     requires fitting { IsFitting table.now (framed is_run (view_routine routine.now)) }
     ensures few { IfOk result (λ made. made.1.paths < 2 ^ 32) }

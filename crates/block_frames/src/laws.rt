@@ -9,7 +9,7 @@ ghost use Rattle.st_tree.specs.Fits.{Context, all_fit};
 ghost use Rattle.st_tree.specs.Mapping.{Known, body_known};
 ghost use Rattle.st_tree.specs.Plain.{PlainExpr, PlainStmt, for_to, PlainBody};
 ghost use Rattle.st_parser.specs.Units.{PlainPou, PlainUnit};
-ghost use Rattle.st_names.specs.DeclaredNames.{PlainDeclared, declared_in, sort_kind};
+ghost use Rattle.st_names.specs.DeclaredNames.{PlainDeclared, declared_in, is_instance_sort};
 ghost use Rattle.st_names.specs.Scopes.{variable_kind, instance_type, is_control};
 ghost use Rattle.st_names.specs.Shared.{global_named};
 ghost use Rattle.st_typing.specs.Kinds.{pou_misfit};
@@ -27,7 +27,7 @@ ghost use Rattle.block_walk.specs.Frames.{frame_paths};
 ghost use Rattle.block_walk.specs.Plain.{view_frame};
 ghost use Rattle.block_walk.specs.Standards.{frame_standards};
 ghost use Rattle.block_walk.specs.Walks.{run_frame};
-ghost use Rattle.block_frames.specs.Numbers.{variable_number, instance_number, HasAllNames};
+ghost use Rattle.block_frames.specs.Numbers.{variable_number, instance_number, KnowsNames, HasAllNames};
 ghost use Rattle.block_frames.specs.Frames.{IsFrame, IsFrames, IsStart, program_base};
 ghost use Rattle.block_frames.specs.Stands.{standard_of, StandFor};
 ghost use Rattle.block_frames.specs.Opening.{opening_cells};
@@ -54,12 +54,7 @@ pub fn frames_begin()
 /// rule of its statements allows.
 pub fn fitting_names_are_known<V>()
     ensures { (context : Context V) (known : Known V)
-        → ((v : V) (k : Kind) → context.variable_kind v ≡ Some k → known.has_variable v ≡ true)
-        → ((v : V) → context.may_assign v ≡ true → known.has_variable v ≡ true)
-        → ((v : V) → context.is_instance v ≡ true → known.has_instance v ≡ true)
-        → ((instance name : V) (k : Kind) → context.input_kind instance name ≡ Some k → known.has_input instance name ≡ true)
-        → ((instance name : V) (k : Kind) → context.output_kind instance name ≡ Some k → known.has_output instance name ≡ true)
-        → (rule : PlainStmt V → Bool)
+        → KnowsNames context known → (rule : PlainStmt V → Bool)
         → ((number : ℕ) (v : V) (from to : PlainExpr V) (by : Option (PlainExpr V)) (body : PlainBody V) → rule (for_to number v from to by body) ≡ true → known.has_variable v ≡ true)
         → (body : PlainBody V) → all_fit context body ≡ true → every rule body ≡ true → body_known known body ≡ true }
 {}
@@ -76,7 +71,7 @@ pub fn variables_have_numbers()
 /// In the routine of a block or program whose kinds are right each instance has a number, if no global is an instance: the grammar has
 /// VAR_GLOBAL alone for globals, where the kinds allow no instance.
 pub fn instances_have_numbers()
-    ensures { (units : List PlainUnit) (p : PlainPou) → pou_misfit units p ≡ false → ((name : List ℕ) (d : PlainDeclared) → global_named units name ≡ Some d → is_some (sort_kind d.sort) ≡ true)
+    ensures { (units : List PlainUnit) (p : PlainPou) → pou_misfit units p ≡ false → ((name : List ℕ) (d : PlainDeclared) → global_named units name ≡ Some d → is_instance_sort d.sort ≡ false)
         → (name : List ℕ) → is_some (instance_type units (declared_in p.sections) name) ≡ true → is_some (instance_number (routine_of (block_names units) p) name) ≡ true }
 {}
 

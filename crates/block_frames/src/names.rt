@@ -4,7 +4,7 @@ ghost use Rattle.std.specs.Prelude.{◌≡◌, [], false, map, IfOk, IfSome, ◌
 ghost use Rattle.st_names.specs.Taken.{repeats};
 ghost use Rattle.word_index.specs.Names.{find_name};
 ghost use Rattle.plant_logic.specs.Names.{global_words, own_words, instance_words};
-ghost use Rattle.block_frames.specs.Scoped.{kind_among, block_among, local_names, local_kinds, global_names, global_kinds, AreVariables, AreInstances};
+ghost use Rattle.block_frames.specs.Scoped.{kind_among, block_among, local_names, local_kinds, global_names, global_kinds, own_variables, global_variables, AreVariables, AreInstances};
 
 use plant_logic::{BlockRef, Instance, Local, Variable};
 use plant_types::Kind;
@@ -84,7 +84,7 @@ fn kinds_of_locals(alloc: Global, locals: &[Local]) -> Result<Vec<Kind>, AllocEr
 /// A routine's own variables, of which no two have one name. Fails if allocation fails.
 pub fn own_variables(alloc: Global, locals: &[Local]) -> Result<Variables, AllocError>
     requires { repeats (own_words locals.now) ≡ false }
-    ensures { IfOk result (AreVariables (local_names locals.now) (local_kinds locals.now)) }
+    ensures { IfOk result (AreVariables (own_variables locals.now)) }
 {
     Ok(Variables {
         names: names_of_locals(alloc, locals)?,
@@ -94,7 +94,7 @@ pub fn own_variables(alloc: Global, locals: &[Local]) -> Result<Variables, Alloc
 
 /// No variables.
 pub fn no_variables(alloc: Global) -> Variables
-    ensures { AreVariables [] [] result }
+    ensures { AreVariables (own_variables []) result }
 {
     Variables {
         names: Names::new(alloc),
@@ -128,7 +128,7 @@ fn kinds_of_globals(alloc: Global, globals: &[Variable]) -> Result<Vec<Kind>, Al
 /// The globals, of which no two have one name. Fails if allocation fails.
 pub fn global_variables(alloc: Global, globals: &[Variable]) -> Result<Variables, AllocError>
     requires { repeats (global_words globals.now) ≡ false }
-    ensures { IfOk result (AreVariables (global_names globals.now) (global_kinds globals.now)) }
+    ensures { IfOk result (AreVariables (global_variables globals.now)) }
 {
     Ok(Variables {
         names: names_of_globals(alloc, globals)?,

@@ -6,7 +6,7 @@ ghost use Rattle.st_tree.specs.View.{view_expr, view_option, view_argument, view
 ghost use Rattle.st_tree.specs.Kinds.{kind_in, resolved_argument};
 ghost use Rattle.st_tree.specs.Mapping.{mapped_argument};
 ghost use Rattle.st_tree.specs.Numbers.{count_stmt, count_body, count_branches, count_choices};
-ghost use Rattle.block_frames.specs.Scoped.{scope_kind, scope_output_kind, mapping_of, flat_expr, flat_option, flat_argument, flat_stmt, flat_body, flat_branches, flat_choices};
+ghost use Rattle.block_frames.specs.Scoped.{scope_kinds, mapping_of, flat_expr, flat_option, flat_argument, flat_stmt, flat_body, flat_branches, flat_choices};
 
 use crate::scope::Scope;
 use plant_types::{Kind, Text};
@@ -23,7 +23,7 @@ fn resolve_kinded(
     expr: &Expr<Text>,
 ) -> Result<(Expr<usize>, Kind), AllocError>
     ensures expr { IfOk result (λ r. view_expr r.0 ≡ flat_expr scope.now (view_expr expr.now)) }
-    ensures kind { IfOk result (λ r. r.1 ≡ kind_in (scope_kind scope.now) (scope_output_kind scope.now) (view_expr expr.now)) }
+    ensures kind { IfOk result (λ r. r.1 ≡ kind_in (scope_kinds scope.now) (view_expr expr.now)) }
 {
     match expr {
         Expr::Literal(literal) => Ok((Expr::Literal(*literal), literal.kind())),
@@ -129,7 +129,7 @@ fn resolve_arguments(
     instance: &Text,
     arguments: &[Argument<Text>],
 ) -> Result<Vec<Argument<usize>>, AllocError>
-    ensures { IfOk result (λ r. map view_argument r.items ≡ map (mapped_argument (mapping_of scope.now) instance.now) (map (resolved_argument (scope_kind scope.now) (scope_output_kind scope.now)) (map view_argument arguments.now))) }
+    ensures { IfOk result (λ r. map view_argument r.items ≡ map (mapped_argument (mapping_of scope.now) instance.now) (map (resolved_argument (scope_kinds scope.now)) (map view_argument arguments.now))) }
 {
     let mut resolved = Vec::with_capacity(alloc, arguments.len())?;
     for argument in arguments {

@@ -6,7 +6,7 @@ use Rattle.st_tree.specs.declared.tree.Literal.{Literal}
 use Rattle.st_tree.specs.declared.tree.Unary.{Unary}
 use Rattle.st_tree.specs.declared.tree.Binary.{Binary}
 use Rattle.st_tree.specs.Constants.{constant_of}
-use Rattle.st_tree.specs.Kinds.{literal_kind, literal_in_range, unary_kind, binary_kind, kind_of_expr}
+use Rattle.st_tree.specs.Kinds.{literal_kind, literal_in_range, unary_kind, binary_kind, Sorts, kind_of_expr}
 use Rattle.st_tree.specs.Meaning.{then_one, then_two}
 use Rattle.st_tree.specs.Operators.{Outcome, eval_unary, eval_binary}
 use Rattle.st_tree.specs.Plain.{PlainExpr, literal, read, output_of, unary, binary}
@@ -28,25 +28,25 @@ module _ {V : Type 0} where
       node_constant (binary op (folded_expr a) (folded_expr b))
       ∙ (λ i. option_and_then (λ x. option_map (λ y. then_two x y (eval_binary op)) (constant_kept b i)) (constant_kept a i))
 
-module _ {V : Type 0} (variable_kind : V → Option Kind) (output_kind : V → V → Option Kind) where
+module _ {V : Type 0} (sorts : Sorts V) where
   -- a literal in range has its kind
-  literal_kept : (l : Literal) (j k : Kind) → literal_in_range l ≡ true → literal_kind l ≡ j → j ≡ k → kind_of_expr variable_kind output_kind (literal l) ≡ Some k
+  literal_kept : (l : Literal) (j k : Kind) → literal_in_range l ≡ true → literal_kind l ≡ j → j ≡ k → kind_of_expr sorts (literal l) ≡ Some k
   literal_kept l j k within of is = ap (λ b. if b then Some (literal_kind l) else None) within ∙ ap Some (of ∙ is)
 
   unary_node : (within : Bool) (op : Unary) (a k : Kind) (r : Outcome) (l : Literal) → IsFor (unary_kind op a) r l → option_and_then (unary_kind op) (if within then Some a else None) ≡ Some k
-      → kind_of_expr variable_kind output_kind (literal l) ≡ Some k
+      → kind_of_expr sorts (literal l) ≡ Some k
   unary_node true op a k r l for is = let e : for.kind ≡ k = let of = for.of_kind in cc in literal_kept l for.kind k for.stands.in_range for.stands.kind e
   unary_node false op a k r l for is = absurd (cc)
 
   binary_node : (within also : Bool) (op : Binary) (a b k : Kind) (r : Outcome) (l : Literal) → IsFor (binary_kind op a b) r l
-      → option_and_then (λ j. option_and_then (binary_kind op j) (if also then Some b else None)) (if within then Some a else None) ≡ Some k → kind_of_expr variable_kind output_kind (literal l) ≡ Some k
+      → option_and_then (λ j. option_and_then (binary_kind op j) (if also then Some b else None)) (if within then Some a else None) ≡ Some k → kind_of_expr sorts (literal l) ≡ Some k
   binary_node true true op a b k r l for is = let e : for.kind ≡ k = let of = for.of_kind in cc in literal_kept l for.kind k for.stands.in_range for.stands.kind e
   binary_node true false op a b k r l for is = absurd (cc)
   binary_node false also op a b k r l for is = absurd (cc)
 
-  node_kind : (e : PlainExpr V) (k : Kind) → kind_of_expr variable_kind output_kind e ≡ Some k → kind_of_expr variable_kind output_kind (folded_node e) ≡ Some k
+  node_kind : (e : PlainExpr V) (k : Kind) → kind_of_expr sorts e ≡ Some k → kind_of_expr sorts (folded_node e) ≡ Some k
   node_kind e =
-      node_holds (λ e f. (k : Kind) → kind_of_expr variable_kind output_kind e ≡ Some k → kind_of_expr variable_kind output_kind f ≡ Some k) (λ e k is. is)
+      node_holds (λ e f. (k : Kind) → kind_of_expr sorts e ≡ Some k → kind_of_expr sorts f ≡ Some k) (λ e k is. is)
       (λ op a l for k is. unary_node (literal_in_range a) op (literal_kind a) k _ l for is)
       (λ op a b l for k is. binary_node (literal_in_range a) (literal_in_range b) op (literal_kind a) (literal_kind b) k _ l for is) e
 
@@ -60,13 +60,13 @@ module _ {V : Type 0} (variable_kind : V → Option Kind) (output_kind : V → V
   binary_kept op (Some i) p None r k same also is = absurd (cc)
   binary_kept op (Some i) p (Some j) r k same also is = (λ t. option_and_then (λ x. option_and_then (binary_kind op x) (also j refl t)) (same i refl t)) ∙ is
 
-  pub kind_kept : (e : PlainExpr V) (k : Kind) → kind_of_expr variable_kind output_kind e ≡ Some k → kind_of_expr variable_kind output_kind (folded_expr e) ≡ Some k
+  pub kind_kept : (e : PlainExpr V) (k : Kind) → kind_of_expr sorts e ≡ Some k → kind_of_expr sorts (folded_expr e) ≡ Some k
   kind_kept (literal n) k is = is
   kind_kept (read v) k is = is
   kind_kept (output_of instance name) k is = is
   kind_kept (unary op a) k is =
-      node_kind (unary op (folded_expr a)) k (unary_kept op (kind_of_expr variable_kind output_kind a) (kind_of_expr variable_kind output_kind (folded_expr a)) k (kind_kept a) is)
+      node_kind (unary op (folded_expr a)) k (unary_kept op (kind_of_expr sorts a) (kind_of_expr sorts (folded_expr a)) k (kind_kept a) is)
   kind_kept (binary op a b) k is =
       node_kind (binary op (folded_expr a) (folded_expr b)) k
-      (binary_kept op (kind_of_expr variable_kind output_kind a) (kind_of_expr variable_kind output_kind (folded_expr a)) (kind_of_expr variable_kind output_kind b) (kind_of_expr variable_kind output_kind (folded_expr b)) k
+      (binary_kept op (kind_of_expr sorts a) (kind_of_expr sorts (folded_expr a)) (kind_of_expr sorts b) (kind_of_expr sorts (folded_expr b)) k
       (kind_kept a) (kind_kept b) is)

@@ -13,7 +13,7 @@ use Rattle.st_tree.specs.declared.tree.Literal.TheVariants as literals
 use Rattle.st_tree.specs.declared.tree.Unary.{Unary}
 use Rattle.st_tree.specs.declared.tree.Binary.{Binary}
 use Rattle.st_tree.specs.Constants.{constant_of}
-use Rattle.st_tree.specs.Kinds.{literal_kind, literal_in_range, unary_kind, binary_kind, kind_of_expr}
+use Rattle.st_tree.specs.Kinds.{literal_kind, literal_in_range, unary_kind, binary_kind, Sorts, kind_of_expr}
 use Rattle.st_tree.specs.Meaning.{literal_worth, then_one, then_two}
 use Rattle.st_tree.specs.Operators.{Outcome, eval_unary, eval_binary}
 use Rattle.st_tree.specs.Plain.{PlainExpr, literal, read, output_of, unary, binary}
@@ -85,11 +85,11 @@ module _ {V : Type 0} where
   binary_makes op a b (Some j) (Some i) (Some (Ok x)) (Some (Err trap)) left right k n of gives = absurd (cc)
   binary_makes op a b (Some j) (Some i) (Some (Ok x)) (Some (Ok y)) left right k n of gives = binary_made op a b j i k x y n (left j x refl refl) (right i y refl refl) of (cc)
 
-  module _ (variable_kind : V → Option Kind) (output_kind : V → V → Option Kind) where
-    pub literals_made : (e : PlainExpr V) (k : Kind) (n : ℤ) → kind_of_expr variable_kind output_kind e ≡ Some k → constant_of e ≡ Some (Ok n) → IsLiteral k n (folded_expr e)
+  module _ (sorts : Sorts V) where
+    pub literals_made : (e : PlainExpr V) (k : Kind) (n : ℤ) → kind_of_expr sorts e ≡ Some k → constant_of e ≡ Some (Ok n) → IsLiteral k n (folded_expr e)
     literals_made (literal l) k n of gives = literal_made (literal_in_range l) l k n refl of (cc)
     literals_made (read v) k n of gives = absurd (cc)
     literals_made (output_of instance name) k n of gives = absurd (cc)
-    literals_made (unary op a) k n of gives = unary_makes op (folded_expr a) (kind_of_expr variable_kind output_kind a) (constant_of a) (literals_made a) k n of gives
+    literals_made (unary op a) k n of gives = unary_makes op (folded_expr a) (kind_of_expr sorts a) (constant_of a) (literals_made a) k n of gives
     literals_made (binary op a b) k n of gives =
-        binary_makes op (folded_expr a) (folded_expr b) (kind_of_expr variable_kind output_kind a) (kind_of_expr variable_kind output_kind b) (constant_of a) (constant_of b) (literals_made a) (literals_made b) k n of gives
+        binary_makes op (folded_expr a) (folded_expr b) (kind_of_expr sorts a) (kind_of_expr sorts b) (constant_of a) (constant_of b) (literals_made a) (literals_made b) k n of gives

@@ -1,8 +1,8 @@
 -- Folding keeps outcomes, and with them what bodies do.
-use Rattle.std.proofs.Common.{◌≡◌, ◌∙◌, refl, ap, sym, ℤ}
+use Rattle.std.proofs.Common.{◌≡◌, ◌∙◌, refl, ap, sym}
 use Rattle.std.specs.Prelude.{Ok}
 use Rattle.st_tree.specs.Plain.{PlainExpr, PlainBody}
-use Rattle.st_tree.specs.Meaning.{Space, Ran, Done, Trapped, value_of, run_all}
+use Rattle.st_tree.specs.Meaning.{Space, Ran, Done, Trapped, ValuesOf, value_of, values_in, run_all}
 use Rattle.st_tree.specs.Mapping.{all_known}
 use Rattle.st_tree.specs.Alike.{Agree}
 use Rattle.st_tree.proofs.AnyValueLaws.{IsLawfulForAny, body_same}
@@ -10,9 +10,9 @@ use Rattle.st_tree.proofs.RenamingLaws.{body_all}
 use Rattle.const_fold.specs.Folding.{folded_node, folding, folded_body}
 use Rattle.const_fold.proofs.LiteralLaws.{node_holds}
 
-pub node_outcome : {V : Type 0} (variable_value : V → ℤ) (output_value : V → V → ℤ) (e : PlainExpr V) → value_of variable_value output_value (folded_node e) ≡ value_of variable_value output_value e
-node_outcome variable_value output_value e =
-    node_holds (λ e f. value_of variable_value output_value f ≡ value_of variable_value output_value e) (λ e. refl)
+pub node_outcome : {V : Type 0} (values : ValuesOf V) (e : PlainExpr V) → value_of values (folded_node e) ≡ value_of values e
+node_outcome values e =
+    node_holds (λ e f. value_of values f ≡ value_of values e) (λ e. refl)
     (λ op a l is. ap Ok is.stands.worth ∙ sym is.result) (λ op a b l is. ap Ok is.stands.worth ∙ sym is.result) e
 
 -- in worlds of one type that are equal
@@ -38,7 +38,7 @@ module _ {V W : Type 0} (space : Space V W) where
     output_is = λ instance name a b is same. ap (λ w. space.get_output w instance name) same;
     put_input_matches = λ instance name n a b is same. ap (λ w. space.put_input w instance name n) same;
     enter_agrees = λ instance a b is same. is_agree (space.enter a instance) (space.enter b instance) (ap (λ w. space.enter w instance) same);
-    node_is = λ e a b same. node_outcome (space.get b) (space.get_output b) e;
+    node_is = λ e a b same. node_outcome (values_in space b) e;
   }
 
   pub folded_runs : (body : PlainBody V) (w : W) → run_all space (folded_body body) w ≡ run_all space body w

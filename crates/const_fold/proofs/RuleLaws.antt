@@ -9,7 +9,7 @@ use Rattle.st_tree.specs.declared.tree.Label.{Label}
 use Rattle.st_tree.specs.Plain.{PlainExpr, literal, read, output_of, unary, binary, PlainArgument, input, output}
 use Rattle.st_tree.specs.Plain.{PlainStmt, empty, assign, call, if_else, case_of, for_to, PlainBody, done, next, Branches, no_branch, branch, Choices, no_choice, choice}
 use Rattle.st_tree.specs.Every.{every, every_inside, every_branch, every_choice}
-use Rattle.st_tree.specs.Fits.{Context, is_of, option_is_of, fits_option, argument_fits, stmt_fits, all_fit, branches_fit, choices_fit, may_control, stmt_controls_fit, controls_fit, branches_controls_fit, choices_controls_fit}
+use Rattle.st_tree.specs.Fits.{Context, sorts_of, is_of, option_is_of, fits_option, argument_fits, stmt_fits, all_fit, branches_fit, choices_fit, may_control, stmt_controls_fit, controls_fit, branches_controls_fit, choices_controls_fit}
 use Rattle.st_tree.specs.Kinds.{kind_of_expr, is_kind, same_kind, is_bit}
 use Rattle.st_tree.specs.Mapping.{mapped_argument, mapped_branches, mapped_choices}
 use Rattle.const_fold.specs.Folding.{folding, folded_expr, folded_option, folded_stmt, folded_body}
@@ -32,12 +32,12 @@ bit_kept (unary op a) is = absurd (cc)
 bit_kept (binary op a b) is = absurd (cc)
 
 module _ {V : Type 0} (context : Context V) where
-  of_kind : (k : Kind) (e : PlainExpr V) (o : Option Kind) → kind_of_expr context.variable_kind context.output_kind e ≡ o → is_kind k o ≡ true → is_of context k (folded_expr e) ≡ true
+  of_kind : (k : Kind) (e : PlainExpr V) (o : Option Kind) → kind_of_expr (sorts_of context) e ≡ o → is_kind k o ≡ true → is_of context k (folded_expr e) ≡ true
   of_kind k e None found is = absurd (cc)
-  of_kind k e (Some j) found is = ap (is_kind k) (kind_kept context.variable_kind context.output_kind e j found) ∙ is
+  of_kind k e (Some j) found is = ap (is_kind k) (kind_kept (sorts_of context) e j found) ∙ is
 
   of_kept : (k : Kind) (e : PlainExpr V) → is_of context k e ≡ true → is_of context k (folded_expr e) ≡ true
-  of_kept k e is = of_kind k e (kind_of_expr context.variable_kind context.output_kind e) refl is
+  of_kept k e is = of_kind k e (kind_of_expr (sorts_of context) e) refl is
 
   option_kept : (k : Kind) (e : Option (PlainExpr V)) → option_is_of context k e ≡ true → option_is_of context k (folded_option e) ≡ true
   option_kept k None is = is

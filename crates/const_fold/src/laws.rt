@@ -7,7 +7,7 @@ ghost use Rattle.st_tree.specs.Constants.{constant_of};
 ghost use Rattle.st_tree.specs.Costs.{body_cost, body_size};
 ghost use Rattle.st_tree.specs.Every.{every};
 ghost use Rattle.st_tree.specs.Fits.{Context, all_fit, controls_fit};
-ghost use Rattle.st_tree.specs.Kinds.{kind_of_expr};
+ghost use Rattle.st_tree.specs.Kinds.{Sorts, kind_of_expr};
 ghost use Rattle.st_tree.specs.Mapping.{Known, body_known};
 ghost use Rattle.st_tree.specs.Meaning.{Space, run_all};
 ghost use Rattle.st_tree.specs.Plain.{PlainExpr, PlainStmt, PlainBody};
@@ -23,8 +23,8 @@ pub fn folded_body_does_same<V, W>()
 /// A constant expression that has a kind and doesn't trap becomes a literal of this kind and of its value. Whether an expression is constant
 /// stays as it was, and so does the outcome of a constant one: one that traps becomes no literal.
 pub fn folded_constants_are_literals<V>()
-    ensures literals { (variable_kind : V → Option Kind) (output_kind : V → V → Option Kind) (e : PlainExpr V) (k : Kind) (n : ℤ)
-        → kind_of_expr variable_kind output_kind e ≡ Some k → constant_of e ≡ Some (Ok n) → IsLiteral k n (folded_expr e) }
+    ensures literals { (sorts : Sorts V) (e : PlainExpr V) (k : Kind) (n : ℤ)
+        → kind_of_expr sorts e ≡ Some k → constant_of e ≡ Some (Ok n) → IsLiteral k n (folded_expr e) }
     ensures constants { (e : PlainExpr V) → constant_of (folded_expr e) ≡ constant_of e }
 {}
 

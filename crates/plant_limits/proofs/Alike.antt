@@ -8,7 +8,7 @@ use Rattle.block_order.specs.Chains.{Among}
 use Rattle.plant_logic.specs.declared.logic.BlockRef.{BlockRef}
 use Rattle.plant_logic.specs.declared.logic.BlockRef.TheVariants as block
 use Rattle.plant_logic.specs.declared.logic.Instance.{Instance}
-use Rattle.plant_logic.specs.Source.{PlainRoutine}
+use Rattle.plant_logic.specs.Source.{PlainRoutine, own_cells}
 use Rattle.plant_logic.specs.Names.{instance_named}
 use Rattle.plant_logic.specs.Blocks.{Declares, AsksDeclared}
 use Rattle.plant_limits.specs.declared.measures.Measure.{Measure}
@@ -82,7 +82,7 @@ all_alike last f g (i ∷ is) same =
 -- slots
 pub slots_keep : (last : ℕ) → Keeps last routine_slots
 slots_keep last f g r same =
-    sums last (length r.locals) (length r.locals) (sum_by (λ (i : Instance). instance_slots f i.of) r.instances) (sum_by (λ (i : Instance). instance_slots g i.of) r.instances) refl
+    sums last (own_cells r) (own_cells r) (sum_by (λ (i : Instance). instance_slots f i.of) r.instances) (sum_by (λ (i : Instance). instance_slots g i.of) r.instances) refl
     (all_alike last (λ i. instance_slots f i.of) (λ i. instance_slots g i.of) r.instances (λ i there. slots_alike last f g i.of (λ n is. same n (i, there, is))))
 
 -- what a call of a name weighs

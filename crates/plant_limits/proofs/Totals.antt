@@ -6,7 +6,7 @@ use Rattle.std.proofs.lemmas.Bool.{cases_Bool}
 use Rattle.std.proofs.lemmas.Bool.Decides.{nat_tests}
 use Rattle.std.proofs.lemmas.List.Sums.{sum_by-cons}
 use Rattle.std.proofs.lemmas.List.Folds.{Any-from_list_any, list_any_at}
-use Rattle.plant_logic.specs.Source.{PlainRoutine, Source}
+use Rattle.plant_logic.specs.Source.{PlainRoutine, Source, global_cells}
 use Rattle.plant_limits.specs.declared.measures.Counts.{Counts}
 use Rattle.plant_limits.specs.Counts.{routine_slots, routine_size, routine_cost, type_slots, type_size, type_cost, slot_count, plant_size, program_costs}
 use Rattle.plant_limits.specs.Limits.{capped, KeepsCost}
@@ -21,12 +21,12 @@ capped_sum last f g h stops (r ∷ rs) =
     let first : min (f (h r)) last ≡ min (g r) last = let e = stops r in omega arith in
     rw (sum_by-cons f (h r) (map h rs), sum_by-cons g r rs) (sums last (f (h r)) (g r) (sum_by f (map h rs)) (sum_by g rs) first (capped_sum last f g h stops rs))
 
-pub slots_are : (source : Source) (list items : List Counts) (result : ℕ) → list ≡ items → items ≡ map (routine_counts source.blocks) source.programs → result ≡ min (length source.globals + sum_by (λ (c : Counts). c.slots) list) 65537
+pub slots_are : (source : Source) (list items : List Counts) (result : ℕ) → list ≡ items → items ≡ map (routine_counts source.blocks) source.programs → result ≡ min (global_cells source + sum_by (λ (c : Counts). c.slots) list) 65537
     → result ≡ min (slot_count source) 65537
 slots_are source list items result same are is =
     let total = capped_sum 65537 (λ (c : Counts). c.slots) (routine_slots (type_slots source.blocks)) (routine_counts source.blocks) (λ r. refl) source.programs in
-    is ∙ ap (λ l. min (length source.globals + sum_by (λ (c : Counts). c.slots) l) 65537) (same ∙ are)
-    ∙ sums 65537 (length source.globals) (length source.globals) (sum_by (λ (c : Counts). c.slots) (map (routine_counts source.blocks) source.programs)) (sum_by (routine_slots (type_slots source.blocks)) source.programs) refl total
+    is ∙ ap (λ l. min (global_cells source + sum_by (λ (c : Counts). c.slots) l) 65537) (same ∙ are)
+    ∙ sums 65537 (global_cells source) (global_cells source) (sum_by (λ (c : Counts). c.slots) (map (routine_counts source.blocks) source.programs)) (sum_by (routine_slots (type_slots source.blocks)) source.programs) refl total
 
 pub size_is : (source : Source) (list items : List Counts) (result : ℕ) → list ≡ items → items ≡ map (routine_counts source.blocks) source.programs → result ≡ min (sum_by (λ (c : Counts). c.size) list) 1000001 → result ≡ min (plant_size source) 1000001
 size_is source list items result same are is =

@@ -7,7 +7,7 @@ use Rattle.st_typing.specs.Constants.{for_turns}
 use Rattle.plant_logic.specs.declared.logic.BlockRef.{BlockRef}
 use Rattle.plant_logic.specs.declared.logic.BlockRef.TheVariants as block
 use Rattle.plant_logic.specs.declared.logic.Instance.{Instance}
-use Rattle.plant_logic.specs.Source.{PlainRoutine, Source, global_cells}
+use Rattle.plant_logic.specs.Source.{PlainRoutine, Source, own_cells, global_cells}
 use Rattle.plant_logic.specs.Blocks.{by_type}
 use Rattle.plant_logic.specs.Names.{block_named}
 
@@ -20,7 +20,7 @@ instance_slots slots (block.Declared n) = slots n
 
 -- a routine has its own variables as slots, and those of each of its instances
 abbrev pub routine_slots : (ℕ → ℕ) → PlainRoutine → ℕ
-routine_slots slots r = length r.locals + sum_by (λ (i : Instance). instance_slots slots i.of) r.instances
+routine_slots slots r = own_cells r + sum_by (λ (i : Instance). instance_slots slots i.of) r.instances
 
 -- what the body of an instance weighs, by the weights of the declared block types: a standard block 1
 abbrev pub instance_weight : (ℕ → ℕ) → BlockRef → ℕ

@@ -23,7 +23,7 @@ use Rattle.st_parser.specs.declared.unit.SectionKind.TheVariants as sections
 use Rattle.st_parser.specs.declared.unit.Sort.{Sort}
 use Rattle.st_parser.specs.declared.unit.Sort.TheVariants as sort
 use Rattle.st_parser.specs.Units.{PlainSection, PlainPou, PlainUnit}
-use Rattle.st_names.specs.DeclaredNames.{PlainDeclared, declared_in, declared_words, find_declared, sort_kind}
+use Rattle.st_names.specs.DeclaredNames.{PlainDeclared, declared_in, declared_words, find_declared, sort_kind, is_instance_sort}
 use Rattle.st_names.specs.Faults.{first_pou, first_unit}
 use Rattle.st_names.specs.Scopes as scopes
 use Rattle.st_names.specs.Scopes.{or_other, is_external, variable_kind, output_kind}
@@ -167,7 +167,7 @@ left_holds Holds (Trapped w spot trap) h = h
 start_controls : {P : Type 0} (number : ℕ) (v : List ℕ) (from to : PlainExpr (List ℕ)) (by : Option (PlainExpr (List ℕ))) (body : PlainBody (List ℕ)) → is_start (for_to number v from to by body) ≡ true → P
 start_controls number v from to by body is = absurd (cc)
 
-module _ (units : List PlainUnit) (typed : AreTyped units) (order : List ℕ) (below : AreBelow (source_in units).blocks order) (no_globals : (name : List ℕ) (d : PlainDeclared) → global_named units name ≡ Some d → is_some (sort_kind d.sort) ≡ true) where
+module _ (units : List PlainUnit) (typed : AreTyped units) (order : List ℕ) (below : AreBelow (source_in units).blocks order) (no_globals : (name : List ℕ) (d : PlainDeclared) → global_named units name ≡ Some d → is_instance_sort d.sort ≡ false) where
   abbrev source : Source
   source = source_in units
 

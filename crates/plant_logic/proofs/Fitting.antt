@@ -13,8 +13,8 @@ use Rattle.st_tree.specs.Plain.{PlainExpr, literal, read, output_of, unary, bina
 use Rattle.st_tree.specs.Plain.{PlainStmt, empty, assign, call, if_else, case_of, for_to, PlainBody, done, next, Branches, no_branch, branch, Choices, no_choice, choice}
 use Rattle.st_tree.specs.Every.{every, every_inside, every_branch, every_choice}
 use Rattle.st_tree.specs.Numbers.{count_stmt, count_body, count_branches, count_choices, numbered_stmt, numbered, numbered_branches, numbered_choices}
-use Rattle.st_tree.specs.Kinds.{kind_of_expr, kind_in, is_kind, same_kind, is_bit, unary_kind, binary_kind, resolved_unary, resolved_binary, resolved_expr, resolved_argument, resolved_stmt, resolved_body, resolved_branches, resolved_choices, meant}
-use Rattle.st_tree.specs.Fits.{Context, is_of, option_is_of, fits_option, takes, argument_fits, stmt_fits, all_fit, branches_fit, choices_fit, may_control, stmt_controls_fit, controls_fit, branches_controls_fit, choices_controls_fit}
+use Rattle.st_tree.specs.Kinds.{KindsOf, AreSorts, kind_of_expr, kind_in, is_kind, same_kind, is_bit, unary_kind, binary_kind, resolved_unary, resolved_binary, resolved_expr, resolved_argument, resolved_stmt, resolved_body, resolved_branches, resolved_choices, meant}
+use Rattle.st_tree.specs.Fits.{Context, sorts_of, is_of, option_is_of, fits_option, takes, argument_fits, stmt_fits, all_fit, branches_fit, choices_fit, may_control, stmt_controls_fit, controls_fit, branches_controls_fit, choices_controls_fit}
 use Rattle.st_tree.proofs.KindLaws.{kind_of_expr_is_kind_in}
 
 -- the context in which each variable may be assigned
@@ -81,9 +81,8 @@ suits_kept : (k : Kind) (o p : Option Kind) (bit other : Bool) → ((r : Kind) �
 suits_kept k None p bit other kept same is = or_right (is_kind k p) other (sym same ∙ is)
 suits_kept k (Some r) p bit other kept same is = (λ i. is_kind k (kept r refl i) || sym same i) ∙ is
 
-module _ {V : Type 0} (context : Context V) (variables : V → Kind) (outputs : V → V → Kind) (agrees : (v : V) (k : Kind) → context.variable_kind v ≡ Some k → variables v ≡ k)
-    (agrees_output : (instance name : V) (k : Kind) → context.output_kind instance name ≡ Some k → outputs instance name ≡ k) where
-  bit_kept : (e : PlainExpr V) → is_bit e ≡ is_bit (resolved_expr variables outputs e)
+module _ {V : Type 0} (context : Context V) (kinds : KindsOf V) (agrees : AreSorts (sorts_of context) kinds) where
+  bit_kept : (e : PlainExpr V) → is_bit e ≡ is_bit (resolved_expr kinds e)
   bit_kept (literal n) = refl
   bit_kept (read v) = refl
   bit_kept (output_of instance name) = refl
@@ -91,21 +90,21 @@ module _ {V : Type 0} (context : Context V) (variables : V → Kind) (outputs : 
   bit_kept (binary op a b) = refl
 
   abbrev of_expr : PlainExpr V → Option Kind
-  of_expr e = kind_of_expr context.variable_kind context.output_kind e
+  of_expr e = kind_of_expr (sorts_of context) e
 
   abbrev chosen : PlainExpr V → PlainExpr V
-  chosen e = resolved_expr variables outputs e
+  chosen e = resolved_expr kinds e
 
-  kind_is : (e : PlainExpr V) (k : Kind) → of_expr e ≡ Some k → kind_in variables outputs e ≡ k
-  kind_is e k is = kind_of_expr_is_kind_in context.variable_kind context.output_kind variables outputs agrees agrees_output e k is
+  kind_is : (e : PlainExpr V) (k : Kind) → of_expr e ≡ Some k → kind_in kinds e ≡ k
+  kind_is e k is = kind_of_expr_is_kind_in (sorts_of context) kinds agrees e k is
 
   -- the kind of an expression is that of the one that is meant
   kind_kept : (e : PlainExpr V) (k : Kind) → of_expr e ≡ Some k → of_expr (chosen e) ≡ Some k
   kind_kept (literal n) r is = is
   kind_kept (read v) r is = is
   kind_kept (output_of instance name) r is = is
-  kind_kept (unary op a) r is = unary_kept op (of_expr a) (of_expr (chosen a)) (kind_in variables outputs a) r (λ k e. kind_kept a k e) (λ k e. kind_is a k e) is
-  kind_kept (binary op a b) r is = binary_kept op (of_expr a) (of_expr b) (of_expr (chosen a)) (of_expr (chosen b)) (kind_in variables outputs a) r (λ k e. kind_kept a k e) (λ k e. kind_kept b k e) (λ k e. kind_is a k e) is
+  kind_kept (unary op a) r is = unary_kept op (of_expr a) (of_expr (chosen a)) (kind_in kinds a) r (λ k e. kind_kept a k e) (λ k e. kind_is a k e) is
+  kind_kept (binary op a b) r is = binary_kept op (of_expr a) (of_expr b) (of_expr (chosen a)) (of_expr (chosen b)) (kind_in kinds a) r (λ k e. kind_kept a k e) (λ k e. kind_kept b k e) (λ k e. kind_is a k e) is
 
   of_kept : (k : Kind) (e : PlainExpr V) → is_of context k e ≡ true → is_of context k (chosen e) ≡ true
   of_kept k e is = is_kept k (of_expr e) (of_expr (chosen e)) (kind_kept e) is
@@ -129,7 +128,7 @@ module _ {V : Type 0} (context : Context V) (variables : V → Kind) (outputs : 
   output_takes : (v instance name : V) → takes context v (output_of instance name) ≡ true → takes free v (output_of instance name) ≡ true
   output_takes v instance name h = (and_parts (context.may_assign v) (fits_option context (context.variable_kind v) (output_of instance name)) h).1
 
-  arguments_kept : (instance : V) (arguments : List (PlainArgument V)) → list_all (argument_fits context instance) arguments ≡ true → list_all (argument_fits free instance) (map (resolved_argument variables outputs) arguments) ≡ true
+  arguments_kept : (instance : V) (arguments : List (PlainArgument V)) → list_all (argument_fits context instance) arguments ≡ true → list_all (argument_fits free instance) (map (resolved_argument kinds) arguments) ≡ true
   arguments_kept instance [] h = refl
   arguments_kept instance (input name e ∷ rest) h =
       let p = and_parts (fits_option context (context.input_kind instance name) e) (list_all (argument_fits context instance) rest) h in
@@ -139,7 +138,7 @@ module _ {V : Type 0} (context : Context V) (variables : V → Kind) (outputs : 
       λ i. output_takes v instance name p.0 i && arguments_kept instance rest p.1 i
 
   mutual
-    stmt_kept : (n : ℕ) (s : PlainStmt V) → stmt_fits context s ≡ true → stmt_fits free (resolved_stmt variables outputs (numbered_stmt n s)) ≡ true
+    stmt_kept : (n : ℕ) (s : PlainStmt V) → stmt_fits context s ≡ true → stmt_fits free (resolved_stmt kinds (numbered_stmt n s)) ≡ true
     stmt_kept n (empty number) h = refl
     stmt_kept n (assign number v e) h = takes_kept v e h
     stmt_kept n (call number instance arguments) h =
@@ -158,34 +157,34 @@ module _ {V : Type 0} (context : Context V) (variables : V → Kind) (outputs : 
         let r = and_parts (option_is_of context kind.Dint by) (all_fit context body) q.1 in
         λ i. of_kept kind.Dint from p.0 i && (of_kept kind.Dint to q.0 i && (option_of_kept kind.Dint by r.0 i && body_kept (n + 1) body r.1 i))
 
-    body_kept : (n : ℕ) (body : PlainBody V) → all_fit context body ≡ true → all_fit free (resolved_body variables outputs (numbered n body)) ≡ true
+    body_kept : (n : ℕ) (body : PlainBody V) → all_fit context body ≡ true → all_fit free (resolved_body kinds (numbered n body)) ≡ true
     body_kept n done h = refl
     body_kept n (next s rest) h =
         let p = and_parts (stmt_fits context s) (all_fit context rest) h in
         λ i. stmt_kept n s p.0 i && body_kept (n + count_stmt s) rest p.1 i
 
-    branches_kept : (n : ℕ) (branches : Branches V) → branches_fit context branches ≡ true → branches_fit free (resolved_branches variables outputs (numbered_branches n branches)) ≡ true
+    branches_kept : (n : ℕ) (branches : Branches V) → branches_fit context branches ≡ true → branches_fit free (resolved_branches kinds (numbered_branches n branches)) ≡ true
     branches_kept n no_branch h = refl
     branches_kept n (branch e body rest) h =
         let p = and_parts (is_of context kind.Bool e) (all_fit context body && branches_fit context rest) h in
         let q = and_parts (all_fit context body) (branches_fit context rest) p.1 in
         λ i. of_kept kind.Bool e p.0 i && (body_kept n body q.0 i && branches_kept (n + count_body body) rest q.1 i)
 
-    choices_kept : (n : ℕ) (choices : Choices V) → choices_fit context choices ≡ true → choices_fit free (resolved_choices variables outputs (numbered_choices n choices)) ≡ true
+    choices_kept : (n : ℕ) (choices : Choices V) → choices_fit context choices ≡ true → choices_fit free (resolved_choices kinds (numbered_choices n choices)) ≡ true
     choices_kept n no_choice h = refl
     choices_kept n (choice labels body rest) h =
         let p = and_parts (all_fit context body) (choices_fit context rest) h in
         λ i. body_kept n body p.0 i && choices_kept (n + count_body body) rest p.1 i
 
   -- a body that fits does so when it is meant, where each variable may be assigned
-  pub meant_fits : (body : PlainBody V) → all_fit context body ≡ true → all_fit free (meant variables outputs body) ≡ true
+  pub meant_fits : (body : PlainBody V) → all_fit context body ≡ true → all_fit free (meant kinds body) ≡ true
   meant_fits body h = body_kept 1 body h
 
 -- ---- control variables that a rule of statements allows may be such in the body that is meant
-module _ {V : Type 0} (context : Context V) (variables : V → Kind) (outputs : V → V → Kind) (rule : PlainStmt V → Bool)
+module _ {V : Type 0} (context : Context V) (kinds : KindsOf V) (rule : PlainStmt V → Bool)
     (controls : (number : ℕ) (v : V) (from to : PlainExpr V) (by : Option (PlainExpr V)) (body : PlainBody V) → rule (for_to number v from to by body) ≡ true → may_control context v ≡ true) where
   mutual
-    stmt_controls : (n : ℕ) (s : PlainStmt V) → rule s ≡ true → every_inside rule s ≡ true → stmt_controls_fit context (resolved_stmt variables outputs (numbered_stmt n s)) ≡ true
+    stmt_controls : (n : ℕ) (s : PlainStmt V) → rule s ≡ true → every_inside rule s ≡ true → stmt_controls_fit context (resolved_stmt kinds (numbered_stmt n s)) ≡ true
     stmt_controls n (empty number) h inside = refl
     stmt_controls n (assign number v e) h inside = refl
     stmt_controls n (call number instance arguments) h inside = refl
@@ -197,24 +196,24 @@ module _ {V : Type 0} (context : Context V) (variables : V → Kind) (outputs : 
         λ i. choices_control (n + 1) choices p.0 i && body_controls (n + 1 + count_choices choices) last p.1 i
     stmt_controls n (for_to number v from to by body) h inside = λ i. controls number v from to by body h i && body_controls (n + 1) body inside i
 
-    body_controls : (n : ℕ) (body : PlainBody V) → every rule body ≡ true → controls_fit context (resolved_body variables outputs (numbered n body)) ≡ true
+    body_controls : (n : ℕ) (body : PlainBody V) → every rule body ≡ true → controls_fit context (resolved_body kinds (numbered n body)) ≡ true
     body_controls n done h = refl
     body_controls n (next s rest) h =
         let p = and_parts (rule s) (every_inside rule s && every rule rest) h in
         let q = and_parts (every_inside rule s) (every rule rest) p.1 in
         λ i. stmt_controls n s p.0 q.0 i && body_controls (n + count_stmt s) rest q.1 i
 
-    branches_control : (n : ℕ) (branches : Branches V) → every_branch rule branches ≡ true → branches_controls_fit context (resolved_branches variables outputs (numbered_branches n branches)) ≡ true
+    branches_control : (n : ℕ) (branches : Branches V) → every_branch rule branches ≡ true → branches_controls_fit context (resolved_branches kinds (numbered_branches n branches)) ≡ true
     branches_control n no_branch h = refl
     branches_control n (branch e body rest) h =
         let p = and_parts (every rule body) (every_branch rule rest) h in
         λ i. body_controls n body p.0 i && branches_control (n + count_body body) rest p.1 i
 
-    choices_control : (n : ℕ) (choices : Choices V) → every_choice rule choices ≡ true → choices_controls_fit context (resolved_choices variables outputs (numbered_choices n choices)) ≡ true
+    choices_control : (n : ℕ) (choices : Choices V) → every_choice rule choices ≡ true → choices_controls_fit context (resolved_choices kinds (numbered_choices n choices)) ≡ true
     choices_control n no_choice h = refl
     choices_control n (choice labels body rest) h =
         let p = and_parts (every rule body) (every_choice rule rest) h in
         λ i. body_controls n body p.0 i && choices_control (n + count_body body) rest p.1 i
 
-  pub meant_controls : (body : PlainBody V) → every rule body ≡ true → controls_fit context (meant variables outputs body) ≡ true
+  pub meant_controls : (body : PlainBody V) → every rule body ≡ true → controls_fit context (meant kinds body) ≡ true
   meant_controls body h = body_controls 1 body h

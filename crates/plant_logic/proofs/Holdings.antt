@@ -23,7 +23,7 @@ use Rattle.st_parser.specs.declared.unit.Sort.{Sort}
 use Rattle.st_parser.specs.declared.unit.Sort.TheVariants as sort
 use Rattle.st_parser.specs.Units.{PlainPou, PlainUnit}
 use Rattle.st_names.specs.First.{first_that}
-use Rattle.st_names.specs.DeclaredNames.{PlainDeclared, declared_in, declared_words, find_declared, first_declared, sort_kind}
+use Rattle.st_names.specs.DeclaredNames.{PlainDeclared, declared_in, declared_words, find_declared, first_declared, sort_kind, is_instance_sort}
 use Rattle.st_names.specs.Shared.{Shared, global, pou, shared_in, find_shared, as_block, global_named, block_named}
 use Rattle.st_names.specs.BlockTypes.{BlockType, ton, tof, r_trig, declared_block, block_type, Member, member_of, members_in, is_input_section, is_output_section, inputs_of, outputs_of, find_member}
 use Rattle.st_names.specs.Scopes.{or_other, is_external, sort_type, instance_type}
@@ -170,7 +170,7 @@ module _ (units : List PlainUnit) (apart : repeats (map shared_word (shared_in u
       meets_by (same_word word (codes "TON")) (same_word word (codes "TOF")) (same_word word (codes "R_TRIG")) (block_named units word) (find_name (block_names units) word) _ t (block_numbered word) is
 
   -- ---- the instances of a routine
-  module _ (own : List PlainDeclared) (r : PlainRoutine) (scope : IsScope units own r) (no_globals : (name : List ℕ) (d : PlainDeclared) → global_named units name ≡ Some d → is_some (sort_kind d.sort) ≡ true) where
+  module _ (own : List PlainDeclared) (r : PlainRoutine) (scope : IsScope units own r) (no_globals : (name : List ℕ) (d : PlainDeclared) → global_named units name ≡ Some d → is_instance_sort d.sort ≡ false) where
     -- the instance of a name, of a block type
     pub record IsInstance (name : List ℕ) (t : BlockType) : Type 0 where
       pub i : Instance
@@ -206,7 +206,7 @@ module _ (units : List PlainUnit) (apart : repeats (map shared_word (shared_in u
     by_sort name d (sort.Kind k) t found of is = absurd (cc)
     by_sort name d (sort.Block word) t found of is = held_instance name d word t found of is
 
-    no_global : {P : Type 0} (s : Sort) (t : BlockType) → is_some (sort_kind s) ≡ true → sort_type units s ≡ Some t → P
+    no_global : {P : Type 0} (s : Sort) (t : BlockType) → is_instance_sort s ≡ false → sort_type units s ≡ Some t → P
     no_global (sort.Kind k) t there is = absurd (cc)
     no_global (sort.Block word) t there is = absurd (cc)
 

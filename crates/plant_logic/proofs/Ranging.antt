@@ -21,7 +21,7 @@ use Rattle.st_tree.proofs.RangeLaws.{InRange}
 use Rattle.st_tree.proofs.RunLaws.{run_all_keeps}
 use Rattle.st_parser.specs.Units.{PlainPou, PlainUnit}
 use Rattle.st_names.specs.BlockTypes.{Member, inputs_of, outputs_of, find_member}
-use Rattle.st_names.specs.DeclaredNames.{PlainDeclared, declared_in, declared_words, find_declared, sort_kind}
+use Rattle.st_names.specs.DeclaredNames.{PlainDeclared, declared_in, declared_words, find_declared, sort_kind, is_instance_sort}
 use Rattle.st_names.specs.Known.{body_known, declared_known, globals_misnamed, pou_misnamed}
 use Rattle.st_names.specs.Scopes.{variable_kind, instance_type, input_named, input_kind, output_named, output_kind, is_external, can_control, is_control}
 use Rattle.st_names.specs.Shared.{shared_in, is_block, global_named}
@@ -35,7 +35,7 @@ use Rattle.plant_logic.specs.declared.logic.BlockRef.TheVariants.{Ton, Tof, RTri
 use Rattle.plant_logic.specs.Source.{PlainRoutine, Source}
 use Rattle.plant_logic.specs.Pous.{pous_of, block_pous, program_pous, block_names}
 use Rattle.plant_logic.specs.Units.{routine_of, source_in}
-use Rattle.plant_logic.specs.Names.{instance_named, block_named, kind_named, output_kind_of, output_kind_named, meant_in}
+use Rattle.plant_logic.specs.Names.{instance_named, block_named, kinds_named, output_kind_of, output_kind_named, meant_in}
 use Rattle.plant_logic.specs.Blocks.{levels, AreBelow}
 use Rattle.plant_logic.specs.Layout.{IsDistinctlyNamed}
 use Rattle.plant_logic.specs.Worlds.{Path, World, same_path, words_of, path_in, pt_word, with_call, timer_call, trigger_call, output_at, called, called_named, routine_space, run_rule, run_routine, run_in, run_program}
@@ -113,7 +113,7 @@ noted source w path c fits holds = record { values = holds.values; calls = λ q.
     by_path q true = All-cons (λ (c : Call). is_in_range kind.Time c.pt ≡ true) c (w.calls q) fits (holds.calls q)
     by_path q false = holds.calls q
 
-module _ (units : List PlainUnit) (typed : AreTyped units) (order : List ℕ) (below : AreBelow (source_in units).blocks order) (no_globals : (name : List ℕ) (d : PlainDeclared) → global_named units name ≡ Some d → is_some (sort_kind d.sort) ≡ true) where
+module _ (units : List PlainUnit) (typed : AreTyped units) (order : List ℕ) (below : AreBelow (source_in units).blocks order) (no_globals : (name : List ℕ) (d : PlainDeclared) → global_named units name ≡ Some d → is_instance_sort d.sort ≡ false) where
   abbrev source : Source
   source = source_in units
 
@@ -208,14 +208,15 @@ module _ (units : List PlainUnit) (typed : AreTyped units) (order : List ℕ) (b
           → every rule body ≡ true → all_fit (freely (context_of units own)) (meant_in source r body) ≡ true → Holds w → Leaves Holds (run_all (routine_space t inner r path) (meant_in source r body) w)
       body_keeps rule body w controls allowed fits holds =
           run_all_keeps (freely (context_of units own)) (routine_space t inner r path) Holds invariant (meant_in source r body) w fits
-          (meant_controls (freely (context_of units own)) (kind_named source.globals r) (output_kind_named source.blocks r) rule controls body allowed) holds
+          (meant_controls (freely (context_of units own)) (kinds_named source r) rule controls body allowed) holds
 
     -- what fits as it is declared fits as it is meant
     pub body_fits : (context : Context (List ℕ)) (body : PlainBody (List ℕ)) → freely context ≡ freely (context_of units own) → ((v : List ℕ) (k : Kind) → context.variable_kind v ≡ Some k → variable_kind units own v ≡ Some k)
         → ((instance name : List ℕ) (k : Kind) → context.output_kind instance name ≡ Some k → output_kind units own instance name ≡ Some k) → all_fit context body ≡ true → all_fit (freely (context_of units own)) (meant_in source r body) ≡ true
     body_fits context body same variables outputs fits =
         subst (λ c. all_fit c (meant_in source r body) ≡ true) same
-        (meant_fits context (kind_named source.globals r) (output_kind_named source.blocks r) (λ v k is. (variable_at units apart own r scope v k (variables v k is)).kind_is) (λ instance name k is. output_agrees instance name k (outputs instance name k is)) body fits)
+        (meant_fits context (kinds_named source r)
+        (record { variable_is = λ v k is. (variable_at units apart own r scope v k (variables v k is)).kind_is; output_is = λ instance name k is. output_agrees instance name k (outputs instance name k is) }) body fits)
 
   -- a control variable of a FOR that is allowed is a DINT
   control_by : (own : List PlainDeclared) (name : List ℕ) (o : Option PlainDeclared) → find_declared own name ≡ o → can_control o ≡ true → is_kind kind.Dint (variable_kind units own name) ≡ true

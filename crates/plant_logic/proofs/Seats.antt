@@ -15,7 +15,7 @@ use Rattle.plant_logic.specs.declared.logic.Local.{Local}
 use Rattle.plant_logic.specs.declared.logic.Instance.{Instance}
 use Rattle.plant_logic.specs.declared.logic.BlockRef.{BlockRef}
 use Rattle.plant_logic.specs.declared.logic.BlockRef.TheVariants.{Ton, Tof, RTrig, Declared}
-use Rattle.plant_logic.specs.Source.{PlainRoutine, Source}
+use Rattle.plant_logic.specs.Source.{PlainRoutine, Source, own_cells, global_cells}
 use Rattle.plant_logic.specs.Names.{global_words, own_words, find_word}
 use Rattle.plant_logic.specs.Blocks.{levels}
 use Rattle.plant_logic.specs.Worlds.{Path, World, words_of, path_of, path_in, assign, with_call}
@@ -54,9 +54,12 @@ own_length : (ls : List Local) (p q : Path) → length (own_values ls p) ≡ len
 own_length [] p q = refl
 own_length (l ∷ ls) p q = ap suc (own_length ls p q)
 
-pub own_count : (ls : List Local) (p : Path) → length (own_values ls p) ≡ length ls
-own_count [] p = refl
-own_count (l ∷ ls) p = ap suc (own_count ls p)
+own_each : (ls : List Local) (p : Path) → length (own_values ls p) ≡ length ls
+own_each [] p = refl
+own_each (l ∷ ls) p = ap suc (own_each ls p)
+
+pub own_count : (r : PlainRoutine) (p : Path) → length (own_values r.locals p) ≡ own_cells r
+own_count r p = own_each r.locals p
 
 module _ {A : Type 0} (xs xs' ys ys' : List A) where
   lengths : length xs ≡ length xs' → length ys ≡ length ys' → length (xs ++ ys) ≡ length (xs' ++ ys')
@@ -137,10 +140,10 @@ module _ (blocks : List PlainRoutine) (all : List Path) where
   pub instance_stands : (r : PlainRoutine) (path : Path) (base k : ℕ) (i : Instance) → StandsFrom all base (values_rule (routine_values blocks) r path) → slice_get r.instances k ≡ Some i
       → StandsFrom all (base + value_offset blocks r k) (of_block i.of (folded i.name ∷ path))
   instance_stands r path base k i stands at =
-      let many = own_count r.locals path in
-      let later = base + length r.locals in
+      let many = own_count r path in
+      let later = base + own_cells r in
       let rest = stands_right all base later (own_values r.locals path) (of_instances r.instances path) (omega (arith, many)) stands in
-      stands_moved all (later + values_before blocks r.instances k) (base + (length r.locals + values_before blocks r.instances k)) (of_block i.of (folded i.name ∷ path)) (omega arith) (among_instances r.instances path later k i rest at)
+      stands_moved all (later + values_before blocks r.instances k) (base + (own_cells r + values_before blocks r.instances k)) (of_block i.of (folded i.name ∷ path)) (omega arith) (among_instances r.instances path later k i rest at)
 
   among_programs : (ps : List PlainRoutine) (base k : ℕ) (p : PlainRoutine) → StandsFrom all base (program_values blocks ps) → slice_get ps k ≡ Some p → StandsFrom all (base + program_values_before blocks ps k) (values_rule (routine_values blocks) p (folded p.name ∷ []))
   among_programs [] base k p stands at = absurd (cc)
@@ -162,8 +165,8 @@ global_count globals = length-map (global_words globals) (λ word. word ∷ []) 
 pub program_stands : (source : Source) (k : ℕ) (p : PlainRoutine) → slice_get source.programs k ≡ Some p → StandsFrom (cell_paths source) (program_values_base source k) (values_rule (routine_values source.blocks) p (folded p.name ∷ []))
 program_stands source k p at =
     let many = global_count source.globals in
-    let rest = stands_right (cell_paths source) 0 (length source.globals) (global_values source.globals) (program_values source.blocks source.programs) (omega (arith, many)) (stands_whole (cell_paths source)) in
-    among_programs source.blocks (cell_paths source) source.programs (length source.globals) k p rest at
+    let rest = stands_right (cell_paths source) 0 (global_cells source) (global_values source.globals) (program_values source.blocks source.programs) (omega (arith, many)) (stands_whole (cell_paths source)) in
+    among_programs source.blocks (cell_paths source) source.programs (global_cells source) k p rest at
 
 -- the same of standard blocks
 module _ (blocks : List PlainRoutine) (all : List ClockAt) where

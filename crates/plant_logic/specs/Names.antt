@@ -6,7 +6,7 @@ use Rattle.plant_types.specs.Words.{folded, same_word}
 use Rattle.plant_types.specs.declared.values.Kind.{Kind}
 use Rattle.plant_types.specs.declared.values.Kind.TheVariants as kind
 use Rattle.st_tree.specs.Plain.{PlainBody}
-use Rattle.st_tree.specs.Kinds.{meant}
+use Rattle.st_tree.specs.Kinds.{KindsOf, meant}
 use Rattle.st_names.specs.Scopes.{or_other}
 use Rattle.plant_logic.specs.declared.logic.Variable.{Variable}
 use Rattle.plant_logic.specs.declared.logic.Local.{Local}
@@ -70,6 +70,10 @@ output_kind_of blocks (Some (Declared n)) name = option_map_or (λ b. unwrap_or 
 abbrev pub output_kind_named : List PlainRoutine → PlainRoutine → (instance name : List ℕ) → Kind
 output_kind_named blocks r instance name = output_kind_of blocks (block_named r instance) name
 
+-- the kinds of the names in a routine of a source
+abbrev pub kinds_named : Source → PlainRoutine → KindsOf (List ℕ)
+kinds_named source r = record { variable = kind_named source.globals r; output = output_kind_named source.blocks r }
+
 -- the body that is meant by the body or the initial values of a routine of a source: its statements are numbered from 1, and each operator is that of its operands' kind
 abbrev pub meant_in : Source → PlainRoutine → PlainBody (List ℕ) → PlainBody (List ℕ)
-meant_in source r body = meant (kind_named source.globals r) (output_kind_named source.blocks r) body
+meant_in source r body = meant (kinds_named source r) body

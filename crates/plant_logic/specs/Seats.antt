@@ -5,7 +5,7 @@ use Rattle.plant_logic.specs.declared.logic.Variable.{Variable}
 use Rattle.plant_logic.specs.declared.logic.Instance.{Instance}
 use Rattle.plant_logic.specs.declared.logic.BlockRef.{BlockRef}
 use Rattle.plant_logic.specs.declared.logic.BlockRef.TheVariants.{Ton, Tof, RTrig, Declared}
-use Rattle.plant_logic.specs.Source.{PlainRoutine, Source, global_cells}
+use Rattle.plant_logic.specs.Source.{PlainRoutine, Source, own_cells, global_cells}
 use Rattle.plant_logic.specs.Names.{global_words, own_words, find_word}
 use Rattle.plant_logic.specs.Layout.{block_values, values_rule, routine_values, block_clocks, clocks_rule, routine_clocks}
 
@@ -33,7 +33,7 @@ clocks_before blocks (i ∷ is) (suc k) = clock_count blocks i.of + clocks_befor
 
 -- the number of the first value of a routine's instance, counted from the routine's first: after its own variables and the instances before it
 abbrev pub value_offset : List PlainRoutine → PlainRoutine → ℕ → ℕ
-value_offset blocks r k = length r.locals + values_before blocks r.instances k
+value_offset blocks r k = own_cells r + values_before blocks r.instances k
 
 -- the same of its first standard block
 abbrev pub clock_offset : List PlainRoutine → PlainRoutine → ℕ → ℕ

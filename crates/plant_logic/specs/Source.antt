@@ -23,6 +23,10 @@ pub record Source : Type 0 where
   pub programs : List PlainRoutine
   pub blocks : List PlainRoutine
 
+-- how many cells the own variables of a routine have, which are the first of its cells: one each
+abbrev pub own_cells : PlainRoutine → ℕ
+own_cells r = length r.locals
+
 -- how many cells the globals of a source have, which are the first of all cells: one each
 abbrev pub global_cells : Source → ℕ
 global_cells source = length source.globals

@@ -1,6 +1,6 @@
 //! Laws of sources. These functions do nothing: each has a law as its contract, for the crates above.
 
-ghost use Rattle.std.specs.Prelude.{◌≡◌, ◌+◌, ◌∷◌, [], ℕ, ℤ, List, map, Some, is_some, slice_get, slice_set, true};
+ghost use Rattle.std.specs.Prelude.{◌≡◌, ◌+◌, ◌∷◌, [], ℕ, ℤ, List, map, Some, slice_get, slice_set, true, false};
 ghost use Rattle.plant_types.specs.Values.{is_in_range};
 ghost use Rattle.plant_types.specs.Words.{folded};
 ghost use Rattle.std_blocks.specs.Calls.{Call};
@@ -11,7 +11,7 @@ ghost use Rattle.plant_logic.specs.Names.{find_word, instance_words, instance_na
 ghost use Rattle.block_order.specs.Blocks.{AreOrdered};
 ghost use Rattle.st_tree.specs.Ranges.{Leaves};
 ghost use Rattle.st_parser.specs.Units.{PlainUnit};
-ghost use Rattle.st_names.specs.DeclaredNames.{PlainDeclared, sort_kind};
+ghost use Rattle.st_names.specs.DeclaredNames.{PlainDeclared, is_instance_sort};
 ghost use Rattle.st_names.specs.Shared.{global_named};
 ghost use Rattle.st_typing.specs.Blocks.{blocks_of};
 ghost use Rattle.st_typing.specs.Faults.{AreTyped};
@@ -180,13 +180,13 @@ pub fn assigned_global_stays_in_range()
 /// VAR_GLOBAL alone for globals, where the kinds allow no instance.
 pub fn program_stays_in_range()
     ensures { (units : List PlainUnit) (order : List ℕ) → AreTyped units → AreBelow (source_in units).blocks order
-        → ((name : List ℕ) (d : PlainDeclared) → global_named units name ≡ Some d → is_some (sort_kind d.sort) ≡ true)
+        → ((name : List ℕ) (d : PlainDeclared) → global_named units name ≡ Some d → is_instance_sort d.sort ≡ false)
         → (n t : ℕ) (w : World) → AllInRange (source_in units) w → Leaves (λ w. AllInRange (source_in units) w) (run_program (source_in units) n t w) }
 {}
 
 /// Before the first scan each value is in the range of its variable's kind, if no global is an instance.
 pub fn opening_world_is_in_range()
     ensures { (units : List PlainUnit) (order : List ℕ) → AreTyped units → AreBelow (source_in units).blocks order
-        → ((name : List ℕ) (d : PlainDeclared) → global_named units name ≡ Some d → is_some (sort_kind d.sort) ≡ true)
+        → ((name : List ℕ) (d : PlainDeclared) → global_named units name ≡ Some d → is_instance_sort d.sort ≡ false)
         → AllInRange (source_in units) (opening (source_in units)) }
 {}

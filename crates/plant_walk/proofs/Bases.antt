@@ -5,7 +5,7 @@ use Rattle.std.proofs.lemmas.Bool.{cases_lt}
 use Rattle.std.proofs.lemmas.List.{length-append, length-map, length_push, get_or_append_left, get_or_push}
 use Rattle.plant_types.specs.Words.{folded}
 use Rattle.plant_logic.specs.declared.logic.Variable.{Variable}
-use Rattle.plant_logic.specs.Source.{PlainRoutine, Source}
+use Rattle.plant_logic.specs.Source.{PlainRoutine, Source, global_cells}
 use Rattle.plant_logic.specs.Layout.{values_rule, routine_values, global_values, program_values, cell_paths, clocks_rule, routine_clocks}
 use Rattle.plant_logic.specs.Paths.{paths_rule, type_paths}
 use Rattle.plant_logic.specs.Seats.{program_values_before, program_clocks_before, program_values_base, program_clocks_base}
@@ -73,7 +73,7 @@ values_first blocks [] = refl
 values_first blocks (p ∷ ps) = refl
 
 -- the first program's values begin behind the globals
-pub values_begin : (source : Source) → program_values_base source 0 ≡ length source.globals
+pub values_begin : (source : Source) → program_values_base source 0 ≡ global_cells source
 values_begin source = let e = values_first source.blocks source.programs in omega (arith, e)
 
 clocks_first : (blocks ps : List PlainRoutine) → program_clocks_before blocks ps 0 ≡ 0

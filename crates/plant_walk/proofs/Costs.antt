@@ -16,7 +16,7 @@ use Rattle.block_order.specs.Chains.{Among}
 use Rattle.plant_logic.specs.declared.logic.Instance.{Instance}
 use Rattle.plant_logic.specs.declared.logic.BlockRef.{BlockRef}
 use Rattle.plant_logic.specs.declared.logic.BlockRef.TheVariants.{Ton, Tof, RTrig, Declared}
-use Rattle.plant_logic.specs.Source.{PlainRoutine, Source}
+use Rattle.plant_logic.specs.Source.{PlainRoutine, Source, own_cells}
 use Rattle.plant_logic.specs.Blocks.{AreBelow, HasItsTypes, DeclaresThere}
 use Rattle.plant_logic.specs.Seats.{value_count, clock_count}
 use Rattle.plant_logic.proofs.Agreeing.{among_at}
@@ -101,17 +101,17 @@ module _ (blocks : List PlainRoutine) (order : List ℕ) (r : PlainRoutine) (inn
       subst (λ o. seat_cost inner o ≤ instance_weight outer i.of) (sym of_is) (seat_less i.of less)
   seats_less (j ∷ is) (seat ∷ seats) v c (suc k) i are at less = seats_less is seats (v + value_count blocks j.of) (c + clock_count blocks j.of) k i are.1 at less
 
-  called_by : (seats : List Seat) (name : List ℕ) (o : Option ℕ) → AreSeats blocks r order (length r.locals) 0 r.instances seats → ((i : Instance) (m : ℕ) → Among r.instances i → i.of ≡ Declared m → inner (place_in order m) ≤ outer m)
+  called_by : (seats : List Seat) (name : List ℕ) (o : Option ℕ) → AreSeats blocks r order (own_cells r) 0 r.instances seats → ((i : Instance) (m : ℕ) → Among r.instances i → i.of ≡ Declared m → inner (place_in order m) ≤ outer m)
       → instance_number r name ≡ o → is_some o ≡ true → called_cost inner seats (unwrap_or o 0) ≤ called_weight outer r name
   called_by seats name None are less number there = absurd (cc)
   called_by seats name (Some k) are less number there =
       let it = instance_of_number r name k number in
       let i = it.0 in
-      let own = seats_less r.instances seats (length r.locals) 0 k i are it.1 (λ m of_is. less i m (among_at r.instances k i it.1) of_is) in
+      let own = seats_less r.instances seats (own_cells r) 0 k i are it.1 (λ m of_is. less i m (among_at r.instances k i it.1) of_is) in
       let named : called_weight outer r name ≡ instance_weight outer i.of = ap (λ o. option_map_or (instance_weight outer) (option_map (λ (x : Instance). x.of) o) 0) it.2 in
       omega (arith, own, named)
 
-  pub called_less : (seats : List Seat) (name : List ℕ) → AreSeats blocks r order (length r.locals) 0 r.instances seats → ((i : Instance) (m : ℕ) → Among r.instances i → i.of ≡ Declared m → inner (place_in order m) ≤ outer m)
+  pub called_less : (seats : List Seat) (name : List ℕ) → AreSeats blocks r order (own_cells r) 0 r.instances seats → ((i : Instance) (m : ℕ) → Among r.instances i → i.of ≡ Declared m → inner (place_in order m) ≤ outer m)
       → is_some (instance_number r name) ≡ true → called_cost inner seats (unwrap_or (instance_number r name) 0) ≤ called_weight outer r name
   called_less seats name are less there = called_by seats name (instance_number r name) are less refl there
 

@@ -13,7 +13,7 @@ use Rattle.plant_logic.specs.declared.logic.Instance.{Instance}
 use Rattle.plant_logic.specs.declared.logic.Routine.{Routine}
 use Rattle.plant_logic.specs.declared.logic.BlockRef.{BlockRef}
 use Rattle.plant_logic.specs.declared.logic.BlockRef.TheVariants.{Ton, Tof, RTrig, Declared}
-use Rattle.plant_logic.specs.Source.{PlainRoutine, view_routine}
+use Rattle.plant_logic.specs.Source.{PlainRoutine, view_routine, own_cells}
 use Rattle.plant_logic.specs.Blocks.{Declares, AreBelow}
 use Rattle.plant_logic.specs.Worlds.{Path}
 use Rattle.plant_logic.specs.Layout.{own_values, block_values, instance_values, values_rule, routine_values, cells_per_type}
@@ -57,10 +57,10 @@ module _ (blocks : List PlainRoutine) where
   -- the count of a routine's values, by right counts of the block types that it declares
   pub routine_counted : (counts : ℕ → ℕ) (r : PlainRoutine) (path : Path) → ((n : ℕ) → Declares r n → Right counts n) → stopped (value_count counts r) ≡ stopped (length (values_rule (routine_values blocks) r path))
   routine_counted counts r path right =
-      let own = own_count r.locals path in
+      let own = own_count r path in
       let rest = instances_counted counts r.instances path (λ i there n is. right n (i, there, is)) in
       let many = length-append (own_values r.locals path) (instance_values (routine_values blocks) r.instances path) in
-      sums (length r.locals) (length (own_values r.locals path)) (sum_by (λ (i : Instance). instance_count counts i.of) r.instances) (length (instance_values (routine_values blocks) r.instances path)) (ap stopped (sym own)) rest ∙ ap stopped (sym many)
+      sums (own_cells r) (length (own_values r.locals path)) (sum_by (λ (i : Instance). instance_count counts i.of) r.instances) (length (instance_values (routine_values blocks) r.instances path)) (ap stopped (sym own)) rest ∙ ap stopped (sym many)
 
   -- what is among a list with one more
   among_last : (xs : List ℕ) (x n : ℕ) → Among (xs ++ x ∷ []) n → Among xs n ⊎ (x ≡ n)

@@ -8,7 +8,7 @@ use Rattle.plant_types.specs.Words.{folded}
 use Rattle.plant_logic.specs.declared.logic.Instance.{Instance}
 use Rattle.plant_logic.specs.declared.logic.BlockRef.{BlockRef}
 use Rattle.plant_logic.specs.declared.logic.BlockRef.TheVariants.{Ton, Tof, RTrig, Declared}
-use Rattle.plant_logic.specs.Source.{PlainRoutine, Source}
+use Rattle.plant_logic.specs.Source.{PlainRoutine, Source, global_cells}
 use Rattle.plant_logic.specs.Blocks.{levels}
 use Rattle.plant_logic.specs.Worlds.{Path}
 use Rattle.plant_logic.specs.Layout.{ClockAt, block_values, instance_values, own_values, values_rule, routine_values, block_clocks, instance_clocks, clocks_rule, routine_clocks, program_clocks, cell_paths, all_clocks}
@@ -38,7 +38,7 @@ module _ (f : ℕ → Path → List Path) (g : ℕ → ℕ) (less : (n : ℕ) (p
 
   values_few : (r : PlainRoutine) (path : Path) → length (values_rule f r path) ≤ routine_slots g r
   values_few r path =
-      let own = own_count r.locals path in
+      let own = own_count r path in
       let rest = instance_values_few r.instances path in
       let many = length-append (own_values r.locals path) (instance_values f r.instances path) in
       omega (arith, own, rest, many)
@@ -111,13 +111,13 @@ module _ (blocks : List PlainRoutine) where
 -- where the values of a program begin, and behind the last one
 pub bases_few : (source : Source) → KeepsSlots source → (k : ℕ) → program_values_base source k ≤ 65536
 bases_few source keeps k =
-    let slots : length source.globals + sum_by (routine_slots (type_slots source.blocks)) source.programs ≤ 65536 = keeps in
+    let slots : global_cells source + sum_by (routine_slots (type_slots source.blocks)) source.programs ≤ 65536 = keeps in
     let before = values_before source.blocks source.programs k in
     omega (arith, slots, before)
 
 pub cells_few : (source : Source) → KeepsSlots source → (length (cell_paths source) ≤ 65536) × (length (all_clocks source) ≤ 65536)
 cells_few source keeps =
-    let slots : length source.globals + sum_by (routine_slots (type_slots source.blocks)) source.programs ≤ 65536 = keeps in
+    let slots : global_cells source + sum_by (routine_slots (type_slots source.blocks)) source.programs ≤ 65536 = keeps in
     let values = bases_few source keeps (length source.programs) in
     let end = values_end source in
     let clocks = clocks_of source.blocks source.programs in

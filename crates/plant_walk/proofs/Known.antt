@@ -3,11 +3,10 @@ use Rattle.std.proofs.Common.{◌≡◌, ℕ, ◌+◌, Bool, true, List, [], ◌
 use Rattle.std.specs.Prelude.{◌&&◌, option_map}
 use Rattle.std.specs.List.{list_all}
 use Rattle.std.proofs.lemmas.Bool.{and_parts}
-use Rattle.plant_types.specs.declared.values.Kind.{Kind}
 use Rattle.st_tree.specs.Plain.{PlainExpr, literal, read, output_of, unary, binary, PlainArgument, input, output}
 use Rattle.st_tree.specs.Plain.{PlainStmt, empty, assign, call, if_else, case_of, for_to, PlainBody, done, next, Branches, no_branch, branch, Choices, no_choice, choice}
 use Rattle.st_tree.specs.Numbers.{count_stmt, count_body, count_branches, count_choices, numbered_stmt, numbered, numbered_branches, numbered_choices}
-use Rattle.st_tree.specs.Kinds.{resolved_expr, resolved_argument, resolved_stmt, resolved_body, resolved_branches, resolved_choices, meant}
+use Rattle.st_tree.specs.Kinds.{KindsOf, resolved_expr, resolved_argument, resolved_stmt, resolved_body, resolved_branches, resolved_choices, meant}
 use Rattle.st_tree.specs.Mapping.{Mapping, mapped_expr, mapped_option, mapped_argument, mapped_stmt, mapped_body, mapped_branches, mapped_choices, Known, expr_known, option_known, argument_known, stmt_known, body_known, branches_known, choices_known}
 
 pub both : (a b : Bool) → a ≡ true → b ≡ true → (a && b) ≡ true
@@ -18,50 +17,50 @@ module _ {V W : Type 0} (m : Mapping V W) (from : Known V) (to : Known W) (node 
     (instance : (i : V) → from.has_instance i ≡ true → to.has_instance (m.instance i) ≡ true)
     (input_is : (i name : V) → from.has_input i name ≡ true → to.has_input (m.instance i) (m.input_name i name) ≡ true)
     (output_is : (i name : V) → from.has_output i name ≡ true → to.has_output (m.instance i) (m.output_name i name) ≡ true)
-    (variable_kind : V → Kind) (output_kind : V → V → Kind) where
-  expr_goes : (e : PlainExpr V) → expr_known from e ≡ true → expr_known to (mapped_expr m (resolved_expr variable_kind output_kind e)) ≡ true
+    (kinds : KindsOf V) where
+  expr_goes : (e : PlainExpr V) → expr_known from e ≡ true → expr_known to (mapped_expr m (resolved_expr kinds e)) ≡ true
   expr_goes (literal n) h = refl
   expr_goes (read v) h = variable v h
   expr_goes (output_of i name) h = output_is i name h
   expr_goes (unary op a) h = node _ (expr_goes a h)
   expr_goes (binary op a b) h =
       let p = and_parts (expr_known from a) (expr_known from b) h in
-      node _ (both (expr_known to (mapped_expr m (resolved_expr variable_kind output_kind a))) (expr_known to (mapped_expr m (resolved_expr variable_kind output_kind b))) (expr_goes a p.0) (expr_goes b p.1))
+      node _ (both (expr_known to (mapped_expr m (resolved_expr kinds a))) (expr_known to (mapped_expr m (resolved_expr kinds b))) (expr_goes a p.0) (expr_goes b p.1))
 
-  option_goes : (e : Option (PlainExpr V)) → option_known from e ≡ true → option_known to (mapped_option m (option_map (resolved_expr variable_kind output_kind) e)) ≡ true
+  option_goes : (e : Option (PlainExpr V)) → option_known from e ≡ true → option_known to (mapped_option m (option_map (resolved_expr kinds) e)) ≡ true
   option_goes None h = refl
   option_goes (Some e) h = expr_goes e h
 
-  argument_goes : (i : V) (a : PlainArgument V) → argument_known from i a ≡ true → argument_known to (m.instance i) (mapped_argument m i (resolved_argument variable_kind output_kind a)) ≡ true
+  argument_goes : (i : V) (a : PlainArgument V) → argument_known from i a ≡ true → argument_known to (m.instance i) (mapped_argument m i (resolved_argument kinds a)) ≡ true
   argument_goes i (input name e) h =
       let p = and_parts (from.has_input i name) (expr_known from e) h in
-      both (to.has_input (m.instance i) (m.input_name i name)) (expr_known to (mapped_expr m (resolved_expr variable_kind output_kind e))) (input_is i name p.0) (expr_goes e p.1)
+      both (to.has_input (m.instance i) (m.input_name i name)) (expr_known to (mapped_expr m (resolved_expr kinds e))) (input_is i name p.0) (expr_goes e p.1)
   argument_goes i (output name v) h =
       let p = and_parts (from.has_output i name) (from.has_variable v) h in
       both (to.has_output (m.instance i) (m.output_name i name)) (to.has_variable (m.variable v)) (output_is i name p.0) (variable v p.1)
 
   arguments_go : (i : V) (arguments : List (PlainArgument V)) → list_all (argument_known from i) arguments ≡ true
-      → list_all (argument_known to (m.instance i)) (map (mapped_argument m i) (map (resolved_argument variable_kind output_kind) arguments)) ≡ true
+      → list_all (argument_known to (m.instance i)) (map (mapped_argument m i) (map (resolved_argument kinds) arguments)) ≡ true
   arguments_go i [] h = refl
   arguments_go i (a ∷ rest) h =
       let p = and_parts (argument_known from i a) (list_all (argument_known from i) rest) h in
-      both (argument_known to (m.instance i) (mapped_argument m i (resolved_argument variable_kind output_kind a))) (list_all (argument_known to (m.instance i)) (map (mapped_argument m i) (map (resolved_argument variable_kind output_kind) rest)))
+      both (argument_known to (m.instance i) (mapped_argument m i (resolved_argument kinds a))) (list_all (argument_known to (m.instance i)) (map (mapped_argument m i) (map (resolved_argument kinds) rest)))
       (argument_goes i a p.0) (arguments_go i rest p.1)
 
   abbrev stmt_is : ℕ → PlainStmt V → Bool
-  stmt_is n s = stmt_known to (mapped_stmt m (resolved_stmt variable_kind output_kind (numbered_stmt n s)))
+  stmt_is n s = stmt_known to (mapped_stmt m (resolved_stmt kinds (numbered_stmt n s)))
 
   abbrev body_is : ℕ → PlainBody V → Bool
-  body_is n body = body_known to (mapped_body m (resolved_body variable_kind output_kind (numbered n body)))
+  body_is n body = body_known to (mapped_body m (resolved_body kinds (numbered n body)))
 
   abbrev branches_is : ℕ → Branches V → Bool
-  branches_is n branches = branches_known to (mapped_branches m (resolved_branches variable_kind output_kind (numbered_branches n branches)))
+  branches_is n branches = branches_known to (mapped_branches m (resolved_branches kinds (numbered_branches n branches)))
 
   abbrev choices_is : ℕ → Choices V → Bool
-  choices_is n choices = choices_known to (mapped_choices m (resolved_choices variable_kind output_kind (numbered_choices n choices)))
+  choices_is n choices = choices_known to (mapped_choices m (resolved_choices kinds (numbered_choices n choices)))
 
   abbrev expr_is : PlainExpr V → Bool
-  expr_is e = expr_known to (mapped_expr m (resolved_expr variable_kind output_kind e))
+  expr_is e = expr_known to (mapped_expr m (resolved_expr kinds e))
 
   mutual
     stmt_goes : (n : ℕ) (s : PlainStmt V) → stmt_known from s ≡ true → stmt_is n s ≡ true
@@ -71,7 +70,7 @@ module _ {V W : Type 0} (m : Mapping V W) (from : Known V) (to : Known W) (node 
         both (to.has_variable (m.variable v)) (expr_is e) (variable v p.0) (expr_goes e p.1)
     stmt_goes n (call number i arguments) h =
         let p = and_parts (from.has_instance i) (list_all (argument_known from i) arguments) h in
-        both (to.has_instance (m.instance i)) (list_all (argument_known to (m.instance i)) (map (mapped_argument m i) (map (resolved_argument variable_kind output_kind) arguments))) (instance i p.0) (arguments_go i arguments p.1)
+        both (to.has_instance (m.instance i)) (list_all (argument_known to (m.instance i)) (map (mapped_argument m i) (map (resolved_argument kinds) arguments))) (instance i p.0) (arguments_go i arguments p.1)
     stmt_goes n (if_else number branches last) h =
         let p = and_parts (branches_known from branches) (body_known from last) h in
         both (branches_is (n + 1) branches) (body_is (n + 1 + count_branches branches) last) (branches_go (n + 1) branches p.0) (body_goes (n + 1 + count_branches branches) last p.1)
@@ -85,7 +84,7 @@ module _ {V W : Type 0} (m : Mapping V W) (from : Known V) (to : Known W) (node 
         let q = and_parts (expr_known from low) (expr_known from high && (option_known from by && body_known from body)) p.1 in
         let r = and_parts (expr_known from high) (option_known from by && body_known from body) q.1 in
         let s = and_parts (option_known from by) (body_known from body) r.1 in
-        let step = option_known to (mapped_option m (option_map (resolved_expr variable_kind output_kind) by)) in
+        let step = option_known to (mapped_option m (option_map (resolved_expr kinds) by)) in
         both (to.has_variable (m.variable v)) (expr_is low && (expr_is high && (step && body_is (n + 1) body))) (variable v p.0)
         (both (expr_is low) (expr_is high && (step && body_is (n + 1) body)) (expr_goes low q.0)
         (both (expr_is high) (step && body_is (n + 1) body) (expr_goes high r.0) (both step (body_is (n + 1) body) (option_goes by s.0) (body_goes (n + 1) body s.1))))
@@ -111,5 +110,5 @@ module _ {V W : Type 0} (m : Mapping V W) (from : Known V) (to : Known W) (node 
         both (body_is n body) (choices_is (n + count_body body) rest) (body_goes n body p.0) (choices_go (n + count_body body) rest p.1)
 
   -- of all names of a body
-  pub meant_goes : (body : PlainBody V) → body_known from body ≡ true → body_known to (mapped_body m (meant variable_kind output_kind body)) ≡ true
+  pub meant_goes : (body : PlainBody V) → body_known from body ≡ true → body_known to (mapped_body m (meant kinds body)) ≡ true
   meant_goes body h = body_goes 1 body h

@@ -9,7 +9,7 @@ use Rattle.plant_types.specs.Words.{folded}
 use Rattle.plant_logic.specs.declared.logic.Variable.{Variable}
 use Rattle.plant_logic.specs.declared.logic.BlockRef.{BlockRef}
 use Rattle.plant_logic.specs.declared.logic.BlockRef.TheVariants.{Declared}
-use Rattle.plant_logic.specs.Source.{PlainRoutine, Source}
+use Rattle.plant_logic.specs.Source.{PlainRoutine, Source, global_cells}
 use Rattle.plant_logic.specs.Names.{global_words}
 use Rattle.plant_logic.specs.Blocks.{AreBelow, HasItsTypes}
 use Rattle.plant_logic.specs.Worlds.{Path}
@@ -83,7 +83,7 @@ stands_within all base xs s stands h =
     let within = slice_get_within all (base + (s - base)) it.0 (stands (s - base) it.0 it.1) in
     omega (arith, within, h.0)
 
-globals_within : (source : Source) (j : ℕ) → j < length source.globals → j < length (cell_paths source)
+globals_within : (source : Source) (j : ℕ) → j < global_cells source → j < length (cell_paths source)
 globals_within source j less =
     let words = length-map source.globals (λ (global : Variable). folded global.name) in
     let values = length-map (global_words source.globals) (λ word. word ∷ []) in
@@ -99,7 +99,7 @@ module _ (source : Source) (order : List ℕ) (below : AreBelow source.blocks or
   own_clocks = clocks_rule (routine_clocks source.blocks) p (folded p.name ∷ [])
 
   abbrev has_value : ℕ → Bool
-  has_value = has_own (length source.globals) (program_values_base source n) (program_values_base source (n + 1))
+  has_value = has_own (global_cells source) (program_values_base source n) (program_values_base source (n + 1))
 
   abbrev has_clock : ℕ → Bool
   has_clock = has_own 0 (program_clocks_base source n) (program_clocks_base source (n + 1))
@@ -113,24 +113,24 @@ module _ (source : Source) (order : List ℕ) (below : AreBelow source.blocks or
   value_there : (k : ℕ) (word : List ℕ) (q : Path) → slice_get (behind [] (program_values_base source n) own_values) k ≡ Some (word ∷ q) → has_value k ≡ true
   value_there k word q here =
       let within = behind_at [] (program_values_base source n) own_values k (word ∷ q) (no_word word q) here in
-      own_has (length source.globals) (program_values_base source n) (program_values_base source (n + 1)) k (within.0, omega (arith, within.1, many_values))
+      own_has (global_cells source) (program_values_base source n) (program_values_base source (n + 1)) k (within.0, omega (arith, within.1, many_values))
 
   clock_there : (k : ℕ) (b : BlockRef) (q : Path) → is_of_standard b ≡ true → slice_get (behind no_clock (program_clocks_base source n) own_clocks) k ≡ Some (record { of = b; path = q }) → has_clock k ≡ true
   clock_there k b q standard here =
       let within = behind_at no_clock (program_clocks_base source n) own_clocks k (record { of = b; path = q }) (not_standard b q standard) here in
       own_has 0 (program_clocks_base source n) (program_clocks_base source (n + 1)) k (within.0, omega (arith, within.1, many_clocks))
 
-  global_there : (j : ℕ) → j < length source.globals → has_value j ≡ true
-  global_there j less = or_left (nat_lt j (length source.globals)) (nat_lt (program_values_base source n) (suc j) && nat_lt j (program_values_base source (n + 1))) (lt-ltb j (length source.globals) less)
+  global_there : (j : ℕ) → j < global_cells source → has_value j ≡ true
+  global_there j less = or_left (nat_lt j (global_cells source)) (nat_lt (program_values_base source n) (suc j) && nat_lt j (program_values_base source (n + 1))) (lt-ltb j (global_cells source) less)
 
   -- what the program's frame names is there, where the globals are, and its own values and clocks
-  own_there : IsThere has_value has_clock (length source.globals) frames (length order + n) (program_base source n)
+  own_there : IsThere has_value has_clock (global_cells source) frames (length order + n) (program_base source n)
   own_there =
       program_there source order below (behind [] (program_values_base source n) own_values) (behind no_clock (program_clocks_base source n) own_clocks) has_value has_clock value_there clock_there global_there
       frames are types names n p at (folded p.name ∷ []) (program_base source n) (behind_stands [] (program_values_base source n) own_values) (behind_stands no_clock (program_clocks_base source n) own_clocks)
 
   -- where the source keeps the limit on slots, all that it names are numbers of 32 bits
-  pub names_fit : KeepsSlots source → NamesFit (length source.globals) frames (length order + n) (program_base source n)
+  pub names_fit : KeepsSlots source → NamesFit (global_cells source) frames (length order + n) (program_base source n)
   names_fit keeps =
       let few = cells_few source keeps in
       let value_fits : (k : ℕ) (word : List ℕ) (q : Path) → slice_get (behind [] (program_values_base source n) own_values) k ≡ Some (word ∷ q) → fits k ≡ true =
@@ -144,18 +144,18 @@ module _ (source : Source) (order : List ℕ) (below : AreBelow source.blocks or
       (behind_at no_clock (program_clocks_base source n) own_clocks k (record { of = b; path = q }) (not_standard b q standard) here) in
       lt-ltb k 4294967296 (omega (arith, within, few.1))
       in
-      let global_fits : (j : ℕ) → j < length source.globals → fits j ≡ true = λ j less. let within = globals_within source j less in lt-ltb j 4294967296 (omega (arith, within, few.0)) in
+      let global_fits : (j : ℕ) → j < global_cells source → fits j ≡ true = λ j less. let within = globals_within source j less in lt-ltb j 4294967296 (omega (arith, within, few.0)) in
       program_there source order below (behind [] (program_values_base source n) own_values) (behind no_clock (program_clocks_base source n) own_clocks) fits fits value_fits clock_fits global_fits
       frames are types names n p at (folded p.name ∷ []) (program_base source n) (behind_stands [] (program_values_base source n) own_values) (behind_stands no_clock (program_clocks_base source n) own_clocks)
 
-  module _ (cost : ℕ) (code : PlainCode) (is : IsCodeOf frames (length source.globals) (length order + n) (program_base source n) cost code) where
+  module _ (cost : ℕ) (code : PlainCode) (is : IsCodeOf frames (global_cells source) (length order + n) (program_base source n) cost code) where
     names_only : NamesOnly has_value has_clock code
     names_only = is.within has_value has_clock own_there
 
     -- beside the globals the program's code names only what is the program's own
     pub names_own : NamesOwn source n code.instrs
     names_own = record {
-      values = λ s named above. elim (has_parts (length source.globals) (program_values_base source n) (program_values_base source (n + 1)) s (names_only.values s named)) [
+      values = λ s named above. elim (has_parts (global_cells source) (program_values_base source n) (program_values_base source (n + 1)) s (names_only.values s named)) [
         | inl low ↦ absurd (omega (arith, low, above))
         | inr own ↦ own
       ];
@@ -168,7 +168,7 @@ module _ (source : Source) (order : List ℕ) (below : AreBelow source.blocks or
     -- cells of the source have what it names
     pub code_within : (code.values ≤ length (cell_paths source)) × (code.clocks ≤ length (all_clocks source))
     code_within = (
-      names_only.values_end (length (cell_paths source)) (λ s has. elim (has_parts (length source.globals) (program_values_base source n) (program_values_base source (n + 1)) s has) [
+      names_only.values_end (length (cell_paths source)) (λ s has. elim (has_parts (global_cells source) (program_values_base source n) (program_values_base source (n + 1)) s has) [
         | inl low ↦ globals_within source s low
         | inr own ↦ stands_within (cell_paths source) (program_values_base source n) own_values s (program_stands source n p at) (own.0, omega (arith, own.1, many_values))
       ]),
@@ -181,25 +181,25 @@ module _ (source : Source) (order : List ℕ) (below : AreBelow source.blocks or
 -- by the rows of where programs begin, cells of the source have what a program's code names
 pub code_there : (source : Source) (order : List ℕ) → AreBelow source.blocks order → (frames : List Frame) → IsFrames source order frames → HasItsTypes source → HasAllNames source
     → (values stood : List ℕ) → AreBases (program_values_base source) (length source.programs) values → AreBases (program_clocks_base source) (length source.programs) stood
-    → (n : ℕ) → n < length source.programs → (cost : ℕ) (code : PlainCode) → IsCodeOf frames (length source.globals) (length order + n) (base_in values stood n) cost code
+    → (n : ℕ) → n < length source.programs → (cost : ℕ) (code : PlainCode) → IsCodeOf frames (global_cells source) (length order + n) (base_in values stood n) cost code
     → (code.values ≤ length (cell_paths source)) × (code.clocks ≤ length (all_clocks source))
 code_there source order below frames are types names values stood values_begin clocks_begin n less cost code is =
     let p = element source.programs n less in
     let values_are = values_begin.each n (omega (arith, less)) in
     let clocks_are = clocks_begin.each n (omega (arith, less)) in
     code_within source order below frames are types names n p.0 p.1 cost code
-    (subst (λ (base : Base). IsCodeOf frames (length source.globals) (length order + n) base cost code) (λ i. record { values = values_are i; clocks = clocks_are i }) is)
+    (subst (λ (base : Base). IsCodeOf frames (global_cells source) (length order + n) base cost code) (λ i. record { values = values_are i; clocks = clocks_are i }) is)
 
 -- by the rows, all that programs name are numbers of 32 bits
 pub all_names_fit : (source : Source) (order : List ℕ) → AreBelow source.blocks order → (frames : List Frame) → IsFrames source order frames → HasItsTypes source → HasAllNames source → KeepsSlots source
     → (values stood costs : List ℕ) → AreBases (program_values_base source) (length source.programs) values → AreBases (program_clocks_base source) (length source.programs) stood → length costs ≡ length source.programs
-    → AllNamesFit frames (length source.globals) (length order) values stood costs
+    → AllNamesFit frames (global_cells source) (length order) values stood costs
 all_names_fit source order below frames are types names keeps values stood costs values_begin clocks_begin many n less =
     let p = element source.programs n (omega (arith, less, many)) in
     let values_are = values_begin.each n (omega (arith, less, many)) in
     let clocks_are = clocks_begin.each n (omega (arith, less, many)) in
     let base_is : program_base source n ≡ base_in values stood n = λ i. record { values = sym values_are i; clocks = sym clocks_are i } in
-    subst (NamesFit (length source.globals) frames (length order + n)) base_is (names_fit source order below frames are types names n p.0 p.1 keeps)
+    subst (NamesFit (global_cells source) frames (length order + n)) base_is (names_fit source order below frames are types names n p.0 p.1 keeps)
 
 -- programs lie one behind another
 values_rise : (blocks ps : List PlainRoutine) (j k : ℕ) → j ≤ k → program_values_before blocks ps j ≤ program_values_before blocks ps k
@@ -234,7 +234,7 @@ one_clock_owner : (source : Source) (p q k : ℕ) → IsOwnClock source p k → 
 one_clock_owner source p q k one other = one_stretch (program_clocks_base source) (λ i j h. clocks_rise source.blocks source.programs i j h) p q k one other
 
 -- no two programs name the same value beside the globals, and no two the same clock
-pub no_shared_value : (source : Source) (p q s : ℕ) (a b : PlainCode) → IsProgramCode source p a → IsProgramCode source q b → length source.globals ≤ s → Names a.instrs s → Names b.instrs s → p ≡ q
+pub no_shared_value : (source : Source) (p q s : ℕ) (a b : PlainCode) → IsProgramCode source p a → IsProgramCode source q b → global_cells source ≤ s → Names a.instrs s → Names b.instrs s → p ≡ q
 no_shared_value source p q s a b one other above named also = one_owner source p q s (one.own.values s named above) (other.own.values s also above)
 
 pub no_shared_clock : (source : Source) (p q k : ℕ) (a b : PlainCode) → IsProgramCode source p a → IsProgramCode source q b → NamesClock a.instrs k → NamesClock b.instrs k → p ≡ q

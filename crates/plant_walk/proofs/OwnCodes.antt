@@ -1,7 +1,7 @@
 -- Code that is made of a program's frame is the program's.
 use Rattle.std.proofs.Common.{◌≡◌, ◌∙◌, ap, sym, subst, refl, ℕ, ◌+◌, List, [], ◌∷◌, ◌++◌, map, length, Some, slice_get}
 use Rattle.st_tree.specs.Alike as alike
-use Rattle.plant_logic.specs.Source.{PlainRoutine, Source}
+use Rattle.plant_logic.specs.Source.{PlainRoutine, Source, global_cells}
 use Rattle.plant_logic.specs.Worlds.{World, run_program}
 use Rattle.plant_logic.specs.Paths.{paths_rule, type_paths}
 use Rattle.plant_cells.specs.Cells.{PlainCells}
@@ -20,7 +20,7 @@ use Rattle.plant_walk.proofs.Placed.{agrees}
 use Rattle.plant_walk.proofs.Spots.{many_below}
 
 module _ (source : Source) (order : List ℕ) (frames : List Frame) (n : ℕ) (p : PlainRoutine) (at : slice_get source.programs n ≡ Some p) (have_paths : frame_paths frames (length frames) (length order + n) ≡ paths_rule (type_paths source.blocks) p)
-    (cost : ℕ) (code : PlainCode) (is : IsCodeOf frames (length source.globals) (length order + n) (program_base source n) cost code) where
+    (cost : ℕ) (code : PlainCode) (is : IsCodeOf frames (global_cells source) (length order + n) (program_base source n) cost code) where
   -- it has as many paths as the program
   pub as_many_paths : code.paths ≡ length (paths_in source n)
   as_many_paths = is.paths ∙ ap (λ (l : List Path). length l) have_paths ∙ sym (many_below source.blocks p) ∙ ap (λ found. length (paths_below source.blocks found)) (sym at)
@@ -30,13 +30,13 @@ module _ (source : Source) (order : List ℕ) (frames : List Frame) (n : ℕ) (p
 
   abbrev FrameAgrees : ℕ → PlainCells → World → Type 0
   FrameAgrees t cells w =
-      alike.Agree (λ w c. StandFor source c w) (run_program source n t w) (run_frame t (length source.globals) frames (length frames) (length order + n) (program_base source n) (p.name ∷ []) cells)
+      alike.Agree (λ w c. StandFor source c w) (run_program source n t w) (run_frame t (global_cells source) frames (length frames) (length order + n) (program_base source n) (p.name ∷ []) cells)
 
   -- from cells where the frame agrees with the program it ends as the program does
   pub ends_as_program : (t : ℕ) (cells : PlainCells) (w : World) → FrameAgrees t cells w → EndsAsProgram source n t code cells w
   ends_as_program t cells w agree =
       let run = is.runs t (p.name ∷ []) cells in
-      let result = run_frame t (length source.globals) frames (length frames) (length order + n) (program_base source n) (p.name ∷ []) cells in
+      let result = run_frame t (global_cells source) frames (length frames) (length order + n) (program_base source n) (p.name ∷ []) cells in
       record {
         result = result;
         left = run.0;

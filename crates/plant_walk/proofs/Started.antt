@@ -1,6 +1,6 @@
 -- The cells before the first scan, program by program.
 use Rattle.std.proofs.Common.{◌≡◌, ◌∙◌, ap, sym, ℕ, suc, ◌+◌, ◌-◌, ◌<◌, List, [], ◌∷◌, ◌++◌, length, arith}
-use Rattle.plant_logic.specs.Source.{Source}
+use Rattle.plant_logic.specs.Source.{Source, global_cells}
 use Rattle.plant_logic.specs.Seats.{program_values_base, program_clocks_base}
 use Rattle.plant_logic.specs.Layout.{cell_paths}
 use Rattle.plant_cells.specs.declared.clock.Standard.{Standard}
@@ -20,7 +20,7 @@ one_frame table table' frame none pushed = pushed ∙ ap (λ l. l ++ frame ∷ [
 
 module _ (source : Source) (order : List ℕ) (frames : List Frame) where
   -- one more program
-  pub started_more : (n i globals place values clocks : ℕ) (cells cells' last : PlainCells) → i < n → globals ≡ length source.globals → place ≡ length order + i → values ≡ program_values_base source i → clocks ≡ program_clocks_base source i
+  pub started_more : (n i globals place values clocks : ℕ) (cells cells' last : PlainCells) → i < n → globals ≡ global_cells source → place ≡ length order + i → values ≡ program_values_base source i → clocks ≡ program_clocks_base source i
       → cells' ≡ frame_begun globals frames (length frames) place (record { values = values; clocks = clocks }) cells → programs_started source order frames (n - i) i cells ≡ last → programs_started source order frames (n - (i + 1)) (i + 1) cells' ≡ last
   started_more n i globals place values clocks cells cells' last less globals_are place_is values_are clocks_are made before =
       let step : n - i ≡ suc (n - (i + 1)) = omega (arith, less) in
@@ -32,7 +32,7 @@ module _ (source : Source) (order : List ℕ) (frames : List Frame) where
   started_all n i cells last none before = ap (λ m. programs_started source order frames m i cells) (sym none) ∙ before
 
   -- the cells of FALSE and 0, the globals' initial values, and those of each program
-  pub opened : (first : Frame) (start : List Frame) (globals all : ℕ) (standards : List Standard) (zeros begun cells : PlainCells) → start ≡ first ∷ [] → globals ≡ length source.globals → all ≡ length (cell_paths source) → standards ≡ all_standards source
+  pub opened : (first : Frame) (start : List Frame) (globals all : ℕ) (standards : List Standard) (zeros begun cells : PlainCells) → start ≡ first ∷ [] → globals ≡ global_cells source → all ≡ length (cell_paths source) → standards ≡ all_standards source
       → zeros ≡ zero_cells all standards → begun ≡ frame_begun globals start (length start) 0 (record { values = 0; clocks = 0 }) zeros → cells ≡ programs_started source order frames (length source.programs) 0 begun → cells ≡ opening_cells source order first frames
   opened first start globals all standards zeros begun cells start_is globals_are all_are standards_are zeros_are begun_is cells_are =
       let zeros_of : zeros ≡ cells_of source = zeros_are ∙ (λ j. zero_cells (all_are j) (standards_are j)) in

@@ -15,26 +15,26 @@ use Rattle.st_tree.specs.Plain.{PlainExpr, literal, read, output_of, unary, bina
 use Rattle.st_tree.specs.Plain.{PlainStmt, empty, assign, call, if_else, case_of, for_to, PlainBody, done, next, Branches, no_branch, branch, Choices, no_choice, choice}
 use Rattle.st_tree.specs.View.{view_body}
 use Rattle.st_tree.specs.Operators.{Outcome, eval_unary, eval_binary}
-use Rattle.st_tree.specs.Meaning.{then_one, then_two}
+use Rattle.st_tree.specs.Meaning.{ValuesOf, then_one, then_two}
 use Rattle.st_tree.specs.Constants.{constant_of}
-use Rattle.st_tree.specs.Kinds.{unary_kind, binary_kind, unary_result, binary_result, kind_of_expr, kind_in, is_kind, resolved_unary, resolved_binary, resolved_expr, resolved_stmt, resolved_body, resolved_branches, resolved_choices}
+use Rattle.st_tree.specs.Kinds.{Sorts, KindsOf, AreSorts, unary_kind, binary_kind, unary_result, binary_result, kind_of_expr, kind_in, is_kind, resolved_unary, resolved_binary, resolved_expr, resolved_stmt, resolved_body, resolved_branches, resolved_choices}
 use Rattle.st_tree.specs.Numbers.{numbered_stmt, numbered, numbered_branches, numbered_choices, count_stmt, count_body, count_branches, count_choices}
 use Rattle.st_tree.specs.Mapping.{mapped_expr, mapped_option, mapped_stmt, mapped_body, mapped_branches, mapped_choices}
 use Rattle.st_tree.specs.Every.{every, every_inside, every_branch, every_choice}
-use Rattle.st_tree.specs.Fits.{Context, is_of, option_is_of, stmt_fits, all_fit, branches_fit, choices_fit}
+use Rattle.st_tree.specs.Fits.{Context, sorts_of, is_of, option_is_of, stmt_fits, all_fit, branches_fit, choices_fit}
 use Rattle.st_tree.proofs.ConstantLaws.{constant_of_is_value_of}
 use Rattle.st_tree.proofs.KindLaws.{kind_of_expr_is_kind_in}
 use Rattle.st_tree.proofs.RangeLaws.{InRange, value_in_range}
 use Rattle.st_parser.specs.Units.{PlainPou, PlainUnit}
 use Rattle.st_names.specs.DeclaredNames.{PlainDeclared, declared_in}
 use Rattle.st_names.specs.Scopes.{is_control}
-use Rattle.st_typing.specs.Constants.{has_value, is_step, no_kind, no_output_kind, meant_constant, constant_step, bounds_allowed, never_assigns, stmt_allowed}
+use Rattle.st_typing.specs.Constants.{has_value, is_step, no_kinds, meant_constant, constant_step, bounds_allowed, never_assigns, stmt_allowed}
 use Rattle.st_typing.specs.Faults.{AreTyped}
 use Rattle.st_typing.specs.Kinds.{context_of}
 use Rattle.plant_logic.specs.Source.{PlainRoutine, Source}
 use Rattle.plant_logic.specs.Pous.{block_names}
 use Rattle.plant_logic.specs.Units.{routine_of, source_in}
-use Rattle.plant_logic.specs.Names.{kind_named, output_kind_named, meant_in}
+use Rattle.plant_logic.specs.Names.{kinds_named, meant_in}
 use Rattle.plant_logic.specs.Blocks.{AreBelow}
 use Rattle.plant_logic.proofs.Agreeing.{among_at}
 use Rattle.plant_logic.proofs.Ranging.{IsTypedPou, IsTypedRoutine, block_typed, program_typed}
@@ -55,7 +55,7 @@ element (x ∷ xs) zero less = (x, refl)
 element (x ∷ xs) (suc n) less = element xs n (omega (arith, less))
 
 -- ---- a constant expression is resolved in one way
-module _ (k l : Name → Kind) (o p : Name → Name → Kind) where
+module _ (k l : KindsOf Name) where
   unary_alike : (op : Unary) (a b : Kind) (u v : Option Outcome) (x : Outcome) → ((y : Outcome) → u ≡ Some y → (v ≡ Some y) × (a ≡ b)) → option_map (λ y. then_one y (eval_unary (resolved_unary op a))) u ≡ Some x
       → (option_map (λ y. then_one y (eval_unary (resolved_unary op b))) v ≡ Some x) × (unary_result op a ≡ unary_result op b)
   unary_alike op a b None v x same is = absurd (cc)
@@ -73,13 +73,13 @@ module _ (k l : Name → Kind) (o p : Name → Name → Kind) where
       let right = other z refl in
       ((λ i. option_and_then (λ y. option_map (λ z. then_two y z (eval_binary (resolved_binary op (sym both.1 i)))) (right i)) (both.0 i)) ∙ is, ap (binary_result op) both.1)
 
-  pub constant_alike : (e : PlainExpr Name) (x : Outcome) → constant_of (resolved_expr k o e) ≡ Some x → (constant_of (resolved_expr l p e) ≡ Some x) × (kind_in k o e ≡ kind_in l p e)
+  pub constant_alike : (e : PlainExpr Name) (x : Outcome) → constant_of (resolved_expr k e) ≡ Some x → (constant_of (resolved_expr l e) ≡ Some x) × (kind_in k e ≡ kind_in l e)
   constant_alike (literal n) x is = (is, refl)
   constant_alike (read v) x is = absurd (cc)
   constant_alike (output_of instance name) x is = absurd (cc)
-  constant_alike (unary op a) x is = unary_alike op (kind_in k o a) (kind_in l p a) (constant_of (resolved_expr k o a)) (constant_of (resolved_expr l p a)) x (λ y e. constant_alike a y e) is
+  constant_alike (unary op a) x is = unary_alike op (kind_in k a) (kind_in l a) (constant_of (resolved_expr k a)) (constant_of (resolved_expr l a)) x (λ y e. constant_alike a y e) is
   constant_alike (binary op a b) x is =
-      binary_alike op (kind_in k o a) (kind_in l p a) (constant_of (resolved_expr k o a)) (constant_of (resolved_expr l p a)) (constant_of (resolved_expr k o b)) (constant_of (resolved_expr l p b)) x
+      binary_alike op (kind_in k a) (kind_in l a) (constant_of (resolved_expr k a)) (constant_of (resolved_expr l a)) (constant_of (resolved_expr k b)) (constant_of (resolved_expr l b)) x
       (λ y e. constant_alike a y e) (λ y e. (constant_alike b y e).0) is
 
 -- ---- numbers in the place of names change no constant
@@ -131,15 +131,19 @@ zero_in kind.Dint = refl
 zero_in kind.Time = refl
 
 -- ---- the value of a constant expression is in the range of its kind
-module _ (variable_kind : Name → Option Kind) (output_kind : Name → Name → Option Kind) where
-  abbrev variable_in : Name → Kind
-  variable_in v = unwrap_or (variable_kind v) kind.Bool
+module _ (sorts : Sorts Name) where
+  abbrev told : KindsOf Name
+  told = record { variable = λ v. unwrap_or (sorts.variable v) kind.Bool; output = λ instance name. unwrap_or (sorts.output instance name) kind.Bool }
 
-  abbrev output_in : Name → Name → Kind
-  output_in instance name = unwrap_or (output_kind instance name) kind.Bool
+  told_are : AreSorts sorts told
+  told_are = record { variable_is = λ v k is. ap (λ o. unwrap_or o kind.Bool) is; output_is = λ instance name k is. ap (λ o. unwrap_or o kind.Bool) is }
 
-  in_one : (e : PlainExpr Name) (k : Kind) → kind_of_expr variable_kind output_kind e ≡ Some k → kind_in variable_in output_in e ≡ k
-  in_one = kind_of_expr_is_kind_in variable_kind output_kind variable_in output_in (λ v k is. ap (λ o. unwrap_or o kind.Bool) is) (λ instance name k is. ap (λ o. unwrap_or o kind.Bool) is)
+  -- where each variable and each output holds 0
+  abbrev zeros : ValuesOf Name
+  zeros = record { variable = λ v. pos 0; output = λ instance name. pos 0 }
+
+  in_one : (e : PlainExpr Name) (k : Kind) → kind_of_expr sorts e ≡ Some k → kind_in told e ≡ k
+  in_one = kind_of_expr_is_kind_in sorts told told_are
 
   unary_kept : (op : Unary) (o p : Option Kind) (a r : Kind) → ((k : Kind) → o ≡ Some k → p ≡ Some k) → ((k : Kind) → o ≡ Some k → a ≡ k) → option_and_then (unary_kind op) o ≡ Some r → option_and_then (unary_kind (resolved_unary op a)) p ≡ Some r
   unary_kept op None p a r kept same is = absurd (cc)
@@ -152,20 +156,20 @@ module _ (variable_kind : Name → Option Kind) (output_kind : Name → Name →
   binary_kept op (Some k) p (Some l) t a r kept other same is =
       (λ i. option_and_then (λ m. option_and_then (binary_kind (resolved_binary op (same k refl i)) m) (other l refl i)) (kept k refl i)) ∙ binary_still op k l r is
 
-  kind_kept : (e : PlainExpr Name) (r : Kind) → kind_of_expr variable_kind output_kind e ≡ Some r → kind_of_expr variable_kind output_kind (resolved_expr variable_in output_in e) ≡ Some r
+  kind_kept : (e : PlainExpr Name) (r : Kind) → kind_of_expr sorts e ≡ Some r → kind_of_expr sorts (resolved_expr told e) ≡ Some r
   kind_kept (literal n) r is = is
   kind_kept (read v) r is = is
   kind_kept (output_of instance name) r is = is
   kind_kept (unary op a) r is =
-      unary_kept op (kind_of_expr variable_kind output_kind a) (kind_of_expr variable_kind output_kind (resolved_expr variable_in output_in a)) (kind_in variable_in output_in a) r (λ k e. kind_kept a k e) (λ k e. in_one a k e) is
+      unary_kept op (kind_of_expr sorts a) (kind_of_expr sorts (resolved_expr told a)) (kind_in told a) r (λ k e. kind_kept a k e) (λ k e. in_one a k e) is
   kind_kept (binary op a b) r is =
-      binary_kept op (kind_of_expr variable_kind output_kind a) (kind_of_expr variable_kind output_kind (resolved_expr variable_in output_in a)) (kind_of_expr variable_kind output_kind b)
-      (kind_of_expr variable_kind output_kind (resolved_expr variable_in output_in b)) (kind_in variable_in output_in a) r (λ k e. kind_kept a k e) (λ k e. kind_kept b k e) (λ k e. in_one a k e) is
+      binary_kept op (kind_of_expr sorts a) (kind_of_expr sorts (resolved_expr told a)) (kind_of_expr sorts b)
+      (kind_of_expr sorts (resolved_expr told b)) (kind_in told a) r (λ k e. kind_kept a k e) (λ k e. kind_kept b k e) (λ k e. in_one a k e) is
 
-  constant_in_range : (e : PlainExpr Name) (k : Kind) (n : ℤ) → kind_of_expr variable_kind output_kind e ≡ Some k → constant_of (resolved_expr variable_in output_in e) ≡ Some (Ok n) → InRange k n
+  constant_in_range : (e : PlainExpr Name) (k : Kind) (n : ℤ) → kind_of_expr sorts e ≡ Some k → constant_of (resolved_expr told e) ≡ Some (Ok n) → InRange k n
   constant_in_range e k n is gives =
-      value_in_range variable_kind output_kind (λ v. pos 0) (λ instance name. pos 0) (λ v k is. zero_in k) (λ instance name k is. zero_in k) (resolved_expr variable_in output_in e) k n (kind_kept e k is)
-      (constant_of_is_value_of (λ v. pos 0) (λ instance name. pos 0) (resolved_expr variable_in output_in e) (Ok n) gives)
+      value_in_range sorts zeros (record { variable_in = λ v k is. zero_in k; output_in = λ instance name k is. zero_in k }) (resolved_expr told e) k n (kind_kept e k is)
+      (constant_of_is_value_of zeros (resolved_expr told e) (Ok n) gives)
 
 -- ---- bounds and steps
 value_there : (o : Option Outcome) → has_value o ≡ true → (n : ℤ) × (o ≡ Some (Ok n))
@@ -186,42 +190,39 @@ dint_there (Some kind.Time) is = absurd (cc)
 
 -- the FORs of a block or program, when it is meant and has numbers for names
 module _ (source : Source) (r : PlainRoutine) (context : Context Name) (own : List PlainDeclared) where
-  abbrev variables : Name → Kind
-  variables = kind_named source.globals r
-
-  abbrev outputs : Name → Name → Kind
-  outputs = output_kind_named source.blocks r
+  abbrev kinds : KindsOf Name
+  kinds = kinds_named source r
 
   abbrev plain : PlainExpr Name → PlainExpr ℕ
-  plain e = mapped_expr (numbers source r) (resolved_expr variables outputs e)
+  plain e = mapped_expr (numbers source r) (resolved_expr kinds e)
 
   number_is : (e : PlainExpr Name) (n : ℤ) → meant_constant e ≡ Some (Ok n) → constant_number (plain e) ≡ Some n
-  number_is e n is = ap number_of (constant_mapped source r (resolved_expr variables outputs e) ∙ (constant_alike no_kind variables no_output_kind outputs e (Ok n) is).0)
+  number_is e n is = ap number_of (constant_mapped source r (resolved_expr kinds e) ∙ (constant_alike no_kinds kinds e (Ok n) is).0)
 
   bound_is : (e : PlainExpr Name) → is_of context kind.Dint e ≡ true → has_value (meant_constant e) ≡ true → (n : ℤ) × (constant_number (plain e) ≡ Some n) × (is_in_range kind.Dint n ≡ true)
   bound_is e fits has =
       let there = value_there (meant_constant e) has in
-      let dint = dint_there (kind_of_expr context.variable_kind context.output_kind e) fits in
-      let alike = constant_alike no_kind (variable_in context.variable_kind context.output_kind) no_output_kind (output_in context.variable_kind context.output_kind) e (Ok there.0) there.1 in
-      (there.0, number_is e there.0 there.1, constant_in_range context.variable_kind context.output_kind e kind.Dint there.0 dint alike.0)
+      let dint = dint_there (kind_of_expr (sorts_of context) e) fits in
+      let alike = constant_alike no_kinds (told (sorts_of context)) e (Ok there.0) there.1 in
+      (there.0, number_is e there.0 there.1, constant_in_range (sorts_of context) e kind.Dint there.0 dint alike.0)
 
-  step_is : (by : Option (PlainExpr Name)) → is_step (constant_step by) ≡ true → (n : ℤ) × (step_number (mapped_option (numbers source r) (option_map (resolved_expr variables outputs) by)) ≡ Some n)
+  step_is : (by : Option (PlainExpr Name)) → is_step (constant_step by) ≡ true → (n : ℤ) × (step_number (mapped_option (numbers source r) (option_map (resolved_expr kinds) by)) ≡ Some n)
   step_is None has = (pos 1, refl)
   step_is (Some e) has = let there = step_there (meant_constant e) has in (there.0, number_is e there.0 there.1)
 
   loop_steady : (from to : PlainExpr Name) (by : Option (PlainExpr Name)) → bounds_allowed from to by ≡ true → is_of context kind.Dint from ≡ true → is_of context kind.Dint to ≡ true
-      → IsSteady (constant_span (plain from) (plain to) (mapped_option (numbers source r) (option_map (resolved_expr variables outputs) by)))
+      → IsSteady (constant_span (plain from) (plain to) (mapped_option (numbers source r) (option_map (resolved_expr kinds) by)))
   loop_steady from to by allowed from_fits to_fits =
       let p = and_parts (has_value (meant_constant from)) (has_value (meant_constant to) && is_step (constant_step by)) allowed in
       let q = and_parts (has_value (meant_constant to)) (is_step (constant_step by)) p.1 in
       let f = bound_is from from_fits p.0 in
       let t = bound_is to to_fits q.0 in
       let s = step_is by q.1 in
-      let span : constant_span (plain from) (plain to) (mapped_option (numbers source r) (option_map (resolved_expr variables outputs) by)) ≡ span_from (Some f.0) (Some t.0) (Some s.0) = λ i. span_from (f.1 i) (t.1 i) (s.1 i) in
+      let span : constant_span (plain from) (plain to) (mapped_option (numbers source r) (option_map (resolved_expr kinds) by)) ≡ span_from (Some f.0) (Some t.0) (Some s.0) = λ i. span_from (f.1 i) (t.1 i) (s.1 i) in
       subst IsSteady (sym span) (f.2, t.2)
 
   mutual
-    stmt_steady : (n : ℕ) (s : PlainStmt Name) → stmt_allowed own s ≡ true → every_inside (stmt_allowed own) s ≡ true → stmt_fits context s ≡ true → SteadyStmt (mapped_stmt (numbers source r) (resolved_stmt variables outputs (numbered_stmt n s)))
+    stmt_steady : (n : ℕ) (s : PlainStmt Name) → stmt_allowed own s ≡ true → every_inside (stmt_allowed own) s ≡ true → stmt_fits context s ≡ true → SteadyStmt (mapped_stmt (numbers source r) (resolved_stmt kinds (numbered_stmt n s)))
     stmt_steady n (empty number) allowed inside fits = tt
     stmt_steady n (assign number v e) allowed inside fits = tt
     stmt_steady n (call number instance arguments) allowed inside fits = tt
@@ -242,7 +243,7 @@ module _ (source : Source) (r : PlainRoutine) (context : Context Name) (own : Li
         let u = and_parts (option_is_of context kind.Dint by) (all_fit context body) q.1 in
         (loop_steady from to by b.0 p.0 q.0, body_steady (n + 1) body inside u.1)
 
-    body_steady : (n : ℕ) (body : PlainBody Name) → every (stmt_allowed own) body ≡ true → all_fit context body ≡ true → SteadyBody (mapped_body (numbers source r) (resolved_body variables outputs (numbered n body)))
+    body_steady : (n : ℕ) (body : PlainBody Name) → every (stmt_allowed own) body ≡ true → all_fit context body ≡ true → SteadyBody (mapped_body (numbers source r) (resolved_body kinds (numbered n body)))
     body_steady n done allowed fits = tt
     body_steady n (next s rest) allowed fits =
         let p = and_parts (stmt_allowed own s) (every_inside (stmt_allowed own) s && every (stmt_allowed own) rest) allowed in
@@ -250,7 +251,7 @@ module _ (source : Source) (r : PlainRoutine) (context : Context Name) (own : Li
         let f = and_parts (stmt_fits context s) (all_fit context rest) fits in
         (stmt_steady n s p.0 q.0 f.0, body_steady (n + count_stmt s) rest q.1 f.1)
 
-    branches_steady : (n : ℕ) (branches : Branches Name) → every_branch (stmt_allowed own) branches ≡ true → branches_fit context branches ≡ true → SteadyBranches (mapped_branches (numbers source r) (resolved_branches variables outputs (numbered_branches n branches)))
+    branches_steady : (n : ℕ) (branches : Branches Name) → every_branch (stmt_allowed own) branches ≡ true → branches_fit context branches ≡ true → SteadyBranches (mapped_branches (numbers source r) (resolved_branches kinds (numbered_branches n branches)))
     branches_steady n no_branch allowed fits = tt
     branches_steady n (branch e body rest) allowed fits =
         let p = and_parts (every (stmt_allowed own) body) (every_branch (stmt_allowed own) rest) allowed in
@@ -258,7 +259,7 @@ module _ (source : Source) (r : PlainRoutine) (context : Context Name) (own : Li
         let f = and_parts (all_fit context body) (branches_fit context rest) q.1 in
         (body_steady n body p.0 f.0, branches_steady (n + count_body body) rest p.1 f.1)
 
-    choices_steady : (n : ℕ) (choices : Choices Name) → every_choice (stmt_allowed own) choices ≡ true → choices_fit context choices ≡ true → SteadyChoices (mapped_choices (numbers source r) (resolved_choices variables outputs (numbered_choices n choices)))
+    choices_steady : (n : ℕ) (choices : Choices Name) → every_choice (stmt_allowed own) choices ≡ true → choices_fit context choices ≡ true → SteadyChoices (mapped_choices (numbers source r) (resolved_choices kinds (numbered_choices n choices)))
     choices_steady n no_choice allowed fits = tt
     choices_steady n (choice labels body rest) allowed fits =
         let p = and_parts (every (stmt_allowed own) body) (every_choice (stmt_allowed own) rest) allowed in

@@ -4,7 +4,7 @@ use Rattle.std.specs.Prelude.{slice_get, Result, IfErr}
 use Rattle.std.proofs.lemmas.Option.{slice_get-get_or}
 use Rattle.st_tree.specs.Meaning.{Ran}
 use Rattle.st_tree.specs.Alike as alike
-use Rattle.plant_logic.specs.Source.{PlainRoutine, Source}
+use Rattle.plant_logic.specs.Source.{PlainRoutine, Source, global_cells}
 use Rattle.plant_logic.specs.Worlds.{Path, World, globals_routine}
 use Rattle.plant_logic.specs.Paths.{paths_rule, type_paths, paths_of, path_text}
 use Rattle.plant_logic.specs.Seats.{program_values_base, program_clocks_base}
@@ -53,16 +53,16 @@ module _ (source : Source) (order : List ℕ) (frames : List Frame) (n : ℕ) (t
       within_is base base_is = subst (λ b. runs.IsWithin source (runs.walked_by b result)) (sym base_is) (run_within source n (the_program source n) (is_there source n there) result its)
 
       -- it ends as the program does in the world
-      pub ran_is : (t globals values clocks base : ℕ) (old new : PlainCells) (r : Ran World) → globals ≡ length source.globals → values ≡ program_values_base source n → clocks ≡ program_clocks_base source n → base ≡ program_paths_base source n
+      pub ran_is : (t globals values clocks base : ℕ) (old new : PlainCells) (r : Ran World) → globals ≡ global_cells source → values ≡ program_values_base source n → clocks ≡ program_clocks_base source n → base ≡ program_paths_base source n
           → ((path : Path) → under path (ended (frame_paths table (length table) place) result new) ≡ run_frame t globals table (length table) place (record { values = values; clocks = clocks }) path old)
-          → alike.Agree (λ w c. StandFor source c w) r (run_frame t (length source.globals) frames (length frames) (length order + n) (program_base source n) ((the_program source n).name ∷ []) old)
+          → alike.Agree (λ w c. StandFor source c w) r (run_frame t (global_cells source) frames (length frames) (length order + n) (program_base source n) ((the_program source n).name ∷ []) old)
           → runs.Agree source r (runs.ran source (runs.walked_by base result) new)
       ran_is t globals values clocks base old new r globals_are values_are clocks_are base_is ran agree =
           let path = (the_program source n).name ∷ [] in
-          let same : run_frame t globals table (length table) place (record { values = values; clocks = clocks }) path old ≡ run_frame t (length source.globals) frames (length frames) (length order + n) (program_base source n) path old =
+          let same : run_frame t globals table (length table) place (record { values = values; clocks = clocks }) path old ≡ run_frame t (global_cells source) frames (length frames) (length order + n) (program_base source n) path old =
           λ j. run_frame t (globals_are j) (table_is j) (length (table_is j)) (place_is j) (record { values = values_are j; clocks = clocks_are j }) path old
           in
-          let q = run_frame t (length source.globals) frames (length frames) (length order + n) (program_base source n) path old in
+          let q = run_frame t (global_cells source) frames (length frames) (length order + n) (program_base source n) path old in
           subst (λ b. runs.Agree source r (runs.ran source (runs.walked_by b result) new)) (sym base_is)
           (run_agrees source n (the_program source n) (is_there source n there) r result new q its (ap (λ l. under path (ended l result new)) (sym paths_are) ∙ ran path ∙ same) agree)
 

@@ -4,19 +4,18 @@ use Rattle.std.specs.Prelude.{◌&&◌, is_some, option_map, unwrap_or, Ok, Err}
 use Rattle.std.specs.List.{list_all}
 use Rattle.std.proofs.lemmas.Bool.{and_parts}
 use Rattle.std.proofs.lemmas.Nat.{mul-le}
-use Rattle.plant_types.specs.declared.values.Kind.{Kind}
 use Rattle.st_tree.specs.Operators.{Outcome}
 use Rattle.st_tree.specs.Constants.{constant_of}
 use Rattle.st_tree.specs.Costs.{expr_cost, tests_cost, labels_cost, arguments_cost, weight, weight_all, branches_weight, choices_weight}
-use Rattle.st_tree.specs.Kinds.{resolved_expr, resolved_argument, resolved_stmt, resolved_body, resolved_branches, resolved_choices}
+use Rattle.st_tree.specs.Kinds.{KindsOf, resolved_expr, resolved_argument, resolved_stmt, resolved_body, resolved_branches, resolved_choices}
 use Rattle.st_tree.specs.Mapping.{mapped_expr, mapped_option, mapped_argument, mapped_stmt, mapped_body, mapped_branches, mapped_choices, expr_known, option_known, argument_known, stmt_known, body_known, branches_known, choices_known}
 use Rattle.st_tree.specs.Numbers.{numbered_stmt, numbered, numbered_branches, numbered_choices, count_stmt, count_body, count_branches, count_choices}
 use Rattle.st_tree.specs.Plain.{PlainExpr, literal, read, output_of, unary, binary, PlainArgument, input, output}
 use Rattle.st_tree.specs.Plain.{PlainStmt, empty, assign, call, if_else, case_of, for_to, PlainBody, done, next, Branches, no_branch, branch, Choices, no_choice, choice}
-use Rattle.st_typing.specs.Constants.{no_kind, no_output_kind, meant_constant, constant_step, for_turns}
+use Rattle.st_typing.specs.Constants.{no_kinds, meant_constant, constant_step, for_turns}
 use Rattle.st_typing.specs.Constants as typing
 use Rattle.plant_logic.specs.Source.{PlainRoutine, Source}
-use Rattle.plant_logic.specs.Names.{kind_named, output_kind_named}
+use Rattle.plant_logic.specs.Names.{kinds_named}
 use Rattle.block_frames.specs.Numbers.{instance_number, numbers, numbered_in}
 use Rattle.code_sizes.specs.Sizes.{number_of, step_number, span_from, turns_of, frame_turns}
 use Rattle.plant_walk.proofs.Steady.{Name, constant_alike, constant_mapped}
@@ -51,26 +50,23 @@ turns_less : (m n a b : ℕ) → m ≡ n → a ≤ b → 2 + m * (3 + a) ≤ 2 +
 turns_less m n a b same less = let product : m * (3 + a) ≤ n * (3 + b) = mul-le m (3 + a) n (3 + b) (omega arith) (omega arith) in omega arith
 
 module _ (source : Source) (r : PlainRoutine) where
-  abbrev variables : Name → Kind
-  variables = kind_named source.globals r
-
-  abbrev outputs : Name → Name → Kind
-  outputs = output_kind_named source.blocks r
+  abbrev kinds : KindsOf Name
+  kinds = kinds_named source r
 
   abbrev plain : PlainExpr Name → PlainExpr ℕ
-  plain e = mapped_expr (numbers source r) (resolved_expr variables outputs e)
+  plain e = mapped_expr (numbers source r) (resolved_expr kinds e)
 
   constant_same : (e : PlainExpr Name) → constant_of (plain e) ≡ meant_constant e
   constant_same e =
-      constant_mapped source r (resolved_expr variables outputs e)
-      ∙ option_same (constant_of (resolved_expr variables outputs e)) (meant_constant e) (λ x is. (constant_alike variables no_kind outputs no_output_kind e x is).0) (λ x is. (constant_alike no_kind variables no_output_kind outputs e x is).0)
+      constant_mapped source r (resolved_expr kinds e)
+      ∙ option_same (constant_of (resolved_expr kinds e)) (meant_constant e) (λ x is. (constant_alike kinds no_kinds e x is).0) (λ x is. (constant_alike no_kinds kinds e x is).0)
 
-  step_same : (by : Option (PlainExpr Name)) → step_number (mapped_option (numbers source r) (option_map (resolved_expr variables outputs) by)) ≡ number_of (constant_step by)
+  step_same : (by : Option (PlainExpr Name)) → step_number (mapped_option (numbers source r) (option_map (resolved_expr kinds) by)) ≡ number_of (constant_step by)
   step_same None = refl
   step_same (Some e) = ap number_of (constant_same e)
 
   -- a FOR has as many turns by numbers as by names
-  pub turns_are : (from to : PlainExpr Name) (by : Option (PlainExpr Name)) → frame_turns (plain from) (plain to) (mapped_option (numbers source r) (option_map (resolved_expr variables outputs) by)) ≡ for_turns from to by
+  pub turns_are : (from to : PlainExpr Name) (by : Option (PlainExpr Name)) → frame_turns (plain from) (plain to) (mapped_option (numbers source r) (option_map (resolved_expr kinds) by)) ≡ for_turns from to by
   turns_are from to by =
       (λ i. turns_of (span_from (number_of (constant_same from i)) (number_of (constant_same to i)) (step_same by i))) ∙ turns_same (meant_constant from) (meant_constant to) (constant_step by)
 
@@ -81,16 +77,16 @@ module _ (source : Source) (r : PlainRoutine) where
   expr_same (unary op a) = ap (λ n. 1 + n) (expr_same a)
   expr_same (binary op a b) = λ i. 1 + expr_same a i + expr_same b i
 
-  arguments_same : (instance : Name) (arguments : List (PlainArgument Name)) → arguments_cost (map (mapped_argument (numbers source r) instance) (map (resolved_argument variables outputs) arguments)) ≡ arguments_cost arguments
+  arguments_same : (instance : Name) (arguments : List (PlainArgument Name)) → arguments_cost (map (mapped_argument (numbers source r) instance) (map (resolved_argument kinds) arguments)) ≡ arguments_cost arguments
   arguments_same instance [] = refl
   arguments_same instance (input name e ∷ rest) = λ i. 1 + expr_same e i + arguments_same instance rest i
   arguments_same instance (output name v ∷ rest) = λ i. 1 + arguments_same instance rest i
 
-  tests_same : (n : ℕ) (branches : Branches Name) → tests_cost (mapped_branches (numbers source r) (resolved_branches variables outputs (numbered_branches n branches))) ≡ tests_cost branches
+  tests_same : (n : ℕ) (branches : Branches Name) → tests_cost (mapped_branches (numbers source r) (resolved_branches kinds (numbered_branches n branches))) ≡ tests_cost branches
   tests_same n no_branch = refl
   tests_same n (branch test body rest) = λ i. expr_same test i + tests_same (n + count_body body) rest i
 
-  labels_same : (n : ℕ) (choices : Choices Name) → labels_cost (mapped_choices (numbers source r) (resolved_choices variables outputs (numbered_choices n choices))) ≡ labels_cost choices
+  labels_same : (n : ℕ) (choices : Choices Name) → labels_cost (mapped_choices (numbers source r) (resolved_choices kinds (numbered_choices n choices))) ≡ labels_cost choices
   labels_same n no_choice = refl
   labels_same n (choice labels body rest) = ap (λ m. length labels + m) (labels_same (n + count_body body) rest)
 
@@ -105,19 +101,19 @@ module _ (source : Source) (r : PlainRoutine) where
 
   -- whatever joins branches, if it gives no more for no more, and counts the turns of a FOR, if it counts as many by numbers as by names
   module _ (join : ℕ → ℕ → ℕ) (rises : (a b c d : ℕ) → a ≤ c → b ≤ d → join a b ≤ join c d) (inside : PlainExpr ℕ → PlainExpr ℕ → Option (PlainExpr ℕ) → ℕ) (written : PlainExpr Name → PlainExpr Name → Option (PlainExpr Name) → ℕ)
-      (as_many : (from to : PlainExpr Name) (by : Option (PlainExpr Name)) → inside (plain from) (plain to) (mapped_option (numbers source r) (option_map (resolved_expr variables outputs) by)) ≡ written from to by)
+      (as_many : (from to : PlainExpr Name) (by : Option (PlainExpr Name)) → inside (plain from) (plain to) (mapped_option (numbers source r) (option_map (resolved_expr kinds) by)) ≡ written from to by)
       (inner : ℕ → ℕ) (outer : Name → ℕ) (less : (name : Name) → is_some (instance_number r name) ≡ true → inner (unwrap_or (instance_number r name) 0) ≤ outer name) where
     abbrev stmt_inner : ℕ → PlainStmt Name → ℕ
-    stmt_inner n s = weight join inside inner (mapped_stmt (numbers source r) (resolved_stmt variables outputs (numbered_stmt n s)))
+    stmt_inner n s = weight join inside inner (mapped_stmt (numbers source r) (resolved_stmt kinds (numbered_stmt n s)))
 
     abbrev body_inner : ℕ → PlainBody Name → ℕ
-    body_inner n body = weight_all join inside inner (mapped_body (numbers source r) (resolved_body variables outputs (numbered n body)))
+    body_inner n body = weight_all join inside inner (mapped_body (numbers source r) (resolved_body kinds (numbered n body)))
 
     abbrev branches_inner : ℕ → Branches Name → ℕ
-    branches_inner n branches = branches_weight join inside inner (mapped_branches (numbers source r) (resolved_branches variables outputs (numbered_branches n branches)))
+    branches_inner n branches = branches_weight join inside inner (mapped_branches (numbers source r) (resolved_branches kinds (numbered_branches n branches)))
 
     abbrev choices_inner : ℕ → Choices Name → ℕ
-    choices_inner n choices = choices_weight join inside inner (mapped_choices (numbers source r) (resolved_choices variables outputs (numbered_choices n choices)))
+    choices_inner n choices = choices_weight join inside inner (mapped_choices (numbers source r) (resolved_choices kinds (numbered_choices n choices)))
 
     mutual
       stmt_less : (n : ℕ) (s : PlainStmt Name) → stmt_known (numbered_in source r) s ≡ true → stmt_inner n s ≤ weight join written outer s

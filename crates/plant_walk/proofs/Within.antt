@@ -16,8 +16,8 @@ use Rattle.plant_logic.specs.declared.logic.Variable.{Variable}
 use Rattle.plant_logic.specs.declared.logic.Instance.{Instance}
 use Rattle.plant_logic.specs.declared.logic.BlockRef.{BlockRef}
 use Rattle.plant_logic.specs.declared.logic.BlockRef.TheVariants.{Ton, Tof, RTrig, Declared}
-use Rattle.plant_logic.specs.Source.{PlainRoutine, Source}
-use Rattle.plant_logic.specs.Names.{find_word, own_words, global_words, instance_words, kind_named, output_kind_named, meant_in}
+use Rattle.plant_logic.specs.Source.{PlainRoutine, Source, own_cells, global_cells}
+use Rattle.plant_logic.specs.Names.{find_word, own_words, global_words, instance_words, kinds_named, meant_in}
 use Rattle.plant_logic.specs.Blocks.{AreBelow, HasItsTypes, DeclaresThere}
 use Rattle.plant_logic.specs.Worlds.{Path, in_word, pt_word, clk_word}
 use Rattle.plant_logic.specs.Layout.{ClockAt, own_values, block_values, instance_values, values_rule, routine_values, block_clocks, instance_clocks, clocks_rule, routine_clocks}
@@ -51,7 +51,7 @@ where_called false x h = refl
 module _ (source : Source) (order : List ℕ) (below : AreBelow source.blocks order) (paths : List Path) (clocks : List ClockAt) (has_value has_clock : ℕ → Bool)
     (value_there : (n : ℕ) (word : List ℕ) (p : Path) → slice_get paths n ≡ Some (word ∷ p) → has_value n ≡ true)
     (clock_there : (n : ℕ) (b : BlockRef) (p : Path) → is_of_standard b ≡ true → slice_get clocks n ≡ Some (record { of = b; path = p }) → has_clock n ≡ true)
-    (global_there : (j : ℕ) → j < length source.globals → has_value j ≡ true) where
+    (global_there : (j : ℕ) → j < global_cells source → has_value j ≡ true) where
   -- a seat at which the values and the standard blocks of an instance stand, by its path in small letters
   record Sits (base : Base) (seat : Seat) (b : BlockRef) (p : Path) : Type 0 where
     of_is : seat.of ≡ seated order b
@@ -113,40 +113,40 @@ module _ (source : Source) (order : List ℕ) (below : AreBelow source.blocks or
         (both (has_value (member_slot base seat 0)) true (value_there _ clk_word p (sits.values_stand 0 (clk_word ∷ p) refl)) refl)
     called_there reach (Declared m) sits callee = where_called seat.is_called (reach (place_in order m) (base_of base seat)) (callee m refl sits.values_stand sits.clocks_stand)
 
-  global_within : (name : List ℕ) (j : ℕ) → find_word (global_words source.globals) name ≡ Some j → j < length source.globals
+  global_within : (name : List ℕ) (j : ℕ) → find_word (global_words source.globals) name ≡ Some j → j < global_cells source
   global_within name j is =
       let less = (position-Some (bytes_eq (folded name)) (global_words source.globals) j name is).0 in
       let words = length-map source.globals (λ (global : Variable). folded global.name) in
       omega (arith, less, words)
 
   -- a routine's frame at a base, where what the frames that it calls name is there
-  module _ (r : PlainRoutine) (seats : List Seat) (are : AreSeats source.blocks r order (length r.locals) 0 r.instances seats) (path : Path) (base : Base)
+  module _ (r : PlainRoutine) (seats : List Seat) (are : AreSeats source.blocks r order (own_cells r) 0 r.instances seats) (path : Path) (base : Base)
       (values : StandsFrom paths base.values (values_rule (routine_values source.blocks) r path)) (stood : StandsFrom clocks base.clocks (clocks_rule (routine_clocks source.blocks) r path)) (reach : ℕ → Base → Bool)
       (callees : (i : Instance) (m : ℕ) → Among r.instances i → i.of ≡ Declared m → (p : Path) (at : Base) → StandsFrom paths at.values (routine_values source.blocks m p) → StandsFrom clocks at.clocks (routine_clocks source.blocks m p) → reach (place_in order m) at ≡ true) where
-    variable_by : (name : List ℕ) (own other : Option ℕ) → find_word (own_words r.locals) name ≡ own → find_word (global_words source.globals) name ≡ other → is_some (own_or_global (length source.globals) own other) ≡ true
-        → has_value (slot_of (length source.globals) base (unwrap_or (own_or_global (length source.globals) own other) 0)) ≡ true
+    variable_by : (name : List ℕ) (own other : Option ℕ) → find_word (own_words r.locals) name ≡ own → find_word (global_words source.globals) name ≡ other → is_some (own_or_global (global_cells source) own other) ≡ true
+        → has_value (slot_of (global_cells source) base (unwrap_or (own_or_global (global_cells source) own other) 0)) ≡ true
     variable_by name (Some i) other found_own found_global h =
-        let n = length source.globals in
+        let n = global_cells source in
         let past : nat_lt (n + i) n ≡ false = grind (arith, nat_tests) in
         let same : n + i - n ≡ i = omega arith in
         let at = values i (folded name ∷ path) (at_front (own_values r.locals path) (instance_values (routine_values source.blocks) r.instances path) i (folded name ∷ path) (own_at r.locals path name i found_own)) in
         rw past (subst (λ k. has_value (base.values + k) ≡ true) (sym same) (value_there (base.values + i) (folded name) path at))
     variable_by name None (Some j) found_own found_global h =
         let less = global_within name j found_global in
-        rw (lt-ltb j (length source.globals) less) (global_there j less)
+        rw (lt-ltb j (global_cells source) less) (global_there j less)
     variable_by name None None found_own found_global h = absurd (cc)
 
-    variable_goes : (name : List ℕ) → is_some (variable_number source r name) ≡ true → has_value (slot_of (length source.globals) base (unwrap_or (variable_number source r name) 0)) ≡ true
+    variable_goes : (name : List ℕ) → is_some (variable_number source r name) ≡ true → has_value (slot_of (global_cells source) base (unwrap_or (variable_number source r name) 0)) ≡ true
     variable_goes name h = variable_by name (find_word (own_words r.locals) name) (find_word (global_words source.globals) name) refl refl h
 
     -- the seat of an instance
     seat_at : (k : ℕ) (i : Instance) → slice_get r.instances k ≡ Some i → (seat : Seat) × (slice_get seats k ≡ Some seat) × Sits base seat i.of (folded i.name ∷ path)
     seat_at k i at =
-        let long = own_count r.locals path in
+        let long = own_count r path in
         let own = own_values r.locals path in
         let rest = instance_values (routine_values source.blocks) r.instances path in
         let none = instance_clocks (routine_clocks source.blocks) r.instances path in
-        seats_sit r base path r.instances seats (length r.locals) 0 k i are (stands_right paths base.values (base.values + length r.locals) own rest (omega (arith, long)) values)
+        seats_sit r base path r.instances seats (own_cells r) 0 k i are (stands_right paths base.values (base.values + own_cells r) own rest (omega (arith, long)) values)
         (stands_moved clocks base.clocks (base.clocks + 0) none (omega arith) stood) at
 
     instance_by : (name : List ℕ) (o : Option ℕ) → find_word (instance_words r.instances) name ≡ o → is_some o ≡ true → has_instance has_value has_clock reach (slice_get seats (unwrap_or o 0)) base ≡ true
@@ -189,17 +189,17 @@ module _ (source : Source) (order : List ℕ) (below : AreBelow source.blocks or
         subst (λ (o : Option Seat). has_output has_value has_clock o base m ≡ true) (sym s.1)
         (subst (λ of. has_shown has_value has_clock of base s.0 m ≡ true) (sym s.2.of_is) (output_there base s.0 (folded i.name ∷ path) i.of s.2 name m numbered))
 
-    pub body_there : HasItsNames source r → body_known (there has_value has_clock (length source.globals) reach seats base) (mapped_body (numbers source r) (meant_in source r r.body)) ≡ true
+    pub body_there : HasItsNames source r → body_known (there has_value has_clock (global_cells source) reach seats base) (mapped_body (numbers source r) (meant_in source r r.body)) ≡ true
     body_there names =
-        meant_goes (numbers source r) (numbered_in source r) (there has_value has_clock (length source.globals) reach seats base) (λ e h. h)
+        meant_goes (numbers source r) (numbered_in source r) (there has_value has_clock (global_cells source) reach seats base) (λ e h. h)
         variable_goes (λ name h. instance_by name (find_word (instance_words r.instances) name) refl h)
         (λ instance name h. input_by instance name (find_word (instance_words r.instances) instance) refl h)
         (λ instance name h. output_by instance name (find_word (instance_words r.instances) instance) refl h)
-        (kind_named source.globals r) (output_kind_named source.blocks r) r.body names.in_body
+        (kinds_named source r) r.body names.in_body
 
   module _ (frames : List Frame) (are : IsFrames source order frames) (types : HasItsTypes source) (names : HasAllNames source) where
     abbrev reached : (limit k : ℕ) → Base → Bool
-    reached limit k = frame_there has_value has_clock (length source.globals) frames limit k
+    reached limit k = frame_there has_value has_clock (global_cells source) frames limit k
 
     -- where the values and the standard blocks of a routine stand from a base on, there what a frame names is there
     abbrev There : (Base → Bool) → (Path → List Path) → (Path → List ClockAt) → Type 0
@@ -208,28 +208,28 @@ module _ (source : Source) (order : List ℕ) (below : AreBelow source.blocks or
     abbrev BlockThere : (limit k n : ℕ) → Type 0
     BlockThere limit k n = There (reached limit k) (routine_values source.blocks n) (routine_clocks source.blocks n)
 
-    empty_there : (reach : ℕ → Base → Bool) (frame : Frame) (base : Base) → view_body frame.body.items ≡ done → routine_there has_value has_clock (length source.globals) reach frame base ≡ true
-    empty_there reach frame base is = ap (λ (body : PlainBody ℕ). body_known (there has_value has_clock (length source.globals) reach frame.seats.items base) body) is
+    empty_there : (reach : ℕ → Base → Bool) (frame : Frame) (base : Base) → view_body frame.body.items ≡ done → routine_there has_value has_clock (global_cells source) reach frame base ≡ true
+    empty_there reach frame base is = ap (λ (body : PlainBody ℕ). body_known (there has_value has_clock (global_cells source) reach frame.seats.items base) body) is
 
     routine_is : (r : PlainRoutine) (frame : Frame) (k : ℕ) → IsFrame source order r frame → HasItsNames source r → ((i : Instance) (m : ℕ) → Among r.instances i → i.of ≡ Declared m → BlockThere k (place_in order m) m)
-        → There (routine_there has_value has_clock (length source.globals) (reached k) frame) (values_rule (routine_values source.blocks) r) (clocks_rule (routine_clocks source.blocks) r)
+        → There (routine_there has_value has_clock (global_cells source) (reached k) frame) (values_rule (routine_values source.blocks) r) (clocks_rule (routine_clocks source.blocks) r)
     routine_is r frame k is known callees path base values stood =
-        ap (λ (body : PlainBody ℕ). body_known (there has_value has_clock (length source.globals) (reached k) frame.seats.items base) body) is.body_is
+        ap (λ (body : PlainBody ℕ). body_known (there has_value has_clock (global_cells source) (reached k) frame.seats.items base) body) is.body_is
         ∙ body_there r frame.seats.items is.seats_are path base values stood (reached k) (λ i m here of_is p at. callees i m here of_is p at) known
 
     run_is : (b : Bool) (r : PlainRoutine) (frame : Frame) (k : ℕ) → IsFrame source order (framed b r) frame → HasItsNames source r → ((i : Instance) (m : ℕ) → Among r.instances i → i.of ≡ Declared m → BlockThere k (place_in order m) m)
-        → There (routine_there has_value has_clock (length source.globals) (reached k) frame) (values_rule (routine_values source.blocks) r) (clocks_rule (routine_clocks source.blocks) r)
+        → There (routine_there has_value has_clock (global_cells source) (reached k) frame) (values_rule (routine_values source.blocks) r) (clocks_rule (routine_clocks source.blocks) r)
     run_is true r frame k is known callees path base values stood = routine_is r frame k is known callees path base values stood
     run_is false r frame k is known callees path base values stood = empty_there (reached k) frame base is.body_is
 
     frame_at : (k : ℕ) → k < length order + length source.programs → (frame : Frame) × (slice_get frames k ≡ Some frame)
     frame_at k less = let whole = are.whole in element frames k (omega (arith, less, whole))
 
-    reached_is : (limit k : ℕ) (frame : Frame) (base : Base) → k < limit → slice_get frames k ≡ Some frame → reached limit k base ≡ routine_there has_value has_clock (length source.globals) (reached k) frame base
-    reached_is limit k frame base less at = ap (λ (f : Base → Bool). f base) (first_is (λ base. true) (routine_there has_value has_clock (length source.globals)) frames limit k frame less at)
+    reached_is : (limit k : ℕ) (frame : Frame) (base : Base) → k < limit → slice_get frames k ≡ Some frame → reached limit k base ≡ routine_there has_value has_clock (global_cells source) (reached k) frame base
+    reached_is limit k frame base less at = ap (λ (f : Base → Bool). f base) (first_is (λ base. true) (routine_there has_value has_clock (global_cells source)) frames limit k frame less at)
 
     reached_past : (limit k : ℕ) (base : Base) → limit ≤ k → reached limit k base ≡ true
-    reached_past limit k base past = ap (λ (f : Base → Bool). f base) (first_past (λ base. true) (routine_there has_value has_clock (length source.globals)) frames limit k past)
+    reached_past limit k base past = ap (λ (f : Base → Bool). f base) (first_past (λ base. true) (routine_there has_value has_clock (global_cells source)) frames limit k past)
 
     -- the frame at a block type's place, if those before a number do
     place_there : (k m : ℕ) → k ≤ length order → ((j : ℕ) → j < k → slice_get order j ≡ Some m → BlockThere k j m) → BlockThere k (place_in order m) m
@@ -253,7 +253,7 @@ module _ (source : Source) (order : List ℕ) (below : AreBelow source.blocks or
               let clocks_are = by_its_rule (λ path. []) clocks_rule source.blocks order below clocks_ask n r.0 r.1 in
               let values' : StandsFrom paths base.values (values_rule (routine_values source.blocks) r.0 path) = subst (λ (f : Path → List Path). StandsFrom paths base.values (f path)) values_are values in
               let stood' : StandsFrom clocks base.clocks (clocks_rule (routine_clocks source.blocks) r.0 path) = subst (λ (f : Path → List ClockAt). StandsFrom clocks base.clocks (f path)) clocks_are stood in
-              let inside : routine_there has_value has_clock (length source.globals) (reached k) frame.0 base ≡ true =
+              let inside : routine_there has_value has_clock (global_cells source) (reached k) frame.0 base ≡ true =
               elim (cases_Bool (flagged are.used n)) [
                 | inl used ↦ run_is (flagged are.run n) r.0 frame.0 k (are.of_blocks k n r.0 frame.0 at r.1 frame.1 used) known
                     (λ i m here of_is. place_there k m (omega (arith, within)) (λ j before there. block_there d k j m (omega (arith, deep, before)) there)) path base values' stood'
@@ -268,7 +268,7 @@ module _ (source : Source) (order : List ℕ) (below : AreBelow source.blocks or
     listed_there k m here = let within = place_within order m here in block_there (suc (place_in order m)) k (place_in order m) m (omega arith) (place_at order m within)
 
     -- what a program's frame names is there
-    pub program_there : (n : ℕ) (p : PlainRoutine) → slice_get source.programs n ≡ Some p → There (λ base. frame_there has_value has_clock (length source.globals) frames (length frames) (length order + n) base) (values_rule (routine_values source.blocks) p) (clocks_rule (routine_clocks source.blocks) p)
+    pub program_there : (n : ℕ) (p : PlainRoutine) → slice_get source.programs n ≡ Some p → There (λ base. frame_there has_value has_clock (global_cells source) frames (length frames) (length order + n) base) (values_rule (routine_values source.blocks) p) (clocks_rule (routine_clocks source.blocks) p)
     program_there n p at path base values stood =
         let within = slice_get_within source.programs n p at in
         let k = length order + n in

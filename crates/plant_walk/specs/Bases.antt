@@ -4,7 +4,7 @@ use Rattle.std.specs.List.{sum_by}
 use Rattle.plant_logic.specs.declared.logic.Instance.{Instance}
 use Rattle.plant_logic.specs.declared.logic.BlockRef.{BlockRef}
 use Rattle.plant_logic.specs.declared.logic.BlockRef.TheVariants.{Ton, Tof, RTrig, Declared}
-use Rattle.plant_logic.specs.Source.{PlainRoutine, Source}
+use Rattle.plant_logic.specs.Source.{PlainRoutine, Source, own_cells}
 use Rattle.plant_logic.specs.Layout.{cells_per_type}
 use Rattle.plant_logic.specs.Paths.{paths_rule, type_paths}
 use Rattle.plant_logic.specs.Seats.{program_values_base, program_clocks_base}
@@ -50,7 +50,7 @@ instance_count counts (Declared n) = counts n
 
 -- how many values a routine has, by those of the declared block types: its own variables, and those of its instances
 abbrev pub value_count : (ℕ → ℕ) → PlainRoutine → ℕ
-value_count counts r = length r.locals + sum_by (λ (i : Instance). instance_count counts i.of) r.instances
+value_count counts r = own_cells r + sum_by (λ (i : Instance). instance_count counts i.of) r.instances
 
 -- the numbers of a row; 0 past its end
 abbrev pub numbers_in : List ℕ → ℕ → ℕ

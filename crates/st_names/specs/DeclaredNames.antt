@@ -1,5 +1,5 @@
 -- What sections declare, name by name.
-use Rattle.std.specs.Prelude.{ℕ, if◌then◌else◌, List, [], ◌∷◌, ◌++◌, map, flat_map, Option, Some, None}
+use Rattle.std.specs.Prelude.{ℕ, Bool, true, false, if◌then◌else◌, List, [], ◌∷◌, ◌++◌, map, flat_map, Option, Some, None}
 use Rattle.plant_types.specs.Words.{folded, same_word}
 use Rattle.plant_types.specs.declared.values.Kind.{Kind}
 use Rattle.plant_types.specs.declared.values.Region.{Region}
@@ -52,3 +52,8 @@ first_declared names (d ∷ ds) = if is_among names d.name then first_declared n
 abbrev pub sort_kind : Sort → Option Kind
 sort_kind (sort.Kind kind) = Some kind
 sort_kind (sort.Block word) = None
+
+-- a declared name is an instance, of a standard block or of a block type
+abbrev pub is_instance_sort : Sort → Bool
+is_instance_sort (sort.Kind kind) = false
+is_instance_sort (sort.Block word) = true

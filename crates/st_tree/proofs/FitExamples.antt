@@ -8,7 +8,7 @@ use Rattle.st_tree.specs.declared.tree.Literal.TheVariants.{Integer, Value}
 use Rattle.st_tree.specs.Plain.{literal, read, output_of, input, output}
 use Rattle.st_tree.specs.Plain.{assign, call, if_else, for_to, done, next, no_branch, branch}
 use Rattle.st_tree.specs.Kinds.{kind_of_expr}
-use Rattle.st_tree.specs.Fits.{Context, stmt_fits, stmt_controls_fit}
+use Rattle.st_tree.specs.Fits.{Context, sorts_of, stmt_fits, stmt_controls_fit}
 use Rattle.st_tree.specs.Meaning.{Space, Done, run_all}
 use Rattle.st_tree.specs.Ranges.{Leaves, IsInvariant}
 use Rattle.st_tree.proofs.RangeLaws.{InRange}
@@ -65,7 +65,7 @@ integer_in_parentheses_misfits : stmt_fits declared (assign 1 b (literal (Value 
 integer_in_parentheses_misfits = refl
 
 -- an integer past the range has no kind
-large_integer_has_no_kind : kind_of_expr kinds outputs (literal (Integer (pos 2147483648))) ≡ None
+large_integer_has_no_kind : kind_of_expr (sorts_of declared) (literal (Integer (pos 2147483648))) ≡ None
 large_integer_has_no_kind = refl
 
 -- plant_input := b

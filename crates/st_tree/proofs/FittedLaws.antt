@@ -11,8 +11,9 @@ use Rattle.st_tree.specs.Plain.{PlainExpr, literal, read, output_of, unary, bina
 use Rattle.st_tree.specs.Operators.{Outcome}
 use Rattle.st_tree.specs.Controls.{span_of}
 use Rattle.st_tree.specs.Kinds.{same_kind, kind_of_expr, is_kind, is_bit}
-use Rattle.st_tree.specs.Fits.{Context, is_of, fits_option}
-use Rattle.st_tree.specs.Meaning.{value_of}
+use Rattle.st_tree.specs.Fits.{Context, sorts_of, is_of, fits_option}
+use Rattle.st_tree.specs.Meaning.{ValuesOf, value_of}
+use Rattle.st_tree.specs.Ranges.{AreInRange}
 use Rattle.st_tree.proofs.RangeLaws.{InRange, value_in_range}
 
 same_is : (k l : Kind) → same_kind k l ≡ true → k ≡ l
@@ -40,15 +41,13 @@ span_ends (Err trap) b c span is = absurd (cc)
 bit_in_range : (m : ℤ) → (int_eq m (pos 0) || int_eq m (pos 1)) ≡ true → InRange kind.Bool m
 bit_in_range m is = grind (arith, ints, is)
 
-module _ {V : Type 0} (context : Context V) (variable_value : V → ℤ) (output_value : V → V → ℤ)
-    (variable_in : (v : V) (k : Kind) → context.variable_kind v ≡ Some k → InRange k (variable_value v))
-    (output_in : (instance name : V) (k : Kind) → context.output_kind instance name ≡ Some k → InRange k (output_value instance name)) where
+module _ {V : Type 0} (context : Context V) (values : ValuesOf V) (within : AreInRange (sorts_of context) values) where
   -- the value of an expression of a kind
-  pub value_in : (e : PlainExpr V) (k : Kind) (n : ℤ) → is_of context k e ≡ true → value_of variable_value output_value e ≡ Ok n → InRange k n
+  pub value_in : (e : PlainExpr V) (k : Kind) (n : ℤ) → is_of context k e ≡ true → value_of values e ≡ Ok n → InRange k n
   value_in e k n is gives =
-      value_in_range context.variable_kind context.output_kind variable_value output_value variable_in output_in e k n (kind_is k (kind_of_expr context.variable_kind context.output_kind e) is) gives
+      value_in_range (sorts_of context) values within e k n (kind_is k (kind_of_expr (sorts_of context) e) is) gives
 
-  bit_in : (k : Kind) (e : PlainExpr V) (n : ℤ) → (same_kind k kind.Bool && is_bit e) ≡ true → value_of variable_value output_value e ≡ Ok n → InRange k n
+  bit_in : (k : Kind) (e : PlainExpr V) (n : ℤ) → (same_kind k kind.Bool && is_bit e) ≡ true → value_of values e ≡ Ok n → InRange k n
   bit_in kind.Bool (literal (Integer m)) n is gives = subst (InRange kind.Bool) (let e : m ≡ n = cc in e) (bit_in_range m is)
   bit_in kind.Bool (literal (Value v)) n is gives = absurd (cc)
   bit_in kind.Bool (read v) n is gives = absurd (cc)
@@ -58,11 +57,11 @@ module _ {V : Type 0} (context : Context V) (variable_value : V → ℤ) (output
   bit_in kind.Dint e n is gives = absurd (cc)
   bit_in kind.Time e n is gives = absurd (cc)
 
-  fitted_by : (b : Bool) (k : Kind) (e : PlainExpr V) (n : ℤ) → is_of context k e ≡ b → (b || (same_kind k kind.Bool && is_bit e)) ≡ true → value_of variable_value output_value e ≡ Ok n → InRange k n
+  fitted_by : (b : Bool) (k : Kind) (e : PlainExpr V) (n : ℤ) → is_of context k e ≡ b → (b || (same_kind k kind.Bool && is_bit e)) ≡ true → value_of values e ≡ Ok n → InRange k n
   fitted_by true k e n kind fits gives = value_in e k n kind gives
   fitted_by false k e n kind fits gives = bit_in k e n fits gives
 
   -- the value of an expression that may be assigned where this kind is declared
-  pub fitted_in : (o : Option Kind) (e : PlainExpr V) (n : ℤ) → fits_option context o e ≡ true → value_of variable_value output_value e ≡ Ok n → (k : Kind) × (o ≡ Some k) × InRange k n
+  pub fitted_in : (o : Option Kind) (e : PlainExpr V) (n : ℤ) → fits_option context o e ≡ true → value_of values e ≡ Ok n → (k : Kind) × (o ≡ Some k) × InRange k n
   fitted_in None e n fits gives = absurd (cc)
   fitted_in (Some k) e n fits gives = (k, refl, fitted_by (is_of context k e) k e n refl fits gives)

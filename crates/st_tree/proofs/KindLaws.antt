@@ -8,7 +8,7 @@ use Rattle.st_tree.specs.declared.tree.Unary.TheVariants.{Not, Negate, NegateTim
 use Rattle.st_tree.specs.declared.tree.Binary.{Binary}
 use Rattle.st_tree.specs.declared.tree.Binary.TheVariants.{And, Xor, Or, Equal, Unequal, Less, Greater, AtMost, AtLeast, Add, AddTime, Subtract, SubtractTime, Multiply, Divide, Mod}
 use Rattle.st_tree.specs.Plain.{PlainExpr, literal, read, output_of, unary, binary}
-use Rattle.st_tree.specs.Kinds.{literal_in_range, literal_kind, same_kind, unary_kind, binary_kind, unary_result, binary_result, kind_of_expr, kind_in, of_truths, of_numbers, of_times, of_sums, of_order}
+use Rattle.st_tree.specs.Kinds.{literal_in_range, literal_kind, same_kind, unary_kind, binary_kind, unary_result, binary_result, Sorts, KindsOf, AreSorts, kind_of_expr, kind_in, of_truths, of_numbers, of_times, of_sums, of_order}
 
 unary_result_is : (op : Unary) (a r : Kind) → unary_kind op a ≡ Some r → unary_result op a ≡ r
 unary_result_is Not kind.Bool r is = cc
@@ -86,8 +86,7 @@ literal_kind_is : (within : Bool) (k r : Kind) → (if within then Some k else N
 literal_kind_is true k r is = cc
 literal_kind_is false k r is = absurd (cc)
 
-module _ {V : Type 0} (variable_kind : V → Option Kind) (output_kind : V → V → Option Kind) (variable_in : V → Kind) (output_in : V → V → Kind)
-    (agrees : (v : V) (k : Kind) → variable_kind v ≡ Some k → variable_in v ≡ k) (agrees_output : (instance name : V) (k : Kind) → output_kind instance name ≡ Some k → output_in instance name ≡ k) where
+module _ {V : Type 0} (sorts : Sorts V) (kinds : KindsOf V) (agrees : AreSorts sorts kinds) where
   unary_of_kind : (op : Unary) (o : Option Kind) (a r : Kind) → ((k : Kind) → o ≡ Some k → a ≡ k) → option_and_then (unary_kind op) o ≡ Some r → unary_result op a ≡ r
   unary_of_kind op None a r same is = absurd (cc)
   unary_of_kind op (Some k) a r same is = ap (unary_result op) (same k refl) ∙ unary_result_is op k r is
@@ -97,9 +96,9 @@ module _ {V : Type 0} (variable_kind : V → Option Kind) (output_kind : V → V
   binary_of_kind op (Some k) None a r same is = absurd (cc)
   binary_of_kind op (Some k) (Some l) a r same is = ap (binary_result op) (same k refl) ∙ binary_result_is op k l r is
 
-  pub kind_of_expr_is_kind_in : (e : PlainExpr V) (r : Kind) → kind_of_expr variable_kind output_kind e ≡ Some r → kind_in variable_in output_in e ≡ r
+  pub kind_of_expr_is_kind_in : (e : PlainExpr V) (r : Kind) → kind_of_expr sorts e ≡ Some r → kind_in kinds e ≡ r
   kind_of_expr_is_kind_in (literal n) r is = literal_kind_is (literal_in_range n) (literal_kind n) r is
-  kind_of_expr_is_kind_in (read v) r is = agrees v r is
-  kind_of_expr_is_kind_in (output_of instance name) r is = agrees_output instance name r is
-  kind_of_expr_is_kind_in (unary op a) r is = unary_of_kind op (kind_of_expr variable_kind output_kind a) (kind_in variable_in output_in a) r (λ k e. kind_of_expr_is_kind_in a k e) is
-  kind_of_expr_is_kind_in (binary op a b) r is = binary_of_kind op (kind_of_expr variable_kind output_kind a) (kind_of_expr variable_kind output_kind b) (kind_in variable_in output_in a) r (λ k e. kind_of_expr_is_kind_in a k e) is
+  kind_of_expr_is_kind_in (read v) r is = agrees.variable_is v r is
+  kind_of_expr_is_kind_in (output_of instance name) r is = agrees.output_is instance name r is
+  kind_of_expr_is_kind_in (unary op a) r is = unary_of_kind op (kind_of_expr sorts a) (kind_in kinds a) r (λ k e. kind_of_expr_is_kind_in a k e) is
+  kind_of_expr_is_kind_in (binary op a b) r is = binary_of_kind op (kind_of_expr sorts a) (kind_of_expr sorts b) (kind_in kinds a) r (λ k e. kind_of_expr_is_kind_in a k e) is

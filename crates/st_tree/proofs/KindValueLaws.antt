@@ -9,10 +9,11 @@ use Rattle.st_tree.specs.declared.controls.Span.{Span}
 use Rattle.st_tree.specs.Controls.{control_values, span_of}
 use Rattle.st_tree.specs.Kinds.{is_kind}
 use Rattle.st_tree.specs.Plain.{PlainExpr, output_of, PlainBody}
-use Rattle.st_tree.specs.Fits.{Context, is_of, option_is_of, fits_option, takes, argument_fits, stmt_fits, all_fit, branches_fit, choices_fit}
+use Rattle.st_tree.specs.Fits.{Context, sorts_of, is_of, option_is_of, fits_option, takes, argument_fits, stmt_fits, all_fit, branches_fit, choices_fit}
 use Rattle.st_tree.specs.Fits.{may_control, stmt_controls_fit, controls_fit, branches_controls_fit, choices_controls_fit}
-use Rattle.st_tree.specs.Meaning.{Space, outcome, step_of, run_all}
+use Rattle.st_tree.specs.Meaning.{Space, values_in, outcome, step_of, run_all}
 use Rattle.st_tree.specs.Mapping.{Mapping, mapped_expr, mapped_body, Known, expr_known, option_known, argument_known, stmt_known, body_known, branches_known, choices_known}
+use Rattle.st_tree.specs.Ranges.{AreInRange}
 use Rattle.st_tree.specs.Alike.{Same, SameOutcome, IsLawful, IsKeptBody}
 use Rattle.st_tree.proofs.RangeLaws.{InRange}
 use Rattle.st_tree.proofs.ControlRangeLaws.{control_values_in_range}
@@ -47,15 +48,19 @@ module _ {V W A B : Type 0} (context : Context V) (known : Known V) (mapping : M
     arguments = λ instance arguments. context.is_instance instance && (list_all (argument_known known instance) arguments && list_all (argument_fits context instance) arguments);
   }
 
+  -- the values that are read in a world that matches are in the ranges of their kinds
+  values_within : (a : A) (b : B) → Matches a b → AreInRange (sorts_of context) (values_in from a)
+  values_within a b m = record { variable_in = λ v k. laws.variable_in_range v k a b m; output_in = λ instance name k. laws.output_in_range instance name k a b m }
+
   -- the value of an expression of a kind
   outcome_in : (e : PlainExpr V) (k : Kind) (a : A) (b : B) (n : ℤ) → Matches a b → is_of context k e ≡ true → outcome from a e ≡ Ok n → InRange k n
   outcome_in e k a b n m is gives =
-      value_in context (from.get a) (from.get_output a) (λ v k. laws.variable_in_range v k a b m) (λ instance name k. laws.output_in_range instance name k a b m) e k n is gives
+      value_in context (values_in from a) (values_within a b m) e k n is gives
 
   -- the kind that is declared where an expression fits, with the range of its value
   outcome_fits : (o : Option Kind) (e : PlainExpr V) (a : A) (b : B) (n : ℤ) → Matches a b → fits_option context o e ≡ true → outcome from a e ≡ Ok n → (k : Kind) × (o ≡ Some k) × InRange k n
   outcome_fits o e a b n m fits gives =
-      fitted_in context (from.get a) (from.get_output a) (λ v k. laws.variable_in_range v k a b m) (λ instance name k. laws.output_in_range instance name k a b m) o e n fits gives
+      fitted_in context (values_in from a) (values_within a b m) o e n fits gives
 
   assigned : (v : V) (e : PlainExpr V) (a : A) (b : B) (n : ℤ) → known.has_variable v ≡ true → takes context v e ≡ true → Matches a b → outcome from a e ≡ Ok n → Matches (from.put a v n) (to.put b (mapping.variable v) n)
   assigned v e a b n there fits m gives =

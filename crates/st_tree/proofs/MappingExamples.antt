@@ -1,5 +1,5 @@
 -- Bodies over names, and what mappings make of them, worked out by hand; and that folding constants keeps outcomes.
-use Rattle.std.specs.Prelude.{◌≡◌, ℕ, ℤ, pos, Option, Some, None, Ok, Err, [], ◌∷◌, refl}
+use Rattle.std.specs.Prelude.{◌≡◌, ℕ, pos, Option, Some, None, Ok, Err, [], ◌∷◌, refl}
 use Rattle.std.proofs.Common.{sym}
 use Rattle.plant_types.specs.declared.values.Value.TheVariants as value
 use Rattle.st_tree.specs.declared.tree.Literal.TheVariants.{Integer, Value}
@@ -8,7 +8,7 @@ use Rattle.st_tree.specs.Operators.{Outcome}
 use Rattle.st_tree.specs.Plain.{PlainExpr, literal, read, output_of, binary, input, output}
 use Rattle.st_tree.specs.Plain.{assign, call, done, next}
 use Rattle.st_tree.specs.Constants.{constant_of}
-use Rattle.st_tree.specs.Meaning.{value_of}
+use Rattle.st_tree.specs.Meaning.{ValuesOf, value_of}
 use Rattle.st_tree.specs.Mapping.{Mapping, mapped_expr, mapped_body}
 use Rattle.st_tree.proofs.ConstantLaws.{constant_of_is_value_of}
 
@@ -73,11 +73,11 @@ kept_trap : mapped_expr folding (binary Divide (literal (Integer (pos 1))) (lite
 kept_trap = refl
 
 -- folding keeps each outcome, a trap too: it is a lawful node of a pass
-folded_by : (variable_value : Name → ℤ) (output_value : Name → Name → ℤ) (e : PlainExpr Name) (o : Option Outcome) → constant_of e ≡ o
-    → value_of variable_value output_value (literal_of o e) ≡ value_of variable_value output_value e
-folded_by variable_value output_value e None is = refl
-folded_by variable_value output_value e (Some (Ok x)) is = sym (constant_of_is_value_of variable_value output_value e (Ok x) is)
-folded_by variable_value output_value e (Some (Err trap)) is = refl
+folded_by : (values : ValuesOf Name) (e : PlainExpr Name) (o : Option Outcome) → constant_of e ≡ o
+    → value_of values (literal_of o e) ≡ value_of values e
+folded_by values e None is = refl
+folded_by values e (Some (Ok x)) is = sym (constant_of_is_value_of values e (Ok x) is)
+folded_by values e (Some (Err trap)) is = refl
 
-folded_is : (variable_value : Name → ℤ) (output_value : Name → Name → ℤ) (e : PlainExpr Name) → value_of variable_value output_value (folded e) ≡ value_of variable_value output_value e
-folded_is variable_value output_value e = folded_by variable_value output_value e (constant_of e) refl
+folded_is : (values : ValuesOf Name) (e : PlainExpr Name) → value_of values (folded e) ≡ value_of values e
+folded_is values e = folded_by values e (constant_of e) refl

@@ -7,8 +7,7 @@ use Rattle.std.proofs.Math.Nat.{div-mul-le_self}
 use Rattle.plant_types.specs.declared.values.Kind.{Kind}
 use Rattle.plant_types.specs.declared.values.Kind.TheVariants as kind
 use Rattle.plant_types.specs.declared.values.Trap.TheVariants.{Overflow, DivZero}
-use Rattle.plant_types.specs.Values.{kind_of, truth, is_true, is_in_range}
-use Rattle.plant_types.specs.Values as values
+use Rattle.plant_types.specs.Values.{kind_of, truth, is_true, is_in_range, worth}
 use Rattle.st_tree.specs.declared.tree.Literal.{Literal}
 use Rattle.st_tree.specs.declared.tree.Literal.TheVariants.{Integer, Value}
 use Rattle.st_tree.specs.declared.tree.Unary.{Unary}
@@ -17,8 +16,9 @@ use Rattle.st_tree.specs.declared.tree.Binary.{Binary}
 use Rattle.st_tree.specs.declared.tree.Binary.TheVariants.{And, Xor, Or, Equal, Unequal, Less, Greater, AtMost, AtLeast, Add, AddTime, Subtract, SubtractTime, Multiply, Divide, Mod}
 use Rattle.st_tree.specs.Plain.{PlainExpr, literal, read, output_of, unary, binary}
 use Rattle.st_tree.specs.Operators.{Outcome, exactly_one, ranged, dint, verdict, remainder, eval_unary, eval_binary}
-use Rattle.st_tree.specs.Meaning.{literal_worth, then_one, then_two, value_of}
-use Rattle.st_tree.specs.Kinds.{literal_in_range, same_kind, literal_kind, unary_kind, binary_kind, kind_of_expr, of_truths, of_numbers, of_times, of_sums, of_order}
+use Rattle.st_tree.specs.Meaning.{literal_worth, then_one, then_two, ValuesOf, value_of}
+use Rattle.st_tree.specs.Kinds.{literal_in_range, same_kind, literal_kind, unary_kind, binary_kind, Sorts, kind_of_expr, of_truths, of_numbers, of_times, of_sums, of_order}
+use Rattle.st_tree.specs.Ranges.{AreInRange}
 
 -- a number is in the range of a kind
 abbrev pub InRange : Kind → ℤ → Type 0
@@ -145,10 +145,9 @@ binary_in_range Mod a b r x y n is h gives = numbers_in a b r n is (remainder_in
 
 pub literal_in : (l : Literal) (k : Kind) (n : ℤ) → literal_in_range l ≡ true → literal_kind l ≡ k → literal_worth l ≡ n → InRange k n
 literal_in (Integer m) k n fits is gives = subst (InRange k) gives (to kind.Dint k m is fits)
-literal_in (Value v) k n fits is gives = subst (InRange k) gives (to (kind_of v) k (values.worth v) is fits)
+literal_in (Value v) k n fits is gives = subst (InRange k) gives (to (kind_of v) k (worth v) is fits)
 
-module _ {V : Type 0} (variable_kind : V → Option Kind) (output_kind : V → V → Option Kind) (variable_value : V → ℤ) (output_value : V → V → ℤ)
-    (variable_in : (v : V) (k : Kind) → variable_kind v ≡ Some k → InRange k (variable_value v)) (output_in : (instance name : V) (k : Kind) → output_kind instance name ≡ Some k → InRange k (output_value instance name)) where
+module _ {V : Type 0} (sorts : Sorts V) (values : ValuesOf V) (within : AreInRange sorts values) where
   unary_case : (op : Unary) (p : Option Kind) (o : Outcome) (k : Kind) (n : ℤ) → option_and_then (unary_kind op) p ≡ Some k → then_one o (eval_unary op) ≡ Ok n → InRange k n
   unary_case op None o k n is gives = absurd (cc)
   unary_case op (Some a) (Err trap) k n is gives = absurd (cc)
@@ -166,10 +165,10 @@ module _ {V : Type 0} (variable_kind : V → Option Kind) (output_kind : V → V
   literal_case true l k n fits is gives = literal_in l k n fits (cc) gives
   literal_case false l k n fits is gives = absurd (cc)
 
-  pub value_in_range : (e : PlainExpr V) (k : Kind) (n : ℤ) → kind_of_expr variable_kind output_kind e ≡ Some k → value_of variable_value output_value e ≡ Ok n → InRange k n
+  pub value_in_range : (e : PlainExpr V) (k : Kind) (n : ℤ) → kind_of_expr sorts e ≡ Some k → value_of values e ≡ Ok n → InRange k n
   value_in_range (literal l) k n is gives = literal_case (literal_in_range l) l k n refl is (cc)
-  value_in_range (read v) k n is gives = subst (InRange k) (cc) (variable_in v k is)
-  value_in_range (output_of instance name) k n is gives = subst (InRange k) (cc) (output_in instance name k is)
-  value_in_range (unary op a) k n is gives = unary_case op (kind_of_expr variable_kind output_kind a) (value_of variable_value output_value a) k n is gives
+  value_in_range (read v) k n is gives = subst (InRange k) (cc) (within.variable_in v k is)
+  value_in_range (output_of instance name) k n is gives = subst (InRange k) (cc) (within.output_in instance name k is)
+  value_in_range (unary op a) k n is gives = unary_case op (kind_of_expr sorts a) (value_of values a) k n is gives
   value_in_range (binary op a b) k n is gives =
-      binary_case op (kind_of_expr variable_kind output_kind a) (kind_of_expr variable_kind output_kind b) (value_of variable_value output_value a) (value_of variable_value output_value b) k n (λ j x i g. value_in_range a j x i g) is gives
+      binary_case op (kind_of_expr sorts a) (kind_of_expr sorts b) (value_of values a) (value_of values b) k n (λ j x i g. value_in_range a j x i g) is gives

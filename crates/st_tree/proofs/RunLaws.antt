@@ -12,10 +12,10 @@ use Rattle.st_tree.specs.Plain.{PlainStmt, empty, assign, call, if_else, case_of
 use Rattle.st_tree.specs.Operators.{Outcome}
 use Rattle.st_tree.specs.Controls.{control_values, span_of}
 use Rattle.st_tree.specs.Kinds.{is_kind}
-use Rattle.st_tree.specs.Fits.{Context, is_of, option_is_of, fits_option, takes, argument_fits, stmt_fits, all_fit, branches_fit, choices_fit}
+use Rattle.st_tree.specs.Fits.{Context, sorts_of, is_of, option_is_of, fits_option, takes, argument_fits, stmt_fits, all_fit, branches_fit, choices_fit}
 use Rattle.st_tree.specs.Fits.{may_control, stmt_controls_fit, controls_fit, branches_controls_fit, choices_controls_fit}
-use Rattle.st_tree.specs.Meaning.{Spot, Space, Ran, Done, Trapped, then_run, with_value, turns, labels_fit, Chosen, Took, Passed, or_else, on_test, statement_spot, outcome, step_of, take_inputs, give_outputs, run, run_all, first_true, first_fit}
-use Rattle.st_tree.specs.Ranges.{Leaves, IsInvariant}
+use Rattle.st_tree.specs.Meaning.{Spot, Space, Ran, Done, Trapped, then_run, with_value, turns, labels_fit, Chosen, Took, Passed, or_else, on_test, statement_spot, values_in, outcome, step_of, take_inputs, give_outputs, run, run_all, first_true, first_fit}
+use Rattle.st_tree.specs.Ranges.{Leaves, AreInRange, IsInvariant}
 use Rattle.st_tree.proofs.RangeLaws.{InRange}
 use Rattle.st_tree.proofs.FittedLaws.{kind_is, span_ends, value_in, fitted_in}
 use Rattle.st_tree.proofs.ControlRangeLaws.{control_values_in_range}
@@ -25,15 +25,19 @@ module _ {V W : Type 0} (context : Context V) (space : Space V W) (Holds : W →
   ChosenLeaves (Took r) = Leaves Holds r
   ChosenLeaves (Passed w) = Holds w
 
+  -- the values that are read in a world are in the ranges of their kinds
+  values_within : (w : W) → Holds w → AreInRange (sorts_of context) (values_in space w)
+  values_within w holds = record { variable_in = λ v k. inv.variable_in_range w v k holds; output_in = λ instance name k. inv.output_in_range w instance name k holds }
+
   -- the value of an expression of a kind
   outcome_in : (w : W) (e : PlainExpr V) (k : Kind) (n : ℤ) → Holds w → is_of context k e ≡ true → outcome space w e ≡ Ok n → InRange k n
   outcome_in w e k n holds is gives =
-      value_in context (space.get w) (space.get_output w) (λ v k. inv.variable_in_range w v k holds) (λ instance name k. inv.output_in_range w instance name k holds) e k n is gives
+      value_in context (values_in space w) (values_within w holds) e k n is gives
 
   -- the kind that is declared where an expression fits, with the range of its value
   outcome_fits : (o : Option Kind) (e : PlainExpr V) (w : W) (n : ℤ) → Holds w → fits_option context o e ≡ true → outcome space w e ≡ Ok n → (k : Kind) × (o ≡ Some k) × InRange k n
   outcome_fits o e w n holds fits gives =
-      fitted_in context (space.get w) (space.get_output w) (λ v k. inv.variable_in_range w v k holds) (λ instance name k. inv.output_in_range w instance name k holds) o e n fits gives
+      fitted_in context (values_in space w) (values_within w holds) o e n fits gives
 
   -- an assignment that fits keeps the invariant, and so does an input of a call
   taken : (v : V) (e : PlainExpr V) (w : W) (n : ℤ) → Holds w → takes context v e ≡ true → outcome space w e ≡ Ok n → Holds (space.put w v n)

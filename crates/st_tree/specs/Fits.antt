@@ -5,7 +5,7 @@ use Rattle.plant_types.specs.declared.values.Kind.{Kind}
 use Rattle.plant_types.specs.declared.values.Kind.TheVariants as kind
 use Rattle.st_tree.specs.Plain.{PlainExpr, output_of, PlainArgument, input, output}
 use Rattle.st_tree.specs.Plain.{PlainStmt, empty, assign, call, if_else, case_of, for_to, PlainBody, done, next, Branches, no_branch, branch, Choices, no_choice, choice}
-use Rattle.st_tree.specs.Kinds.{kind_of_expr, is_kind, fits_kind}
+use Rattle.st_tree.specs.Kinds.{Sorts, kind_of_expr, is_kind, fits_kind}
 
 -- what is declared of the variables and instances of a body
 pub record Context (V : Type 0) : Type 0 where
@@ -18,9 +18,13 @@ pub record Context (V : Type 0) : Type 0 where
   pub output_kind : V → V → Option Kind
 
 module _ {V : Type 0} (context : Context V) where
+  -- the kinds that an expression knows of
+  abbrev pub sorts_of : Sorts V
+  sorts_of = record { variable = context.variable_kind; output = context.output_kind }
+
   -- an expression is of a kind
   abbrev pub is_of : Kind → PlainExpr V → Bool
-  is_of k e = is_kind k (kind_of_expr context.variable_kind context.output_kind e)
+  is_of k e = is_kind k (kind_of_expr sorts_of e)
 
   -- an expression is of a kind, if there is one
   abbrev pub option_is_of : Kind → Option (PlainExpr V) → Bool
@@ -30,7 +34,7 @@ module _ {V : Type 0} (context : Context V) where
   -- an expression may be assigned where this kind is declared: it is of the kind, or the integer 0 or 1 for a BOOL
   abbrev pub fits_option : Option Kind → PlainExpr V → Bool
   fits_option None e = false
-  fits_option (Some k) e = fits_kind context.variable_kind context.output_kind k e
+  fits_option (Some k) e = fits_kind sorts_of k e
 
   -- an expression may be assigned to a variable
   abbrev pub takes : V → PlainExpr V → Bool

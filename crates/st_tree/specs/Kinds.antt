@@ -1,5 +1,5 @@
 -- The kinds of expressions, by the kinds of the variables and of instances' outputs.
-use Rattle.std.specs.Prelude.{Bool, true, false, ◌&&◌, ◌||◌, if◌then◌else◌, Option, Some, None, option_and_then, option_map, pos, map}
+use Rattle.std.specs.Prelude.{◌≡◌, Bool, true, false, ◌&&◌, ◌||◌, if◌then◌else◌, Option, Some, None, option_and_then, option_map, pos, map}
 use Rattle.std.specs.Ordering.{int_eq}
 use Rattle.plant_types.specs.declared.values.Kind.{Kind}
 use Rattle.plant_types.specs.declared.values.Kind.TheVariants as kind
@@ -84,13 +84,18 @@ binary_kind Multiply a b = of_numbers a b
 binary_kind Divide a b = of_numbers a b
 binary_kind Mod a b = of_numbers a b
 
+-- the kinds of the variables and of instances' outputs, of those that there are
+pub record Sorts (V : Type 0) : Type 0 where
+  pub variable : V → Option Kind
+  pub output : V → V → Option Kind
+
 -- the kind of an expression; none if a literal is outside the range of its kind, if an operator does not take its operands, or if a variable or an output has no kind
-abbrev pub kind_of_expr : {V : Type 0} → (V → Option Kind) → (V → V → Option Kind) → PlainExpr V → Option Kind
-kind_of_expr variable_kind output_kind (literal n) = if literal_in_range n then Some (literal_kind n) else None
-kind_of_expr variable_kind output_kind (read v) = variable_kind v
-kind_of_expr variable_kind output_kind (output_of instance name) = output_kind instance name
-kind_of_expr variable_kind output_kind (unary op a) = option_and_then (unary_kind op) (kind_of_expr variable_kind output_kind a)
-kind_of_expr variable_kind output_kind (binary op a b) = option_and_then (λ k. option_and_then (binary_kind op k) (kind_of_expr variable_kind output_kind b)) (kind_of_expr variable_kind output_kind a)
+abbrev pub kind_of_expr : {V : Type 0} → Sorts V → PlainExpr V → Option Kind
+kind_of_expr sorts (literal n) = if literal_in_range n then Some (literal_kind n) else None
+kind_of_expr sorts (read v) = sorts.variable v
+kind_of_expr sorts (output_of instance name) = sorts.output instance name
+kind_of_expr sorts (unary op a) = option_and_then (unary_kind op) (kind_of_expr sorts a)
+kind_of_expr sorts (binary op a b) = option_and_then (λ k. option_and_then (binary_kind op k) (kind_of_expr sorts b)) (kind_of_expr sorts a)
 
 abbrev pub is_kind : Kind → Option Kind → Bool
 is_kind k None = false
@@ -106,8 +111,8 @@ is_bit (literal n) = literal_is_bit n
 is_bit _ = false
 
 -- whether an expression may be the whole of what is assigned to a variable of a kind: it is of the kind, or a bit for a BOOL
-abbrev pub fits_kind : {V : Type 0} → (V → Option Kind) → (V → V → Option Kind) → Kind → PlainExpr V → Bool
-fits_kind variable_kind output_kind k e = is_kind k (kind_of_expr variable_kind output_kind e) || (same_kind k kind.Bool && is_bit e)
+abbrev pub fits_kind : {V : Type 0} → Sorts V → Kind → PlainExpr V → Bool
+fits_kind sorts k e = is_kind k (kind_of_expr sorts e) || (same_kind k kind.Bool && is_bit e)
 
 -- the kind of an operator's result, by the kind of its (left) operand, which it takes
 abbrev pub unary_result : Unary → Kind → Kind
@@ -125,13 +130,23 @@ binary_result Divide k = kind.Dint
 binary_result Mod k = kind.Dint
 binary_result _ k = kind.Bool
 
+-- the kinds of variables and of instances' outputs, where all names are there
+pub record KindsOf (V : Type 0) : Type 0 where
+  pub variable : V → Kind
+  pub output : V → V → Kind
+
+-- kinds are those that there are
+pub record AreSorts {V : Type 0} (sorts : Sorts V) (kinds : KindsOf V) : Type 0 where
+  pub variable_is : (v : V) (k : Kind) → sorts.variable v ≡ Some k → kinds.variable v ≡ k
+  pub output_is : (instance name : V) (k : Kind) → sorts.output instance name ≡ Some k → kinds.output instance name ≡ k
+
 -- the kind of an expression whose operators take their operands
-abbrev pub kind_in : {V : Type 0} → (V → Kind) → (V → V → Kind) → PlainExpr V → Kind
-kind_in variable_kind output_kind (literal n) = literal_kind n
-kind_in variable_kind output_kind (read v) = variable_kind v
-kind_in variable_kind output_kind (output_of instance name) = output_kind instance name
-kind_in variable_kind output_kind (unary op a) = unary_result op (kind_in variable_kind output_kind a)
-kind_in variable_kind output_kind (binary op a b) = binary_result op (kind_in variable_kind output_kind a)
+abbrev pub kind_in : {V : Type 0} → KindsOf V → PlainExpr V → Kind
+kind_in kinds (literal n) = literal_kind n
+kind_in kinds (read v) = kinds.variable v
+kind_in kinds (output_of instance name) = kinds.output instance name
+kind_in kinds (unary op a) = unary_result op (kind_in kinds a)
+kind_in kinds (binary op a b) = binary_result op (kind_in kinds a)
 
 -- the operator for a (left) operand of a kind
 abbrev pub resolved_unary : Unary → Kind → Unary
@@ -143,14 +158,14 @@ resolved_binary Add kind.Time = AddTime
 resolved_binary Subtract kind.Time = SubtractTime
 resolved_binary op _ = op
 
-module _ {V : Type 0} (variable_kind : V → Kind) (output_kind : V → V → Kind) where
+module _ {V : Type 0} (kinds : KindsOf V) where
   -- an expression with each operator resolved
   abbrev pub resolved_expr : PlainExpr V → PlainExpr V
   resolved_expr (literal n) = literal n
   resolved_expr (read v) = read v
   resolved_expr (output_of instance name) = output_of instance name
-  resolved_expr (unary op a) = unary (resolved_unary op (kind_in variable_kind output_kind a)) (resolved_expr a)
-  resolved_expr (binary op a b) = binary (resolved_binary op (kind_in variable_kind output_kind a)) (resolved_expr a) (resolved_expr b)
+  resolved_expr (unary op a) = unary (resolved_unary op (kind_in kinds a)) (resolved_expr a)
+  resolved_expr (binary op a b) = binary (resolved_binary op (kind_in kinds a)) (resolved_expr a) (resolved_expr b)
 
   abbrev pub resolved_argument : PlainArgument V → PlainArgument V
   resolved_argument (input name e) = input name (resolved_expr e)

@@ -23,13 +23,18 @@ then_one (Err trap) f = Err trap
 abbrev pub then_two : Outcome → Outcome → (ℤ → ℤ → Outcome) → Outcome
 then_two a b f = then_one a (λ x. then_one b (f x))
 
--- the outcome of an expression, by the values of its variables and of the instances' outputs
-abbrev pub value_of : {V : Type 0} → (V → ℤ) → (V → V → ℤ) → PlainExpr V → Outcome
-value_of variable_value output_value (literal n) = Ok (literal_worth n)
-value_of variable_value output_value (read v) = Ok (variable_value v)
-value_of variable_value output_value (output_of instance name) = Ok (output_value instance name)
-value_of variable_value output_value (unary op a) = then_one (value_of variable_value output_value a) (eval_unary op)
-value_of variable_value output_value (binary op a b) = then_two (value_of variable_value output_value a) (value_of variable_value output_value b) (eval_binary op)
+-- what an expression reads: the values of variables and of instances' outputs
+pub record ValuesOf (V : Type 0) : Type 0 where
+  pub variable : V → ℤ
+  pub output : V → V → ℤ
+
+-- the outcome of an expression, by the values that it reads
+abbrev pub value_of : {V : Type 0} → ValuesOf V → PlainExpr V → Outcome
+value_of values (literal n) = Ok (literal_worth n)
+value_of values (read v) = Ok (values.variable v)
+value_of values (output_of instance name) = Ok (values.output instance name)
+value_of values (unary op a) = then_one (value_of values a) (eval_unary op)
+value_of values (binary op a b) = then_two (value_of values a) (value_of values b) (eval_binary op)
 
 -- where a run traps: the path of the program's and the instances' names as declared, the innermost first, and the number of the statement in its body
 pub record Spot : Type 0 where
@@ -91,9 +96,13 @@ on_test w spot (Err trap) body later = Took (Trapped w spot trap)
 abbrev pub statement_spot : {V W : Type 0} → Space V W → ℕ → Spot
 statement_spot space number = record { path = space.path; statement = number }
 
+-- the values that an expression reads in a world
+abbrev pub values_in : {V W : Type 0} → Space V W → W → ValuesOf V
+values_in space w = record { variable = space.get w; output = space.get_output w }
+
 -- the outcome of an expression in a world
 abbrev pub outcome : {V W : Type 0} → Space V W → W → PlainExpr V → Outcome
-outcome space w e = value_of (space.get w) (space.get_output w) e
+outcome space w e = value_of (values_in space w) e
 
 -- the outcome of the step of a FOR, which is 1 where none is written
 abbrev pub step_of : {V W : Type 0} → Space V W → W → Option (PlainExpr V) → Outcome

@@ -2,13 +2,19 @@
 use Rattle.std.specs.Prelude.{◌≡◌, ℤ, true, Some}
 use Rattle.plant_types.specs.declared.values.Kind.{Kind}
 use Rattle.plant_types.specs.Values.{is_in_range}
-use Rattle.st_tree.specs.Meaning.{Space, Ran, Done, Trapped}
+use Rattle.st_tree.specs.Kinds.{Sorts}
+use Rattle.st_tree.specs.Meaning.{Space, ValuesOf, Ran, Done, Trapped}
 use Rattle.st_tree.specs.Fits.{Context}
 
 -- a fact holds of the world that a run leaves, be it after a trap
 abbrev pub Leaves : {W : Type 0} → (W → Type 0) → Ran W → Type 0
 Leaves Holds (Done w) = Holds w
 Leaves Holds (Trapped w spot trap) = Holds w
+
+-- the values that are read are in the ranges of their kinds
+pub record AreInRange {V : Type 0} (sorts : Sorts V) (values : ValuesOf V) : Type 0 where
+  pub variable_in : (v : V) (k : Kind) → sorts.variable v ≡ Some k → is_in_range k (values.variable v) ≡ true
+  pub output_in : (instance name : V) (k : Kind) → sorts.output instance name ≡ Some k → is_in_range k (values.output instance name) ≡ true
 
 -- a fact of worlds that gives the values in them their ranges, and that each step of a body keeps: an assignment and an input of a call,
 -- where the value is in the range of the kind, and what an instance does when it is called

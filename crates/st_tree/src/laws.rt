@@ -8,13 +8,13 @@ ghost use Rattle.plant_types.specs.declared.values.Kind.TheVariants as kind;
 ghost use Rattle.st_tree.specs.Constants.{constant_of};
 ghost use Rattle.st_tree.specs.Controls.{control_values, CountsToBound};
 ghost use Rattle.st_tree.specs.Fits.{Context, all_fit, controls_fit};
-ghost use Rattle.st_tree.specs.Kinds.{unary_kind, binary_kind, kind_of_expr, kind_in};
+ghost use Rattle.st_tree.specs.Kinds.{unary_kind, binary_kind, Sorts, KindsOf, AreSorts, kind_of_expr, kind_in};
 ghost use Rattle.st_tree.specs.Alike.{renamed_space};
 ghost use Rattle.st_tree.specs.Mapping.{mapped_body, renaming};
-ghost use Rattle.st_tree.specs.Meaning.{Space, value_of, run_all};
+ghost use Rattle.st_tree.specs.Meaning.{Space, ValuesOf, value_of, run_all};
 ghost use Rattle.st_tree.specs.Operators.{Outcome, eval_unary, eval_binary};
 ghost use Rattle.st_tree.specs.Plain.{PlainExpr, PlainBody};
-ghost use Rattle.st_tree.specs.Ranges.{IsInvariant, Leaves};
+ghost use Rattle.st_tree.specs.Ranges.{IsInvariant, Leaves, AreInRange};
 ghost use Rattle.st_tree.specs.declared.controls.Span.{Span};
 ghost use Rattle.st_tree.specs.declared.tree.Unary.{Unary};
 ghost use Rattle.st_tree.specs.declared.tree.Binary.{Binary};
@@ -22,16 +22,14 @@ ghost use Rattle.st_tree.specs.declared.tree.Binary.{Binary};
 /// Where `kind_of_expr` finds a kind, `kind_in` gives the same one, if both have the same kinds of the variables and outputs.
 /// So in a program without faults each operator is resolved by the kind that its operands have.
 pub fn kind_of_expr_is_kind_in()
-    ensures { (variable_kind : List ℕ → Option Kind) (output_kind : List ℕ → List ℕ → Option Kind) (variable_in : List ℕ → Kind) (output_in : List ℕ → List ℕ → Kind)
-        → ((v : List ℕ) (k : Kind) → variable_kind v ≡ Some k → variable_in v ≡ k)
-        → ((instance name : List ℕ) (k : Kind) → output_kind instance name ≡ Some k → output_in instance name ≡ k)
-        → (e : PlainExpr (List ℕ)) (k : Kind) → kind_of_expr variable_kind output_kind e ≡ Some k → kind_in variable_in output_in e ≡ k }
+    ensures { (sorts : Sorts (List ℕ)) (kinds : KindsOf (List ℕ)) → AreSorts sorts kinds
+        → (e : PlainExpr (List ℕ)) (k : Kind) → kind_of_expr sorts e ≡ Some k → kind_in kinds e ≡ k }
 {}
 
 /// The outcome of a constant expression is its value, whatever its variables and outputs hold.
 pub fn constant_of_is_value_of<V>()
     ensures { (e : PlainExpr V) (outcome : Outcome) → constant_of e ≡ Some outcome
-        → (variable_value : V → ℤ) (output_value : V → V → ℤ) → value_of variable_value output_value e ≡ outcome }
+        → (values : ValuesOf V) → value_of values e ≡ outcome }
 {}
 
 /// The control values of a FOR are from, from + step, .. as long as they are not past the bound, in order, and no others (IEC 61131-3).
@@ -49,10 +47,8 @@ pub fn operators_stay_in_range()
 
 /// The value of an expression is in the range of its kind, if the values of its variables and of its outputs are in the ranges of theirs.
 pub fn value_stays_in_range<V>()
-    ensures { (variable_kind : V → Option Kind) (output_kind : V → V → Option Kind) (variable_value : V → ℤ) (output_value : V → V → ℤ)
-        → ((v : V) (k : Kind) → variable_kind v ≡ Some k → is_in_range k (variable_value v) ≡ true)
-        → ((instance name : V) (k : Kind) → output_kind instance name ≡ Some k → is_in_range k (output_value instance name) ≡ true)
-        → (e : PlainExpr V) (k : Kind) (n : ℤ) → kind_of_expr variable_kind output_kind e ≡ Some k → value_of variable_value output_value e ≡ Ok n → is_in_range k n ≡ true }
+    ensures { (sorts : Sorts V) (values : ValuesOf V) → AreInRange sorts values
+        → (e : PlainExpr V) (k : Kind) (n : ℤ) → kind_of_expr sorts e ≡ Some k → value_of values e ≡ Ok n → is_in_range k n ≡ true }
 {}
 
 /// The control values of a FOR whose bounds are DINTs are DINTs: none is past the range, whatever the step.

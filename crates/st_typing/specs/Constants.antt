@@ -13,7 +13,7 @@ use Rattle.st_tree.specs.Operators.{Outcome}
 use Rattle.st_tree.specs.Controls.{control_values, span_of}
 use Rattle.st_tree.specs.declared.controls.Span.{Span}
 use Rattle.st_tree.specs.Constants.{constant_of}
-use Rattle.st_tree.specs.Kinds.{resolved_expr}
+use Rattle.st_tree.specs.Kinds.{KindsOf, resolved_expr}
 use Rattle.st_parser.specs.Units.{PlainSection, PlainPou}
 use Rattle.st_names.specs.DeclaredNames.{PlainDeclared, declared_in}
 use Rattle.st_names.specs.Scopes.{is_control}
@@ -60,15 +60,12 @@ turns_of (Some from) (Some to) (Some step) = turns_in (span_of from to step)
 turns_of _ _ _ = 0
 
 -- a constant expression reads no variable, so that no variable's kind chooses an operator
-abbrev pub no_kind : List ℕ → Kind
-no_kind name = kind.Bool
-
-abbrev pub no_output_kind : (instance name : List ℕ) → Kind
-no_output_kind instance name = kind.Bool
+abbrev pub no_kinds : KindsOf (List ℕ)
+no_kinds = record { variable = λ name. kind.Bool; output = λ instance name. kind.Bool }
 
 -- the outcome of a constant expression, each operator being that of its operands' kind; none if it reads a variable
 abbrev pub meant_constant : PlainExpr (List ℕ) → Option Outcome
-meant_constant e = constant_of (resolved_expr no_kind no_output_kind e)
+meant_constant e = constant_of (resolved_expr no_kinds e)
 
 -- the outcome of a constant step, which is 1 if none is written
 abbrev pub constant_step : Option (PlainExpr (List ℕ)) → Option Outcome

@@ -2,11 +2,10 @@
 
 ghost use Rattle.std.specs.Prelude.{◌≡◌, IfOk, map, option_map, IfSome, ℕ, List};
 ghost use Rattle.std.specs.List.{list_all};
-ghost use Rattle.plant_types.specs.declared.values.Kind.{Kind as PlainKind};
 ghost use Rattle.st_parser.specs.declared.unit.SectionKind.{SectionKind};
 ghost use Rattle.st_tree.specs.View.{view_expr, view_option, view_argument, view_stmt, view_body};
 ghost use Rattle.st_tree.specs.Constants.{constant_of};
-ghost use Rattle.st_tree.specs.Kinds.{resolved_expr, kind_in};
+ghost use Rattle.st_tree.specs.Kinds.{KindsOf, resolved_expr, kind_in};
 ghost use Rattle.st_tree.specs.Meaning.{then_one, then_two};
 ghost use Rattle.st_tree.specs.Operators.{eval_unary, eval_binary};
 ghost use Rattle.st_parser.specs.Units.{view_declaration, view_section, view_pou};
@@ -42,8 +41,8 @@ fn apply_binary(op: Binary, x: Result<i64, Trap>, y: Result<i64, Trap>) -> Resul
 /// The outcome of a constant expression and its kind, each operator being that of its operands' kind; `None` for an expression that reads
 /// a variable or an output.
 fn kinded_constant(expr: &Expr<Text>) -> Option<(Result<i64, Trap>, Kind)>
-    ensures outcome { (variable_kind : List ℕ → PlainKind) (output_kind : List ℕ → List ℕ → PlainKind) → option_map (λ r. r.0) result ≡ constant_of (resolved_expr variable_kind output_kind (view_expr expr.now)) }
-    ensures kind { (variable_kind : List ℕ → PlainKind) (output_kind : List ℕ → List ℕ → PlainKind) → IfSome result (λ r. r.1 ≡ kind_in variable_kind output_kind (view_expr expr.now)) }
+    ensures outcome { (kinds : KindsOf (List ℕ)) → option_map (λ r. r.0) result ≡ constant_of (resolved_expr kinds (view_expr expr.now)) }
+    ensures kind { (kinds : KindsOf (List ℕ)) → IfSome result (λ r. r.1 ≡ kind_in kinds (view_expr expr.now)) }
 {
     match expr {
         Expr::Literal(literal) => Some((Ok(literal.worth()), literal.kind())),

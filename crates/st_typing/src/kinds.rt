@@ -4,11 +4,10 @@ ghost use Rattle.std.specs.Prelude.{◌≡◌, ◌&&◌, [], IfOk, map, option_m
 ghost use Rattle.std.specs.List.{list_all};
 ghost use Rattle.st_tree.specs.View.{view_expr, view_option, view_argument, view_branches};
 ghost use Rattle.st_tree.specs.Kinds.{kind_of_expr, is_kind};
-ghost use Rattle.st_tree.specs.Fits.{is_of, option_is_of, fits_option, takes, argument_fits};
+ghost use Rattle.st_tree.specs.Fits.{sorts_of, is_of, option_is_of, fits_option, takes, argument_fits};
 ghost use Rattle.st_parser.specs.Units.{view_declaration, view_section, view_pou};
 ghost use Rattle.st_names.specs.DeclaredNames.{declared_as, declared_together, declared_by, declared_in, sort_kind};
 ghost use Rattle.st_names.specs.Every.{tests_of};
-ghost use Rattle.st_names.specs.Scopes.{variable_kind, output_kind};
 ghost use Rattle.st_typing.specs.Kinds.{context_of, parts_fit, initial_fits, instance_fits, declared_fits, is_global, globals_misfit, pou_misfit};
 
 use plant_types::{Kind, Text};
@@ -19,7 +18,7 @@ use std::alloc::{AllocError, Global};
 
 /// The kind of an expression; `None` if an operator doesn't take its operands, or a name has no kind.
 fn kind_of_expr<S: Scope>(scope: &S, expr: &Expr<Text>) -> Option<Kind>
-    ensures { result ≡ kind_of_expr (variable_kind (S.units scope.now) (S.own scope.now)) (output_kind (S.units scope.now) (S.own scope.now)) (view_expr expr.now) }
+    ensures { result ≡ kind_of_expr (sorts_of (context_of (S.units scope.now) (S.own scope.now))) (view_expr expr.now) }
 {
     match expr {
         Expr::Literal(literal) => Some(literal.kind()),

@@ -6,7 +6,7 @@ use Rattle.st_tree.specs.Mapping.{mapped_argument}
 use Rattle.st_tree.specs.Numbers.{count_body}
 use Rattle.st_tree.specs.View.{view_expr, view_argument, view_stmt, view_body}
 use Rattle.st_tree.proofs.Views.{view_stmt-Call, view_branch_is, view_branch_made, view_choice_is, view_choice_made}
-use Rattle.block_frames.specs.Scoped.{scope_instance, scope_kind, scope_output_kind, mapping_of, flat_stmt, flat_body}
+use Rattle.block_frames.specs.Scoped.{scope_instance, scope_kinds, mapping_of, flat_stmt, flat_body}
 use Rattle.block_frames.proofs.Joined.{body_more, body_whole, branches_more, branches_whole, choices_more, choices_whole}
 use Rattle.block_frames.proofs.resolve.+resolve.Goals as goal
 
@@ -48,7 +48,7 @@ resolve_stmt-returns-in_ok-arguments-in-Call-clause-stmt t c =
     let scope = c.args.scope.now in
     let own = c.next_number-own.ensures.own in
     let called = c.instance-called.ensures ∙ ap (scope_instance scope) c.as_str-in-Call.ensures in
-    let arguments = c.in_ok-arguments-in-Call.ensures ∙ ap (λ a. map (mapped_argument (mapping_of scope) c.in-Call.instance) (map (resolved_argument (scope_kind scope) (scope_output_kind scope)) (map view_argument a))) c.deref.ensures.value in
+    let arguments = c.in_ok-arguments-in-Call.ensures ∙ ap (λ a. map (mapped_argument (mapping_of scope) c.in-Call.instance) (map (resolved_argument (scope_kinds scope)) (map view_argument a))) c.deref.ensures.value in
     view_stmt-Call _ _ _ ∙ (λ i. call (own i) (called i) (arguments i)) ∙ ap (flat_stmt scope c.args.number.now) (sym (view_stmt-Call _ _ _) ∙ ap view_stmt (sym c.in-Call.is))
 
 pub resolve_choices-returns-clause-count : goal.resolve_choices-returns-clause-count

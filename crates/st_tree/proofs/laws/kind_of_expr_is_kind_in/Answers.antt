@@ -2,4 +2,4 @@ use Rattle.st_tree.proofs.KindLaws.{kind_of_expr_is_kind_in}
 use Rattle.st_tree.proofs.laws.kind_of_expr_is_kind_in.Goals as goal
 
 pub returns : goal.returns
-returns c variable_kind output_kind variable_in output_in = kind_of_expr_is_kind_in variable_kind output_kind variable_in output_in
+returns c sorts kinds agrees = kind_of_expr_is_kind_in sorts kinds agrees
