@@ -1,5 +1,6 @@
 pub mod Steps
 pub mod Items
+pub mod Rising
 pub mod Standing
 pub mod Runs
 pub mod Sound

@@ -1,5 +1,5 @@
 -- Numbers that are noted once each.
-use Rattle.std.proofs.Common.{◌≡◌, ◌≢◌, ◌<◌, ◌≤◌, ◌+◌, ℕ, zero, suc, true, false, List, [], ◌∷◌, ◌++◌, length, get_or, set, Some, refl, ap, sym, ◌∙◌, subst, arith, inl, inr, ◌⊎◌, ⊎_elim, Contains, length-append, get_or-set_same, get_or-set_other}
+use Rattle.std.proofs.Common.{◌≡◌, ◌≢◌, ◌<◌, ◌≤◌, ◌+◌, ℕ, zero, suc, List, [], ◌∷◌, ◌++◌, length, get_or, set, Some, refl, ap, sym, ◌∙◌, subst, arith, inl, inr, ◌⊎◌, ⊎_elim, Contains, length-append, get_or-set_same, get_or-set_other}
 use Rattle.std.specs.Prelude.{slice_get, Option, None}
 use Rattle.std.specs.List.{AllByRecursion}
 use Rattle.std.proofs.lemmas.Bool.{cases_lt, ne_eqb, eqb-true}
@@ -7,6 +7,7 @@ use Rattle.std.proofs.Math.Dec.{eqb}
 use Rattle.std.proofs.lemmas.List.{length-set}
 use Rattle.std.proofs.lemmas.List.Elements.{Contains-append_left, Contains-append_right, Contains-append_cases}
 use Rattle.std.proofs.lemmas.Option.{same_Some, slice_get_within, slice_get-get_or, get_or_from_slice_get}
+use Rattle.std.specs.List.{IsDistinct}
 use Rattle.std.proofs.lemmas.Map.Keys.{IsDistinct-from_apart}
 use Rattle.std.proofs.lemmas.Map.Steps.{length-le_from_distinct_below}
 use Rattle.std.proofs.lemmas.Map.Views.{Contains-from_any}
@@ -60,21 +61,19 @@ module _ (places numbers : List ℕ) (s : ℕ) (within : s < length places) (new
     once = once_more;
   }
 
--- numbers that are noted once each are no more than the table has places
-room : (places numbers : List ℕ) → AreOnce places numbers → length numbers ≤ length places
-room places numbers once =
-    length-le_from_distinct_below numbers (length places)
-    (IsDistinct-from_apart eqb numbers (λ i j d lt within. different (get_or numbers i d) (get_or numbers j d) (λ e.
+-- numbers that are noted once each are different
+pub noted_distinct : (places numbers : List ℕ) → AreOnce places numbers → IsDistinct eqb numbers
+noted_distinct places numbers once =
+    IsDistinct-from_apart eqb numbers (λ i j d lt within. ne_eqb (get_or numbers i d) (get_or numbers j d) (λ e.
     let one = once i (get_or numbers i d) (slice_get-get_or numbers i d (omega arith)) in
     let other = once j (get_or numbers j d) (slice_get-get_or numbers j d within) in
-    let same : i ≡ j = sym one.1 ∙ ap (λ s. get_or places s 0) e ∙ other.1 in omega arith)))
-    (λ q any. let has = Contains-from_any eqb-eq q numbers any in (once has.0 q (slice_get-get_or numbers has.0 q has.1 ∙ ap Some has.2)).0)
-  where
-    different : (a b : ℕ) → (a ≡ b → ⊥) → eqb a b ≡ false
-    different a b ne = ne_eqb a b ne
+    let same : i ≡ j = sym one.1 ∙ ap (λ s. get_or places s 0) e ∙ other.1 in omega arith))
 
-    eqb-eq : (a b : ℕ) → eqb a b ≡ true → a ≡ b
-    eqb-eq a b e = eqb-true a b e
+-- so they are no more than the table has places
+room : (places numbers : List ℕ) → AreOnce places numbers → length numbers ≤ length places
+room places numbers once =
+    length-le_from_distinct_below numbers (length places) (noted_distinct places numbers once)
+    (λ q any. let has = Contains-from_any eqb-true q numbers any in (once has.0 q (slice_get-get_or numbers has.0 q has.1 ∙ ap Some has.2)).0)
 
 -- where one more is to be noted there is room for it
 pub room_more : (places numbers : List ℕ) (s : ℕ) → AreOnce places numbers → s < length places → (IsNoted places numbers s → ⊥) → length numbers < length places

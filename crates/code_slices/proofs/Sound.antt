@@ -42,7 +42,7 @@ clocks_again : (f g : ℕ → ℕ) (i : Instr) (n : ℕ) → AllByRecursion (λ 
 clocks_again f g i n h = subst (λ (o : PlainOperands). past_all o.clocks ≤ n) (sym (renamed_is f g i)) (past_map g (operands i).clocks n h)
 
 -- what stands at a place by other numbers is what stood there
-was : {A B : Type 0} (h : A → B) (o : Option A) (y : B) → option_map h o ≡ Some y → (x : A) × (o ≡ Some x) × (h x ≡ y)
+pub was : {A B : Type 0} (h : A → B) (o : Option A) (y : B) → option_map h o ≡ Some y → (x : A) × (o ≡ Some x) × (h x ≡ y)
 was h None y e = absurd (none-some y e)
 was h (Some x) y e = (x, refl, same_Some (h x) y e)
 
@@ -59,7 +59,7 @@ over_alike R first small h (Over r left) Stuck e over = absurd e
 over_alike R first small h Unfinished b e over = absurd over
 over_alike R first small h Stuck b e over = absurd over
 
-below : (numbers : Instr → List ℕ) (n : ℕ) (code : List Instr) → ((pc : ℕ) (i : Instr) → slice_get code pc ≡ Some i → AllByRecursion (λ s. s < n) (numbers i)) → (s : ℕ) → SomeHas numbers code s → s < n
+pub below : (numbers : Instr → List ℕ) (n : ℕ) (code : List Instr) → ((pc : ℕ) (i : Instr) → slice_get code pc ≡ Some i → AllByRecursion (λ s. s < n) (numbers i)) → (s : ℕ) → SomeHas numbers code s → s < n
 below numbers n code h s some = All-contains (λ s. s < n) (numbers some.1) s (All-from_recursion (λ s. s < n) (numbers some.1) (h some.0 some.1 some.2)) some.3
 
 module _ (f g : ℕ → ℕ) (values clocks : ℕ) (code : PlainCode) (sound : IsSound code) (apart : TellsApart f g code.instrs) (room : HasRoom f g values clocks code.instrs) where

@@ -3,6 +3,7 @@ pub mod Renaming
 pub mod Alike
 pub mod Laws
 pub mod Noting
+pub mod Ascending
 pub mod Parts
 pub mod Puts
 pub mod Runs

@@ -1,5 +1,5 @@
 -- Code whose slots and clocks have other numbers.
-use Rattle.std.specs.Prelude.{◌≡◌, ◌<◌, ℕ, List, map, slice_get}
+use Rattle.std.specs.Prelude.{◌≡◌, ◌<◌, ◌+◌, ℕ, List, map, slice_get}
 use Rattle.plant_cells.specs.Cells.{PlainCells}
 use Rattle.acc_vm.specs.declared.instr.Instr.{Instr}
 use Rattle.acc_vm.specs.Operands.{renamed}
@@ -15,6 +15,10 @@ renamed_code f g values clocks code =
 pub record TellsApart (f g : ℕ → ℕ) (code : List Instr) : Type 0 where
   pub values : (s r : ℕ) → Names code s → Names code r → f s ≡ f r → s ≡ r
   pub clocks : (k l : ℕ) → NamesClock code k → NamesClock code l → g k ≡ g l → k ≡ l
+
+-- other numbers keep so many from a first one on in one piece
+abbrev pub KeepsRow : (ℕ → ℕ) → ℕ → ℕ → Type 0
+KeepsRow f first count = (k : ℕ) → k < count → f (first + k) ≡ f first + k
 
 -- cells have under other numbers what others have of all that a code names, or lack it as they do
 pub record StandsFor (f g : ℕ → ℕ) (code : List Instr) (cells small : PlainCells) : Type 0 where

@@ -1,6 +1,6 @@
 //! Laws of the definitions. These functions do nothing: each has a law as its contract, for the crates above.
 
-ghost use Rattle.std.specs.Prelude.{◌≡◌, ◌<◌, ℕ, ℤ, List, Result, map, slice_get};
+ghost use Rattle.std.specs.Prelude.{◌≡◌, ◌<◌, ◌+◌, ℕ, ℤ, List, Result, map, slice_get};
 ghost use Rattle.plant_cells.specs.Cells.{PlainCells};
 ghost use Rattle.plant_cells.specs.Runs.{Path, ended};
 ghost use Rattle.plant_cells.specs.declared.stop.Stop.{Stop};
@@ -9,7 +9,7 @@ ghost use Rattle.plant_types.specs.declared.values.Place.{Place};
 ghost use Rattle.acc_vm.specs.Machine.{Over, exec};
 ghost use Rattle.acc_vm.specs.Codes.{PlainCode, IsSound, run_of};
 ghost use Rattle.acc_vm.specs.Operands.{renamed};
-ghost use Rattle.code_slices.specs.Renaming.{renamed_code, TellsApart, StandsFor, HasRoom};
+ghost use Rattle.code_slices.specs.Renaming.{renamed_code, KeepsRow, TellsApart, StandsFor, HasRoom};
 ghost use Rattle.code_slices.specs.Alike.{GoAlike, IsKept, Leaves};
 ghost use Rattle.code_slices.specs.Runs.{RunsWhole};
 ghost use Rattle.code_slices.specs.Laws.{BothAfter};
@@ -46,6 +46,12 @@ pub fn renamed_code_is_sound()
 pub fn part_runs_as_whole()
     ensures { (whole : PlainCode) (part : PlainPart) → IsPartOf whole part → (t : ℕ) (names : List Path) (cells : PlainCells) → HasPart part cells
         → GoAlike (PartAfter whole part cells) (run_of t names whole cells) (run_of t names part.code (loaded part cells)) }
+{}
+
+/// Slots one after another that a code names stand one after another in its part, whatever else it names.
+pub fn part_keeps_rows()
+    ensures { (whole : PlainCode) (part : PlainPart) (is : IsPartOf whole part) (first count : ℕ)
+        → ((k : ℕ) → k < count → Names whole.instrs (first + k)) → KeepsRow is.slot_place first count }
 {}
 
 /// How a part's code ran tells how the code runs from all cells.

@@ -16,8 +16,8 @@ mod renaming;
 mod same;
 
 pub use laws::{
-    part_ran_as_whole, part_runs_as_whole, renamed_code_ends_alike, renamed_code_is_sound,
-    renamed_code_runs_alike, run_keeps_what_isnt_written, standing_lasts,
+    part_keeps_rows, part_ran_as_whole, part_runs_as_whole, renamed_code_ends_alike,
+    renamed_code_is_sound, renamed_code_runs_alike, run_keeps_what_isnt_written, standing_lasts,
 };
 pub use part::{Part, relocate};
 pub use puts::{put_clocks, put_values};

@@ -1,8 +1,9 @@
 //! A program's part of the cells: its code by numbers of its own.
 
-ghost use Rattle.std.specs.Prelude.{◌≡◌, ◌≤◌, ◌^◌, ℕ, Some, length, take, slice_get, IfOk, OnOk, IsTrue, ◌↔◌};
+ghost use Rattle.std.specs.Prelude.{◌≡◌, ◌≤◌, ◌<◌, ◌^◌, ℕ, Some, length, map, get_or, slice_get, IfOk, OnOk, IsTrue, ◌↔◌};
 ghost use Rattle.acc_vm.specs.declared.instr.Instr.{Instr};
 ghost use Rattle.acc_vm.specs.Codes.{values_past, clocks_past};
+ghost use Rattle.code_slices.specs.Ascending.{Rises};
 ghost use Rattle.code_slices.specs.Parts.{IsPart, IsPartOf, HasPart, AreSlots, AreClocks, loaded};
 
 use crate::noting::{note_clocks, note_read, note_written};
@@ -13,11 +14,12 @@ use plant_cells::{Cells, Clock};
 use std::alloc::{AllocError, Global};
 use std::marker::Model;
 
-/// The code of a program by the numbers of its part: from 0 on the slots that it names, those that it writes in front, and the clocks.
+/// The code of a program by the numbers of its part: from 0 on the slots that it names, in ascending order, and the clocks; and the places of the
+/// slots that it writes.
 pub struct Part {
     code: PrintedCode,
     slots: Vec<u32>,
-    written: usize,
+    written: Vec<u32>,
     clocks: Vec<u32>,
 }
 
@@ -37,25 +39,54 @@ impl Model for Part {
 
     ghost Value = { PlainPart };
 
-    ghost view = { λ p. record { code = p.code; slots = p.slots.items; written = p.written; clocks = p.clocks.items } };
+    ghost view = { λ p. record { code = p.code; slots = p.slots.items; written = p.written.items; clocks = p.clocks.items } };
 
-    ghost invariant = { λ p. IsPart (record { code = p.code; slots = p.slots.items; written = p.written; clocks = p.clocks.items }) };
+    ghost invariant = { λ p. IsPart (record { code = p.code; slots = p.slots.items; written = p.written.items; clocks = p.clocks.items }) };
 }
 
-/// The slots that instructions name, those that they write in front, and how many these are. Fails if memory was refused.
+/// Notes for each slot its place among slots that rise.
+fn give_places(places: &mut [u32], slots: &[u32])
+    requires inside { (i s : ℕ) → slice_get slots.now i ≡ Some s → s < length places.old }
+    requires few { length slots.now ≤ 2 ^ 32 }
+    requires rise { Rises slots.now }
+    ensures size { length places.new ≡ length places.old }
+    ensures placed { (i s : ℕ) → slice_get slots.now i ≡ Some s → get_or places.new s 0 ≡ i }
+{
+    for i in 0..slots.len() {
+        places[slots[i] as usize] = i as u32;
+    }
+}
+
+/// The places of slots. Fails if memory was refused.
+fn places_of(alloc: Global, places: &[u32], slots: &[u32]) -> Result<Vec<u32>, AllocError>
+    requires inside { (i s : ℕ) → slice_get slots.now i ≡ Some s → s < length places.now }
+    ensures { IfOk result (λ found. found.items ≡ map (λ s. get_or places.now s 0) slots.now) }
+{
+    let mut found = Vec::with_capacity(alloc, slots.len())?;
+    for slot in slots {
+        found.push(places[*slot as usize])?;
+    }
+    Ok(found)
+}
+
+/// The slots that instructions name, in ascending order, and the places there of those that they write. Fails if memory was refused.
 fn named_slots(
     alloc: Global,
     places: &mut [u32],
     instrs: &[FlatInstr],
-) -> Result<(Vec<u32>, usize), AllocError>
+) -> Result<(Vec<u32>, Vec<u32>), AllocError>
     requires there { (pc : ℕ) (i : Instr) → slice_get instrs.now pc ≡ Some i → values_past i ≤ length places.old }
     requires few { length places.old ≤ 2 ^ 32 }
-    ensures { IfOk result (λ r. AreSlots instrs.now places.new r.0.items r.1) }
+    ensures { IfOk result (λ r. AreSlots instrs.now places.new r.0.items r.1.items) }
 {
     let mut slots = Vec::new(alloc);
     note_written(places, &mut slots, instrs)?;
-    let written = slots.len();
+    let mut wanted = Vec::from_slice(alloc, slots.as_slice())?;
     note_read(places, &mut slots, instrs)?;
+    wanted.sort_unstable();
+    slots.sort_unstable();
+    give_places(places, &slots);
+    let written = places_of(alloc, places, &wanted)?;
     Ok((slots, written))
 }
 
@@ -120,18 +151,19 @@ impl Part {
         self.code.code()
     }
 
-    /// The slots that the code names, those that it writes in front.
+    /// The slots that the code names, in ascending order.
     pub fn slots(&self) -> &[u32]
         ensures { result.now ≡ self.now.slots }
     {
         self.slots.as_slice()
     }
 
-    /// The slots that the code writes.
+    /// The places among these of the slots that the code writes.
     pub fn written(&self) -> &[u32]
-        ensures { result.now ≡ take self.now.written self.now.slots }
+        ensures is { result.now ≡ self.now.written }
+        ensures part { IsPart self.now }
     {
-        &self.slots[..self.written]
+        self.written.as_slice()
     }
 
     /// The clocks that the code names.
@@ -159,7 +191,7 @@ impl Part {
     pub fn same(&self, other: &Part) -> bool
         ensures { IsTrue result ↔ (self.now ≡ other.now) }
     {
-        self.written == other.written
+        self.written.as_slice() == other.written.as_slice()
             && self.slots.as_slice() == other.slots.as_slice()
             && self.clocks.as_slice() == other.clocks.as_slice()
             && self.code.same(&other.code)

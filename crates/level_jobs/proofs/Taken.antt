@@ -145,7 +145,7 @@ module _ (paths : ℕ → List Path) (codes : List PlainCode) (parts : List Plai
   kept_at : (x : Slot) → ((p : ℕ) → Contains nums p → writes_slot (code_at codes p).instrs x ≡ false) → cell_at new.cells x ≡ cell_at old.cells x
   kept_at (Value slot) off = ap inl (level_is.taken.values slot (λ s has w.
       both_ways (writes_slot (code_at codes (program_of s)).instrs (Value slot)) (off (program_of s) (numbers program_of runs s has))
-      (writes_value (code_at codes (program_of s)).instrs slot ((part_of s has).only_written w.place slot w.front w.at))))
+      (writes_value (code_at codes (program_of s)).instrs slot ((part_of s has).only_written w.place slot w.written w.at))))
   kept_at (Clocked k) off = ap inr (level_is.taken.clocks k (λ s has w.
       both_ways (writes_slot (code_at codes (program_of s)).instrs (Clocked k)) (off (program_of s) (numbers program_of runs s has))
       (names_clock (code_at codes (program_of s)).instrs k ((part_of s has).only_clocks w.place k w.at).0)))

@@ -1,16 +1,17 @@
 -- The globals among slots, and what a part tells of a code.
-use Rattle.std.proofs.Common.{◌≡◌, ◌<◌, ◌≤◌, ℕ, List, [], ◌∷◌, ◌++◌, length, get_or, take, drop, ◌+◌, arith, refl, sym, ap, subst, ◌∙◌, inl, inr, ⊎_elim}
-use Rattle.std.specs.Prelude.{Contains, Some, slice_get, slice_index_or}
+use Rattle.std.proofs.Common.{◌≡◌, ◌<◌, ℕ, List, [], ◌∷◌, ◌++◌, length, map, get_or, ◌+◌, arith, refl, sym, ap, subst, ◌∙◌, inl, inr, ⊎_elim}
+use Rattle.std.specs.Prelude.{Contains, Some, option_map, slice_get, slice_index_or}
 use Rattle.std.proofs.lemmas.Bool.{cases_lt}
-use Rattle.std.proofs.lemmas.List.{take-append-drop, get_or-take, length-take-le, length_push, get_or_append_left, get_or_push, get_or_read}
-use Rattle.std.proofs.lemmas.List.Elements.{All-push, Contains-append_left, Contains-append_right, Contains-append_cases, Contains-push, Contains-push_cases}
-use Rattle.std.proofs.lemmas.Option.{slice_get_read, slice_get_within, get_or_from_slice_get}
+use Rattle.std.proofs.lemmas.List.{length_push, get_or_append_left, get_or_push, get_or_read}
+use Rattle.std.proofs.lemmas.List.Elements.{All-push, Contains-append_left, Contains-push, Contains-push_cases}
+use Rattle.std.proofs.lemmas.Option.{slice_get_read, slice_get_within, slice_get-get_or, slice_get-map, get_or_from_slice_get}
 use Rattle.acc_vm.specs.Codes.{PlainCode}
 use Rattle.code_slices.specs.Slots as slots
 use Rattle.code_slices.specs.Slots.{Names}
 use Rattle.code_slices.specs.Parts.{PlainPart, IsPartOf}
+use Rattle.code_slices.proofs.Sound.{was}
 use Rattle.level_plan.specs.declared.access.Extent.{Extent}
-use Rattle.level_plan.specs.Accesses.{PlainAccess, Covers, EndsWithin, StaysWithin, StayWithin, access_at, no_access}
+use Rattle.level_plan.specs.Accesses.{PlainAccess, Covers, EndsWithin, HaveGlobal, StaysWithin, StayWithin, access_at, no_access}
 use Rattle.level_plan.proofs.Extents.{have_none, have_left, have_last, have_cases}
 use Rattle.level_runs.specs.Accesses.{AreGlobalsOf, IsAccessOf, AreAccessesOf, ArePartsOf}
 use Rattle.level_runs.specs.Programs.{code_at, no_code}
@@ -52,38 +53,37 @@ stands_in xs i x is = (i, slice_get_within xs i x is, get_or_from_slice_get xs i
 found_in : (xs : List ℕ) (x : ℕ) → Contains xs x → (i : ℕ) × (slice_get xs i ≡ Some x)
 found_in xs x (i, within, is) = (i, slice_get_read xs (length xs) i x refl within (sym is))
 
-front_to : (n : ℕ) (xs : List ℕ) (i x : ℕ) → n ≤ length xs → i < n → slice_get xs i ≡ Some x → Contains (take n xs) x
-front_to n xs i x few lt is = (i, omega (arith, lt, length-take-le n xs few), get_or-take n xs i x lt ∙ get_or_from_slice_get xs i x x is)
+-- a code writes what stands at a place that its part tells
+module _ (whole : PlainCode) (part : PlainPart) (is : IsPartOf whole part) where
+  written_to : (g : ℕ) → slots.Writes whole.instrs g → Contains (map (λ p. get_or part.slots p 0) part.written) g
+  written_to g writes =
+      let at = found_in part.written (is.slot_place g) (is.written g writes) in
+      let here : get_or part.slots (is.slot_place g) 0 ≡ g = get_or_from_slice_get part.slots (is.slot_place g) g 0 (is.slots g (record { some = inr writes.some })) in
+      stands_in (map (λ p. get_or part.slots p 0) part.written) at.0 g (slice_get-map (λ p. get_or part.slots p 0) part.written at.0 ∙ ap (option_map (λ p. get_or part.slots p 0)) at.1 ∙ ap Some here)
 
-front_from : (n : ℕ) (xs : List ℕ) (x : ℕ) → n ≤ length xs → Contains (take n xs) x → (i : ℕ) × (i < n) × (slice_get xs i ≡ Some x)
-front_from n xs x few (i, within, is) =
-    let lt : i < n = omega (arith, within, length-take-le n xs few) in
-    (i, lt, slice_get_read xs (length xs) i x refl (omega (arith, lt, few)) (sym (sym (get_or-take n xs i x lt) ∙ is)))
+  written_from : (g : ℕ) → Contains (map (λ p. get_or part.slots p 0) part.written) g → slots.Writes whole.instrs g
+  written_from g has =
+      let at = found_in (map (λ p. get_or part.slots p 0) part.written) g has in
+      let old = was (λ p. get_or part.slots p 0) (slice_get part.written at.0) g (sym (slice_get-map (λ p. get_or part.slots p 0) part.written at.0) ∙ at.1) in
+      let there : slice_get part.slots old.0 ≡ Some g = slice_get-get_or part.slots old.0 0 (is.inside at.0 old.0 old.1) ∙ ap Some old.2 in
+      is.only_written old.0 g (stands_in part.written at.0 old.0 old.1) there
 
--- the slots of a part, those that its code writes and the others
-pub access_by : (globals : ℕ) (whole : PlainCode) (part : PlainPart) (reads writes : List Extent) → AreGlobalsOf globals (drop part.written part.slots) reads → AreGlobalsOf globals (take part.written part.slots) writes
+-- the slots of a part, and those that its code writes
+pub access_by : (globals : ℕ) (whole : PlainCode) (part : PlainPart) (reads writes : List Extent) → AreGlobalsOf globals part.slots reads → AreGlobalsOf globals (map (λ p. get_or part.slots p 0) part.written) writes
     → IsPartOf whole part → IsAccessOf globals whole.instrs (record { reads = reads; writes = writes })
-access_by globals whole part reads writes others front is =
-    let n = part.written in
-    let all = part.slots in
-    let joined = take-append-drop n all in
-    let name : (g : ℕ) → Contains all g → Names whole.instrs g = λ g has. let at = found_in all g has in (is.only_slots at.0 g at.1).0 in
-    let to_front : (g : ℕ) → slots.Writes whole.instrs g → Contains (take n all) g = λ g writes.
-    front_to n all (is.slot_place g) g is.front (is.written g writes) (is.slots g (record { some = inr writes.some })) in
+access_by globals whole part reads writes all written is =
+    let writing : (g : ℕ) → g < globals → HaveGlobal writes g → slots.Writes whole.instrs g = λ g lt has. written_from whole part is g ((written.each g lt).0 has) in
+    let name : (g : ℕ) → Contains part.slots g → Names whole.instrs g = λ g has. let at = found_in part.slots g has in (is.only_slots at.0 g at.1).0 in
     record {
       named = λ g lt. (
-        λ touches. name g (subst (λ xs. Contains xs g) joined (⊎_elim (λ read. Contains-append_right (take n all) (drop n all) g ((others.each g lt).0 read)) (λ written. Contains-append_left (take n all) (drop n all) g ((front.each g lt).0 written)) touches)),
-        λ named. ⊎_elim (λ written. inr ((front.each g lt).1 written)) (λ read. inl ((others.each g lt).1 read))
-            (Contains-append_cases (take n all) (drop n all) g (subst (λ xs. Contains xs g) (sym joined) (stands_in all (is.slot_place g) g (is.slots g named)))),
+        λ touches. ⊎_elim (λ read. name g ((all.each g lt).0 read)) (λ write. record { some = inr (writing g lt write).some }) touches,
+        λ named. inl ((all.each g lt).1 (stands_in part.slots (is.slot_place g) g (is.slots g named))),
       );
-      written = λ g lt. (
-        λ has. let at = front_from n all g is.front ((front.each g lt).0 has) in is.only_written at.0 g at.1 at.2,
-        λ writes. (front.each g lt).1 (to_front g writes),
-      );
+      written = λ g lt. (λ has. writing g lt has, λ writes. (written.each g lt).1 (written_to whole part is g writes));
     }
 
 abbrev no_part : PlainPart
-no_part = record { code = no_code; slots = []; written = 0; clocks = [] }
+no_part = record { code = no_code; slots = []; written = []; clocks = [] }
 
 -- accesses are those of the first so many parts
 pub record AreRead (globals : ℕ) (parts : List PlainPart) (count : ℕ) (accesses : List PlainAccess) : Type 0 where

@@ -1,6 +1,6 @@
 //! The plan of codes, read off their parts of the cells.
 
-ghost use Rattle.std.specs.Prelude.{◌<◌, ◌^◌, List, length, IfOk};
+ghost use Rattle.std.specs.Prelude.{◌≡◌, ◌<◌, ◌^◌, ℕ, List, Some, length, map, get_or, slice_get, IfOk};
 ghost use Rattle.acc_vm.specs.Codes.{PlainCode};
 ghost use Rattle.code_slices.specs.Parts.{IsPartOf};
 ghost use Rattle.level_plan.specs.Accesses.{StaysWithin};
@@ -27,16 +27,28 @@ fn globals_among(alloc: Global, slots: &[u32], globals: usize) -> Result<Vec<Ext
     Ok(extents)
 }
 
-/// What a code does to so many globals, by its part. One that it writes isn't told among those that it reads: this changes no level.
+/// The slots at places of a list. Fails if memory was refused.
+fn slots_at(alloc: Global, slots: &[u32], places: &[u32]) -> Result<Vec<u32>, AllocError>
+    requires { (i p : ℕ) → slice_get places.now i ≡ Some p → p < length slots.now }
+    ensures { IfOk result (λ found. found.items ≡ map (λ p. get_or slots.now p 0) places.now) }
+{
+    let mut found = Vec::with_capacity(alloc, places.len())?;
+    for place in places {
+        found.push(slots[*place as usize])?;
+    }
+    Ok(found)
+}
+
+/// What a code does to so many globals, by its part. One that it writes is told among those that it reads too: this changes no level.
 fn access_of(alloc: Global, part: &Part, globals: usize) -> Result<Access, AllocError>
     ensures within { IfOk result (λ access. StaysWithin globals access) }
     ensures tells { IfOk result (λ access. (whole : PlainCode) → IsPartOf whole part.now → IsAccessOf globals whole.instrs access) }
 {
     let slots = part.slots();
-    let written = part.written();
+    let written = slots_at(alloc, slots, part.written())?;
     Ok(Access {
-        reads: globals_among(alloc, &slots[written.len()..], globals)?,
-        writes: globals_among(alloc, written, globals)?,
+        reads: globals_among(alloc, slots, globals)?,
+        writes: globals_among(alloc, &written, globals)?,
     })
 }
 

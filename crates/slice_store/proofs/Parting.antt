@@ -39,7 +39,7 @@ can_split codes parts levels level cells flags are apart levelled flagged few = 
       };
   apart = λ p q a b slot at there l m w v.
       let x = are.each p a at in let y = are.each q b there in
-      apart.apart p q x.0 y.0 slot x.1 y.1 l m (x.2.only_written w.place slot w.front w.at) (y.2.only_slots v.place slot v.at).0;
+      apart.apart p q x.0 y.0 slot x.1 y.1 l m (x.2.only_written w.place slot w.written w.at) (y.2.only_slots v.place slot v.at).0;
   clocks_apart = λ p q a b k at there w v.
       let x = are.each p a at in let y = are.each q b there in
       apart.clocks_apart p q x.0 y.0 k x.1 y.1 (x.2.only_clocks w.place k w.at).0 (y.2.only_clocks v.place k v.at).0;

@@ -14,19 +14,6 @@ use Rattle.code_slices.specs.Puts.{AreApartIn}
 use Rattle.slice_store.specs.Starts.{Begun, Gives}
 use Rattle.slice_store.specs.Level.{PutsPart, WritesSlot, HasClock, HasTaken, Takes, TakesRuns, AreJobsOf, IsReady, trapped}
 
--- the first items of a list
-pub front : {A : Type 0} (n : ℕ) (xs : List A) (i : ℕ) (x : A) → i < n → slice_get xs i ≡ Some x → slice_get (take n xs) i ≡ Some x
-front zero xs i x lt at = absurd (omega arith)
-front (suc n) [] i x lt at = absurd (cc)
-front (suc n) (y ∷ xs) zero x lt at = at
-front (suc n) (y ∷ xs) (suc i) x lt at = front n xs i x (omega arith) at
-
-pub in_front : {A : Type 0} (n : ℕ) (xs : List A) (i : ℕ) (x : A) → slice_get (take n xs) i ≡ Some x → (i < n) × (slice_get xs i ≡ Some x)
-in_front zero xs i x at = absurd (cc)
-in_front (suc n) [] i x at = absurd (cc)
-in_front (suc n) (y ∷ xs) zero x at = (omega arith, at)
-in_front (suc n) (y ∷ xs) (suc i) x at = let h = in_front n xs i x at in let lt = h.0 in (omega arith, h.1)
-
 other : {A : Type 0} (xs : List A) (s r : ℕ) (x : A) → (r ≡ s → ⊥) → slice_get (set xs s x) r ≡ slice_get xs r
 other [] s r x ne = refl
 other (y ∷ xs) zero zero x ne = absurd (ne refl)
@@ -37,15 +24,9 @@ other (y ∷ xs) (suc s) (suc r) x ne = other xs s r x (λ e. ne (ap suc e))
 here : {A : Type 0} (xs : List A) (s : ℕ) (x : A) → s < length xs → slice_get (set xs s x) s ≡ Some x
 here xs s x within = let l = length-set xs s x in slice_get-get_or (set xs s x) s x (omega arith) ∙ ap Some (get_or-set_same xs s x x within)
 
--- the slots that a part's code writes are different ones of all cells, and no more than its cells have
-pub written_apart : (part : PlainPart) (size : ℕ) → IsPart part → ((i s : ℕ) → slice_get part.slots i ≡ Some s → s < size) → AreApartIn size (take part.written part.slots)
-written_apart part size is has = record {
-  inside = λ i s at. has i s (in_front part.written part.slots i s at).1;
-  apart = λ i j s a b. is.apart i j s (in_front part.written part.slots i s a).1 (in_front part.written part.slots j s b).1;
-}
-
-pub written_many : (part : PlainPart) (n : ℕ) → n ≡ length part.slots → length (take part.written part.slots) ≤ n
-written_many part n e = omega (arith, length-take part.written part.slots)
+-- the slots of a part are different ones of all cells that have it
+pub slots_apart : (part : PlainPart) (size : ℕ) → IsPart part → ((i s : ℕ) → slice_get part.slots i ≡ Some s → s < size) → AreApartIn size part.slots
+slots_apart part size is has = record { inside = has; apart = is.apart }
 
 -- one run is taken in
 pub takes_one : (s : Begun) (result : Result (Unit {0}) Stop) (after : PlainCells) (values new_values : List ℤ) (clocks new_clocks : List Clock) (faulted flags : List Bool)
@@ -59,13 +40,13 @@ takes_one s result after values new_values clocks new_clocks faulted flags gives
     result = result;
     after = after;
     gives = gives;
-    values = λ i slot lt at. p.put i slot (front s.part.written s.part.slots i slot lt at);
+    values = λ i slot has at. p.put i slot has at;
     clocks = λ i k at. q.put i k at;
     flag = λ n e.
         let same : n ≡ s.number - 1 = omega arith in
         ap (λ fs. slice_get fs n) are ∙ ap (slice_get (set faulted (s.number - 1) (trapped result))) same ∙ here faulted (s.number - 1) (trapped result) (omega arith);
   };
-  values = λ slot none. p.kept slot (λ i at. let h = in_front s.part.written s.part.slots i slot at in none (record { place = i; front = h.0; at = h.1 }));
+  values = λ slot none. p.kept slot (λ i has at. none (record { place = i; written = has; at = at }));
   clocks = λ k none. q.kept k (λ i at. none (record { place = i; at = at }));
   others = λ n ne. ap (λ fs. slice_get fs n) are ∙ other faulted (s.number - 1) n (trapped result) (λ e. ne (omega arith));
 }
@@ -86,7 +67,7 @@ still_taken s t mid new flags faulted takes apart h = record {
   result = h.result;
   after = h.after;
   gives = h.gives;
-  values = λ i slot lt at. takes.values slot (λ w. apart.slots slot (record { place = i; front = lt; at = at }) w) ∙ h.values i slot lt at;
+  values = λ i slot has at. takes.values slot (λ w. apart.slots slot (record { place = i; written = has; at = at }) w) ∙ h.values i slot has at;
   clocks = λ i k at. takes.clocks k (λ w. apart.clocks k (record { place = i; at = at }) w) ∙ h.clocks i k at;
   flag = λ n e. takes.others n (λ f. apart.number (e ∙ sym f)) ∙ h.flag n e;
 }

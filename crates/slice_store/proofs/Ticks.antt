@@ -7,7 +7,7 @@ use Rattle.slice_store.specs.Level.{IsTicked, HasStranger, HasDouble, LacksOne}
 nobody : Begun
 nobody = record {
   number = 0;
-  part = record { code = record { instrs = []; places = []; paths = 0; values = 0; clocks = 0; stack = 0; cost = 0 }; slots = []; written = 0; clocks = [] };
+  part = record { code = record { instrs = []; places = []; paths = 0; values = 0; clocks = 0; stack = 0; cost = 0 }; slots = []; written = []; clocks = [] };
   moment = 0;
   cells = record { values = []; clocks = [] };
 }

@@ -1,11 +1,11 @@
 -- What a gathered level is.
-use Rattle.std.specs.Prelude.{◌≡◌, ℕ, suc, ◌<◌, ◌≤◌, List, length, take, slice_index_or, slice_get, Contains, Bool, true, false, Some, Result, Ok, Err}
+use Rattle.std.specs.Prelude.{◌≡◌, ℕ, suc, ◌<◌, ◌≤◌, List, length, slice_index_or, slice_get, Contains, Bool, true, false, Some, Result, Ok, Err}
 use Rattle.crew.specs.Runs.{IsDistinct, IsEachOnce}
 use Rattle.plant_cells.specs.declared.stop.Stop.{Stop}
 use Rattle.plant_cells.specs.Cells.{PlainCells}
 use Rattle.acc_vm.specs.Codes.{SameShape}
 use Rattle.code_slices.specs.Parts.{PlainPart, HasPart, loaded}
-use Rattle.code_slices.specs.Puts.{Puts}
+use Rattle.code_slices.specs.Puts.{Puts, PutsAt}
 use Rattle.slice_store.specs.Starts.{Begun, Gives}
 
 -- the values and clocks of all programs, by program whether it is faulted, the scan's moment, and the starts of the jobs that are out
@@ -18,7 +18,7 @@ pub record Stored : Type 0 where
 -- a part's code writes a slot; it reads or writes it; it names a clock
 pub record WritesSlot (part : PlainPart) (slot : ℕ) : Type 0 where
   pub place : ℕ
-  pub front : place < part.written
+  pub written : Contains part.written place
   pub at : slice_get part.slots place ≡ Some slot
 
 pub record NamesSlot (part : PlainPart) (slot : ℕ) : Type 0 where
@@ -39,13 +39,13 @@ pub record HasTaken (s : Begun) (cells : PlainCells) (faulted : List Bool) : Typ
   pub result : Result (Unit {0}) Stop
   pub after : PlainCells
   pub gives : Gives s result after
-  pub values : (i slot : ℕ) → i < s.part.written → slice_get s.part.slots i ≡ Some slot → slice_get cells.values slot ≡ slice_get after.values i
+  pub values : (i slot : ℕ) → Contains s.part.written i → slice_get s.part.slots i ≡ Some slot → slice_get cells.values slot ≡ slice_get after.values i
   pub clocks : (i k : ℕ) → slice_get s.part.clocks i ≡ Some k → slice_get cells.clocks k ≡ slice_get after.clocks i
   pub flag : (p : ℕ) → s.number ≡ suc p → slice_get faulted p ≡ Some (trapped result)
 
 -- what a part's code wrote, and its clocks, stand in all cells as they were left in the part's
 pub record PutsPart (part : PlainPart) (left old new : PlainCells) : Type 0 where
-  pub values : Puts (take part.written part.slots) left.values old.values new.values
+  pub values : PutsAt part.written part.slots left.values old.values new.values
   pub clocks : Puts part.clocks left.clocks old.clocks new.clocks
 
 -- what one run gave is taken, and all else stays

@@ -9,7 +9,7 @@ use Rattle.code_slices.specs.Parts.{PlainPart, IsPart}
 
 -- a part of nothing
 abbrev pub no_part : PlainPart
-no_part = record { code = record { instrs = []; places = []; paths = 0; values = 0; clocks = 0; stack = 0; cost = 0 }; slots = []; written = 0; clocks = [] }
+no_part = record { code = record { instrs = []; places = []; paths = 0; values = 0; clocks = 0; stack = 0; cost = 0 }; slots = []; written = []; clocks = [] }
 
 -- the part of a number, from 1 on, in a list of parts
 abbrev pub part_of : List PlainPart → ℕ → PlainPart

@@ -114,7 +114,7 @@ fn put_part(part: &Part, left: &Cells, values: &mut [i64], clocks: &mut [Clock])
     requires clocks { length left.now.clocks ≡ length part.now.clocks }
     ensures { PutsPart part.now left.now (record { values = values.old; clocks = clocks.old }) (record { values = values.new; clocks = clocks.new }) }
 {
-    put_values(part.written(), left.as_slice(), values);
+    put_values(part.written(), part.slots(), left.as_slice(), values);
     put_clocks(part.clocks(), left.clocks(), clocks);
 }
 

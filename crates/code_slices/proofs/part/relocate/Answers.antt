@@ -30,8 +30,8 @@ renamed_all-requires-clause-clocks c = λ pc i at.
 pub new-moved-requires : goal.new-moved-requires
 new-moved-requires c =
     let code = c.args.code.now in
-    let are : AreSlots code.instrs c.named_slots.new.places c.in_ok-slots.slots.items c.in_ok-slots.written
-    = subst (λ (p : List Instr). AreSlots p c.named_slots.new.places c.in_ok-slots.slots.items c.in_ok-slots.written) c.instrs-program.ensures.is c.in_ok-slots.ensures in
+    let are : AreSlots code.instrs c.named_slots.new.places c.in_ok-slots.slots.items c.in_ok-slots.written.items
+    = subst (λ (p : List Instr). AreSlots p c.named_slots.new.places c.in_ok-slots.slots.items c.in_ok-slots.written.items) c.instrs-program.ensures.is c.in_ok-slots.ensures in
     let clock_are : AreClocks code.instrs c.named_clocks.new.places c.in_ok-clocks.clocks.items
     = subst (λ (p : List Instr). AreClocks p c.named_clocks.new.places c.in_ok-clocks.clocks.items) c.instrs-program.ensures.is c.in_ok-clocks.ensures in
     let by = renamed (λ s. get_or c.named_slots.new.places s 0) (λ k. get_or c.named_clocks.new.places k 0) in
@@ -39,40 +39,40 @@ new-moved-requires c =
     let slots : c.len.result ≡ length c.in_ok-slots.slots.items = let h = c.len.ensures in let ok = c.in_ok-slots.slots.ok.0 in omega (arith, h, ok) in
     let clocks : c.len-2.result ≡ length c.in_ok-clocks.clocks.items = let h = c.len-2.ensures in let ok = c.in_ok-clocks.clocks.ok.0 in omega (arith, h, ok) in
     subst IsSound
-    (sym (same_code code c.named_slots.new.places c.named_clocks.new.places c.in_ok-slots.slots.items c.in_ok-clocks.clocks.items c.in_ok-slots.written are clock_are _ _ _ _ _ _ _
+    (sym (same_code code c.named_slots.new.places c.named_clocks.new.places c.in_ok-slots.slots.items c.in_ok-clocks.clocks.items c.in_ok-slots.written.items are clock_are _ _ _ _ _ _ _
     moved (c.in_ok-places.ensures.items ∙ c.places.ensures) c.paths.ensures slots clocks c.stack.ensures c.cost.ensures))
-    (moved_is_sound code c.named_slots.new.places c.named_clocks.new.places c.in_ok-slots.slots.items c.in_ok-clocks.clocks.items c.in_ok-slots.written are clock_are c.instrs-program.ensures.sound)
+    (moved_is_sound code c.named_slots.new.places c.named_clocks.new.places c.in_ok-slots.slots.items c.in_ok-clocks.clocks.items c.in_ok-slots.written.items are clock_are c.instrs-program.ensures.sound)
 
 pub invariant_of-result : goal.invariant_of-result
 invariant_of-result c =
     let code = c.args.code.now in
-    let are : AreSlots code.instrs c.named_slots.new.places c.in_ok-slots.slots.items c.in_ok-slots.written
-    = subst (λ (p : List Instr). AreSlots p c.named_slots.new.places c.in_ok-slots.slots.items c.in_ok-slots.written) c.instrs-program.ensures.is c.in_ok-slots.ensures in
+    let are : AreSlots code.instrs c.named_slots.new.places c.in_ok-slots.slots.items c.in_ok-slots.written.items
+    = subst (λ (p : List Instr). AreSlots p c.named_slots.new.places c.in_ok-slots.slots.items c.in_ok-slots.written.items) c.instrs-program.ensures.is c.in_ok-slots.ensures in
     let clock_are : AreClocks code.instrs c.named_clocks.new.places c.in_ok-clocks.clocks.items
     = subst (λ (p : List Instr). AreClocks p c.named_clocks.new.places c.in_ok-clocks.clocks.items) c.instrs-program.ensures.is c.in_ok-clocks.ensures in
     let by = renamed (λ s. get_or c.named_slots.new.places s 0) (λ k. get_or c.named_clocks.new.places k 0) in
     let moved : c.in_ok-instrs.instrs.items ≡ map by code.instrs = c.in_ok-instrs.ensures ∙ ap (map by) c.instrs-program.ensures.is in
     let slots : c.len.result ≡ length c.in_ok-slots.slots.items = let h = c.len.ensures in let ok = c.in_ok-slots.slots.ok.0 in omega (arith, h, ok) in
     let clocks : c.len-2.result ≡ length c.in_ok-clocks.clocks.items = let h = c.len-2.ensures in let ok = c.in_ok-clocks.clocks.ok.0 in omega (arith, h, ok) in
-    let is : IsPartOf code (record { code = c.in_ok-printed.printed; slots = c.in_ok-slots.slots.items; written = c.in_ok-slots.written; clocks = c.in_ok-clocks.clocks.items })
-    = is_part_of code c.named_slots.new.places c.named_clocks.new.places c.in_ok-slots.slots.items c.in_ok-clocks.clocks.items c.in_ok-slots.written are clock_are c.in_ok-printed.printed
-    (c.in_ok-printed.ensures ∙ c.new-moved.ensures ∙ (same_code code c.named_slots.new.places c.named_clocks.new.places c.in_ok-slots.slots.items c.in_ok-clocks.clocks.items c.in_ok-slots.written are clock_are _ _ _ _ _ _ _
+    let is : IsPartOf code (record { code = c.in_ok-printed.printed; slots = c.in_ok-slots.slots.items; written = c.in_ok-slots.written.items; clocks = c.in_ok-clocks.clocks.items })
+    = is_part_of code c.named_slots.new.places c.named_clocks.new.places c.in_ok-slots.slots.items c.in_ok-clocks.clocks.items c.in_ok-slots.written.items are clock_are c.in_ok-printed.printed
+    (c.in_ok-printed.ensures ∙ c.new-moved.ensures ∙ (same_code code c.named_slots.new.places c.named_clocks.new.places c.in_ok-slots.slots.items c.in_ok-clocks.clocks.items c.in_ok-slots.written.items are clock_are _ _ _ _ _ _ _
     moved (c.in_ok-places.ensures.items ∙ c.places.ensures) c.paths.ensures slots clocks c.stack.ensures c.cost.ensures)) in
-    part_is code (record { code = c.in_ok-printed.printed; slots = c.in_ok-slots.slots.items; written = c.in_ok-slots.written; clocks = c.in_ok-clocks.clocks.items }) is
+    part_is code (record { code = c.in_ok-printed.printed; slots = c.in_ok-slots.slots.items; written = c.in_ok-slots.written.items; clocks = c.in_ok-clocks.clocks.items }) is
 
 pub returns : goal.returns
 returns c =
     let code = c.args.code.now in
-    let are : AreSlots code.instrs c.named_slots.new.places c.in_ok-slots.slots.items c.in_ok-slots.written
-    = subst (λ (p : List Instr). AreSlots p c.named_slots.new.places c.in_ok-slots.slots.items c.in_ok-slots.written) c.instrs-program.ensures.is c.in_ok-slots.ensures in
+    let are : AreSlots code.instrs c.named_slots.new.places c.in_ok-slots.slots.items c.in_ok-slots.written.items
+    = subst (λ (p : List Instr). AreSlots p c.named_slots.new.places c.in_ok-slots.slots.items c.in_ok-slots.written.items) c.instrs-program.ensures.is c.in_ok-slots.ensures in
     let clock_are : AreClocks code.instrs c.named_clocks.new.places c.in_ok-clocks.clocks.items
     = subst (λ (p : List Instr). AreClocks p c.named_clocks.new.places c.in_ok-clocks.clocks.items) c.instrs-program.ensures.is c.in_ok-clocks.ensures in
     let by = renamed (λ s. get_or c.named_slots.new.places s 0) (λ k. get_or c.named_clocks.new.places k 0) in
     let moved : c.in_ok-instrs.instrs.items ≡ map by code.instrs = c.in_ok-instrs.ensures ∙ ap (map by) c.instrs-program.ensures.is in
     let slots : c.len.result ≡ length c.in_ok-slots.slots.items = let h = c.len.ensures in let ok = c.in_ok-slots.slots.ok.0 in omega (arith, h, ok) in
     let clocks : c.len-2.result ≡ length c.in_ok-clocks.clocks.items = let h = c.len-2.ensures in let ok = c.in_ok-clocks.clocks.ok.0 in omega (arith, h, ok) in
-    let is : IsPartOf code (record { code = c.in_ok-printed.printed; slots = c.in_ok-slots.slots.items; written = c.in_ok-slots.written; clocks = c.in_ok-clocks.clocks.items })
-    = is_part_of code c.named_slots.new.places c.named_clocks.new.places c.in_ok-slots.slots.items c.in_ok-clocks.clocks.items c.in_ok-slots.written are clock_are c.in_ok-printed.printed
-    (c.in_ok-printed.ensures ∙ c.new-moved.ensures ∙ (same_code code c.named_slots.new.places c.named_clocks.new.places c.in_ok-slots.slots.items c.in_ok-clocks.clocks.items c.in_ok-slots.written are clock_are _ _ _ _ _ _ _
+    let is : IsPartOf code (record { code = c.in_ok-printed.printed; slots = c.in_ok-slots.slots.items; written = c.in_ok-slots.written.items; clocks = c.in_ok-clocks.clocks.items })
+    = is_part_of code c.named_slots.new.places c.named_clocks.new.places c.in_ok-slots.slots.items c.in_ok-clocks.clocks.items c.in_ok-slots.written.items are clock_are c.in_ok-printed.printed
+    (c.in_ok-printed.ensures ∙ c.new-moved.ensures ∙ (same_code code c.named_slots.new.places c.named_clocks.new.places c.in_ok-slots.slots.items c.in_ok-clocks.clocks.items c.in_ok-slots.written.items are clock_are _ _ _ _ _ _ _
     moved (c.in_ok-places.ensures.items ∙ c.places.ensures) c.paths.ensures slots clocks c.stack.ensures c.cost.ensures)) in
     is
