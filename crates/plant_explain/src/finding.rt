@@ -3,6 +3,7 @@
 use crate::globals::unknown;
 use crate::past::too_costly;
 use crate::units::{source_named, spots_in_units};
+use grammar_causes::ungrammatical;
 use limit_causes::{one_too_many, too_deep};
 use plant_config::{ConfigFault, Limit};
 use plant_folder::PlantTexts;
@@ -12,7 +13,7 @@ use plant_places::{
 };
 use plant_types::Text;
 use std::alloc::{AllocError, Global};
-use token_causes::{Cause, misspelled, ungrammatical};
+use token_causes::{Cause, misspelled};
 
 /// The cause of a fault of spelling or grammar, at a line and a column.
 fn in_text(

@@ -37,6 +37,15 @@ pub fn open_parenthesis(tokens: &[Token], number: usize) -> Option<usize> {
     None
 }
 
+/// The `(` of the call among whose arguments the token of a number stands, not in parentheses of a value; `None` where it stands in none.
+pub fn call_open(tokens: &[Token], number: usize) -> Option<usize> {
+    let open = open_parenthesis(tokens, number)?;
+    match kind_before(tokens, open, 1) {
+        Some(TokenKind::Word) => Some(open),
+        _ => None,
+    }
+}
+
 /// Whether an argument of a call begins behind a token.
 fn is_before_argument(kind: Option<TokenKind>) -> bool {
     matches!(kind, Some(TokenKind::Symbol(Symbol::Open | Symbol::Comma)))
@@ -71,7 +80,7 @@ fn is_of_unnamed(before: Option<TokenKind>, kind: TokenKind, after: Option<Token
 }
 
 /// Whether an argument of a call seems to have no name at the token of a number.
-fn is_unnamed(tokens: &[Token], number: usize) -> bool {
+pub fn is_unnamed(tokens: &[Token], number: usize) -> bool {
     let Some(kind) = kind_at(tokens, number) else {
         return false;
     };
@@ -81,7 +90,7 @@ fn is_unnamed(tokens: &[Token], number: usize) -> bool {
 }
 
 /// Whether the token of a number is a `:=` in the condition of an IF.
-fn is_assigned_in_condition(tokens: &[Token], number: usize) -> bool {
+pub fn is_assigned_in_condition(tokens: &[Token], number: usize) -> bool {
     if kind_at(tokens, number) != Some(TokenKind::Symbol(Symbol::Becomes)) {
         return false;
     }
@@ -97,25 +106,8 @@ fn is_assigned_in_condition(tokens: &[Token], number: usize) -> bool {
     false
 }
 
-/// Whether the token of a number is no number, and stands where one of a label has to.
-fn is_no_label(tokens: &[Token], number: usize) -> bool {
-    if matches!(kind_at(tokens, number), Some(TokenKind::Integer(_))) {
-        return false;
-    }
-    match (
-        kind_before(tokens, number, 2),
-        kind_before(tokens, number, 1),
-    ) {
-        (_, Some(TokenKind::Keyword(Keyword::Of) | TokenKind::Symbol(Symbol::Range))) => true,
-        (Some(TokenKind::Integer(_)), Some(TokenKind::Symbol(Symbol::Comma))) => {
-            open_parenthesis(tokens, number).is_none()
-        }
-        _ => false,
-    }
-}
-
 /// Whether a value has to stand behind a token: an operator, or what an expression stands behind.
-fn wants_value(kind: TokenKind) -> bool {
+pub fn wants_value(kind: TokenKind) -> bool {
     match kind {
         TokenKind::Symbol(symbol) => matches!(
             symbol,
@@ -147,41 +139,5 @@ fn wants_value(kind: TokenKind) -> bool {
                 | Keyword::Mod
         ),
         _ => false,
-    }
-}
-
-/// What is said behind the token of a number, before which a value is missing, or which is a keyword in its place; empty where neither is so.
-pub fn valueless(tokens: &[Token], number: usize) -> &'static str {
-    let is_wanted = match kind_before(tokens, number, 1) {
-        Some(before) => wants_value(before),
-        None => false,
-    };
-    if !is_wanted {
-        return "";
-    }
-    match kind_at(tokens, number) {
-        Some(TokenKind::Symbol(Symbol::Semicolon | Symbol::Close | Symbol::Comma)) => {
-            "': a value is missing before it"
-        }
-        Some(
-            TokenKind::Keyword(Keyword::Then | Keyword::EndIf | Keyword::EndCase | Keyword::EndFor),
-        ) => { "': a value is missing before it" }
-        Some(
-            TokenKind::Keyword(Keyword::To | Keyword::By | Keyword::Of | Keyword::Do | Keyword::At),
-        ) => { "': it is a keyword, and a value is wanted here" }
-        _ => "",
-    }
-}
-
-/// What is said behind the token of a number that stands in the place of something else; empty where it doesn't.
-pub fn misplaced(tokens: &[Token], number: usize) -> &'static str {
-    if is_unnamed(tokens, number) {
-        "': an argument is written with its name, as in t(IN := a, Q => b)"
-    } else if is_assigned_in_condition(tokens, number) {
-        "': in a condition equal is written ="
-    } else if is_no_label(tokens, number) {
-        "': a label of a CASE is wanted here, a whole number as in 2: or -1:"
-    } else {
-        ""
     }
 }

@@ -1,6 +1,7 @@
 //! What the words of a source are there for, by the tokens beside them.
 
 use crate::cause::part;
+use crate::opened::opens_section;
 use st_lexer::{Keyword, Symbol, Token, TokenKind};
 use std::str;
 
@@ -72,18 +73,6 @@ pub fn word_at<'a>(text: &'a [u8], tokens: &[Token], number: usize) -> &'a str {
         Ok(word) => word,
         Err(_) => "",
     }
-}
-
-/// Whether a keyword opens a section of declarations.
-fn opens_section(keyword: Keyword) -> bool {
-    matches!(
-        keyword,
-        Keyword::Var
-            | Keyword::VarExternal
-            | Keyword::VarGlobal
-            | Keyword::VarInput
-            | Keyword::VarOutput
-    )
 }
 
 /// The section that is open behind a token, by its keyword, if one was open before it or it opens one.

@@ -1,0 +1,52 @@
+//! Comments in which another one begins (C5): the first end of a comment ends it.
+
+use st_lexer::Token;
+use token_causes::{part, start_of};
+
+/// Whether a comment stands between tokens in which another comment begins.
+pub fn has_nested(gap: &[u8]) -> bool {
+    let mut depth = 0usize;
+    let mut before = b' ';
+    for byte in gap {
+        match (before, *byte) {
+            (b'(', b'*') => depth = depth.saturating_add(1),
+            (b'*', b')') => depth = 0,
+            _ => {}
+        }
+        if depth > 1 {
+            return true;
+        }
+        before = *byte;
+    }
+    false
+}
+
+/// Where the tokens before that of a number end, or the text begins.
+fn end_before(tokens: &[Token], number: usize) -> usize {
+    match number.checked_sub(1) {
+        Some(last) => match tokens.get(last) {
+            Some(token) => token.until,
+            None => 0,
+        },
+        None => 0,
+    }
+}
+
+/// The first token, from the one of a number to another one, before which a comment stands in which another comment begins.
+pub fn first_behind_nested(
+    text: &[u8],
+    tokens: &[Token],
+    (first, last): (usize, usize),
+) -> Option<usize> {
+    for number in first..last.saturating_add(1) {
+        let gap = part(
+            text,
+            end_before(tokens, number),
+            start_of(text, tokens, number),
+        );
+        if has_nested(gap) {
+            return Some(number);
+        }
+    }
+    None
+}
