@@ -5,7 +5,7 @@ use Rattle.std.proofs.lemmas.List.Elements.{All-weaker}
 use Rattle.std.proofs.lemmas.Option.{slice_get_within, get_or_from_slice_get}
 use Rattle.plant_types.specs.declared.values.Trap.{Trap}
 use Rattle.st_tree.specs.Meaning.{Spot}
-use Rattle.plant_logic.specs.Source.{Source}
+use Rattle.plant_logic.specs.Source.{Source, global_cells}
 use Rattle.plant_logic.specs.Worlds.{World}
 use Rattle.plant_cells.specs.Cells.{PlainCells}
 use Rattle.plant_cells.specs.Runs.{Path}
@@ -47,12 +47,12 @@ fit source codes are cells has = record {
 
 -- no two programs of a source share a cell of their own
 pub record ShareNoCell (source : Source) : Type 0 where
-  pub values : (p q s : ℕ) (a b : PlainCode) → IsProgramCode source p a → IsProgramCode source q b → length source.globals ≤ s → Names a.instrs s → Names b.instrs s → p ≡ q
+  pub values : (p q s : ℕ) (a b : PlainCode) → IsProgramCode source p a → IsProgramCode source q b → global_cells source ≤ s → Names a.instrs s → Names b.instrs s → p ≡ q
   pub clocks : (p q k : ℕ) (a b : PlainCode) → IsProgramCode source p a → IsProgramCode source q b → NamesClock a.instrs k → NamesClock b.instrs k → p ≡ q
 
 -- so neither do their codes
-own_cells : (source : Source) → ShareNoCell source → (codes : List PlainCode) → AreProgramCodes source codes → HaveOwnCells (length source.globals) codes
-own_cells source none codes are =
+have_own_cells : (source : Source) → ShareNoCell source → (codes : List PlainCode) → AreProgramCodes source codes → HaveOwnCells (global_cells source) codes
+have_own_cells source none codes are =
     let one_each = are.one_each in
     record {
       values = λ p q s lp lq above one other. none.values p q s (code_at codes p) (code_at codes q) (are.each p (omega (arith, lp, one_each))) (are.each q (omega (arith, lq, one_each))) above one other;
@@ -70,7 +70,7 @@ can_split source none l is cells flags t has flagged few parts levels start part
     let one_code = is.are.one_each in
     let one_part = is.parts.one_each in
     let split : CanSplit l.parts l.levels level cells (length flags)
-    = planned_can_split (length source.globals) is.codes l.levels is.plan (own_cells source none is.codes is.are) l.parts cells (length flags) (parts_are is.codes l.parts is.parts) (fit source is.codes is.are cells has)
+    = planned_can_split (global_cells source) is.codes l.levels is.plan (have_own_cells source none is.codes is.are) l.parts cells (length flags) (parts_are is.codes l.parts is.parts) (fit source is.codes is.are cells has)
     (is.plan.plan.one_each ∙ is.plan.are.one_each ∙ sym one_part) (omega (arith, flagged, one_code, one_part)) (omega (arith, few, one_code, one_part)) level in
     subst (λ (s : Stored). CanSplit parts levels level s.cells (length s.faulted)) (sym start_is)
     (subst (λ (p : List PlainPart). CanSplit p levels level cells (length flags)) (sym parts_is) (subst (λ (n : List ℕ). CanSplit l.parts n level cells (length flags)) (sym levels_is) split))
@@ -98,7 +98,7 @@ pub levels_ran : (source : Source) → ShareNoCell source → (t : ℕ) (l : Pla
 levels_ran source none t l is same cells flags flagged parts levels start end faults parts_is levels_is start_is runs of w stands =
     let by : RunsInOrder l.parts l.levels (stored cells flags t) end faults
     = subst (λ (p : List PlainPart). RunsInOrder p l.levels (stored cells flags t) end faults) parts_is (subst (λ (n : List ℕ). RunsInOrder parts n (stored cells flags t) end faults) levels_is (subst (λ (s : Stored). RunsInOrder parts levels s end faults) start_is runs)) in
-    let ends = by (paths_in source) (length source.globals) is.codes (parts_are is.codes l.parts is.parts) is.plan (own_cells source none is.codes is.are) (flagged ∙ sym is.are.one_each) in
+    let ends = by (paths_in source) (global_cells source) is.codes (parts_are is.codes l.parts is.parts) is.plan (have_own_cells source none is.codes is.are) (flagged ∙ sym is.are.one_each) in
     let alike = codes_run_alike source t is.codes l.levels is.are 0 flags cells w (omega (arith, flagged)) stands in
     record {
       world_stands = subst (λ (c : PlainCells). StandFor source c (programs_from source t 0 flags w).world) (sym ends.cells) alike.stands;
