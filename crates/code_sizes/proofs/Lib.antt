@@ -1,5 +1,5 @@
 pub mod Few
-mod Tables
+pub mod Tables
 mod Stopping
 mod Alike
 mod Lookups

@@ -31,7 +31,7 @@ impl Drop for FrameCounts {
 }
 
 /// The counts of the frame that comes after those of a table.
-fn count_frame(table: &[Count], frame: &Frame) -> Count
+pub fn count_frame(table: &[Count], frame: &Frame) -> Count
     requires { routine_lines (lines_at table.now) frame.now < 2 ^ 32 }
     ensures { IsCountOf table.now frame.now result }
 {

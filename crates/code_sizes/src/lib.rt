@@ -15,6 +15,6 @@ mod paths;
 mod turns;
 mod words;
 
-pub use counts::{Count, FrameCounts, count_frames};
+pub use counts::{Count, FrameCounts, count_frame, count_frames};
 pub use lines::{body_lines, branches_lines, choices_lines, expr_lines, inputs_lines, stmt_lines};
 pub use turns::{constant_span, frame_turns};

@@ -18,6 +18,7 @@ mod OwnCodes
 mod Weighed
 mod Sizes
 mod Costs
+mod Apart
 mod Known
 mod Within
 mod OwnCells

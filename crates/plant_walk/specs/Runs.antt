@@ -63,7 +63,7 @@ pub record TakesInstructions (source : Source) (n t : ℕ) (cells : PlainCells) 
   pub frames : List Frame
   pub are_frames : IsFrames source order frames
   pub code : PlainCode
-  pub made : IsMade frames (global_cells source) (length order + n) (program_base source n) (get_or (program_costs source) n 0) code
+  pub made : IsMade frames (global_cells source) (length order) n (program_base source n) (get_or (program_costs source) n 0) code
   pub result : Ran PlainCells
   pub left : ℕ
   pub runs : run_of t [] code cells ≡ Over result left

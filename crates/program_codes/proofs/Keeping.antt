@@ -1,19 +1,16 @@
--- What folding, and copying, keep of frames.
-use Rattle.std.proofs.Common.{◌≡◌, ◌∙◌, ap, sym, refl, ℕ, ◌≤◌, List, [], ◌∷◌, map, arith}
+-- What folding keeps of frames.
+use Rattle.std.proofs.Common.{◌≡◌, refl, ℕ, ◌≤◌}
 use Rattle.st_tree.specs.Plain.{PlainBody}
 use Rattle.st_tree.specs.View.{view_body}
 use Rattle.st_tree.specs.Costs.{body_cost, body_size}
 use Rattle.st_tree.specs.Mapping.{Known, body_known}
 use Rattle.st_tree.specs.Meaning.{Space, run_all}
 use Rattle.plant_cells.specs.Cells.{PlainCells}
-use Rattle.block_walk.specs.declared.frame.Base.{Base}
 use Rattle.block_walk.specs.declared.frame.Frame.{Frame}
 use Rattle.block_walk.specs.Plain.{PlainFrame, view_frame}
 use Rattle.code_sizes.specs.Sizes.{frame_turns}
 use Rattle.const_fold.specs.Folding.{folded_body}
-use Rattle.acc_vm.specs.Codes.{PlainCode}
 use Rattle.program_codes.specs.Folded.{folded_frame}
-use Rattle.program_codes.specs.Codes.{IsMade}
 use Rattle.program_codes.proofs.Bodies.{KeepsConstants, body_steady}
 use Rattle.program_codes.proofs.Kept.{IsKept}
 
@@ -45,27 +42,4 @@ folding_keeps same constants less smaller names = record {
   costs = λ called f. less called (view_body f.body.items);
   sizes = λ called f. smaller called (view_body f.body.items);
   names = λ known f. names known (view_body f.body.items);
-}
-
-pub copying_keeps : IsKept view_frame
-copying_keeps = record {
-  seats = λ f. refl;
-  runs = λ space f w. refl;
-  steady = λ f h. h;
-  costs = λ called f. omega arith;
-  sizes = λ called f. omega arith;
-  names = λ known f. refl;
-}
-
-folded_again : (frames : List Frame) → map folded_view frames ≡ map folded_frame (map view_frame frames)
-folded_again [] = refl
-folded_again (f ∷ frames) = ap (λ (l : List PlainFrame). folded_frame (view_frame f) ∷ l) (folded_again frames)
-
--- what is folded of frames is what is folded of their copies
-pub made_of_copies : (frames copies : List Frame) → map view_frame copies ≡ map view_frame frames → (globals first : ℕ) (base : Base) (cost : ℕ) (code : PlainCode)
-    → IsMade frames globals first base cost code → IsMade copies globals first base cost code
-made_of_copies frames copies same globals first base cost code made = record {
-  folded = made.folded;
-  are_folded = made.are_folded ∙ folded_again frames ∙ ap (map folded_frame) (sym same) ∙ sym (folded_again copies);
-  is = made.is;
 }

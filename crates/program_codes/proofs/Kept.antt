@@ -19,7 +19,7 @@ use Rattle.acc_vm.specs.Codes.{PlainCode, run_of}
 use Rattle.codegen.specs.Codes.{SteadyBody, AreSteady, paths_at, RunsFrame}
 use Rattle.codegen.specs.Within.{there, routine_there, frame_there, IsThere}
 use Rattle.codegen.proofs.Sizes.{lines_few}
-use Rattle.program_codes.specs.Codes.{IsCodeOf, IsMade, AreCodes, AreSmall}
+use Rattle.program_codes.specs.Codes.{IsCodeOf, AreSmall}
 use Rattle.program_codes.proofs.Tables.{AreSeen, first_holds, first_alike, at_place, found, same_length}
 use Rattle.program_codes.proofs.Costs.{body_less, greater_rises, sum_rises, called_less}
 
@@ -124,12 +124,4 @@ module _ (view : Frame → PlainFrame) (kept : IsKept view) (fs gs : List Frame)
     paths = is.paths ∙ ap (λ (l : List Path). length l) (all_paths first);
     within = λ has_value has_clock h. is.within has_value has_clock (there_kept has_value has_clock globals first base h);
     tells = is.tells;
-  }
-
-  pub codes_kept : (globals first : ℕ) (values clocks costs : List ℕ) (codes : List PlainCode) → ((n : ℕ) (base : Base) (cost : ℕ) (code : PlainCode) → IsMade gs globals n base cost code → IsMade fs globals n base cost code)
-      → AreCodes gs globals first values clocks costs codes → AreCodes fs globals first values clocks costs codes
-  codes_kept globals first values clocks costs codes made are = record {
-    long = are.long;
-    each = λ n code at. code_kept globals _ _ _ code (are.each n code at);
-    made = λ n code at. made _ _ _ code (are.made n code at);
   }

@@ -4,3 +4,7 @@ pub mod Costs
 pub mod Kept
 pub mod Keeping
 pub mod Rows
+pub mod Counted
+pub mod Local
+pub mod Own
+pub mod Programs

@@ -1,5 +1,8 @@
 -- The codes of the programs of a table of frames.
-use Rattle.std.specs.Prelude.{◌≡◌, ◌<◌, ◌≤◌, ◌+◌, ◌*◌, ◌^◌, ℕ, List, length, get_or, Some, slice_get}
+use Rattle.std.specs.Prelude.{◌≡◌, ◌<◌, ◌≤◌, ◌+◌, ◌*◌, ◌^◌, ℕ, List, [], ◌∷◌, ◌++◌, length, take, get_or, Some, slice_get}
+use Rattle.block_walk.specs.declared.frame.SeatOf.{SeatOf}
+use Rattle.block_walk.specs.declared.frame.SeatOf.TheVariants as seat_of
+use Rattle.block_walk.specs.declared.frame.Seat.{Seat}
 use Rattle.block_walk.specs.declared.frame.Base.{Base}
 use Rattle.block_walk.specs.declared.frame.Frame.{Frame}
 use Rattle.block_walk.specs.Frames.{frame_paths}
@@ -15,6 +18,24 @@ pub record IsCodeOf (frames : List Frame) (globals first : ℕ) (base : Base) (c
   pub paths : code.paths ≡ length (frame_paths frames (length frames) first)
   pub within : NamesAsFrame frames globals first base code
   pub tells : code.cost ≡ cost
+
+-- an instance is of a standard block, or of one of so many first frames
+abbrev pub IsOfFirst : (first : ℕ) → SeatOf → Type 0
+IsOfFirst first (seat_of.Standard standard) = Unit {0}
+IsOfFirst first (seat_of.Frame k) = k < first
+
+-- so are all instances of a list
+abbrev pub AreOfFirst : (first : ℕ) → List Seat → Type 0
+AreOfFirst first [] = Unit {0}
+AreOfFirst first (seat ∷ seats) = IsOfFirst first seat.of × AreOfFirst first seats
+
+-- programs are the frames from one on, and have instances of the frames before it alone
+abbrev pub ProgramsUseFirst : (frames : List Frame) → (first : ℕ) → Type 0
+ProgramsUseFirst frames first = (n : ℕ) (program : Frame) → slice_get frames (first + n) ≡ Some program → AreOfFirst first program.seats.items
+
+-- the table of one program: so many first frames, and its own behind them
+abbrev pub program_table : (frames : List Frame) → (first : ℕ) → Frame → List Frame
+program_table frames first program = take first frames ++ program ∷ []
 
 -- where a program begins, by the rows of where the values and the clocks of each begin
 abbrev pub base_in : (values clocks : List ℕ) → (n : ℕ) → Base
@@ -37,16 +58,18 @@ abbrev pub EachIsCode : (frames : List Frame) → (globals first : ℕ) → (val
 EachIsCode frames globals first values clocks costs codes =
     (n : ℕ) (code : PlainCode) → slice_get codes n ≡ Some code → IsCodeOf frames globals (first + n) (base_in values clocks n) (get_or costs n 0) code
 
--- code is what is made of the frame of a number as a program, at a base, with the constants of all frames folded, and with the cost that it tells
-pub record IsMade (frames : List Frame) (globals first : ℕ) (base : Base) (cost : ℕ) (code : PlainCode) : Type 0 where
+-- code is what is made of the program of a number, counted behind so many first frames, at a base, by its table with the constants folded, and with the cost that it tells
+pub record IsMade (frames : List Frame) (globals first n : ℕ) (base : Base) (cost : ℕ) (code : PlainCode) : Type 0 where
+  pub program : Frame
+  pub there : slice_get frames (first + n) ≡ Some program
   pub folded : List Frame
-  pub are_folded : AreFolded frames folded
+  pub are_folded : AreFolded (program_table frames first program) folded
   pub is : code ≡ code_of globals folded first base cost
 
 -- each of the codes is what is made of its program
 abbrev pub EachIsMade : (frames : List Frame) → (globals first : ℕ) → (values clocks costs : List ℕ) → List PlainCode → Type 0
 EachIsMade frames globals first values clocks costs codes =
-    (n : ℕ) (code : PlainCode) → slice_get codes n ≡ Some code → IsMade frames globals (first + n) (base_in values clocks n) (get_or costs n 0) code
+    (n : ℕ) (code : PlainCode) → slice_get codes n ≡ Some code → IsMade frames globals first n (base_in values clocks n) (get_or costs n 0) code
 
 -- codes are those of the programs, of which the rows tell where each begins, and behind them where the last one ends, and what each costs
 pub record AreCodes (frames : List Frame) (globals first : ℕ) (values clocks costs : List ℕ) (codes : List PlainCode) : Type 0 where

@@ -1,18 +1,21 @@
 //! Makes the codes of programs.
 
-ghost use Rattle.std.specs.Prelude.{◌≡◌, ◌+◌, ◌<◌, ◌≤◌, get_or, length, IfOk};
+ghost use Rattle.std.specs.Prelude.{◌≡◌, ◌+◌, ◌<◌, ◌≤◌, ◌++◌, ◌∷◌, [], get_or, length, IfOk};
+ghost use Rattle.block_walk.specs.declared.frame.Frame.{Frame};
 ghost use Rattle.block_walk.specs.Frames.{AreInTurn};
 ghost use Rattle.code_sizes.specs.Sizes.{frame_cost};
+ghost use Rattle.code_sizes.specs.declared.counts.Count.{Count};
 ghost use Rattle.code_sizes.specs.Counts.{HasFewLines, AreCounts};
 ghost use Rattle.codegen.specs.Codes.{code_of, AreSteady};
 ghost use Rattle.codegen.specs.Within.{NamesFit};
-ghost use Rattle.program_codes.specs.Folded.{AreFolded};
-ghost use Rattle.program_codes.specs.Codes.{IsCodeOf, AreCodes, AllNamesFit, AreSmall, CostNoMore};
+ghost use Rattle.block_walk.specs.Plain.{view_frame};
+ghost use Rattle.program_codes.specs.Folded.{folded_frame};
+ghost use Rattle.program_codes.specs.Codes.{IsCodeOf, AreCodes, AllNamesFit, AreSmall, CostNoMore, ProgramsUseFirst};
 
-use crate::folding::fold_frames;
+use crate::folding::{fold_frame, fold_frames};
 use acc_vm::Code;
 use block_walk::Frame;
-use code_sizes::{FrameCounts, count_frames};
+use code_sizes::{FrameCounts, count_frame, count_frames};
 use codegen::compile_counted;
 use const_fold::{
     folded_body_costs_at_most, folded_body_does_same, folded_body_weighs_at_most,
@@ -21,7 +24,27 @@ use const_fold::{
 use plant_cells::Cells;
 use std::alloc::{AllocError, Global};
 
-/// The code of a program, by the folded frames of a table. Fails as `codes_of` does.
+/// Folds a program's frame, and puts it and its counts behind those of a table. Fails if memory was refused.
+fn push_program(
+    alloc: Global,
+    program: Frame,
+    folded: &mut Vec<Frame>,
+    counts: &mut FrameCounts,
+) -> Result<(), AllocError>
+    requires counted { AreCounts folded.old.items counts.old }
+    requires few { (last : Frame) → view_frame last ≡ folded_frame (view_frame program) → HasFewLines (folded.old.items ++ last ∷ []) }
+    ensures folded { IfOk result (λ _. (last : Frame) × (folded.new.items ≡ folded.old.items ++ last ∷ []) × (view_frame last ≡ folded_frame (view_frame program))) }
+    ensures counts { IfOk result (λ _. (count : Count) × (counts.new.frames.items ≡ counts.old.frames.items ++ count ∷ [])) }
+    ensures counted { IfOk result (λ _. AreCounts folded.new.items counts.new) }
+{
+    let last = fold_frame(alloc, program)?;
+    let count = count_frame(&counts.frames, &last);
+    counts.frames.push(count)?;
+    folded.push(last)?;
+    Ok(())
+}
+
+/// The code of a program, by the folded frames of its table. Fails as `codes_of` does.
 fn code_of(
     alloc: Global,
     folded: &[Frame],
@@ -49,8 +72,8 @@ fn code_of(
 /// The codes of the programs of a table, which are its frames from a number on, in their order. The rows have the numbers at which the values
 /// and the clocks of each program begin, and behind them where those of the last one end. The costs are told by the codes: no program costs more
 /// before its constants are folded. Each slot and each clock that a program names is to be a number of 32 bits, and each frame so small that its
-/// lines are numbered so, too. The table is let go: of each frame as soon as its constants are folded, and all of it with the last code. Fails if
-/// allocation fails.
+/// lines are numbered so, too. A program may have instances of the frames before the first program's alone. The table is taken over: the frames before
+/// the programs are let go with the last code, and each program's frame as soon as its code is there. Fails if memory was refused.
 pub fn codes_of(
     alloc: Global,
     frames: Vec<Frame>,
@@ -69,6 +92,7 @@ pub fn codes_of(
     requires costs { length costs.now + 1 ≡ length values.now }
     requires there { first ≤ length frames.items }
     requires enough { CostNoMore frames.items first costs.now }
+    requires apart { ProgramsUseFirst frames.items first }
     ensures { IfOk result (λ codes. AreCodes frames.items globals first values.now clocks.now costs.now codes.items) }
 {
     folded_body_does_same::<usize, Cells>();
@@ -76,21 +100,19 @@ pub fn codes_of(
     folded_body_costs_at_most::<usize>();
     folded_body_weighs_at_most::<usize>();
     folded_names_stay::<usize>();
-    let folded = fold_frames(alloc, frames)?;
-    let counts = count_frames(alloc, &folded)?;
-    let programs = costs.len();
-    let mut codes = Vec::with_capacity(alloc, programs)?;
-    for n in 0..programs {
+    let mut blocks = frames;
+    let programs = blocks.split_off(first)?;
+    let mut folded = fold_frames(alloc, blocks)?;
+    let mut counts = count_frames(alloc, &folded)?;
+    let mut codes = Vec::with_capacity(alloc, programs.len())?;
+    for program in programs {
+        let n = codes.len();
+        push_program(alloc, program, &mut folded, &mut counts)?;
         let code = code_of(
-            alloc,
-            &folded,
-            &counts,
-            globals,
-            first + n,
-            values[n],
-            clocks[n],
-            costs[n],
+            alloc, &folded, &counts, globals, first, values[n], clocks[n], costs[n],
         )?;
+        folded.truncate(first);
+        counts.frames.truncate(first);
         codes.push(code)?;
     }
     Ok(codes)

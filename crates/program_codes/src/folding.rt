@@ -10,7 +10,7 @@ use std::alloc::{AllocError, Global};
 
 /// A frame with the constants of its body folded. Its instances and its initial values are moved; its body is let go. Fails if allocation
 /// fails.
-fn fold_frame(alloc: Global, frame: Frame) -> Result<Frame, AllocError>
+pub(crate) fn fold_frame(alloc: Global, frame: Frame) -> Result<Frame, AllocError>
     ensures { IfOk result (λ folded. view_frame folded ≡ folded_frame (view_frame frame)) }
 {
     let mut folded = frame;

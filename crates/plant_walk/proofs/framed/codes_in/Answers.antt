@@ -6,6 +6,7 @@ use Rattle.block_frames.specs.Numbers.{HasAllNames}
 use Rattle.program_codes.specs.Codes.{AllNamesFit, CostNoMore}
 use Rattle.plant_walk.proofs.Coded.{sound_steady, names_same, codes_same}
 use Rattle.plant_walk.proofs.Small.{sound_types}
+use Rattle.plant_walk.proofs.Apart.{programs_use_first}
 use Rattle.plant_walk.proofs.Costs.{costs_listed}
 use Rattle.plant_walk.proofs.Sizes.{frames_small}
 use Rattle.plant_walk.proofs.OwnCells.{all_names_fit}
@@ -61,6 +62,12 @@ codes_of-requires-clause-enough c =
     let names : HasAllNames source = subst HasAllNames (sym laid.sound.are_theirs) (c.typed_names_are_known.ensures laid.sound.units laid.sound.typed) in
     let enough : CostNoMore frames (length order) (program_costs source) = costs_listed source order frames laid.are_frames laid.below (sound_types source laid.sound) names (c.block_type_counts.ensures.cost source.blocks order) in
     subst (CostNoMore frames (length order)) (sym c.requires.costs) enough
+
+pub codes_of-requires-clause-apart : goal.codes_of-requires-clause-apart
+codes_of-requires-clause-apart c =
+    let source = source_of c.args.logic.now in
+    let laid = c.requires.laid in
+    programs_use_first source c.args.order.now c.args.frames.items laid.are_frames laid.below (sound_types source laid.sound)
 
 pub returns : goal.returns
 returns c =
