@@ -1,10 +1,12 @@
 //! The alarm database of a plant: a text of comma-separated values, a row for each alarm.
 //!
-//! `read` returns exactly the rows of a text, or its first fault. The records of the text are those of the crate `csv`; the columns and their forms are this profile's.
+//! `read` returns exactly the rows of a text, or its first fault. The records of the text are those of the crate `csv`; the columns and their forms are this profile's. `examine` says all
+//! that is wrong in a text's rows, with the place of each, for a person.
 #![tactic(auto)]
 
 mod column;
 mod database;
+mod examining;
 mod fault;
 mod forms;
 mod gathering;
@@ -14,6 +16,7 @@ mod tags;
 
 pub use column::{Column, Version};
 pub use database::{AlarmDatabase, read};
+pub use examining::{Examined, RowFault, RowMistake, examine};
 pub use fault::DbFault;
 pub use forms::LONGEST_DELAY_MS;
 pub use row::DatabaseRow;

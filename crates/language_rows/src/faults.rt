@@ -1,6 +1,5 @@
 //! How a plant is refused, as the table says it.
 
-use alarm_db::{Column, Version};
 use plant_config::{ConfigFault, Limit};
 use plant_types::Text;
 use std::alloc::{AllocError, Global};
@@ -16,21 +15,6 @@ fn cut(words: &str) -> (&str, &str) {
 /// A number; 0 for what is none.
 fn number(word: &str) -> usize {
     word.parse::<usize>().unwrap_or(0)
-}
-
-/// A row's number; 0 for what is none.
-fn row_number(word: &str) -> u32 {
-    word.parse::<u32>().unwrap_or(0)
-}
-
-/// The column of a name; for another word the first.
-fn column(word: &str) -> Column {
-    for column in Version::Second.columns() {
-        if column.name() == word {
-            return *column;
-        }
-    }
-    Column::Tag
 }
 
 /// The limit of a name; for another word that on areas.
@@ -77,29 +61,23 @@ fn in_unit(alloc: Global, rule: &str, words: &str) -> Result<ConfigFault, AllocE
     }
 }
 
-/// The fault of a refusal's line, without its `CONFIG`.
+/// Whether a refusal's line, without its `CONFIG`, is of a plant file that is wrong or of rows of alarms that are: then what was found wrong comes with the fault.
+pub fn is_of_tables(line: &str) -> bool {
+    let (rule, _) = cut(line);
+    matches!(
+        rule.as_bytes(),
+        b"C1" | b"C2" | b"C11" | b"C12" | b"C13" | b"C14"
+    )
+}
+
+/// The fault of a refusal's line, without its `CONFIG`, that isn't of a table.
 pub fn fault_of(alloc: Global, line: &str) -> Result<ConfigFault, AllocError> {
     let (rule, words) = cut(line);
-    let (first, second) = cut(words);
     match rule.as_bytes() {
-        b"C1" => Ok(ConfigFault::NotToml),
-        b"C2" => Ok(ConfigFault::PlantFile),
         b"C3" => Ok(ConfigFault::Epoch),
         b"C4" => at_place(alloc, words, true),
         b"C5" => at_place(alloc, words, false),
-        b"C10" => Ok(ConfigFault::Limit(limit(first))),
-        b"C11" => Ok(ConfigFault::Header),
-        b"C12" => Ok(ConfigFault::Field {
-            row: row_number(first),
-            column: column(second),
-        }),
-        b"C13" => Ok(ConfigFault::Twice {
-            row: row_number(first),
-        }),
-        b"C14" => Ok(ConfigFault::Unknown {
-            row: row_number(first),
-            column: column(second),
-        }),
+        b"C10" => Ok(ConfigFault::Limit(limit(words))),
         _ => in_unit(alloc, rule, words),
     }
 }

@@ -1,7 +1,7 @@
 //! The files of a plant, and what is told of it.
 
-use crate::faults::fault_of;
-use plant_config::ConfigFault;
+use crate::faults::{fault_of, is_of_tables};
+use plant_config::{ConfigFault, Plant};
 use plant_explain::{PlantTexts, explain, explain_all, warn};
 use row_text::{File, Page};
 use std::alloc::{AllocError, Global};
@@ -39,6 +39,25 @@ fn text_of(
     Vec::from_slice(alloc, other)
 }
 
+/// The fault for which a plant is refused by a line: where it is of a table, as the plant is read; `Memory` where the plant is accepted.
+fn fault_for<H: Threads + Sync>(
+    rt: &H,
+    alloc: Global,
+    texts: &PlantTexts<'_>,
+    line: &str,
+) -> Result<ConfigFault, AllocError> {
+    if !is_of_tables(line) {
+        return fault_of(alloc, line);
+    }
+    match Plant::read(rt, alloc, texts.plant, texts.sources, texts.alarms) {
+        Ok(plant) => {
+            drop(plant);
+            Ok(ConfigFault::Memory)
+        }
+        Err(fault) => Ok(fault),
+    }
+}
+
 /// What is told of a plant that is refused by a line, or that is accepted, as a text.
 fn told<H: Threads + Sync>(
     rt: &H,
@@ -50,7 +69,7 @@ fn told<H: Threads + Sync>(
         return warn(alloc, texts);
     }
     let all = line.strip_prefix("all ");
-    let fault = fault_of(alloc, all.unwrap_or(line))?;
+    let fault = fault_for(rt, alloc, texts, all.unwrap_or(line))?;
     match fault {
         ConfigFault::Memory => Ok(String::new(alloc)),
         fault if all.is_some() => explain_all(rt, alloc, texts, &fault),

@@ -137,14 +137,14 @@ module _ (t : Texts) where
   listed file read =
       elim (cases_Bool (same_texts t.names file.sources)) [
         | inl so ↦ inl (file, record { read = read; listed = so })
-        | inr not_so ↦ inr (fault.PlantFile, inr (file, read, not_so), λ e. cc e)
+        | inr not_so ↦ inr (fault.PlantFile tt, inr (file, read, not_so), λ e. cc e)
       ]
 
   right : (document : Members) → document_in t.plant ≡ Some document → ((file : PlainPlantFile) × HasFile t file) ⊎ Stops
   unfolding IsRefused
   right document is =
       elim (option_cases (plant_file document)) [
-        | inl none ↦ inr (fault.PlantFile, inl (document, is, none), λ e. cc e)
+        | inl none ↦ inr (fault.PlantFile tt, inl (document, is, none), λ e. cc e)
         | inr file ↦ listed file.0 (rw (is, file.1) refl)
       ]
 
@@ -152,7 +152,7 @@ module _ (t : Texts) where
   unfolding IsRefused
   has_file =
       elim (option_cases (document_in t.plant)) [
-        | inl none ↦ inr (fault.NotToml, none, λ e. cc e)
+        | inl none ↦ inr (fault.NotToml tt, none, λ e. cc e)
         | inr document ↦ right document.0 document.1
       ]
 
@@ -234,10 +234,10 @@ module _ (t : Texts) where
         database_refused : (found : DbFault) → HasDatabaseFault t found → Stops
         unfolding IsRefused
         database_refused db_fault.Memory is = absurd (wrong_records (records_of t.alarms) is.first)
-        database_refused db_fault.Header is = (fault.Header, is, λ e. cc e)
+        database_refused db_fault.Header is = (fault.Header tt, is, λ e. cc e)
         database_refused db_fault.TooMany is = (fault.Limit limit.Alarms, is, λ e. cc e)
-        database_refused (db_fault.Field row column) is = (fault.Field row column, is, λ e. cc e)
-        database_refused (db_fault.Twice row) is = (fault.Twice row, is, λ e. cc e)
+        database_refused (db_fault.Field row column) is = (fault.Field row column tt, is, λ e. cc e)
+        database_refused (db_fault.Twice row) is = (fault.Twice row tt, is, λ e. cc e)
 
         has_database : IsSized t file epoch units → HasDatabase t file epoch units ⊎ Stops
         has_database has =
@@ -251,7 +251,7 @@ module _ (t : Texts) where
         has_alarms has =
             elim (option_cases (first_unknown file.areas (source_in units).globals 1 (rows_of t.alarms))) [
               | inl none ↦ inl (record { has_database = has; known = none })
-              | inr found ↦ inr (fault.Unknown found.0.0 found.0.1, record { file = file; epoch = epoch; units = units; has_database = has; first = found.1 }, λ e. cc e)
+              | inr found ↦ inr (fault.Unknown found.0.0 found.0.1 tt, record { file = file; epoch = epoch; units = units; has_database = has; first = found.1 }, λ e. cc e)
             ]
 
         accepted : HasAlarms t file epoch units → ((plant : PlainPlant) × Accepted t plant) ⊎ Stops

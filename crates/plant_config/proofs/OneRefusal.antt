@@ -45,10 +45,10 @@ module _ (t : Texts) where
   no_document none (inr other) = let e : plant_file_in t.plant ≡ None = rw none refl in not_both (plant_file_in t.plant) other.0 other.1 e
 
   same_file : (f g : ConfigFault) → AtFile t f → AtFile t g → Same f g
-  same_file f g (inl a) (inl b) = equal f g fault.NotToml a.0 b.0
+  same_file f g (inl a) (inl b) = equal f g (fault.NotToml tt) a.0 b.0
   same_file f g (inl a) (inr b) = absurd (no_document a.1 b.1)
   same_file f g (inr a) (inl b) = absurd (no_document b.1 a.1)
-  same_file f g (inr a) (inr b) = equal f g fault.PlantFile a.0 b.0
+  same_file f g (inr a) (inr b) = equal f g (fault.PlantFile tt) a.0 b.0
 
   same_limit : (f g : ConfigFault) → AtLimits t f → AtLimits t g → Same f g
   same_limit f g a b =
@@ -82,7 +82,7 @@ module _ (t : Texts) where
       let units = one_list t a.3.file b.3.file a.3.epoch b.3.epoch a.3.units b.3.units a_units b_units in
       let first : first_unknown b.3.file.areas (source_in b.3.units).globals 1 (rows_of t.alarms) ≡ Some (a.0, a.1) = rw (← file, ← units) a.3.first in
       let found = same_Some (a.0, a.1) (b.0, b.1) (sym first ∙ b.3.first) in
-      equal f g (fault.Unknown b.0 b.1) (a.2 ∙ ap (λ (p : ℕ × Column). fault.Unknown p.0 p.1) found) b.2
+      equal f g (fault.Unknown b.0 b.1 tt) (a.2 ∙ ap (λ (p : ℕ × Column). fault.Unknown p.0 p.1 tt) found) b.2
 
   from_database : (f g : ConfigFault) → FromDatabase t f → FromDatabase t g → Same f g
   from_database = settled Same (AtDatabase t) (AtAlarms t) same_database (λ f g a b. let p = database_right t g b in no_at_database t p.0 p.1 p.2 p.3 f a) same_unknown

@@ -54,10 +54,10 @@ one_epoch text a b low high e f =
 -- the refusal for a database's fault
 abbrev pub database_refusal : DbFault → ConfigFault
 database_refusal db_fault.Memory = fault.Memory
-database_refusal db_fault.Header = fault.Header
+database_refusal db_fault.Header = fault.Header tt
 database_refusal db_fault.TooMany = fault.Limit limit.Alarms
-database_refusal (db_fault.Field row column) = fault.Field row column
-database_refusal (db_fault.Twice row) = fault.Twice row
+database_refusal (db_fault.Field row column) = fault.Field row column tt
+database_refusal (db_fault.Twice row) = fault.Twice row tt
 
 -- the refusal for a limit on slots, size or cost
 abbrev pub size_refusal : LimitFault → ConfigFault
@@ -90,7 +90,7 @@ module _ (t : Texts) where
 
   -- the refusals of each stage
   abbrev pub AtFile : ConfigFault → Type 0
-  AtFile f = ((f ≡ fault.NotToml) × (document_in t.plant ≡ None)) ⊎ ((f ≡ fault.PlantFile) × (IsWrongFile t.plant ⊎ HasOtherSources t))
+  AtFile f = ((f ≡ fault.NotToml tt) × (document_in t.plant ≡ None)) ⊎ ((f ≡ fault.PlantFile tt) × (IsWrongFile t.plant ⊎ HasOtherSources t))
 
   abbrev pub AtEpoch : ConfigFault → Type 0
   AtEpoch f = (f ≡ fault.Epoch) × HasNoEpoch t
@@ -124,7 +124,7 @@ module _ (t : Texts) where
   AtDatabase f = (found : DbFault) × (f ≡ database_refusal found) × HasDatabaseFault t found
 
   abbrev pub AtAlarms : ConfigFault → Type 0
-  AtAlarms f = (row : ℕ) × (column : Column) × (f ≡ fault.Unknown row column) × NamesUnknown t row column
+  AtAlarms f = (row : ℕ) × (column : Column) × (f ≡ fault.Unknown row column tt) × NamesUnknown t row column
 
   -- those of a stage or a later one
   abbrev pub FromDatabase : ConfigFault → Type 0
@@ -168,8 +168,8 @@ module _ (t : Texts) where
   pub staged : (f : ConfigFault) → IsRefused t f → (f ≡ fault.Memory) ⊎ FromFile f
   unfolding IsRefused
   staged fault.Memory is = inl refl
-  staged fault.NotToml is = inr (inl (inl (refl, is)))
-  staged fault.PlantFile is = inr (inl (inr (refl, is)))
+  staged (fault.NotToml u) is = inr (inl (inl (refl, is)))
+  staged (fault.PlantFile u) is = inr (inl (inr (refl, is)))
   staged fault.Epoch is = inr (inr (inl (refl, is)))
   staged (fault.Limit limit.Sources) is = inr (at_limits limit.Sources is)
   staged (fault.Limit limit.Text) is = inr (at_limits limit.Text is)
@@ -190,10 +190,10 @@ module _ (t : Texts) where
   staged (fault.Kind name unit) is = inr (at_types _ is.file is.epoch is.units is.has_units (type_fault.Kind is.place) is.is_fault (λ e. cc e) (rw (is.name_is, is.unit_is) refl))
   staged (fault.HoldsItself name unit) is = inr (at_types _ is.file is.epoch is.units is.has_units (type_fault.HoldsItself is.place) is.is_fault (λ e. cc e) (rw (is.name_is, is.unit_is) refl))
   staged (fault.Constant name unit) is = inr (at_types _ is.file is.epoch is.units is.has_units (type_fault.Constant is.place) is.is_fault (λ e. cc e) (rw (is.name_is, is.unit_is) refl))
-  staged fault.Header is = inr (at_database _ db_fault.Header refl is)
-  staged (fault.Field row column) is = inr (at_database _ (db_fault.Field row column) refl is)
-  staged (fault.Twice row) is = inr (at_database _ (db_fault.Twice row) refl is)
-  staged (fault.Unknown row column) is = inr (inr (inr (inr (inr (inr (inr (inr (row, column, refl, is))))))))
+  staged (fault.Header u) is = inr (at_database _ db_fault.Header refl is)
+  staged (fault.Field row column u) is = inr (at_database _ (db_fault.Field row column) refl is)
+  staged (fault.Twice row u) is = inr (at_database _ (db_fault.Twice row) refl is)
+  staged (fault.Unknown row column u) is = inr (inr (inr (inr (inr (inr (inr (inr (row, column, refl, is))))))))
 
   -- what is right is one
   pub one_file : (a b : PlainPlantFile) → HasFile t a → HasFile t b → a ≡ b

@@ -32,8 +32,8 @@ unit_text file unit = file ++ codes " " ++ unit
 -- the number of the fault and where it is, or what is over its limit; Memory has no line
 abbrev pub config_line : ConfigFault → List ℕ
 config_line fault.Memory = []
-config_line fault.NotToml = codes "CONFIG C1"
-config_line fault.PlantFile = codes "CONFIG C2"
+config_line (fault.NotToml _) = codes "CONFIG C1"
+config_line (fault.PlantFile _) = codes "CONFIG C2"
 config_line fault.Epoch = codes "CONFIG C3"
 config_line (fault.Limit found) = codes "CONFIG C10 " ++ limit_name found
 config_line (fault.Spelling file line column) = codes "CONFIG C4 " ++ place_text file line column
@@ -42,7 +42,7 @@ config_line (fault.Name file unit) = codes "CONFIG C6 " ++ unit_text file unit
 config_line (fault.Kind file unit) = codes "CONFIG C7 " ++ unit_text file unit
 config_line (fault.HoldsItself file unit) = codes "CONFIG C8 " ++ unit_text file unit
 config_line (fault.Constant file unit) = codes "CONFIG C9 " ++ unit_text file unit
-config_line fault.Header = codes "CONFIG C11"
-config_line (fault.Field row column) = codes "CONFIG C12 " ++ decimal row ++ codes " " ++ column_name column
-config_line (fault.Twice row) = codes "CONFIG C13 " ++ decimal row
-config_line (fault.Unknown row column) = codes "CONFIG C14 " ++ decimal row ++ codes " " ++ column_name column
+config_line (fault.Header _) = codes "CONFIG C11"
+config_line (fault.Field row column _) = codes "CONFIG C12 " ++ decimal row ++ codes " " ++ column_name column
+config_line (fault.Twice row _) = codes "CONFIG C13 " ++ decimal row
+config_line (fault.Unknown row column _) = codes "CONFIG C14 " ++ decimal row ++ codes " " ++ column_name column

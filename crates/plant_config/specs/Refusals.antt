@@ -117,15 +117,15 @@ IsLimitOf t found = IsOverLimit t found
 -- why bytes name no files, Memory apart
 abbrev pub IsFileFault : List ℕ → ConfigFault → Type 0
 IsFileFault bytes fault.Memory = ⊤
-IsFileFault bytes fault.NotToml = document_in bytes ≡ None
-IsFileFault bytes fault.PlantFile = IsWrongFile bytes
+IsFileFault bytes (fault.NotToml _) = document_in bytes ≡ None
+IsFileFault bytes (fault.PlantFile _) = IsWrongFile bytes
 IsFileFault bytes _ = ⊥
 
 -- why texts are refused, Memory apart
 unfoldable pub IsRefused : Texts → ConfigFault → Type 0
 IsRefused t fault.Memory = ⊤
-IsRefused t fault.NotToml = document_in t.plant ≡ None
-IsRefused t fault.PlantFile = IsWrongFile t.plant ⊎ HasOtherSources t
+IsRefused t (fault.NotToml _) = document_in t.plant ≡ None
+IsRefused t (fault.PlantFile _) = IsWrongFile t.plant ⊎ HasOtherSources t
 IsRefused t fault.Epoch = HasNoEpoch t
 IsRefused t (fault.Limit found) = IsLimitOf t found
 IsRefused t (fault.Spelling name line column) = IsMisspelled t (λ number. source_fault.Spelling number line column) name
@@ -134,10 +134,10 @@ IsRefused t (fault.Name name unit) = IsMistypedIn t type_fault.Name name unit
 IsRefused t (fault.Kind name unit) = IsMistypedIn t type_fault.Kind name unit
 IsRefused t (fault.HoldsItself name unit) = IsMistypedIn t type_fault.HoldsItself name unit
 IsRefused t (fault.Constant name unit) = IsMistypedIn t type_fault.Constant name unit
-IsRefused t fault.Header = HasDatabaseFault t db_fault.Header
-IsRefused t (fault.Field row column) = HasDatabaseFault t (db_fault.Field row column)
-IsRefused t (fault.Twice row) = HasDatabaseFault t (db_fault.Twice row)
-IsRefused t (fault.Unknown row column) = NamesUnknown t row column
+IsRefused t (fault.Header _) = HasDatabaseFault t db_fault.Header
+IsRefused t (fault.Field row column _) = HasDatabaseFault t (db_fault.Field row column)
+IsRefused t (fault.Twice row _) = HasDatabaseFault t (db_fault.Twice row)
+IsRefused t (fault.Unknown row column _) = NamesUnknown t row column
 
 -- a refusal without the place of a C5 in its source, for which the rule leaves a choice
 abbrev pub unplaced : ConfigFault → ConfigFault

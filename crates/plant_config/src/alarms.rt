@@ -5,6 +5,7 @@ ghost use Rattle.plant_config.specs.Alarms.{area_number, is_bool, is_bool_at, bo
 
 use crate::rows::AlarmRow;
 use alarm_db::{Column, DatabaseRow};
+use plant_file::TextSet;
 use plant_logic::Variable;
 use plant_types::{Kind, Text};
 use plant_walk::Framed;
@@ -42,11 +43,11 @@ impl<T: Drop> From<AllocFailed<T>> for AlarmFault {
 }
 
 /// The number of an area; `None` if the plant hasn't it.
-fn area_number(areas: &[Text], name: &str) -> Option<usize>
+pub fn area_number(areas: &TextSet, name: &str) -> Option<usize>
     ensures number { result ≡ area_number areas.now name.now }
     ensures within { IfSome result (λ number. number < length areas.now) }
 {
-    areas.iter().position(|area| name == area.as_str())
+    areas.number(name)
 }
 
 /// Whether a kind is BOOL.
@@ -67,7 +68,7 @@ fn is_bool_at(globals: &[Variable], number: usize) -> bool
 }
 
 /// The number of the BOOL global of a name, letter case ignored; `None` if there is none.
-fn bool_number(logic: &Framed, name: &str) -> Option<usize>
+pub fn bool_number(logic: &Framed, name: &str) -> Option<usize>
     ensures number { result ≡ bool_number logic.now.globals name.now }
     ensures within { IfSome result (λ number. number < length logic.now.globals) }
 {
@@ -95,7 +96,7 @@ fn suppress_number(logic: &Framed, name: Option<&Text>) -> Option<Option<u32>>
 
 /// The numbers of a row's area, of its condition and of its suppression, or the first column in which a name stands for nothing.
 fn numbers_of(
-    areas: &[Text],
+    areas: &TextSet,
     logic: &Framed,
     row: &DatabaseRow,
 ) -> Result<(u32, u32, Option<u32>), Column>
@@ -120,7 +121,7 @@ fn numbers_of(
 }
 
 /// The alarm of a row, or the first column in which a name stands for nothing.
-fn alarm_of(areas: &[Text], logic: &Framed, row: DatabaseRow) -> Result<AlarmRow, Column>
+fn alarm_of(areas: &TextSet, logic: &Framed, row: DatabaseRow) -> Result<AlarmRow, Column>
     requires areas { length areas.now ≤ 64 }
     requires globals { length logic.now.globals ≤ 65536 }
     ensures { MatchResult result
@@ -149,7 +150,7 @@ fn alarm_of(areas: &[Text], logic: &Framed, row: DatabaseRow) -> Result<AlarmRow
 /// The alarms of rows, or the first row in which a name stands for nothing, numbered from 1, and in it the first column.
 pub fn alarms_of(
     alloc: Global,
-    areas: &[Text],
+    areas: &TextSet,
     logic: &Framed,
     rows: Vec<DatabaseRow>,
 ) -> Result<Vec<AlarmRow>, AlarmFault>

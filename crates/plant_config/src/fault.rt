@@ -6,7 +6,9 @@ ghost use Rattle.alarm_db.specs.Columns.{column_name};
 ghost use Rattle.plant_config.specs.FaultLine.{config_line, limit_name, place_text, unit_text};
 ghost use Rattle.plant_config.specs.declared.fault.ConfigFault.TheVariants as fault;
 
+use crate::told::RowMistakes;
 use alarm_db::Column;
+use plant_file::{Mistakes, Unread};
 use plant_types::Text;
 use std::alloc::{AllocError, Global};
 use std::fmt;
@@ -41,7 +43,8 @@ pub enum Limit {
 
 /// Why a plant isn't accepted. Lines of a source and bytes of a line count from 1, and so do the rows of the alarm database after its header.
 ///
-/// As an `Error` it says which rule isn't kept; `line` says where, too.
+/// As an `Error` it says which rule isn't kept; `line` says where, too. What a person is told beside the line stands in the fault too: where the plant file is
+/// wrong and why, and what is wrong in the rows of the alarm database. Contracts don't see it.
 #[derive(Drop, Error)]
 pub enum ConfigFault {
     /// Allocation failed.
@@ -49,10 +52,10 @@ pub enum ConfigFault {
     Memory,
     /// C1: the plant file is no TOML document in UTF-8.
     #[error("C1: the plant file is no TOML document")]
-    NotToml,
+    NotToml(Unread),
     /// C2: a key of the plant file is unknown, missing or wrong, or the sources handed in aren't those that it lists.
     #[error("C2: a key of the plant file is unknown, missing or wrong, or the sources are not those that it lists")]
-    PlantFile,
+    PlantFile(Mistakes),
     /// C3: the epoch isn't `YYYY-MM-DDTHH:MM:SSZ` of a second of the years 1970 to 2399.
     #[error("C3: the epoch is not a second of the years 1970 to 2399, as YYYY-MM-DDTHH:MM:SSZ")]
     Epoch,
@@ -101,23 +104,26 @@ pub enum ConfigFault {
     },
     /// C11: the alarm database has no header or another one, or a row with another number of fields.
     #[error("C11: the alarm database has another header, or a row another number of fields")]
-    Header,
+    Header(RowMistakes),
     /// C12: a field of the alarm database doesn't have its column's form.
     #[error("C12: a field of the alarm database does not have its column's form")]
     Field {
         row: u32,
         column: Column,
+        mistakes: RowMistakes,
     },
     /// C13: a tag that an earlier row has.
     #[error("C13: a tag stands twice")]
     Twice {
         row: u32,
+        mistakes: RowMistakes,
     },
     /// C14: an area that the plant file doesn't list, or a name that is no BOOL global's.
     #[error("C14: an area or a variable of the alarm database is not in the plant")]
     Unknown {
         row: u32,
         column: Column,
+        mistakes: RowMistakes,
     },
 }
 
@@ -165,8 +171,8 @@ impl ConfigFault {
     {
         match self {
             ConfigFault::Memory => Ok(String::new(alloc)),
-            ConfigFault::NotToml => String::from_str(alloc, "CONFIG C1"),
-            ConfigFault::PlantFile => String::from_str(alloc, "CONFIG C2"),
+            ConfigFault::NotToml(_) => String::from_str(alloc, "CONFIG C1"),
+            ConfigFault::PlantFile(_) => String::from_str(alloc, "CONFIG C2"),
             ConfigFault::Epoch => String::from_str(alloc, "CONFIG C3"),
             ConfigFault::Limit(limit) => line_with_word(alloc, "CONFIG C10 ", limit.name()),
             ConfigFault::Spelling { file, line, column } => {
@@ -181,12 +187,12 @@ impl ConfigFault {
                 line_with_unit(alloc, "CONFIG C8 ", file, unit)
             }
             ConfigFault::Constant { file, unit } => line_with_unit(alloc, "CONFIG C9 ", file, unit),
-            ConfigFault::Header => String::from_str(alloc, "CONFIG C11"),
-            ConfigFault::Field { row, column } => {
+            ConfigFault::Header(_) => String::from_str(alloc, "CONFIG C11"),
+            ConfigFault::Field { row, column, .. } => {
                 line_with_column(alloc, "CONFIG C12 ", *row, *column)
             }
-            ConfigFault::Twice { row } => line_with_row(alloc, "CONFIG C13 ", *row),
-            ConfigFault::Unknown { row, column } => {
+            ConfigFault::Twice { row, .. } => line_with_row(alloc, "CONFIG C13 ", *row),
+            ConfigFault::Unknown { row, column, .. } => {
                 line_with_column(alloc, "CONFIG C14 ", *row, *column)
             }
         }

@@ -7,7 +7,7 @@ ghost use Rattle.plant_config.specs.Stages.{HasFile};
 ghost use Rattle.plant_config.specs.Refusals.{IsRefused, IsFileFault};
 
 use crate::fault::ConfigFault;
-use plant_file::{PlantFile, PlantFileFault};
+use plant_file::{Mistakes, PlantFile, PlantFileFault};
 use plant_types::{Items, Text};
 use std::alloc::{AllocError, Global};
 use std::marker::Model;
@@ -45,8 +45,8 @@ pub fn file_of(alloc: Global, bytes: &[u8]) -> Result<PlantFile, ConfigFault>
     match plant_file::read(alloc, bytes) {
         Ok(file) => Ok(file),
         Err(PlantFileFault::Memory) => Err(ConfigFault::Memory),
-        Err(PlantFileFault::NotToml) => Err(ConfigFault::NotToml),
-        Err(PlantFileFault::Wrong) => Err(ConfigFault::PlantFile),
+        Err(PlantFileFault::NotToml(unread)) => Err(ConfigFault::NotToml(unread)),
+        Err(PlantFileFault::Wrong(mistakes)) => Err(ConfigFault::PlantFile(mistakes)),
     }
 }
 
@@ -79,7 +79,7 @@ pub fn listed(alloc: Global, handed: &Handed<'_>) -> Result<PlantFile, ConfigFau
             if have_names(handed.sources, file.sources()) {
                 Ok(file)
             } else {
-                Err(ConfigFault::PlantFile)
+                Err(ConfigFault::PlantFile(Mistakes::none(alloc)))
             }
         }
         Err(fault) => Err(fault),

@@ -12,6 +12,7 @@ mod plant;
 mod rows;
 mod running;
 mod spelling;
+mod told;
 
 pub use fault::{ConfigFault, Limit};
 pub use files::Files;
@@ -19,3 +20,4 @@ pub use laws::{accepted_or_refused, one_plant, one_refusal};
 pub use plant::Plant;
 pub use plant_logic::Variable;
 pub use rows::AlarmRow;
+pub use told::RowMistakes;

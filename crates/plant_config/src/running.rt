@@ -11,6 +11,7 @@ use crate::alarms::{AlarmFault, alarms_of};
 use crate::fault::{ConfigFault, Limit};
 use crate::files::Handed;
 use crate::rows::AlarmRow;
+use crate::told::told;
 use alarm_db::{AlarmDatabase, DatabaseRow, DbFault};
 use plant_file::PlantFile;
 use plant_limits::LimitFault;
@@ -55,10 +56,17 @@ pub fn database_of(
     match alarm_db::read(alloc, handed.alarms) {
         Ok(database) => Ok(database),
         Err(DbFault::Memory) => Err(ConfigFault::Memory),
-        Err(DbFault::Header) => Err(ConfigFault::Header),
+        Err(DbFault::Header) => Err(ConfigFault::Header(told(alloc, handed, file, logic))),
         Err(DbFault::TooMany) => Err(ConfigFault::Limit(Limit::Alarms)),
-        Err(DbFault::Field { row, column }) => Err(ConfigFault::Field { row, column }),
-        Err(DbFault::Twice { row }) => Err(ConfigFault::Twice { row }),
+        Err(DbFault::Field { row, column }) => Err(ConfigFault::Field {
+            row,
+            column,
+            mistakes: told(alloc, handed, file, logic),
+        }),
+        Err(DbFault::Twice { row }) => Err(ConfigFault::Twice {
+            row,
+            mistakes: told(alloc, handed, file, logic),
+        }),
     }
 }
 
@@ -79,9 +87,16 @@ pub fn known_alarms(
     ensures alarms { MatchResult result (λ alarms. AreKnown handed.now file.now logic.now alarms.items) (IsRefused handed.now) }
     ensures file { IsPlantFile file.now }
 {
-    match alarms_of(alloc, file.areas(), logic, rows) {
+    let Ok(areas) = file.area_set(alloc) else {
+        return Err(ConfigFault::Memory);
+    };
+    match alarms_of(alloc, &areas, logic, rows) {
         Ok(alarms) => Ok(alarms),
         Err(AlarmFault::Memory) => Err(ConfigFault::Memory),
-        Err(AlarmFault::Unknown { row, column }) => Err(ConfigFault::Unknown { row, column }),
+        Err(AlarmFault::Unknown { row, column }) => Err(ConfigFault::Unknown {
+            row,
+            column,
+            mistakes: told(alloc, handed, file, logic),
+        }),
     }
 }

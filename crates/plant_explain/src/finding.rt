@@ -41,12 +41,12 @@ fn in_table(
     fault: &ConfigFault,
 ) -> Result<Cause, AllocError> {
     match fault {
-        ConfigFault::NotToml => not_toml(alloc, refused.plant),
-        ConfigFault::PlantFile => wrong_keys(alloc, refused.plant),
+        ConfigFault::NotToml(_) => not_toml(alloc, refused.plant),
+        ConfigFault::PlantFile(_) => wrong_keys(alloc, refused.plant),
         ConfigFault::Epoch => no_epoch(alloc, refused.plant),
-        ConfigFault::Field { row, column } => malformed(alloc, refused.alarms, *row, *column),
-        ConfigFault::Twice { row } => doubled(alloc, refused.alarms, *row),
-        ConfigFault::Unknown { row, column } => {
+        ConfigFault::Field { row, column, .. } => malformed(alloc, refused.alarms, *row, *column),
+        ConfigFault::Twice { row, .. } => doubled(alloc, refused.alarms, *row),
+        ConfigFault::Unknown { row, column, .. } => {
             unknown(alloc, refused, field_of(refused.alarms, *row, *column))
         }
         _ => uneven(alloc, refused.alarms),
@@ -81,7 +81,7 @@ fn find_elsewhere(
         ConfigFault::Grammar { file, line, column } => {
             in_text(alloc, refused, file, (*line, *column), false)
         }
-        ConfigFault::NotToml | ConfigFault::PlantFile | ConfigFault::Epoch => Ok(Spot {
+        ConfigFault::NotToml(_) | ConfigFault::PlantFile(_) | ConfigFault::Epoch => Ok(Spot {
             file: FileOf::Plant,
             cause: in_table(alloc, refused, fault)?,
         }),

@@ -15,7 +15,7 @@ pub enum Stage {
 pub fn stage_of(fault: &ConfigFault) -> Option<Stage> {
     match fault {
         ConfigFault::Spelling { .. } | ConfigFault::Grammar { .. } => Some(Stage::Sources),
-        ConfigFault::Header
+        ConfigFault::Header(_)
         | ConfigFault::Field { .. }
         | ConfigFault::Twice { .. }
         | ConfigFault::Unknown { .. } => Some(Stage::Rows),

@@ -19,5 +19,5 @@ plant_file_in bytes = document_in bytes >>= plant_file
 -- why bytes are refused: there is no document, or it isn't that of a plant file
 abbrev pub IsRefused : List ℕ → PlantFileFault → Type 0
 IsRefused bytes fault.Memory = ⊤
-IsRefused bytes fault.NotToml = document_in bytes ≡ None
-IsRefused bytes fault.Wrong = (document : Members) × (document_in bytes ≡ Some document) × (plant_file document ≡ None)
+IsRefused bytes (fault.NotToml _) = document_in bytes ≡ None
+IsRefused bytes (fault.Wrong _) = (document : Members) × (document_in bytes ≡ Some document) × (plant_file document ≡ None)

@@ -42,7 +42,7 @@ impl Console {
 }
 
 /// A number that a console may have; `None` if it isn't from 1 to 999999999.
-fn console_number(number: i64) -> Option<u32>
+pub fn console_number(number: i64) -> Option<u32>
     ensures { result ≡ console_number number }
 {
     if number < 1 {

@@ -4,7 +4,7 @@ ghost use Rattle.std.specs.Prelude.{◌≡◌, IfOk};
 ghost use Rattle.plant_file.specs.PlantFiles.{IsPlantFile};
 
 use crate::console::{Console, copy_consoles};
-use crate::texts::copy_texts;
+use crate::texts::{TextSet, copy_texts, set_of};
 use plant_types::{Items, Text};
 use std::alloc::{AllocError, Global};
 use std::marker::Model;
@@ -64,6 +64,14 @@ impl PlantFile {
         ensures file { IsPlantFile self.now }
     {
         self.areas.as_slice()
+    }
+
+    /// The areas in an index: the number of each, from 0, by its bytes. Fails if allocation fails.
+    pub fn area_set(&self, alloc: Global) -> Result<TextSet, AllocError>
+        ensures areas { IfOk result (λ areas. areas ≡ self.now.areas) }
+        ensures file { IsPlantFile self.now }
+    {
+        set_of(alloc, self.areas.as_slice())
     }
 
     /// The files of the plant's sources, each of 1 to 255 bytes. None stands there twice.

@@ -9,8 +9,10 @@ ghost use Rattle.plant_file.specs.Read.{IsRefused, document_in, plant_file_in};
 use crate::console::{Console, consoles_in};
 use crate::fault::PlantFileFault;
 use crate::file::PlantFile;
+use crate::mistakes::mistakes_in;
 use crate::table::{has_only, is_sized, text_at, texts_at};
 use crate::texts::{TextSet, copied};
+use crate::unread::Unread;
 use plant_types::{Items, Text};
 use std::alloc::{AllocError, Global};
 use std::str;
@@ -22,17 +24,17 @@ fn document(alloc: Global, bytes: &[u8]) -> Result<Table, PlantFileFault>
     ensures refused { IfErr result (IsRefused bytes.now) }
 {
     let Ok(text) = str::from_utf8(bytes) else {
-        return Err(PlantFileFault::NotToml);
+        return Err(PlantFileFault::NotToml(Unread::not_utf8(bytes)));
     };
     match toml::table_from_str(alloc, text) {
         Ok(table) => Ok(table),
         Err(fault) if fault.is_memory() => Err(PlantFileFault::Memory),
-        Err(_) => Err(PlantFileFault::NotToml),
+        Err(fault) => Err(PlantFileFault::NotToml(Unread::of(fault))),
     }
 }
 
 /// Whether a text has the form of a tag: 1 to 32 ASCII letters, digits, `_`, `-` and `.`.
-fn is_tag(text: &str) -> bool
+pub fn is_tag(text: &str) -> bool
     ensures { result ≡ is_tag text.now }
 {
     if !is_sized(1, 32, text) {
@@ -71,7 +73,7 @@ fn are_sized(low: usize, high: usize, texts: &[String]) -> bool
 }
 
 /// The areas; `None` if what stands under the key is wrong. Fails if allocation fails.
-fn areas_in(alloc: Global, table: &Table) -> Result<Option<TextSet>, AllocError>
+pub fn areas_in(alloc: Global, table: &Table) -> Result<Option<TextSet>, AllocError>
     ensures { IfOk result (λ areas. areas ≡ areas_in (table_view table.now)) }
 {
     match texts_at(alloc, table, "areas")? {
@@ -179,6 +181,6 @@ pub fn read(alloc: Global, bytes: &[u8]) -> Result<PlantFile, PlantFileFault>
     let table = document(alloc, bytes)?;
     match plant_file(alloc, &table)? {
         Some(file) => Ok(file),
-        None => Err(PlantFileFault::Wrong),
+        None => Err(PlantFileFault::Wrong(mistakes_in(alloc, &table)?)),
     }
 }

@@ -10,7 +10,8 @@ use crate::texts::{TextSet, distinct, texts};
 use std::alloc::{AllocError, Global};
 use toml::{Table, Value};
 
-fn is_among(keys: &[&str], key: &str) -> bool
+/// Whether a key is one of these.
+pub fn is_among(keys: &[&str], key: &str) -> bool
     ensures { result ≡ list_any (bytes_eq key.now) (map (λ k. k.now) keys.now) }
 {
     for known in keys {

@@ -1,6 +1,6 @@
 //! Lists of texts in which none stands twice.
 
-ghost use Rattle.std.specs.Prelude.{◌≡◌, ◌++◌, ◌∷◌, [], IfOk, not, if◌then◌else◌, map, position, Some, None, string_bytes, option_map};
+ghost use Rattle.std.specs.Prelude.{◌≡◌, ◌++◌, ◌∷◌, [], IfOk, false, not, if◌then◌else◌, map, position, Some, None, string_bytes, option_map};
 ghost use Rattle.std.specs.List.{list_any};
 ghost use Rattle.std.specs.Str.{bytes_eq};
 ghost use Rattle.toml.specs.View.{items_view};
@@ -93,6 +93,21 @@ pub fn distinct(alloc: Global, texts: &[&str]) -> Result<Option<TextSet>, AllocE
         }
     }
     Ok(Some(found))
+}
+
+/// Texts, none of which stands there twice, in an index. Fails if allocation fails.
+pub fn set_of(alloc: Global, texts: &[Text]) -> Result<TextSet, AllocError>
+    requires { repeats bytes_eq texts.now ≡ false }
+    ensures { IfOk result (λ set. set ≡ texts.now) }
+{
+    let mut names = Vec::new(alloc);
+    for text in texts {
+        names.push(text.as_str())?;
+    }
+    match distinct(alloc, names.as_slice())? {
+        Some(set) => Ok(set),
+        None => unreachable!(),
+    }
 }
 
 /// Copies texts. Fails if allocation fails.

@@ -74,8 +74,8 @@ fetch_unnamed finds path text (fault.Config refused) there unnamed = (unnamed.0,
 pub file_refused : (texts : Texts) (f : ConfigFault) → IsFileFault texts.plant f → IsRefused texts f
 unfolding IsRefused
 file_refused texts config_fault.Memory is = tt
-file_refused texts config_fault.NotToml is = is
-file_refused texts config_fault.PlantFile is = inl is
+file_refused texts (config_fault.NotToml _) is = is
+file_refused texts (config_fault.PlantFile _) is = inl is
 file_refused texts config_fault.Epoch is = absurd is
 file_refused texts (config_fault.Limit found) is = absurd is
 file_refused texts (config_fault.Spelling name line column) is = absurd is
@@ -84,7 +84,7 @@ file_refused texts (config_fault.Name name unit) is = absurd is
 file_refused texts (config_fault.Kind name unit) is = absurd is
 file_refused texts (config_fault.HoldsItself name unit) is = absurd is
 file_refused texts (config_fault.Constant name unit) is = absurd is
-file_refused texts config_fault.Header is = absurd is
-file_refused texts (config_fault.Field row column) is = absurd is
-file_refused texts (config_fault.Twice row) is = absurd is
-file_refused texts (config_fault.Unknown row column) is = absurd is
+file_refused texts (config_fault.Header _) is = absurd is
+file_refused texts (config_fault.Field row column _) is = absurd is
+file_refused texts (config_fault.Twice row _) is = absurd is
+file_refused texts (config_fault.Unknown row column _) is = absurd is
