@@ -4,7 +4,7 @@ from __future__ import annotations
 
 from typing import Final
 
-_FORMULA: Final = ("=", "+", "-", "@", "\t", "\r")
+_FORMULA: Final = (*"=+-@", *"＝＋－＠", "\t", "\r", "\n")  # the second four are of full width
 
 
 def guarded(cell: object) -> object:

@@ -99,7 +99,19 @@ def test_rows_as_csv(book: Book) -> None:
     assert (rows[2]["milliseconds"], rows[2]["tag"]) == ("60000", "")
 
 
-FORMULAS = ('=HYPERLINK("http://x")', "+1", "-1", "@SUM(A1)", "\t=1", "\r=1")
+FORMULAS = (
+    '=HYPERLINK("http://x")',
+    "+1",
+    "-1",
+    "@SUM(A1)",
+    "\t=1",
+    "\r=1",
+    "\n=1",
+    "＝1",
+    "＋1",
+    "－1",
+    "＠A1",
+)
 PLAIN = ("seen", "", " =1", "level = 3", "'=1", "1-2")
 
 
