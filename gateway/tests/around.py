@@ -15,8 +15,9 @@ from pathlib import Path
 from alarmd_gateway.config import Config
 
 ROOT = Path(__file__).resolve().parents[2]
-LIMIT = 180.0
-"""Seconds for which a test waits for what has to come."""
+LIMIT = 600.0
+"""Seconds for which a test waits for what has to come, on however busy a machine."""
+PATIENCE = 1000 * int(LIMIT)  # milliseconds for which a gateway waits for an answer of alarmd
 
 
 def plant_copy(name: str, folder: Path, epoch: str = "2020-01-01T00:00:00Z") -> Path:
@@ -37,7 +38,7 @@ def without_programs(folder: Path) -> Path:
 def config_for(alarmd: Path, plant: Path, **others: int | bool | Path) -> Config:
     """A configuration beside the plant's folder."""
     folder = plant.parent.parent
-    config = Config(alarmd, plant, folder / "record", folder, patience_ms=60_000, period_ms=50)
+    config = Config(alarmd, plant, folder / "record", folder, patience_ms=PATIENCE, period_ms=50)
     for key, value in others.items():
         object.__setattr__(config, key, value)
     return config
@@ -46,7 +47,7 @@ def config_for(alarmd: Path, plant: Path, **others: int | bool | Path) -> Config
 def config_file(alarmd: Path, plant: Path, **others: int | bool) -> Path:
     """The same as a file."""
     path = plant.parent.parent / "gateway.toml"
-    keys = {"patience_ms": 60_000, "period_ms": 50, **others}
+    keys = {"patience_ms": PATIENCE, "period_ms": 50, **others}
     lines = [f'alarmd = "{alarmd}"', f'plant = "{plant}"', 'record = "record"']
     lines += [f"{key} = {str(value).lower()}" for key, value in keys.items()]
     path.write_text("\n".join(lines) + "\n")

@@ -7,13 +7,15 @@ import subprocess
 from pathlib import Path
 from typing import Any
 
+from around import PATIENCE
+
 from alarmd_gateway.config import Config
 from alarmd_gateway.core import Core
 
 
 def config_of(alarmd: Path, plant: Path, folder: Path, **more: Any) -> Config:
     """A configuration whose record is in a folder."""
-    words: dict[str, Any] = {"period_ms": 20, "patience_ms": 60_000, "yes": True, **more}
+    words: dict[str, Any] = {"period_ms": 20, "patience_ms": PATIENCE, "yes": True, **more}
     return Config(alarmd, plant, folder / "record", folder, **words)
 
 

@@ -2,7 +2,7 @@
 
 from __future__ import annotations
 
-from alarmd_gateway.sessions import MOST_SESSIONS, Sessions, Tries
+from alarmd_gateway.sessions import MOST_SESSIONS, Pace, Sessions, Tries
 
 
 class Hand:
@@ -87,3 +87,14 @@ def test_a_right_password_forgets_the_wrong_ones() -> None:
         tries.failed("10.0.0.1", "anna")
     tries.succeeded("10.0.0.1", "anna")
     assert tries.wait("10.0.0.1", "anna") == 0
+
+
+def test_orders_that_a_session_may_give_come_back() -> None:
+    clock = Hand()
+    pace = Pace(clock)
+    taken: list[int] = []
+    for seconds in (0.0, 0.05, 0.06, 1.0, 1000.0):
+        clock.now += seconds
+        taken.append(sum(pace.take("anna") for _ in range(200)))
+    assert taken == [100, 0, 1, 10, 100]
+    assert pace.take("bert") and not pace.take("anna")
