@@ -31,6 +31,7 @@ class FakeEtcd:
         self.deaf = 0  # so many requests get no answer, and aren't carried out
         self.dumb = 0  # so many are carried out, and get no answer
         self.refusal = ""  # where there are words, whatever writes is refused with them
+        self.strict = False  # whether a lease that isn't there any more can't be asked for anew
         self.late = 0  # so many come late: they get no answer, and are carried out by `arrive`
         self.before: dict[
             int, Callable[[], None]
@@ -74,6 +75,8 @@ class FakeEtcd:
             self._count += 1
             self.leases.add(str(self._count))
             return {"ID": str(self._count), "TTL": body["TTL"]}
+        if path == KEEP and self.strict and body["ID"] not in self.leases:
+            raise EtcdRefused("etcdserver: requested lease not found")
         if path == KEEP:
             return {"result": {"TTL": "3"} if body["ID"] in self.leases else {}}
         if path == REVOKE:

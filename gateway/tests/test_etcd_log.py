@@ -404,6 +404,24 @@ def test_who_stands_while_another_leads(tmp_path: Path, plant: Plant) -> None:
     trial(work, tmp_path, plant)
 
 
+@pytest.mark.parametrize("strict", [False, True])
+def test_another_lease_is_asked_for_where_one_has_ended(
+    tmp_path: Path, plant: Plant, strict: bool
+) -> None:
+    async def work(etcd: FakeEtcd, side: Sides) -> None:
+        etcd.strict = strict
+        a = await side("a")
+        for notice in (a.candidate.beat, a.candidate.stand):
+            await a.candidate.beat()
+            assert a.candidate.lease is not None
+            etcd.end(a.candidate.lease)
+            await notice()
+            assert a.candidate.lease is None
+        await a.lead()
+
+    trial(work, tmp_path, plant)
+
+
 def test_keys_and_values() -> None:
     assert plain(coded("ü\udcff")) == "ü\udcff"
     assert after("/alarmd/tank/request/") == "/alarmd/tank/request0"

@@ -183,6 +183,46 @@ def test_no_answer_of_etcd(alarmd: Path, tmp_path: Path, monkeypatch: pytest.Mon
     trial(Pair(alarmd, tmp_path, tank), work)
 
 
+def test_a_leader_that_has_nothing_to_append(
+    alarmd: Path, tmp_path: Path, monkeypatch: pytest.MonkeyPatch
+) -> None:
+    """As of a plant that waits for its first samples: where etcd is silent it leads no more either."""
+    monkeypatch.setattr(log_watch, "SILENT", 0.5)
+
+    async def work(pair: Pair) -> None:
+        a = await pair.join("a")
+        await until(lambda: a.leads, "a leads")
+        pair.etcd.deaf = 10**9
+        await until(lambda: not a.leads, "it leads no more")
+        pair.etcd.deaf = 0
+        await until(lambda: a.leads, "it leads again")
+        assert not a.state.scanned
+
+    trial(Pair(alarmd, tmp_path, tank), work)
+
+
+def test_etcd_is_heard_while_a_scan_waits(alarmd: Path, tmp_path: Path) -> None:
+    async def work(pair: Pair) -> None:
+        a = await pair.join("a")
+        gate, waiting = asyncio.Event(), asyncio.Event()
+
+        async def held(moment: int) -> None:
+            waiting.set()
+            await gate.wait()
+
+        await until(lambda: a.leads, "a leads")
+        a.before_scan = held
+        await give(a, running=True, level=250, flow=100)
+        await waiting.wait()
+        heard = a._log.asks.heard
+        await until(lambda: a._log.asks.heard > heard + 2, "etcd is asked meanwhile")
+        assert not a.state.scanned
+        gate.set()
+        await until(lambda: a.state.scanned, "the scan")
+
+    trial(Pair(alarmd, tmp_path, tank), work)
+
+
 def test_a_new_record_for_both(alarmd: Path, tmp_path: Path) -> None:
     async def work(pair: Pair) -> None:
         a, b = await pair.join("a"), await pair.join("b")
