@@ -4,25 +4,35 @@ from __future__ import annotations
 
 import json
 import time
+from collections.abc import Callable
+from concurrent.futures import ThreadPoolExecutor
 from pathlib import Path
-from typing import Any
+from typing import Any, TypeVar
 
 from cluster import LIMIT, Cluster, wait
 from http_help import Client
 from test_kills import by_the_record
-from whole_help import Gateway
+from whole_help import Gateway, NoVerdict
 
 LISTING = ("STATE ", "COUNT ", "END ")
+Found = TypeVar("Found")
+
+
+def of_each(cluster: Cluster, look: Callable[[str], Found]) -> list[Found]:
+    """What is found by looks at all gateways, begun at one moment: one after another they would seldom be after as many events."""
+    with ThreadPoolExecutor(len(cluster.gateways)) as pool:
+        return list(pool.map(look, cluster.gateways))
 
 
 def listed(gateway: Gateway) -> list[str]:
-    """What a gateway lists to `list` and `journal`, at one moment."""
+    """What a gateway lists to `list` and `journal`, at one moment. Raises NoVerdict where that doesn't come."""
     assert gateway.said is not None
     gateway.said.clear()
     gateway.give("list\njournal\n")
     end = time.monotonic() + LIMIT
     while sum(line.startswith("END ") for line in tuple(gateway.said)) < 2:
-        assert time.monotonic() < end, gateway.told[-5:]
+        if time.monotonic() > end:
+            raise NoVerdict(f"it lists nothing: {gateway.told[-5:]}")
         time.sleep(0.005)
     lines = tuple(gateway.said)
     return [line for line in lines if line.startswith(LISTING) or line[:1].isdigit()]
@@ -31,8 +41,7 @@ def listed(gateway: Gateway) -> list[str]:
 def state_of(cluster: Cluster, name: str) -> tuple[int, str]:
     """After how many events, and what a gateway says that stands then, without what may differ: who it is, its troubles, its own
     clock, and what it has of the log already and isn't answered yet."""
-    state = cluster.state(name)
-    assert state is not None, name
+    state = cluster.says(name)
     for key in ("number", "now", "troubles", "questions"):
         del state[key]
     state["log"] = state["log"]["record"]
@@ -40,12 +49,12 @@ def state_of(cluster: Cluster, name: str) -> tuple[int, str]:
 
 
 def same_states(cluster: Cluster) -> None:
-    """What all gateways say after as many events is the same, each time that it is seen."""
+    """What all gateways say after as many events is the same, each time that it is seen. Raises NoVerdict where it isn't seen."""
     seen: dict[int, dict[str, str]] = {}
 
     def compared() -> bool:
-        for name in cluster.gateways:
-            events, state = state_of(cluster, name)
+        states = of_each(cluster, lambda name: state_of(cluster, name))
+        for name, (events, state) in zip(cluster.gateways, states):
             seen.setdefault(events, {})[name] = state
         whole = [each for each in seen.values() if len(each) == len(cluster.gateways)]
         for each in whole:
@@ -55,29 +64,33 @@ def same_states(cluster: Cluster) -> None:
     wait(compared, f"never seen after as many events: {[*seen]}")
 
 
+def table(gateway: Gateway) -> str:
+    """The journal of a gateway, as its page exports it."""
+    return Client(gateway.url).ask("/api/journal.csv").body.decode()
+
+
 def alike(cluster: Cluster) -> list[str]:
-    """State, journal and list of all gateways are the same bytes. Gives the list and the journal."""
-    last: list[list[str]] = []
+    """State, journal and list of all gateways are the same bytes. Gives the list and the journal. Raises AssertionError where they
+    differ after as many events, and NoVerdict where they aren't seen after as many."""
+    seen: dict[tuple[str, ...], str] = {}
+    lists: list[str] = []
 
     def compared() -> bool:
-        lists, tables = [], []
-        for gateway in cluster.gateways.values():
-            lists.append("\n".join(listed(gateway)))
-            tables.append(Client(gateway.url).ask("/api/journal.csv").body.decode())
-        last[:] = [lists, tables]
-        return all(len(set(each)) == 1 for each in last)
+        lists.clear()
+        for lines in of_each(cluster, lambda name: listed(cluster.gateways[name])):
+            count = tuple(line for line in lines if line.startswith("END "))
+            lists.append("\n".join(lines))
+            first = seen.setdefault(count, lists[-1])
+            assert first == lists[-1], f"lists differ: {[first[-300:], lists[-1][-300:]]}"
+        tables = of_each(cluster, lambda name: table(cluster.gateways[name]))
+        longest = max(tables, key=len)
+        parted = [one[-300:] for one in tables if not longest.startswith(one)]
+        assert not parted, f"journals part: {[longest[-300:], *parted]}"
+        return all(len(set(each)) == 1 for each in (lists, tables))
 
     same_states(cluster)
-    try:
-        wait(compared, "they differ")
-    except AssertionError:
-        raise AssertionError(f"they differ: {differing(last)}") from None
-    return last[0][0].split("\n")
-
-
-def differing(last: list[list[str]]) -> list[list[str]]:
-    """The parts that aren't the same, each once, the end of each."""
-    return [[part[-300:] for part in set(each)] for each in last if len(set(each)) > 1]
+    wait(compared, "lists and journals are never seen after as many events")
+    return lists[0].split("\n")
 
 
 def plays_again(cluster: Cluster, alarmd: Path, listed_by_all: list[str]) -> None:
@@ -90,9 +103,10 @@ def plays_again(cluster: Cluster, alarmd: Path, listed_by_all: list[str]) -> Non
         assert found == listed_by_all
 
 
-def orders(cluster: Cluster) -> list[dict[str, Any]]:
-    """All rows of orders in the journal of the first gateway."""
-    client, rows, at = Client(next(iter(cluster.gateways.values())).url), [], 1
+def orders(cluster: Cluster, begin: int = 1) -> list[dict[str, Any]]:
+    """All rows of orders in the journal of the first gateway, from this row on."""
+    client, rows = Client(next(iter(cluster.gateways.values())).url), []
+    at: int | None = begin
     while at is not None:
         found = client.ask(f"/api/journal?from={at}&count=1000").json
         rows += [row for row in found["rows"] if row["kind"] == "order"]

@@ -1,4 +1,5 @@
-"""Three nodes of etcd, a proxy before each for each gateway, and gateways that share a log: processes on loopback ports."""
+"""Three nodes of etcd, a proxy before each for each gateway and one for the other nodes, and gateways that share a log: processes on
+loopback ports."""
 
 from __future__ import annotations
 
@@ -18,8 +19,8 @@ from typing import IO, Any
 from certificates import Papers
 from full_disk import SmallDisk
 from http_help import Client
-from proxy import Proxy
-from whole_help import Gateway
+from proxy import Proxies
+from whole_help import Gateway, NoVerdict
 
 from alarmd_gateway.shared_config import client_tls
 
@@ -39,10 +40,11 @@ def free_ports(count: int) -> list[int]:
 
 
 def wait(holds: Callable[[], object], what: str, limit: float = LIMIT) -> float:
-    """Waits until something holds, and gives the seconds that it took."""
+    """Waits until something holds, and gives the seconds that it took. Raises NoVerdict where it doesn't come."""
     begin = time.monotonic()
     while not holds():
-        assert time.monotonic() < begin + limit, what
+        if time.monotonic() > begin + limit:
+            raise NoVerdict(what)
         time.sleep(0.02)
     return time.monotonic() - begin
 
@@ -51,13 +53,22 @@ class Node:
     """A node of etcd."""
 
     def __init__(
-        self, folder: Path, number: int, client: int, peers: list[int], tls: Papers | None = None
+        self,
+        folder: Path,
+        number: int,
+        client: int,
+        peers: list[int],
+        tls: Papers | None = None,
+        port: int = 0,
     ) -> None:
+        """`peers` are the ports at which the nodes find each other; `port` is where this one listens for the others, where that
+        isn't the port at which they find it."""
         self.client = client
         self._tls = tls
-        ends = [f"http{'s' if tls else ''}://127.0.0.1:{port}" for port in (*peers, client)]
-        cluster = ",".join(f"n{at}={end}" for at, end in enumerate(ends[:-1]))
-        own, here = ends[number], ends[-1]
+        ports = (*peers, port or peers[number], client)
+        ends = [f"http{'s' if tls else ''}://127.0.0.1:{one}" for one in ports]
+        cluster = ",".join(f"n{at}={end}" for at, end in enumerate(ends[:-2]))
+        own, listens, here = ends[number], *ends[-2:]
         self._words = [
             "etcd",
             "--name",
@@ -66,7 +77,7 @@ class Node:
             str(folder / f"n{number}" / "data"),
         ]
         self._words += ["--listen-client-urls", here, "--advertise-client-urls", here]
-        self._words += ["--listen-peer-urls", own, "--initial-advertise-peer-urls", own]
+        self._words += ["--listen-peer-urls", listens, "--initial-advertise-peer-urls", own]
         self._words += ["--heartbeat-interval", "50", "--election-timeout", "500"]
         self._words += ["--initial-cluster", cluster, "--initial-cluster-token", str(peers)]
         self._words += tls_words(tls) if tls else []
@@ -78,8 +89,9 @@ class Node:
         self._process = subprocess.Popen(self._words, stdout=self._log, stderr=self._log)
 
     def healthy(self) -> bool:
-        """Whether it answers, with a majority behind it."""
-        assert self._process is not None and self._process.poll() is None, self._words
+        """Whether it answers, with a majority behind it. Raises NoVerdict where it has ended."""
+        if self.ended:
+            raise NoVerdict(f"a node has ended: {self._words}")
         with contextlib.suppress(OSError, ValueError, http.client.HTTPException):
             return bool(self._asks().ask("/health").json == {"health": "true"})
         return False
@@ -95,6 +107,11 @@ class Node:
     @property
     def ended(self) -> bool:
         return self._process is None or self._process.poll() is not None
+
+    @property
+    def pid(self) -> int:
+        """Of its process; 0 where there is none."""
+        return 0 if self._process is None else self._process.pid
 
     def kill(self) -> None:
         if self._process is not None:
@@ -131,6 +148,7 @@ def tls_words(papers: Papers) -> list[str]:
 
 SETTINGS = """
 yes = true
+patience_ms = 120000
 [etcd]
 endpoints = {endpoints}
 log = "trial"
@@ -163,17 +181,19 @@ class Cluster:
     ) -> None:
         """With `disks` each gateway, and the first node, has a small disk of its own."""
         ports = free_ports(6)
-        clients, peers = ports[:3], ports[3:]
+        clients, listens = ports[:3], ports[3:]
         names = ["n0", *"abc"[:count]] if disks else []
         self.disks = {name: SmallDisk(folder / name, DISKS.get(name, 64)) for name in names}
-        self.nodes = [Node(folder, number, clients[number], peers, tls) for number in range(3)]
+        self._proxies = Proxies([*count * clients, *listens]) if proxied else None
+        found = self._proxies.ports if self._proxies else [*count * clients, *listens]
+        self.nodes = [
+            Node(folder, number, clients[number], found[-3:], tls, listens[number])
+            for number in range(3)
+        ]
         self.gateways: dict[str, Gateway] = {}
-        self.proxies: dict[str, list[Proxy]] = {}
-        for name in "abc"[:count]:
-            self.proxies[name] = [Proxy(node.client) for node in self.nodes] if proxied else []
-            scheme = "https" if tls else "http"
-            ports = [proxy.port for proxy in self.proxies[name]] if proxied else clients
-            ends = [f"{scheme}://127.0.0.1:{port}" for port in ports]
+        scheme = "https" if tls else "http"
+        for at, name in enumerate("abc"[:count]):
+            ends = [f"{scheme}://127.0.0.1:{port}" for port in found[3 * at : 3 * at + 3]]
             settings = SETTINGS.format(endpoints=json.dumps(ends), name=name)
             settings += papers_of(tls) if tls else ""
             (folder / name).mkdir(exist_ok=True)
@@ -195,6 +215,18 @@ class Cluster:
             found = client.ask("/api/state").json
             return found if isinstance(found, dict) else None
         return None
+
+    def says(self, name: str) -> dict[str, Any]:
+        """The same, once it says something. Raises NoVerdict."""
+        found: list[dict[str, Any]] = []
+
+        def asked() -> bool:
+            state = self.state(name)
+            found[:] = [] if state is None else [state]
+            return bool(found)
+
+        wait(asked, f"{name} answers nothing")
+        return found[0]
 
     def leads(self, name: str) -> bool:
         state = self.state(name)
@@ -237,16 +269,49 @@ class Cluster:
 
     def cut(self, name: str, cut: bool) -> None:
         """Cuts a gateway off from etcd, or ends that."""
-        for proxy in self.proxies[name]:
-            proxy.cut = cut
+        for number in range(3):
+            self._cut(name, number, cut)
+
+    def cut_machine(self, name: str, cut: bool, own: bool = False) -> None:
+        """Cuts a gateway and the node of its number off from the other ones, with `own` from each other too, or ends that."""
+        at = [*self.gateways].index(name)
+        for who in self.gateways:
+            for number in range(3):
+                if (who == name) != (number == at) or (own and who == name and number == at):
+                    self._cut(who, number, cut)
+        alone = [self.nodes[at].pid] if cut else []
+        assert self._proxies is not None
+        for number in range(3):
+            between = 3 * len(self.gateways) + number
+            self._proxies.cut(between, cut and number == at, alone if number != at else [])
+
+    def _cut(self, name: str, number: int, cut: bool) -> None:
+        """Cuts a gateway off from a node, or ends that."""
+        assert self._proxies is not None
+        self._proxies.cut(3 * [*self.gateways].index(name) + number, cut)
+
+    def mend(self) -> None:
+        """Nothing is killed, halted, cut off or full any more, and a gateway leads. Raises NoVerdict."""
+        for disk in self.disks.values():
+            disk.room()
+        for name in self.gateways:
+            self.cut_machine(name, False, own=True)
+        for node in self.nodes:
+            node.start() if node.ended else node.signal(signal.SIGCONT)
+        for gateway in self.gateways.values():
+            gateway.signal(signal.SIGCONT)
+            if gateway.process.poll() is not None:
+                gateway.start()
+        for node in self.nodes:
+            wait(node.healthy, "a node doesn't come back")
+        self.leader()
 
     def close(self) -> None:
         for gateway in self.gateways.values():
             if gateway.started:
                 gateway.end()
-        for proxies in self.proxies.values():
-            for proxy in proxies:
-                proxy.close()
+        if self._proxies is not None:
+            self._proxies.close()
         for node in self.nodes:
             node.close()
         for disk in self.disks.values():

@@ -11,10 +11,12 @@ import threading
 import time
 from collections.abc import Sequence
 from dataclasses import dataclass
+from functools import partial
 from typing import Any
 
-from cluster import Cluster
+from cluster import LIMIT, Cluster
 from http_help import Client
+from whole_help import NoVerdict
 
 ENDLESS = float("inf")
 NOT_ANSWERED = (OSError, ValueError, http.client.HTTPException)
@@ -69,23 +71,25 @@ class Load:
         self._going = threading.Event()  # unset while nothing is to be given
         self._going.set()
         self._idle = [threading.Event() for _ in range(len(cluster.gateways) + 1)]
-        works = [threading.Thread(target=self._sample, args=(self._idle[0], random.Random(seed)))]
+        works = [partial(self._sample, self._idle[0], random.Random(seed))]
         for number, name in enumerate(cluster.gateways):
-            words = (self._idle[number + 1], name, random.Random(seed * 10 + number))
-            works.append(threading.Thread(target=self._order, args=words))
-        self._threads = works
-        for work in works:
-            work.start()
+            chance = random.Random(seed * 10 + number)
+            works.append(partial(self._order, self._idle[number + 1], name, chance))
+        self._threads = [threading.Thread(target=work, daemon=True) for work in works]
+        for thread in self._threads:
+            thread.start()
 
     def answered(self) -> int:
         """How many orders have been answered."""
         return sum(given.reply not in (None, "-") for given in tuple(self.history))
 
     def pause(self) -> None:
-        """Nothing is given any more once this has returned, and all is answered, or has waited long enough."""
+        """Nothing is given any more once this has returned, and all is answered, or has waited long enough. Raises NoVerdict where
+        somebody who gives doesn't rest."""
         self._going.clear()
-        for idle in self._idle:
-            idle.wait()
+        for idle, thread in zip(self._idle, self._threads):
+            if not (idle.wait(LIMIT) and thread.is_alive()):
+                raise NoVerdict("somebody who gives orders or samples has ended, or doesn't rest")
 
     def go_on(self) -> None:
         """Samples and orders are given again."""
@@ -151,7 +155,8 @@ class Load:
         return answer.status in (200, 503)
 
     def close(self) -> None:
+        """Nothing is given any more. Who waits for a gateway that does nothing is left alone."""
         self._ended = True
         self._going.set()
         for thread in self._threads:
-            thread.join()
+            thread.join(LIMIT)

@@ -51,7 +51,18 @@ async def fill(side: Side, count: int) -> None:
             for number in range(begin + 1, begin + TOGETHER + 1)
         ]
         fields = {"record": 1, "log": known.log, "entries": begin + TOGETHER}
-        await log.asks.ask([], [*puts, etcd.put(keys.last, fields)])
+        await written(side, [*puts, etcd.put(keys.last, fields)])
+
+
+async def written(side: Side, puts: list[etcd.Body]) -> None:
+    """These are in the log once it has returned. What a busy node may have carried out without an answer is carried out again."""
+    while True:
+        try:
+            await side.log.asks.ask([], puts)
+            return
+        except etcd.NoEtcd as fault:
+            print(f"asked again: {fault}", flush=True)
+        await asyncio.sleep(1)
 
 
 def command(number: int) -> Entry:

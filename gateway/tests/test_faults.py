@@ -1,6 +1,7 @@
 """Gateways that share a log in etcd, and what befalls them: each fault by itself, and what has to hold after it.
 
-Runs with `--faults` alone, and wants etcd (`gateway/setup --etcd`). `--rounds N` tries each fault so often; `-s` shows the times."""
+Runs with `--faults` alone, and wants etcd (`gateway/setup --etcd`). `--rounds N` tries each fault so often; `-s` shows the verdict on each
+fault as it is given, the times, and the verdict on the whole."""
 
 from __future__ import annotations
 
@@ -19,6 +20,7 @@ from full_disk import may_mount
 from history import Load, faults
 from test_etcd_log import Side
 from trial import FAULTS, FULL_DISKS, Trial
+from verdicts import Said, Verdict, verdict
 from whole_help import Gateway
 
 from alarmd_gateway import plant as plants
@@ -35,7 +37,8 @@ LEADS_AFTER = 5.0  # seconds, where there is a majority
 
 def tried(trial: Trial, alarmd: Path, rounds: int, minutes: float) -> None:
     """Each fault so often, in an order by chance; after each the gateways are compared, and after each round a server with
-    them. No round begins after so many minutes."""
+    them. No round begins after so many minutes. Ends early where something is wrong, or can't be mended.
+    """
     end = time.monotonic() + 60 * minutes
     faults = FAULTS + (FULL_DISKS if trial.cluster.disks else ())
     for _ in range(rounds):
@@ -43,15 +46,33 @@ def tried(trial: Trial, alarmd: Path, rounds: int, minutes: float) -> None:
             return
         for number, fault in enumerate(trial.chance.sample(faults, len(faults)), 1):
             begin = time.monotonic()
-            try:
-                fault(trial)
-                trial.compare(alarmd if number == len(faults) else None)
-            except AssertionError:
-                for name, gateway in trial.cluster.gateways.items():
-                    state = trial.cluster.state(name) or {}
-                    print(name, state.get("log"), state.get("troubles"), gateway.told[-5:])
-                raise
-            print(f"{fault.__name__}: {time.monotonic() - begin:.1f} s", flush=True)
+            given = trial.tried(fault, alarmd if number == len(faults) else None)
+            print(f"{fault.__name__}: {given}, {time.monotonic() - begin:.1f} s", flush=True)
+            if given.said is Said.RIGHT:
+                continue
+            stands(trial.cluster)
+            if given.said is Said.WRONG or not mended(trial.cluster):
+                return
+
+
+def stands(cluster: Cluster) -> None:
+    """Shows what each gateway says."""
+    for name, gateway in cluster.gateways.items():
+        state = cluster.state(name) or {}
+        print(name, state.get("log"), state.get("troubles"), gateway.told[-5:], flush=True)
+
+
+def mended(cluster: Cluster) -> bool:
+    """Whether what a fault without a verdict has left can be mended, so that others may be tried."""
+
+    def mend() -> list[str]:
+        cluster.mend()
+        return []
+
+    given = verdict(mend)
+    if given.said is not Said.RIGHT:
+        print(f"it can't be mended: {given}", flush=True)
+    return given.said is Said.RIGHT
 
 
 @pytest.fixture
@@ -70,11 +91,26 @@ def told(trial: Trial) -> None:
     """What has been tried so far, and how long it took."""
     for name, times in trial.times.items():
         middle, most = statistics.median(times), max(times)
-        print(f"{name}: {len(times)} times, middle {middle:.1f} s, longest {most:.1f} s")
+        each = " ".join(f"{one:.1f}" for one in sorted(times))
+        print(f"{name}: {len(times)} times, middle {middle:.1f} s, longest {most:.1f} s ({each})")
     if not trial.cluster.disks:
         print("no full disks were tried: only root can mount small ones")
     print(f"{trial.compared} times list, journal and state of all gateways were the same bytes")
-    print(f"{len(trial.load.history)} orders, {trial.load.answered()} answered")
+    history = tuple(trial.load.history)
+    print(f"{len(history)} orders, {trial.load.answered()} answered")
+    print("\n".join(trial.tally.lines()), flush=True)
+
+
+def judged(trial: Trial, alarmd: Path) -> list[str]:
+    """What is wrong in the end, once nothing is given any more: by the whole journal, the copies, and a fresh server."""
+    cluster = trial.cluster
+    alike(cluster)
+    rows = orders(cluster)
+    wrong = faults(trial.load.history, rows)
+    for gateway in cluster.gateways.values():
+        assert gateway.end() == 0, gateway.told[-5:]
+    print(f"{copies_agree(cluster, alarmd, rows)} commands in the log")
+    return wrong
 
 
 def test_faults(cluster: Cluster, alarmd: Path, pytestconfig: pytest.Config) -> None:
@@ -87,14 +123,11 @@ def test_faults(cluster: Cluster, alarmd: Path, pytestconfig: pytest.Config) -> 
     finally:
         load.close()
         told(trial)
-    alike(cluster)
-    rows = orders(cluster)
-    wrong = faults(load.history, rows)
-    print(f"wrong: {wrong}")
-    for gateway in cluster.gateways.values():
-        assert gateway.end() == 0
-    print(f"{copies_agree(cluster, alarmd, rows)} commands in the log")
-    assert not wrong
+    whole = verdict(lambda: judged(trial, alarmd))
+    print(f"the whole: {whole}", flush=True)
+    assert whole == Verdict(Said.RIGHT)
+    assert trial.tally.count(Said.WRONG) == 0
+    assert trial.tally.count(Said.NONE) == 0, "not each fault has a verdict"
     late = [
         (name, one) for name, times in trial.times.items() for one in times if one > LEADS_AFTER
     ]

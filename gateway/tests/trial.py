@@ -10,9 +10,11 @@ from functools import partial
 from pathlib import Path
 from typing import Any
 
-from alike import alike, plays_again
+from alike import alike, orders, plays_again
 from cluster import Cluster, wait
-from history import Load
+from history import Load, faults
+from verdicts import Tally, Verdict, verdict
+from whole_help import NoVerdict
 
 LEASE = 2.0  # seconds, as the configuration has it without a word
 
@@ -26,6 +28,21 @@ class Trial:
         self.times: dict[str, list[float]] = {}
         self.compared = 0
         self.chance = random.Random(seed)
+        self.tally = Tally()
+        self._rows: list[
+            dict[str, Any]
+        ] = []  # of orders in the journal, as far as it was looked at
+
+    def tried(self, fault: Callable[[Trial], None], alarmd: Path | None) -> Verdict:
+        """Tries a fault, and looks at what has to hold after it, where there is a program with a server beside the gateways."""
+
+        def looked_at() -> list[str]:
+            fault(self)
+            return self.compare(alarmd)
+
+        given = verdict(looked_at)
+        self.tally.add(fault.__name__, given)
+        return given
 
     def goes_on(self) -> None:
         """Orders are answered again, by each gateway."""
@@ -56,18 +73,26 @@ class Trial:
         self.note(fault, begin)
         return new
 
-    def compare(self, alarmd: Path | None) -> None:
+    def compare(self, alarmd: Path | None) -> list[str]:
         """Once nothing is given any more, all gateways have the same; and so has a server that is given their copies, where there
-        is a program for it."""
+        is a program for it. Gives what is wrong with the history so far."""
         self.load.pause()
         try:
             listing = alike(self.cluster)
             self.compared += 1
             if alarmd is not None:
-                played = partial(plays, self.cluster, alarmd, listing)
-                wait(played, "a server differs")
+                self._played(alarmd, listing)
+            begin = int(self._rows[-1]["number"]) + 1 if self._rows else 1
+            self._rows += orders(self.cluster, begin)
+            return faults(self.load.history, self._rows)
         finally:
             self.load.go_on()
+
+    def _played(self, alarmd: Path, listing: list[str]) -> None:
+        try:
+            wait(partial(plays, self.cluster, alarmd, listing), "a server differs")
+        except NoVerdict as late:
+            raise AssertionError(str(late)) from None
 
 
 def leader_killed(trial: Trial) -> None:
@@ -104,6 +129,29 @@ def leader_cut_off(trial: Trial) -> None:
     trial.goes_on()
     cluster.cut(old, False)
     wait(lambda: not is_told(cluster, old), "the page still says that etcd isn't reached")
+
+
+def leader_cut_from_others(trial: Trial) -> None:
+    """Its machine is: it reaches the node beside it, which reaches no other one."""
+    machine_cut_off(trial, "leader and the node beside it cut off from the others", own=False)
+
+
+def leader_cut_from_both(trial: Trial) -> None:
+    """From the others, and from the node beside it too."""
+    machine_cut_off(trial, "leader cut off from the others and from the node beside it", own=True)
+
+
+def machine_cut_off(trial: Trial, fault: str, own: bool) -> None:
+    cluster, old = trial.cluster, trial.cluster.leader()
+    cluster.cut_machine(old, True, own)
+    trial.another(fault, old)
+    wait(lambda: is_told(cluster, old, ""), "the page says nothing")
+    had = trial.load.answered_by(old)
+    trial.answered_by_each([name for name in cluster.gateways if name != old])
+    assert trial.load.answered_by(old) == had, f"{old} answers though it is cut off"
+    cluster.cut_machine(old, False, own)
+    wait(lambda: not is_told(cluster, old), "the page still says that etcd isn't reached")
+    trial.answered_by_each([old])
 
 
 def follower_cut_off(trial: Trial) -> None:
@@ -228,6 +276,8 @@ FAULTS: tuple[Callable[[Trial], None], ...] = (
     leader_killed,
     leader_halted,
     leader_cut_off,
+    leader_cut_from_others,
+    leader_cut_from_both,
     follower_cut_off,
     leader_ended,
     node_killed,
@@ -244,15 +294,9 @@ FULL_DISKS: tuple[Callable[[Trial], None], ...] = (
 
 def log_of(cluster: Cluster, name: str) -> dict[str, Any]:
     """What a gateway knows of the log."""
-    found: list[dict[str, Any]] = []
-
-    def asked() -> bool:
-        state = cluster.state(name)
-        found[:] = [] if state is None else [state["log"]]
-        return bool(found)
-
-    wait(asked, f"{name} answers nothing")
-    return found[0]
+    log = cluster.says(name)["log"]
+    assert isinstance(log, dict)
+    return log
 
 
 def settled(cluster: Cluster) -> bool:

@@ -33,6 +33,10 @@ listen = "127.0.0.1:{port}"
 """
 
 
+class NoVerdict(AssertionError):
+    """What would show whether all is right didn't come."""
+
+
 class Gateway:
     """A folder with a plant, a record and users, and the process that serves it."""
 
@@ -104,7 +108,8 @@ class Gateway:
         end = time.monotonic() + PATIENCE
         while not holds():
             assert self.process.poll() is None, self.told
-            assert time.monotonic() < end, self.told
+            if time.monotonic() > end:
+                raise NoVerdict(f"what is waited for doesn't come: {self.told}")
             time.sleep(0.01)
 
     @property
