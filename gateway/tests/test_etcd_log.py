@@ -256,6 +256,20 @@ def test_an_order_that_is_handed_on_is_taken_once(tmp_path: Path, plant: Plant) 
     trial(work, tmp_path, plant)
 
 
+def test_orders_that_are_handed_on_wait_in_their_order(tmp_path: Path, plant: Plant) -> None:
+    async def work(etcd: FakeEtcd, side: Sides) -> None:
+        a, b = await side("a"), await side("b")
+        await a.lead()
+        await b.candidate.beat()
+        assert b.candidate.lease is not None
+        marks = ["m2", "m3", "m1"]
+        for mark in marks:
+            await b.log.request(mark, Entry("ack 1 LAL-101"), b.candidate.lease)
+        assert [one.mark for one in (await a.log.look()).requests] == marks
+
+    trial(work, tmp_path, plant)
+
+
 def test_a_request_ends_with_its_lease(tmp_path: Path, plant: Plant) -> None:
     async def work(etcd: FakeEtcd, side: Sides) -> None:
         a, b = await side("a"), await side("b")
@@ -310,6 +324,7 @@ def test_no_new_record_by_one_that_leads_no_more(tmp_path: Path, plant: Plant) -
         etcd.end(a.candidate.lease)
         with pytest.raises(Deposed):
             await a.log.succeed([Entry("scan 1")])
+        assert a.log.keys.entry(2, 1).encode() not in etcd.keys  # nor a beginning of one
         await b.lead()
         assert b.log.known.record == 1
 

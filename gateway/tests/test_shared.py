@@ -12,10 +12,11 @@ from around import config_for, plant_copy, until, without_programs
 from core_help import Served
 from fake_etcd import FakeEtcd
 
-from alarmd_gateway import log_watch, shared
-from alarmd_gateway.log_view import Last
+from alarmd_gateway import etcd_log, log_watch, shared
+from alarmd_gateway.log_view import Last, Marked
 from alarmd_gateway.metrics import Metrics
 from alarmd_gateway.model import Code, Order, Sample, ServerGone, Verb
+from alarmd_gateway.record import Entry
 from alarmd_gateway.shared import SharedCore
 from alarmd_gateway.shared_config import SharedConfig
 from alarmd_gateway.troubles import TroubleKind
@@ -179,6 +180,9 @@ def test_no_answer_of_etcd(alarmd: Path, tmp_path: Path, monkeypatch: pytest.Mon
         await until(lambda: a.leads, "it leads again")
         await until(lambda: not told_of_log(a), "the trouble ends")
         await until(lambda: a.state.events > events, "scans go on")
+        await a.order(Order(Verb.REMOVE, 1, "FAL-103"))
+        rows = [row.words for row in a.journal.rows() if row.words[0] == "ORDER"]
+        assert [row[2] for row in rows] == ["remove"]  # the one that wasn't taken isn't taken later
 
     trial(Pair(alarmd, tmp_path, tank), work)
 
@@ -239,6 +243,48 @@ def test_a_new_record_for_both(alarmd: Path, tmp_path: Path) -> None:
         assert first[0] == first[1]
 
     trial(Pair(alarmd, tmp_path, without_programs, rotate_at=20), work)
+
+
+def test_the_old_record_is_whole_before_the_new_one_is_followed(
+    alarmd: Path, tmp_path: Path, monkeypatch: pytest.MonkeyPatch
+) -> None:
+    monkeypatch.setattr(etcd_log, "PAGE", 2)
+
+    async def work(pair: Pair) -> None:
+        a = await pair.join("a")
+        await until(lambda: a.leads, "a leads")
+        b = await pair.join("b")
+        gate, keep = asyncio.Event(), b._log.keep
+
+        async def held(one: Marked) -> None:
+            await gate.wait()
+            await keep(one)
+
+        monkeypatch.setattr(b._log, "keep", held)
+        await give(a, a=5)
+        await until(lambda: a._log.known.record > 1, "a new record")
+        gate.set()
+        await until(lambda: b._log.known.record > 1, "the other one has it")
+        first = [(tmp_path / name / "record.1").read_bytes() for name in "ab"]
+        assert first[0] == first[1]
+
+    trial(Pair(alarmd, tmp_path, without_programs, rotate_at=20), work)
+
+
+def test_a_request_that_is_no_order_goes(alarmd: Path, tmp_path: Path) -> None:
+    async def work(pair: Pair) -> None:
+        a, b = await pair.join("a"), await pair.join("b")
+        await until(lambda: a.leads != b.leads, "one leads")
+        follower = b if a.leads else a
+        await until(lambda: follower._candidate.lease is not None, "a lease")
+        lease = follower._candidate.lease
+        assert lease is not None
+        await follower._log.request("m1", Entry("scan 5 level=5"), lease)
+        key = (follower._log.keys.requests + "m1").encode()
+        await until(lambda: key not in pair.etcd.keys, "it goes")
+        assert not a.state.scanned
+
+    trial(Pair(alarmd, tmp_path, tank), work)
 
 
 def test_figures_for_prometheus(alarmd: Path, tmp_path: Path) -> None:
