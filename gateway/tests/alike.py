@@ -93,14 +93,26 @@ def alike(cluster: Cluster) -> list[str]:
     return lists[0].split("\n")
 
 
-def plays_again(cluster: Cluster, alarmd: Path, listed_by_all: list[str]) -> None:
-    """A server that is given a copy of the log whole lists what the gateways do. What has come since is passed over."""
+def plays_again(cluster: Cluster, alarmd: Path, listed_by_all: list[str]) -> bool:
+    """Whether a server that is given a copy of the log whole has as many rows as the gateways had; then it lists what they do, and
+    else more rows than theirs have come since. Raises AssertionError where it has other ones."""
+    wanted = rows_of(listed_by_all)
     for gateway in cluster.gateways.values():
         whole = (gateway.folder / "record.1").read_bytes()
         path = gateway.folder.parent / "copy"
         path.write_bytes(whole[: whole.rfind(b"\n") + 1])
         found = by_the_record(alarmd, gateway.folder / "plant" / "plant.toml", path)
-        assert found == listed_by_all
+        rows = rows_of(found)
+        assert rows[: len(wanted)] == wanted, f"a server has other rows: {rows[-3:]}"
+        if len(rows) > len(wanted):
+            return False
+        assert found == listed_by_all, f"a server lists something else: {found[:9]}"
+    return True
+
+
+def rows_of(listed: list[str]) -> list[str]:
+    """The rows of the journal in what was listed."""
+    return [line for line in listed if line[:1].isdigit()]
 
 
 def orders(cluster: Cluster, begin: int = 1) -> list[dict[str, Any]]:

@@ -14,7 +14,6 @@ from alike import alike, orders, plays_again
 from cluster import Cluster, wait
 from history import Load, faults
 from verdicts import Tally, Verdict, verdict
-from whole_help import NoVerdict
 
 LEASE = 2.0  # seconds, as the configuration has it without a word
 
@@ -81,18 +80,13 @@ class Trial:
             listing = alike(self.cluster)
             self.compared += 1
             if alarmd is not None:
-                self._played(alarmd, listing)
+                played = partial(plays, self.cluster, alarmd, listing)
+                wait(played, "a server beside them is never seen after as many rows")
             begin = int(self._rows[-1]["number"]) + 1 if self._rows else 1
             self._rows += orders(self.cluster, begin)
             return faults(self.load.history, self._rows)
         finally:
             self.load.go_on()
-
-    def _played(self, alarmd: Path, listing: list[str]) -> None:
-        try:
-            wait(partial(plays, self.cluster, alarmd, listing), "a server differs")
-        except NoVerdict as late:
-            raise AssertionError(str(late)) from None
 
 
 def leader_killed(trial: Trial) -> None:
@@ -320,10 +314,8 @@ def is_told(cluster: Cluster, name: str, subject: str | None = None) -> bool:
 
 
 def plays(cluster: Cluster, alarmd: Path, listing: list[str]) -> bool:
-    """Whether a server that is given the copies lists this; a scan may have changed something since."""
-    try:
-        plays_again(cluster, alarmd, listing)
-    except AssertionError:
-        listing[:] = alike(cluster)
-        return False
-    return True
+    """Whether a server that is given the copies lists this; where more has come since, it is listed anew."""
+    if plays_again(cluster, alarmd, listing):
+        return True
+    listing[:] = alike(cluster)
+    return False
