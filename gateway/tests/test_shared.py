@@ -287,6 +287,39 @@ def test_a_request_that_is_no_order_goes(alarmd: Path, tmp_path: Path) -> None:
     trial(Pair(alarmd, tmp_path, tank), work)
 
 
+def test_an_order_whose_lease_has_ended_is_handed_on_with_the_next(
+    alarmd: Path, tmp_path: Path, monkeypatch: pytest.MonkeyPatch
+) -> None:
+    async def work(pair: Pair) -> None:
+        a, b = await pair.join("a"), await pair.join("b")
+        await until(lambda: a.leads != b.leads, "one leads")
+        follower = b if a.leads else a
+        await until(lambda: follower._candidate.lease is not None, "a lease")
+        hold, beat, request = asyncio.Event(), follower._candidate.beat, follower._log.request
+        tries: list[str] = []
+
+        async def late() -> None:
+            await hold.wait()
+            await beat()
+
+        async def tried(mark: str, entry: Entry, lease: str) -> None:
+            tries.append(lease)
+            await request(mark, entry, lease)
+
+        monkeypatch.setattr(follower._candidate, "beat", late)
+        monkeypatch.setattr(follower._log, "request", tried)
+        old = follower._candidate.lease
+        assert old is not None
+        pair.etcd.end(old)
+        asked = asyncio.create_task(follower.order(Order(Verb.REMOVE, 1, "LAL-101")))
+        await until(lambda: tries, "it is handed on with the old lease")
+        hold.set()
+        assert (await asked).code == "OK"
+        assert tries[0] == old != tries[-1]
+
+    trial(Pair(alarmd, tmp_path, tank), work)
+
+
 def test_figures_for_prometheus(alarmd: Path, tmp_path: Path) -> None:
     def lines(core: SharedCore) -> list[str]:
         return Metrics(core, {}, {}).text().decode().splitlines()
