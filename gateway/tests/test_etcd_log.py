@@ -366,8 +366,9 @@ def test_a_copy_goes_on(tmp_path: Path, plant: Plant) -> None:
     async def work(etcd: FakeEtcd, side: Sides) -> None:
         a, b = await side("a"), await side("b")
         await a.lead()
-        await a.log.append(Entry("scan 0", None, None))
+        await a.log.append(Entry("ack 1 LAL-101", "anna", "seen"))  # with a remark in the copy
         await b.look()
+        assert b.log.known.entries == 1
         b.log.close()
         for moment in range(1, 1200):
             await a.log.append(Entry(f"scan {moment}"))

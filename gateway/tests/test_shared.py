@@ -196,8 +196,10 @@ def test_a_leader_that_has_nothing_to_append(
     async def work(pair: Pair) -> None:
         a = await pair.join("a")
         await until(lambda: a.leads, "a leads")
+        a._questions.ask("record", "A new record?", (), lambda answer: None)
         pair.etcd.deaf = 10**9
         await until(lambda: not a.leads, "it leads no more")
+        assert a.questions == ()  # who leads asks
         pair.etcd.deaf = 0
         await until(lambda: a.leads, "it leads again")
         assert not a.state.scanned
@@ -316,6 +318,31 @@ def test_an_order_whose_lease_has_ended_is_handed_on_with_the_next(
         hold.set()
         assert (await asked).code == "OK"
         assert tries[0] == old != tries[-1]
+
+    trial(Pair(alarmd, tmp_path, tank), work)
+
+
+def test_who_waits_for_an_order_is_told_where_the_gateway_ends(
+    alarmd: Path, tmp_path: Path, monkeypatch: pytest.MonkeyPatch
+) -> None:
+    monkeypatch.setattr(shared, "ORDER", 3600.0)
+
+    async def work(pair: Pair) -> None:
+        a, b = await pair.join("a"), await pair.join("b")
+        await until(lambda: a.leads != b.leads, "one leads")
+        leader, follower = (a, b) if a.leads else (b, a)
+
+        async def held(request: Marked) -> bool:
+            await asyncio.sleep(0.1)
+            return True
+
+        monkeypatch.setattr(leader._orders, "append_request", held)
+        asked = asyncio.create_task(follower.order(Order(Verb.REMOVE, 1, "LAL-101")))
+        requests = follower._log.keys.requests.encode()
+        await until(lambda: any(key.startswith(requests) for key in pair.etcd.keys), "a request")
+        await pair.served[0 if follower is a else 1].close()
+        with pytest.raises(ServerGone, match="it isn't known"):
+            await asked
 
     trial(Pair(alarmd, tmp_path, tank), work)
 
