@@ -131,7 +131,8 @@ class EtcdLog:
         )
 
     def _after(self, record: int, count: int) -> Body:
-        begin, end = self.keys.entry(record, count + 1), etcd.after(self.keys.record(record))
+        """Reads a page. Its end is named: with a limit alone etcd looks at all entries that are there."""
+        begin, end = (self.keys.entry(record, count + 1 + more) for more in (0, PAGE))
         return etcd.get(begin, end, PAGE)
 
     async def look(self) -> View:

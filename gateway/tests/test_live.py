@@ -140,7 +140,7 @@ def test_ten_thousand_changes_come_whole_and_in_order() -> None:
 
 
 def test_who_doesnt_read_is_given_up_and_nobody_waits(monkeypatch: pytest.MonkeyPatch) -> None:
-    monkeypatch.setattr(live, "SLOWEST", 8.0)  # on a busy machine who reads is slow too
+    monkeypatch.setattr(live, "SLOWEST", 20.0)  # on a busy machine who reads is slow too
     with served(FakeCore(fake_plant(1000))) as site:
         client = entered(site)
 
