@@ -71,10 +71,10 @@ impl<'a, R: Files + Eprint> Listener for Telling<'a, R> {
         match self.of_accepted {
             OfAccepted::Nothing => {}
             OfAccepted::Greeting => greet(self.rt, "scan 0"),
-            OfAccepted::Warnings => self.text = warn(alloc, texts).ok(),
+            OfAccepted::Warnings => self.text = warn(alloc, texts, plant).ok(),
             OfAccepted::Listing => {
                 self.listing = listing(alloc, plant).ok();
-                self.text = warn(alloc, texts).ok();
+                self.text = warn(alloc, texts, plant).ok();
             }
         }
     }

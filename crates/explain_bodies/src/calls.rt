@@ -1,11 +1,9 @@
 //! Calls are walked.
 
-use crate::body::Body;
-use crate::hints::Wanted;
-use crate::names::called;
-use crate::teller::{CALLS, KINDS, Teller, kind_text};
+use crate::teller::{CALLS, KINDS, Teller};
 use crate::told::Rule;
 use plant_types::{Kind, Text};
+use source_trees::{Body, Member, Wanted, kind_text};
 use st_names::Scope;
 use st_tree::{Argument, Expr};
 use std::alloc::AllocError;
@@ -55,7 +53,8 @@ impl<'t> Teller<'t> {
         if !self.told.takes(Rule::Names) {
             return Ok(());
         }
-        let (alloc, what, name) = (self.alloc, called(are_inputs), name.as_str());
+        let (alloc, name) = (self.alloc, name.as_str());
+        let what = if are_inputs { "input" } else { "output" };
         let said = format!(in alloc; "the {what} '{name}' is there twice in this call")?;
         let mark = self.cursor.mark(number);
         self.tell(Rule::Names, mark, said, CALLS)
@@ -73,7 +72,7 @@ impl<'t> Teller<'t> {
             return Ok(None);
         };
         if !body.scope.has_input(call.instance, name) {
-            self.tell_no_member(word, name, number, true)?;
+            self.tell_no_member(word, name, number, Member::Given)?;
             return Ok(None);
         }
         if !call.inputs.add(self.alloc, name.as_str())? {
@@ -94,7 +93,7 @@ impl<'t> Teller<'t> {
             return Ok(None);
         };
         if !body.scope.has_output(call.instance, name) {
-            self.tell_no_member(word, name, number, false)?;
+            self.tell_no_member(word, name, number, Member::Taken)?;
             return Ok(None);
         }
         if !call.outputs.add(self.alloc, name.as_str())? {
@@ -144,6 +143,24 @@ impl<'t> Teller<'t> {
         Ok(())
     }
 
+    /// Walks the arguments of a call.
+    fn arguments(
+        &mut self,
+        body: &Body<'_>,
+        call: &mut Call<'_>,
+        arguments: &[Argument<Text>],
+    ) -> Result<(), AllocError> {
+        for argument in arguments {
+            match argument {
+                Argument::Input(name, expr) => self.give_input(body, call, name, expr)?,
+                Argument::Output(name, variable) => {
+                    self.give_output(body, call, name, variable)?;
+                }
+            }
+        }
+        Ok(())
+    }
+
     /// Walks a call.
     pub fn call(
         &mut self,
@@ -158,14 +175,8 @@ impl<'t> Teller<'t> {
             inputs: Names::new(self.alloc),
             outputs: Names::new(self.alloc),
         };
-        for argument in arguments {
-            match argument {
-                Argument::Input(name, expr) => self.give_input(body, &mut call, name, expr)?,
-                Argument::Output(name, variable) => {
-                    self.give_output(body, &mut call, name, variable)?;
-                }
-            }
-        }
-        Ok(())
+        let walked = self.arguments(body, &mut call, arguments);
+        drop(call);
+        walked
     }
 }

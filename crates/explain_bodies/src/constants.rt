@@ -1,10 +1,10 @@
 //! What isn't constant, and what controls a FOR (C9).
 
-use crate::body::Body;
 use crate::part::{Part, Worth};
 use crate::teller::{LIMITS, STATEMENTS, Teller, VARIABLES};
 use crate::told::Rule;
 use plant_types::{Kind, Text, Trap, same_word};
+use source_trees::Body;
 use st_names::Scope;
 use st_parser::SectionKind;
 use st_tree::{Span, count_turns};

@@ -1,12 +1,9 @@
 //! Declarations are walked.
 
-use crate::body::Body;
-use crate::circles::leads_back;
-use crate::cursor::Cursor;
-use crate::hints::{global_hint, type_hint};
-use crate::teller::{CALLS, KINDS, NAMES, Teller, kind_text};
+use crate::teller::{CALLS, KINDS, NAMES, Teller};
 use crate::told::Rule;
 use plant_types::{Text, same_word};
+use source_trees::{Body, Cursor, global_hint, kind_text, leads_back, type_hint};
 use st_names::{Scope, sort_kind};
 use st_parser::{Declaration, Section, SectionKind, Sort};
 use std::alloc::AllocError;
@@ -226,13 +223,10 @@ impl<'t> Teller<'t> {
         self.sort(body, section, declaration)
     }
 
-    /// Walks declarations, until as many mistakes are found as are told.
+    /// Walks declarations.
     pub fn sections(&mut self, body: &Body<'_>, sections: &[Section]) -> Result<(), AllocError> {
         for section in sections {
             for declaration in &section.declarations {
-                if self.told.is_full() {
-                    return Ok(());
-                }
                 self.declaration(body, section.kind, declaration)?;
             }
         }

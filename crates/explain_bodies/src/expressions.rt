@@ -1,12 +1,10 @@
 //! Expressions are walked.
 
-use crate::body::Body;
-use crate::cursor::Sought;
-use crate::hints::Wanted;
 use crate::part::{Form, Part, Worth};
 use crate::teller::{CALLS, Teller};
 use crate::told::Rule;
 use plant_types::{Kind, Text, Trap};
+use source_trees::{Body, Member, Sought, Wanted};
 use st_names::Scope;
 use st_tree::{
     Binary, Expr, Literal, Unary, binary_kind, eval_binary, eval_unary, resolved_binary,
@@ -136,7 +134,7 @@ impl<'t> Teller<'t> {
             if body.scope.has_output(instance, name) {
                 kind = body.scope.output_kind(instance, name);
             } else {
-                self.tell_no_member(word, name, behind.saturating_sub(1), false)?;
+                self.tell_no_member(word, name, behind.saturating_sub(1), Member::Read)?;
             }
         }
         Ok(Part {

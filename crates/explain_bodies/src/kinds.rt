@@ -1,11 +1,10 @@
 //! What isn't of its kind (C7): the operands of operators, and what is given to variables and inputs.
 
-use crate::body::Body;
-use crate::hints::members_of;
 use crate::part::{Form, Part};
-use crate::teller::{KINDS, Teller, kind_text};
+use crate::teller::{KINDS, Teller};
 use crate::told::Rule;
 use plant_types::{Kind, Text};
+use source_trees::{Body, Member, kind_text, members_of};
 use st_tree::{Binary, Unary};
 use std::alloc::AllocError;
 
@@ -125,7 +124,7 @@ impl<'t> Teller<'t> {
             return Ok(());
         };
         let alloc = self.alloc;
-        let (list, _) = members_of(alloc, self.plant, word, name, false)?;
+        let (list, _) = members_of(alloc, self.plant, word, name, Member::Read)?;
         let (block, list) = (word.as_str(), list.as_str());
         let why = format!(in alloc;
             "is an instance of {block}, and itself neither read nor assigned; its outputs are read behind a point:{list}"
@@ -211,10 +210,11 @@ impl<'t> Teller<'t> {
         let (Some(one), Some(other)) = (left.kind, right.kind) else {
             return Ok(());
         };
+        let (first, more) = (beside(one, right), beside(other, left));
         let (one, other) = (kind_text(one), kind_text(other));
         let alloc = self.alloc;
         let why = format!(in alloc;
-            "compares two of one kind, and here are a {one} and a {other}"
+            "compares two of one kind, and here are a {one} and a {other}{first}{more}"
         )?;
         self.tell_at(Rule::Kinds, number, why.as_str(), KINDS)
     }

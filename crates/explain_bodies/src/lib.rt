@@ -1,4 +1,4 @@
-//! What is wrong in the units of a plant's sources (C6 to C9, and C10 TURNS), told from their trees for people.
+//! What is wrong in the units of a plant's sources (C6 to C9, and C10 TURNS), told from their trees for people; and why a name is no BOOL global's (C14).
 //!
 //! `mistakes` reads each source once and walks each unit once, in order of text, with the names and kinds by which st_names and st_tree judge. It tells each
 //! mistake at its place: the name that isn't there, and a near one that fits; the kind that is wanted and the one that is found; what isn't constant. Where a
@@ -6,25 +6,19 @@
 //! is there for itself. No clause says that what is told is right; that is tried on examples.
 #![tactic(auto)]
 
-mod body;
 mod calls;
-mod circles;
 mod constants;
-mod cursor;
 mod declarations;
 mod expressions;
-mod hints;
+mod globals;
 mod kinds;
 mod names;
-mod near;
 mod part;
-mod plant;
 mod statements;
 mod teller;
-mod titles;
 mod told;
 mod walk;
 
-pub use near::Nearest;
+pub use globals::no_bool_global;
 pub use told::{MOST_MISTAKES, Mistake, Rule};
 pub use walk::mistakes;

@@ -1,17 +1,10 @@
 //! Names that aren't there (C6).
 
-use crate::body::Body;
-use crate::hints::{Wanted, members_of, variable_hint};
-use crate::teller::{CALLS, NAMES, Teller};
-use crate::titles::What;
+use crate::teller::{CALLS, Teller};
 use crate::told::Rule;
 use plant_types::Text;
-use std::alloc::{AllocError, Global};
-
-/// How inputs or outputs are called.
-pub fn called(are_inputs: bool) -> &'static str {
-    if are_inputs { "input" } else { "output" }
-}
+use source_trees::{Body, Member, Wanted, What, no_member, variable_hint};
+use std::alloc::AllocError;
 
 impl<'t> Teller<'t> {
     /// What is said of a name that is no variable.
@@ -37,7 +30,7 @@ impl<'t> Teller<'t> {
         format!(in alloc; "no variable is called '{word}' in {unit}{hint}")
     }
 
-    /// Whether a name at the token of a number is a variable's or an instance's; where it certainly isn't, that is told.
+    /// Whether a name at the token of a number is a variable's or an instance's; where it certainly isn't, that is told, once in a unit.
     pub fn is_named(
         &mut self,
         body: &Body<'_>,
@@ -48,45 +41,27 @@ impl<'t> Teller<'t> {
         if body.scope.find(name).is_some() {
             return Ok(true);
         }
-        if !body.doubts(self.plant, name) && self.told.takes(Rule::Names) {
-            let said = self.no_variable(body, name, wanted)?;
-            let mark = self.cursor.mark(number);
-            self.tell(Rule::Names, mark, said, NAMES)?;
+        if self.is_told(name) || body.doubts(self.plant, name) || !self.told.takes(Rule::Names) {
+            return Ok(false);
         }
+        let said = self.no_variable(body, name, wanted)?;
+        self.tell_missing(name, number, said)?;
         Ok(false)
     }
 
-    /// Tells of a name that is no input of a block, or no output.
+    /// Tells of a name that isn't what a block has: an input that is given, an output that is taken, or one that is read.
     pub fn tell_no_member(
         &mut self,
         word: &Text,
         name: &Text,
         number: usize,
-        are_inputs: bool,
+        member: Member,
     ) -> Result<(), AllocError> {
         if !self.told.takes(Rule::Names) {
             return Ok(());
         }
-        let said = no_member(self.alloc, self, word, name, are_inputs)?;
+        let said = no_member(self.alloc, self.plant, word, name, member)?;
         let mark = self.cursor.mark(number);
         self.tell(Rule::Names, mark, said, CALLS)
-    }
-}
-
-/// What is said of a name that is no input of a block, or no output.
-fn no_member(
-    alloc: Global,
-    teller: &Teller<'_>,
-    word: &Text,
-    name: &Text,
-    are_inputs: bool,
-) -> Result<String, AllocError> {
-    let (list, hint) = members_of(alloc, teller.plant, word, name, are_inputs)?;
-    let (block, name) = (word.as_str(), name.as_str());
-    let (list, hint, what) = (list.as_str(), hint.as_str(), called(are_inputs));
-    if list.is_empty() {
-        format!(in alloc; "block {block} has no {what} '{name}', since it has none")
-    } else {
-        format!(in alloc; "block {block} has no {what} '{name}'; it has:{list}{hint}")
     }
 }

@@ -1,11 +1,10 @@
 //! Statements are walked.
 
-use crate::body::Body;
-use crate::hints::Wanted;
 use crate::part::Part;
 use crate::teller::{KINDS, Teller};
 use crate::told::Rule;
 use plant_types::{Kind, Text};
+use source_trees::{Body, Wanted};
 use st_names::Scope;
 use st_tree::{Branch, Choice, Expr, Label, Stmt};
 use std::alloc::AllocError;
@@ -60,7 +59,7 @@ impl<'t> Teller<'t> {
     /// Walks the labels of a CASE.
     fn labels(&mut self, labels: &[Label]) {
         for _label in labels {
-            self.cursor.pass_label();
+            let _ = self.cursor.pass_label();
         }
     }
 
@@ -164,13 +163,10 @@ impl<'t> Teller<'t> {
         Ok(())
     }
 
-    /// Walks statements, until as many mistakes are found as are told.
+    /// Walks statements.
     #[cycle(statements)]
     pub fn stmts(&mut self, body: &Body<'_>, stmts: &'t [Stmt<Text>]) -> Result<(), AllocError> {
         for stmt in stmts {
-            if self.told.is_full() {
-                return Ok(());
-            }
             self.stmt(body, stmt)?;
         }
         Ok(())

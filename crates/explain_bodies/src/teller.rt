@@ -1,11 +1,11 @@
 //! A walk over the trees of a plant's units, and what it tells.
 
-use crate::cursor::Cursor;
-use crate::plant::Plant;
-use crate::told::{Mistake, Rule, Told};
-use plant_types::{Kind, Text};
+use crate::told::{Kept, Mistake, Rule, Told};
+use plant_types::Text;
+use source_trees::{Cursor, Trees};
 use std::alloc::{AllocError, Global};
 use token_causes::cause_at;
+use word_index::Names;
 
 /// Where the rules of names stand.
 pub const NAMES: &str = "docs/LANGUAGE.md, \"Names\"";
@@ -25,39 +25,41 @@ pub const LIMITS: &str = "docs/LANGUAGE.md, \"Limits (this profile)\"";
 /// Where initial values stand.
 pub const VARIABLES: &str = "docs/LANGUAGE.md, \"Variables\"";
 
-/// The name of a kind.
-pub fn kind_text(kind: Kind) -> &'static str {
-    match kind {
-        Kind::Bool => "BOOL",
-        Kind::Dint => "DINT",
-        Kind::Time => "TIME",
-    }
-}
-
 /// A walk: what it goes over, where it is, and what it has found.
 #[derive(Drop)]
 pub struct Teller<'t> {
     pub alloc: Global,
-    pub plant: &'t Plant<'t>,
+    pub plant: &'t Trees<'t>,
     /// The number of the source, from 0.
     pub source: usize,
     pub cursor: Cursor<'t>,
     /// The variables of the FORs around the statement.
     pub controls: Vec<&'t Text>,
+    /// The names that the unit uses and that aren't there, and where each is among the mistakes.
+    pub missing: Names,
+    pub kept: Vec<Kept>,
     pub told: Told,
 }
 
 impl<'t> Teller<'t> {
     /// A walk that hasn't begun, over a plant that is refused by a rule.
-    pub fn new(alloc: Global, plant: &'t Plant<'t>, refused: Rule) -> Teller<'t> {
+    pub fn new(alloc: Global, plant: &'t Trees<'t>, refused: Rule) -> Teller<'t> {
         Teller {
             alloc,
             plant,
             source: 0,
             cursor: Cursor::new(b"", &[]),
             controls: Vec::new(alloc),
+            missing: Names::new(alloc),
+            kept: Vec::new(alloc),
             told: Told::new(alloc, refused),
         }
+    }
+
+    /// The mistakes that it has found.
+    pub fn into_told(self) -> Told {
+        let Teller { told, .. } = self;
+        told
     }
 
     /// Tells of bytes that break a rule.
@@ -68,11 +70,50 @@ impl<'t> Teller<'t> {
         said: String,
         page: &'static str,
     ) -> Result<(), AllocError> {
+        self.keep(rule, mark, said, page)?;
+        Ok(())
+    }
+
+    /// The same, and returns where the mistake is then.
+    fn keep(
+        &mut self,
+        rule: Rule,
+        mark: (usize, usize),
+        said: String,
+        page: &'static str,
+    ) -> Result<Kept, AllocError> {
         self.told.add(Mistake {
             rule,
             source: self.source,
             cause: cause_at(mark, said, page),
+            more: 0,
         })
+    }
+
+    /// Tells of a name at the token of a number that isn't there; where that was told of the unit, it is counted.
+    pub fn tell_missing(
+        &mut self,
+        name: &Text,
+        number: usize,
+        said: String,
+    ) -> Result<(), AllocError> {
+        let mark = self.cursor.mark(number);
+        let kept = self.keep(Rule::Names, mark, said, NAMES)?;
+        if self.missing.add(self.alloc, name.as_str())? {
+            self.kept.push(kept)?;
+        }
+        Ok(())
+    }
+
+    /// Whether it was told of the unit that a name isn't there; then it is counted.
+    pub fn is_told(&mut self, name: &Text) -> bool {
+        let Some(number) = self.missing.find(name.as_str()) else {
+            return false;
+        };
+        if let Some(kept) = self.kept.get(number) {
+            self.told.count(*kept);
+        }
+        true
     }
 
     /// Tells of the token of a number, which breaks a rule: it stands in quotes before what is said.

@@ -21,12 +21,48 @@ pub enum Rule {
     Turns,
 }
 
-/// A mistake: the rule that it breaks, the number of its source, from 0, and what is told of it.
+/// A mistake: the rule that it breaks, the number of its source, from 0, what is told of it, and how many more words of its unit are wrong by it.
 #[derive(Drop)]
 pub struct Mistake {
     pub rule: Rule,
     pub source: usize,
     pub cause: Cause,
+    pub more: usize,
+}
+
+/// Where a mistake is among those that were found.
+#[derive(Clone, Copy, Drop)]
+pub enum Kept {
+    First,
+    Other(usize),
+    /// It isn't, since it isn't told.
+    Untold,
+}
+
+/// What is said behind a mistake of further words that are wrong by it.
+fn push_more(alloc: Global, mistake: &mut Mistake) -> Result<(), AllocError> {
+    let more = mistake.more;
+    if more > 0 {
+        let uses = if more == 1 { "use" } else { "uses" };
+        let text = format!(in alloc; " (and {more} more {uses} of it in this unit)")?;
+        mistake.cause.said.push_str(text.as_str())?;
+    }
+    Ok(())
+}
+
+/// Puts the first mistake before the others, and says behind each how many more words are wrong by it.
+fn complete(
+    alloc: Global,
+    list: &mut Vec<Mistake>,
+    first: Option<Mistake>,
+) -> Result<(), AllocError> {
+    if let Some(first) = first {
+        list.insert(0, first)?;
+    }
+    for mistake in list.as_mut_slice() {
+        push_more(alloc, mistake)?;
+    }
+    Ok(())
 }
 
 /// The mistakes that were found so far: the first that breaks the rule by which the plant is refused, and others in order of text, 20 in all at most.
@@ -59,14 +95,35 @@ impl Told {
         !self.takes(self.refused)
     }
 
-    /// Takes a mistake, where it is told.
-    pub fn add(&mut self, mistake: Mistake) -> Result<(), AllocError> {
+    /// Takes a mistake, where it is told, and returns where it is then.
+    pub fn add(&mut self, mistake: Mistake) -> Result<Kept, AllocError> {
         if mistake.rule == self.refused && self.first.is_none() {
             self.first = Some(mistake);
-        } else if self.takes(mistake.rule) {
-            self.others.push(mistake)?;
+            return Ok(Kept::First);
         }
-        Ok(())
+        if !self.takes(mistake.rule) {
+            return Ok(Kept::Untold);
+        }
+        let number = self.others.len();
+        self.others.push(mistake)?;
+        Ok(Kept::Other(number))
+    }
+
+    /// Notes one more word that is wrong by a mistake.
+    pub fn count(&mut self, kept: Kept) {
+        match kept {
+            Kept::First => {
+                if let Some(mistake) = &mut self.first {
+                    mistake.more = mistake.more.saturating_add(1);
+                }
+            }
+            Kept::Other(number) => {
+                if let Some(mistake) = self.others.get_mut(number) {
+                    mistake.more = mistake.more.saturating_add(1);
+                }
+            }
+            Kept::Untold => {}
+        }
     }
 
     /// All of them: the first that breaks the rule by which the plant is refused, and then the others in order of text.
@@ -76,13 +133,13 @@ impl Told {
             first,
             others,
         } = self;
-        let mut list = Vec::new(alloc);
-        if let Some(first) = first {
-            list.push(first)?;
+        let mut list = others;
+        match complete(alloc, &mut list, first) {
+            Ok(()) => Ok(list),
+            Err(refused) => {
+                drop(list);
+                Err(refused)
+            }
         }
-        for mistake in others {
-            list.push(mistake)?;
-        }
-        Ok(list)
     }
 }

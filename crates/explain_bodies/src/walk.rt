@@ -1,29 +1,42 @@
 //! All units of a plant are walked.
 
-use crate::body::Body;
-use crate::cursor::Cursor;
-use crate::plant::{Plant, sources_of, units_of};
 use crate::teller::Teller;
-use crate::titles::Titles;
 use crate::told::{Mistake, Rule};
+use source_trees::{Body, Cursor, Source, Titles, Trees, sources_of, units_of};
 use st_names::SharedNames;
 use st_parser::{Pou, Unit};
 use std::alloc::{AllocError, Global};
+use word_index::Names;
 
 impl<'t> Teller<'t> {
+    /// Forgets which names the last unit uses that aren't there.
+    fn begin_unit(&mut self) {
+        self.missing = Names::new(self.alloc);
+        self.kept.clear();
+    }
+
     /// Walks a block or a program.
     fn pou(&mut self, pou: &'t Pou) -> Result<(), AllocError> {
         let number = self.cursor.pass_name(&pou.name);
         self.shared_name(&pou.name, number)?;
+        self.begin_unit();
         let body = Body::new(self.alloc, self.plant, pou.name.as_str(), &pou.sections)?;
-        self.sections(&body, &pou.sections)?;
-        self.stmts(&body, &pou.body)
+        self.all_in(&body, pou)
     }
 
-    /// Walks the unit of a source, until as many mistakes are found as are told.
+    /// Walks the declarations and the statements of a block or a program.
+    fn all_in(&mut self, body: &Body<'_>, pou: &'t Pou) -> Result<(), AllocError> {
+        self.sections(body, &pou.sections)?;
+        self.stmts(body, &pou.body)
+    }
+
+    /// Walks the globals of a source and its blocks and programs, these until as many mistakes are found as are told.
     fn unit(&mut self, unit: &'t Unit) -> Result<(), AllocError> {
+        self.begin_unit();
         let globals = Body::new(self.alloc, self.plant, "VAR_GLOBAL", &[])?;
-        self.sections(&globals, &unit.globals)?;
+        let walked = self.sections(&globals, &unit.globals);
+        drop(globals);
+        walked?;
         for pou in &unit.pous {
             if self.told.is_full() {
                 return Ok(());
@@ -34,13 +47,9 @@ impl<'t> Teller<'t> {
     }
 }
 
-/// The mistakes of a plant's units.
-fn mistakes_in<'t>(
-    alloc: Global,
-    plant: &'t Plant<'t>,
-    refused: Rule,
-) -> Result<Vec<Mistake>, AllocError> {
-    let mut teller = Teller::new(alloc, plant, refused);
+/// Walks all units of a plant.
+fn walk_all<'t>(teller: &mut Teller<'t>) -> Result<(), AllocError> {
+    let plant = teller.plant;
     for (number, source) in plant.sources.iter().enumerate() {
         if let Some(unit) = plant.units.get(number) {
             teller.source = number;
@@ -48,8 +57,55 @@ fn mistakes_in<'t>(
             teller.unit(unit)?;
         }
     }
-    let Teller { told, .. } = teller;
-    told.into_list(alloc)
+    Ok(())
+}
+
+/// The mistakes of a plant's units.
+fn mistakes_in<'t>(
+    alloc: Global,
+    plant: &'t Trees<'t>,
+    refused: Rule,
+) -> Result<Vec<Mistake>, AllocError> {
+    let mut teller = Teller::new(alloc, plant, refused);
+    match walk_all(&mut teller) {
+        Ok(()) => teller.into_told().into_list(alloc),
+        Err(refused) => {
+            drop(teller);
+            Err(refused)
+        }
+    }
+}
+
+/// The mistakes of units whose names are known.
+fn in_units<'t>(
+    alloc: Global,
+    (sources, units): (&'t [Source<'t>], &'t [Unit]),
+    shared: &'t SharedNames<'t>,
+    refused: Rule,
+) -> Result<Vec<Mistake>, AllocError> {
+    let standard = SharedNames::new(alloc, &[])?;
+    let titles = Titles::of(alloc, units)?;
+    let plant = Trees {
+        sources,
+        units,
+        shared,
+        standard: &standard,
+        titles: &titles,
+    };
+    mistakes_in(alloc, &plant, refused)
+}
+
+/// The mistakes of sources; none where one isn't spelled as the grammar says.
+fn in_sources(
+    alloc: Global,
+    sources: &[Source<'_>],
+    refused: Rule,
+) -> Result<Vec<Mistake>, AllocError> {
+    let Some(units) = units_of(alloc, sources)? else {
+        return Ok(Vec::new(alloc));
+    };
+    let shared = SharedNames::new(alloc, units.as_slice())?;
+    in_units(alloc, (sources, units.as_slice()), &shared, refused)
 }
 
 /// What is wrong in the units of the sources of a plant, that is refused by a rule: first the first mistake that breaks this rule, and then the others in
@@ -60,17 +116,5 @@ pub fn mistakes<'a>(
     refused: Rule,
 ) -> Result<Vec<Mistake>, AllocError> {
     let sources = sources_of(alloc, texts)?;
-    let Some(units) = units_of(alloc, sources.as_slice())? else {
-        return Ok(Vec::new(alloc));
-    };
-    let shared = SharedNames::new(alloc, units.as_slice())?;
-    let standard = SharedNames::new(alloc, &[])?;
-    let plant = Plant {
-        sources: sources.as_slice(),
-        units: units.as_slice(),
-        shared: &shared,
-        standard: &standard,
-        titles: Titles::of(alloc, units.as_slice())?,
-    };
-    mistakes_in(alloc, &plant, refused)
+    in_sources(alloc, sources.as_slice(), refused)
 }

@@ -66,7 +66,7 @@ fn told<H: Threads + Sync>(
     line: &str,
 ) -> Result<String, AllocError> {
     if line == "accepted" {
-        return warn(alloc, texts);
+        return warned(rt, alloc, texts);
     }
     let all = line.strip_prefix("all ");
     let fault = fault_for(rt, alloc, texts, all.unwrap_or(line))?;
@@ -74,6 +74,22 @@ fn told<H: Threads + Sync>(
         ConfigFault::Memory => Ok(String::new(alloc)),
         fault if all.is_some() => explain_all(rt, alloc, texts, &fault),
         fault => explain(alloc, texts, &fault),
+    }
+}
+
+/// What is told of a plant that is accepted; nothing of one that isn't.
+fn warned<H: Threads + Sync>(
+    rt: &H,
+    alloc: Global,
+    texts: &PlantTexts<'_>,
+) -> Result<String, AllocError> {
+    match Plant::read(rt, alloc, texts.plant, texts.sources, texts.alarms) {
+        Ok(plant) => {
+            let told = warn(alloc, texts, &plant);
+            drop(plant);
+            told
+        }
+        Err(_) => String::from_str(alloc, "REFUSED\n"),
     }
 }
 

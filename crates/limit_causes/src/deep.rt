@@ -1,15 +1,17 @@
 //! A function block that is too deep (C10 BLOCK_DEPTH).
 
-use crate::spots::spot_at;
-use crate::turns::LIMITS;
-use plant_folder::PlantTexts;
-use plant_places::Spot;
+use crate::spots::{Found, LIMITS, found_at};
+use plant_types::{Text, same_word};
+use source_trees::{sources_of, units_of};
+use st_parser::{Declaration, Pou, PouKind, Sort, Unit};
 use std::alloc::{AllocError, Global};
-use unit_words::{Entry, What, entries_of, is_standard, sources_of};
 use word_index::Names;
 
 /// How deep a function block may be at most.
 const MOST_DEEP: usize = 16;
+
+/// The blocks that are there from the start.
+const STANDARD: [&[u8]; 3] = [b"TON", b"TOF", b"R_TRIG"];
 
 /// The function blocks of a plant, and how deep each is as far as that is known.
 #[derive(Drop)]
@@ -18,86 +20,133 @@ struct Depths {
     depths: Vec<usize>,
 }
 
+/// Whether a unit is a block.
+fn is_block(pou: &Pou) -> bool {
+    matches!(pou.kind, PouKind::Block)
+}
+
 impl Depths {
     /// The function blocks that are declared, each 1 deep.
-    fn of(alloc: Global, entries: &[Entry<'_>]) -> Result<Depths, AllocError> {
+    fn of(alloc: Global, units: &[Unit]) -> Result<Depths, AllocError> {
         let mut depths = Depths {
             names: Names::new(alloc),
             depths: Vec::new(alloc),
         };
-        for entry in entries {
-            if entry.what == What::Block && depths.names.add(alloc, entry.word)? {
-                depths.depths.push(1)?;
+        for unit in units {
+            for pou in &unit.pous {
+                if is_block(pou) && depths.names.add(alloc, pou.name.as_str())? {
+                    depths.depths.push(1)?;
+                }
             }
         }
         Ok(depths)
     }
 
-    /// How deep the block of a name is; 0 for what is none.
-    fn depth_of(&self, name: &str) -> usize {
-        if is_standard(name) {
+    /// How deep the block of a word is; 0 for what is none.
+    fn depth_of(&self, word: &Text) -> usize {
+        let bytes = word.as_bytes();
+        if STANDARD.iter().any(|standard| same_word(standard, bytes)) {
             return 1;
         }
-        match self.names.find(name) {
+        match self.names.find(word.as_str()) {
             Some(number) => self.depths.get(number).copied().unwrap_or(0),
             None => 0,
         }
     }
 
-    /// Takes an instance: the block that declares it is deeper by one than the instance's.
-    fn take(&mut self, holder: &str, kind: &str) {
-        let depth = self.depth_of(kind).saturating_add(1);
-        if let Some(number) = self.names.find(holder) {
+    /// How deep what is declared is; 0 for variables.
+    fn depth_in(&self, declaration: &Declaration) -> usize {
+        match &declaration.sort {
+            Sort::Block(word) => self.depth_of(word),
+            Sort::Kind(_) => 0,
+        }
+    }
+
+    /// Takes a block: it is deeper by one than each instance that it declares.
+    fn take(&mut self, pou: &Pou) {
+        let mut most = 0;
+        for section in &pou.sections {
+            for declaration in &section.declarations {
+                most = self.depth_in(declaration).max(most);
+            }
+        }
+        if let Some(number) = self.names.find(pou.name.as_str()) {
             if let Some(known) = self.depths.get_mut(number) {
-                *known = depth.max(*known);
+                *known = most.saturating_add(1).max(*known);
             }
         }
     }
 
-    /// Takes all that the blocks declare, once.
-    fn go_through(&mut self, entries: &[Entry<'_>]) {
-        let mut holder = "";
-        for entry in entries {
-            match entry.what {
-                What::Block => holder = entry.word,
-                What::Program => holder = "",
-                What::Local(_) => self.take(holder, entry.kind),
-                _ => {}
+    /// Takes all blocks, once.
+    fn go_through(&mut self, units: &[Unit]) {
+        for unit in units {
+            for pou in &unit.pous {
+                if is_block(pou) {
+                    self.take(pou);
+                }
             }
         }
+    }
+
+    /// The first declaration of a block with instances that are as deep as one may be.
+    fn deepest_in<'t>(&self, pou: &'t Pou) -> Option<&'t Declaration> {
+        for section in &pou.sections {
+            for declaration in &section.declarations {
+                if self.depth_in(declaration) == MOST_DEEP {
+                    return Some(declaration);
+                }
+            }
+        }
+        None
+    }
+
+    /// The same of all blocks, with the number of its source and its block.
+    fn first_deep<'t>(&self, units: &'t [Unit]) -> Option<(usize, &'t Pou, &'t Declaration)> {
+        for (source, unit) in units.iter().enumerate() {
+            for pou in &unit.pous {
+                if is_block(pou) {
+                    if let Some(declaration) = self.deepest_in(pou) {
+                        return Some((source, pou, declaration));
+                    }
+                }
+            }
+        }
+        None
     }
 }
 
-/// The first instance of a block that is as deep as one may be, in a block, and the name of that block.
-fn first_deep<'a>(depths: &Depths, entries: &[Entry<'a>]) -> Option<(Entry<'a>, &'a str)> {
-    let mut holder = "";
-    for entry in entries {
-        match entry.what {
-            What::Block => holder = entry.word,
-            What::Program => holder = "",
-            What::Local(_) if !holder.is_empty() && depths.depth_of(entry.kind) == MOST_DEEP => {
-                return Some((*entry, holder));
-            }
-            _ => {}
-        }
+/// What is said of the first declaration that makes a block too deep.
+fn told(alloc: Global, depths: &Depths, units: &[Unit]) -> Result<Option<Found>, AllocError> {
+    let Some((source, pou, declaration)) = depths.first_deep(units) else {
+        return Ok(None);
+    };
+    let (Some(name), Sort::Block(word)) = (declaration.names.first(), &declaration.sort) else {
+        return Ok(None);
+    };
+    let (holder, block) = (pou.name.as_str(), word.as_str());
+    let said = format!(in alloc;
+        "'{block}' is 16 deep already, the most that is allowed, and '{holder}', which has an instance of it here, is one deeper"
+    )?;
+    Ok(Some(found_at(source, name, said, LIMITS)))
+}
+
+/// The instance of units by which a function block is too deep; `None` where none is found.
+fn found_in(alloc: Global, units: &[Unit]) -> Result<Option<Found>, AllocError> {
+    let mut depths = Depths::of(alloc, units)?;
+    for _ in 0..MOST_DEEP {
+        depths.go_through(units);
     }
-    None
+    told(alloc, &depths, units)
 }
 
 /// The instance by which a function block is too deep; `None` where none is found.
-pub fn too_deep(alloc: Global, refused: &PlantTexts<'_>) -> Result<Option<Spot>, AllocError> {
-    let sources = sources_of(alloc, refused.sources)?;
-    let entries = entries_of(alloc, sources.as_slice())?;
-    let mut depths = Depths::of(alloc, entries.as_slice())?;
-    for _ in 0..MOST_DEEP {
-        depths.go_through(entries.as_slice());
+pub fn too_deep<'a>(
+    alloc: Global,
+    texts: &[(&'a str, &'a [u8])],
+) -> Result<Option<Found>, AllocError> {
+    let sources = sources_of(alloc, texts)?;
+    match units_of(alloc, sources.as_slice())? {
+        Some(units) => found_in(alloc, units.as_slice()),
+        None => Ok(None),
     }
-    let Some((instance, holder)) = first_deep(&depths, entries.as_slice()) else {
-        return Ok(None);
-    };
-    let kind = instance.kind;
-    let said = format!(in alloc;
-        "'{kind}' is 16 deep already, the most that is allowed, and '{holder}', which has an instance of it here, is one deeper"
-    )?;
-    Ok(spot_at(sources.as_slice(), &instance, said, LIMITS))
 }

@@ -1,21 +1,23 @@
 //! What there is to say at a declared name.
 
-use plant_places::{FileOf, Spot};
-use token_causes::{cause_at, span_of};
-use unit_words::{Entry, Source};
+use plant_types::Text;
+use source_trees::mark_of;
+use token_causes::{Cause, cause_at};
 
-/// What is said at the token of a declared name; `None` where its source isn't there.
-pub fn spot_at(
-    sources: &[Source<'_>],
-    entry: &Entry<'_>,
-    said: String,
-    page: &'static str,
-) -> Option<Spot> {
-    let source = sources.get(entry.source)?;
-    let behind = entry.token.saturating_add(1);
-    let mark = span_of(source.text, source.tokens.as_slice(), entry.token, behind);
-    Some(Spot {
-        file: FileOf::Source(entry.source),
-        cause: cause_at(mark, said, page),
-    })
+/// Where the limits of the language stand.
+pub const LIMITS: &str = "docs/LANGUAGE.md, \"Limits (this profile)\"";
+
+/// What is said of a source, by its number from 0.
+#[derive(Drop)]
+pub struct Found {
+    pub source: usize,
+    pub cause: Cause,
+}
+
+/// What is said at a name of the tree of a source.
+pub fn found_at(source: usize, name: &Text, said: String, page: &'static str) -> Found {
+    Found {
+        source,
+        cause: cause_at(mark_of(name), said, page),
+    }
 }

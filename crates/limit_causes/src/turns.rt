@@ -1,77 +1,94 @@
 //! How often the body of a FOR runs.
 
-use st_lexer::{Keyword, Token, TokenKind};
-use std::alloc::{AllocError, Global};
-use token_causes::kind_at;
+use plant_types::Text;
+use st_tree::{Branch, Choice, Expr, Span, Stmt, constant, count_turns};
 
-/// Where the limits of the language stand.
-pub const LIMITS: &str = "docs/LANGUAGE.md, \"Limits (this profile)\"";
+/// The FOR whose body runs most often, by the byte of its variable, and how often.
+#[derive(Clone, Copy, Drop)]
+pub struct MostTurns {
+    pub at: usize,
+    pub times: u64,
+}
 
-/// The number that stands at a number of a token, without a sign.
-fn integer_at(tokens: &[Token], number: usize) -> Option<u64> {
-    match kind_at(tokens, number)? {
-        TokenKind::Integer(integer) => Some(u64::from(integer)),
+/// The value of a constant expression, or of one that isn't written; `None` where it isn't constant or has none.
+fn worth_of(expr: Option<&Expr<Text>>) -> Option<i64> {
+    match expr {
+        Some(expr) => constant(expr)?.ok(),
+        None => Some(1),
+    }
+}
+
+/// How many turns a FOR has; 0 where a bound or the step isn't constant.
+fn turns_of(from: &Expr<Text>, to: &Expr<Text>, by: &Option<Expr<Text>>) -> u64 {
+    let (Some(from), Some(to), Some(step)) = (
+        worth_of(Some(from)),
+        worth_of(Some(to)),
+        worth_of(by.as_ref()),
+    ) else {
+        return 0;
+    };
+    u64::try_from(count_turns(Span { from, to, step })).unwrap_or(u64::MAX)
+}
+
+/// The busier of two FORs, the first where they are alike.
+fn busier(one: Option<MostTurns>, other: Option<MostTurns>) -> Option<MostTurns> {
+    match (one, other) {
+        (Some(a), Some(b)) if b.times > a.times => other,
+        (None, _) => other,
+        _ => one,
+    }
+}
+
+/// The busiest FOR of branches.
+#[cycle(turns)]
+fn in_branches(branches: &[Branch<Text>], times: u64) -> Option<MostTurns> {
+    let mut best = None;
+    for branch in branches {
+        best = busier(best, busiest(&branch.body, times));
+    }
+    best
+}
+
+/// The busiest FOR of choices.
+#[cycle(turns)]
+fn in_choices(choices: &[Choice<Text>], times: u64) -> Option<MostTurns> {
+    let mut best = None;
+    for choice in choices {
+        best = busier(best, busiest(&choice.body, times));
+    }
+    best
+}
+
+/// The busiest FOR of a statement that runs so often.
+#[cycle(turns)]
+fn in_stmt(stmt: &Stmt<Text>, times: u64) -> Option<MostTurns> {
+    match stmt {
+        Stmt::If(_, branches, last) => busier(in_branches(branches, times), busiest(last, times)),
+        Stmt::Case(_, _, choices, last) => {
+            busier(in_choices(choices, times), busiest(last, times))
+        }
+        Stmt::For {
+            variable,
+            from,
+            to,
+            by,
+            body,
+            ..
+        } => {
+            let times = times.saturating_mul(turns_of(from, to, by));
+            let at = variable.at() as usize;
+            busier(Some(MostTurns { at, times }), busiest(body, times))
+        }
         _ => None,
     }
 }
 
-/// Whether a keyword stands so many behind the token of a number.
-fn has_keyword(tokens: &[Token], number: usize, behind: usize, keyword: Keyword) -> bool {
-    kind_at(tokens, number.saturating_add(behind)) == Some(TokenKind::Keyword(keyword))
-}
-
-/// The step of a FOR at a token, where it is a plain number.
-fn step_at(tokens: &[Token], number: usize) -> Option<u64> {
-    if has_keyword(tokens, number, 6, Keyword::Do) {
-        return Some(1);
-    }
-    if has_keyword(tokens, number, 6, Keyword::By) && has_keyword(tokens, number, 8, Keyword::Do) {
-        return integer_at(tokens, number.saturating_add(7));
-    }
-    None
-}
-
-/// How many turns a FOR has at a token, where its bounds and its step are plain numbers; `None` where they aren't.
-fn turns_at(tokens: &[Token], number: usize) -> Option<u64> {
-    let is_for = has_keyword(tokens, number, 0, Keyword::For)
-        && has_keyword(tokens, number, 4, Keyword::To);
-    if !is_for {
-        return None;
-    }
-    let from = integer_at(tokens, number.saturating_add(3))?;
-    let to = integer_at(tokens, number.saturating_add(5))?;
-    let way = to.checked_sub(from)?;
-    let step = step_at(tokens, number)?;
-    Some(way.checked_div(step)?.saturating_add(1))
-}
-
-/// How often the body of a FOR runs, by how often the FOR does and its turns; `None` where one isn't known.
-fn times_of(around: Option<u64>, turns: Option<u64>) -> Option<u64> {
-    Some(around?.saturating_mul(turns?))
-}
-
-/// The FOR among tokens whose body runs most often, the first of several, by the number of its token, and how often; where a bound or a step is no plain
-/// number, that FOR and those in it aren't asked.
-pub fn busiest(
-    alloc: Global,
-    tokens: &[Token],
-    range: (usize, usize),
-) -> Result<Option<(usize, u64)>, AllocError> {
-    let mut open: Vec<Option<u64>> = Vec::new(alloc);
+/// The FOR among statements that run so often whose body runs most often, the first of several; `None` where there is none.
+#[cycle(turns)]
+pub fn busiest(stmts: &[Stmt<Text>], times: u64) -> Option<MostTurns> {
     let mut best = None;
-    let mut most = 0u64;
-    for number in range.0..range.1 {
-        if has_keyword(tokens, number, 0, Keyword::For) {
-            let around = open.last().copied().unwrap_or(Some(1));
-            let times = times_of(around, turns_at(tokens, number));
-            open.push(times)?;
-            if times.unwrap_or(0) > most {
-                most = times.unwrap_or(0);
-                best = Some((number, most));
-            }
-        } else if has_keyword(tokens, number, 0, Keyword::EndFor) {
-            open.pop();
-        }
+    for stmt in stmts {
+        best = busier(best, in_stmt(stmt, times));
     }
-    Ok(best)
+    best
 }

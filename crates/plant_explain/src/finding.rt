@@ -1,10 +1,10 @@
 //! The cause of a refusal is looked for.
 
 use crate::globals::unknown;
-use crate::past::too_costly;
+use crate::past::spot_of;
 use crate::units::{source_named, spots_in_units};
 use grammar_causes::ungrammatical;
-use limit_causes::{one_too_many, too_deep};
+use limit_causes::{one_too_many, too_costly, too_deep};
 use plant_config::{ConfigFault, Limit};
 use plant_folder::PlantTexts;
 use plant_places::{
@@ -55,14 +55,16 @@ fn in_table(
 
 /// Where a limit isn't kept: at a word of a source, where one tells it.
 fn over(alloc: Global, refused: &PlantTexts<'_>, limit: Limit) -> Result<Spot, AllocError> {
+    let texts = refused.sources;
     let found = match limit {
-        Limit::Cost => too_costly(alloc, refused)?,
-        Limit::BlockDepth => too_deep(alloc, refused)?,
-        Limit::Programs | Limit::Slots => one_too_many(alloc, refused, limit)?,
+        Limit::Cost => too_costly(alloc, texts)?,
+        Limit::BlockDepth => too_deep(alloc, texts)?,
+        Limit::Programs => one_too_many(alloc, texts, true)?,
+        Limit::Slots => one_too_many(alloc, texts, false)?,
         _ => None,
     };
     match found {
-        Some(spot) => Ok(spot),
+        Some(found) => Ok(spot_of(found)),
         None => over_limit(alloc, refused, limit),
     }
 }

@@ -31,7 +31,6 @@ mod search;
 mod stage;
 mod telling;
 mod units;
-mod uses;
 mod warnings;
 
 pub use all_told::{explain_all, explain_units};

@@ -3,134 +3,32 @@
 use crate::parting::{NO_PARTS, first_wrong};
 use crate::rest::Part;
 use crate::search::is_searched;
-use limit_causes::{busiest, spot_at};
+use limit_causes::{Found, Past, past_with, program_parts};
 use plant_config::Limit;
 use plant_folder::PlantTexts;
 use plant_places::{FileOf, Spot};
-use st_lexer::{Keyword, Token, TokenKind, place_of};
 use std::alloc::{AllocError, Global};
 use std::thread::Threads;
-use token_causes::{kind_at, span_of};
-use unit_words::{Entry, Source, What, entries_of, sources_of};
 
-/// Where it stands what programs cost.
-const COSTS: &str = "docs/LANGUAGE.md, \"To read C10 COST\"";
-
-/// The most that a scan of a program may cost.
-const MOST_COST: u64 = 2_000_000;
-
-/// The least that a turn of a FOR costs.
-const TURN_COST: u64 = 3;
-
-/// The number of the token that ends the program whose name has a number; `None` where none does.
-fn end_of(tokens: &[Token], number: usize) -> Option<usize> {
-    for i in number..tokens.len() {
-        if kind_at(tokens, i) == Some(TokenKind::Keyword(Keyword::EndProgram)) {
-            return Some(i);
-        }
+/// Where something is shown that is said of a source.
+pub fn spot_of(found: Found) -> Spot {
+    let Found { source, cause } = found;
+    Spot {
+        file: FileOf::Source(source),
+        cause,
     }
-    None
 }
 
-/// The part of its source that a program is.
-fn part_of(sources: &[Source<'_>], title: &Entry<'_>) -> Option<Part> {
-    let source = sources.get(title.source)?;
-    let tokens = source.tokens.as_slice();
-    let first = title.token.checked_sub(1)?;
-    let last = end_of(tokens, title.token)?;
-    Some(Part {
-        source: title.source,
-        bytes: span_of(source.text, tokens, first, last.saturating_add(1)),
-    })
-}
-
-/// The titles of the programs, and the parts that these are, in order of text.
-fn programs_of<'a>(
-    alloc: Global,
-    sources: &[Source<'a>],
-    entries: &[Entry<'a>],
-) -> Result<(Vec<Entry<'a>>, Vec<Part>), AllocError> {
-    let mut titles = Vec::new(alloc);
+/// The parts of the sources that the programs are.
+fn parts_of(alloc: Global, texts: &PlantTexts<'_>) -> Result<Vec<Part>, AllocError> {
     let mut parts = Vec::new(alloc);
-    for entry in entries {
-        if entry.what == What::Program {
-            if let Some(part) = part_of(sources, entry) {
-                titles.push(*entry)?;
-                parts.push(part)?;
-            }
-        }
+    for part in program_parts(alloc, texts.sources)? {
+        parts.push(Part {
+            source: part.source,
+            bytes: part.bytes,
+        })?;
     }
-    Ok((titles, parts))
-}
-
-/// The FOR of a program whose body runs most often, by its line, and how often, as far as plain numbers tell that.
-fn busiest_of(
-    alloc: Global,
-    sources: &[Source<'_>],
-    title: &Entry<'_>,
-) -> Result<Option<(usize, u64)>, AllocError> {
-    let Some(source) = sources.get(title.source) else {
-        return Ok(None);
-    };
-    let tokens = source.tokens.as_slice();
-    let end = end_of(tokens, title.token).unwrap_or(title.token);
-    match busiest(alloc, tokens, (title.token, end))? {
-        Some((number, times)) => Ok(Some((place_of(source.text, tokens, number).0, times))),
-        None => Ok(None),
-    }
-}
-
-/// What is said of a program that costs too much.
-fn costly(alloc: Global, name: &str, busiest: Option<(usize, u64)>) -> Result<String, AllocError> {
-    let why = match busiest {
-        Some((line, times)) => format!(in alloc;
-            "the body of the FOR in line {line} runs {times} times, with all that it calls"
-        )?,
-        None => String::from_str(alloc, "the FORs of the blocks that it calls count too")?,
-    };
-    let why = why.as_str();
-    format!(in alloc;
-        "a scan of the program '{name}' costs more than 2000000, which is the most that is allowed: {why}"
-    )
-}
-
-/// The first program whose FORs alone cost too much; `None` where there is none.
-pub fn too_costly(alloc: Global, refused: &PlantTexts<'_>) -> Result<Option<Spot>, AllocError> {
-    let sources = sources_of(alloc, refused.sources)?;
-    let entries = entries_of(alloc, sources.as_slice())?;
-    for entry in entries.as_slice() {
-        if entry.what == What::Program {
-            let found = busiest_of(alloc, sources.as_slice(), entry)?;
-            let times = match found {
-                Some((_, times)) => times,
-                None => 0,
-            };
-            if times.saturating_mul(TURN_COST) > MOST_COST {
-                let said = costly(alloc, entry.word, found)?;
-                return Ok(spot_at(sources.as_slice(), entry, said, COSTS));
-            }
-        }
-    }
-    Ok(None)
-}
-
-/// What is said of the program with which the sources are past a limit.
-fn told(
-    alloc: Global,
-    sources: &[Source<'_>],
-    title: &Entry<'_>,
-    limit: Limit,
-) -> Result<String, AllocError> {
-    let name = title.word;
-    match limit {
-        Limit::Cost => costly(alloc, name, busiest_of(alloc, sources, title)?),
-        Limit::Size => format!(in alloc;
-            "with the program '{name}' the programs together are larger than 1000000"
-        ),
-        _ => format!(in alloc;
-            "with the program '{name}' there are more than 65536 variables and standard blocks, in each instance anew"
-        ),
-    }
+    Ok(parts)
 }
 
 /// The program with which the sources are past a limit, which is told with the line of the refusal.
@@ -138,23 +36,27 @@ fn at_program<H: Threads + Sync>(
     rt: &H,
     alloc: Global,
     texts: &PlantTexts<'_>,
-    (limit, line): (Limit, &str),
+    (past, line): (Past, &str),
     spot: Spot,
 ) -> Result<Spot, AllocError> {
-    let sources = sources_of(alloc, texts.sources)?;
-    let entries = entries_of(alloc, sources.as_slice())?;
-    let (titles, parts) = programs_of(alloc, sources.as_slice(), entries.as_slice())?;
+    let parts = parts_of(alloc, texts)?;
     let Some(number) = first_wrong(rt, alloc, texts, line, (NO_PARTS, parts.as_slice()))? else {
         return Ok(spot);
     };
-    let Some(title) = titles.get(number) else {
-        return Ok(spot);
-    };
-    let said = told(alloc, sources.as_slice(), title, limit)?;
-    let page = spot.cause.page;
-    match spot_at(sources.as_slice(), title, said, page) {
-        Some(found) => Ok(found),
+    match past_with(alloc, texts.sources, (number, past), spot.cause.page)? {
+        Some(found) => Ok(spot_of(found)),
         None => Ok(spot),
+    }
+}
+
+/// The limit that programs get past; `None` for others, and where a place is known already.
+fn past_of(limit: Limit, spot: &Spot) -> Option<Past> {
+    let is_open = spot.file == FileOf::Plant;
+    match limit {
+        Limit::Cost => Some(Past::Cost),
+        Limit::Slots if is_open => Some(Past::Slots),
+        Limit::Size if is_open => Some(Past::Size),
+        _ => None,
     }
 }
 
@@ -169,10 +71,8 @@ pub fn past_limit<H: Threads + Sync>(
     if !is_searched(texts) {
         return Ok(spot);
     }
-    let is_open = spot.file == FileOf::Plant;
-    match limit {
-        Limit::Cost => at_program(rt, alloc, texts, (limit, line), spot),
-        Limit::Slots | Limit::Size if is_open => at_program(rt, alloc, texts, (limit, line), spot),
-        _ => Ok(spot),
+    match past_of(limit, &spot) {
+        Some(past) => at_program(rt, alloc, texts, (past, line), spot),
+        None => Ok(spot),
     }
 }

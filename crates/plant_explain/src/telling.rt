@@ -7,7 +7,7 @@ ghost use Rattle.plant_explain.specs.Told.{BeginsWith};
 
 use crate::finding::find;
 use crate::warnings::find_warnings;
-use plant_config::ConfigFault;
+use plant_config::{ConfigFault, Plant};
 use plant_folder::PlantTexts;
 use plant_places::{shown, shown_alone};
 use std::alloc::{AllocError, Global};
@@ -38,10 +38,11 @@ pub fn explain(
     under(alloc, line.as_str(), rest.as_str())
 }
 
-/// What a person is told of a plant that is accepted: what is likely to be wrong in it, each with its place and the line there; nothing where nothing is.
-pub fn warn(alloc: Global, texts: &PlantTexts<'_>) -> Result<String, AllocError> {
+/// What a person is told of a plant that is accepted from these texts: what is likely to be wrong in it, each with its place and the line there; nothing
+/// where nothing is.
+pub fn warn(alloc: Global, texts: &PlantTexts<'_>, plant: &Plant) -> Result<String, AllocError> {
     let mut told = String::new(alloc);
-    let found = find_warnings(alloc, texts)?;
+    let found = find_warnings(alloc, texts, plant)?;
     for spot in found.as_slice() {
         let text = shown_alone(alloc, texts, spot)?;
         told.push_str(text.as_str())?;

@@ -2,6 +2,7 @@
 
 ghost use Rattle.std.specs.Prelude.{◌≤◌, length, IfOk, IfSome};
 
+use body_uses::swallower;
 use explain_bodies::{MOST_MISTAKES, Mistake, Rule, mistakes};
 use plant_config::{ConfigFault, Limit};
 use plant_folder::PlantTexts;
@@ -125,15 +126,37 @@ fn in_whole(
 /// Adds mistakes.
 fn add_spots(spots: &mut Vec<Spot>, mistakes: Vec<Mistake>) -> Result<(), AllocError> {
     for mistake in mistakes {
-        let Mistake {
-            rule: _,
-            source,
-            cause,
-        } = mistake;
+        let Mistake { source, cause, .. } = mistake;
         spots.push(Spot {
             file: FileOf::Source(source),
             cause,
         })?;
+    }
+    Ok(())
+}
+
+/// Puts a spot behind the first.
+fn put_second(spots: &mut Vec<Spot>, spot: Spot) -> Result<(), AllocError> {
+    if spots.is_empty() {
+        spots.push(spot)?;
+    } else {
+        spots.insert(1, spot)?;
+    }
+    Ok(())
+}
+
+/// Adds behind the first mistake the first comment of each source that swallows what follows, by which names may be missing.
+fn add_comments(
+    alloc: Global,
+    refused: &PlantTexts<'_>,
+    spots: &mut Vec<Spot>,
+) -> Result<(), AllocError> {
+    for (number, source) in refused.sources.iter().enumerate() {
+        let tokens = tokens_of(alloc, source.1)?;
+        if let Some(cause) = swallower(alloc, source.1, tokens.as_slice())? {
+            let file = FileOf::Source(number);
+            put_second(spots, Spot { file, cause })?;
+        }
     }
     Ok(())
 }
@@ -159,6 +182,9 @@ fn spots_of(
         spots.push(in_whole(alloc, refused, fault, rule)?)?;
     }
     add_spots(&mut spots, found)?;
+    if rule == Rule::Names {
+        add_comments(alloc, refused, &mut spots)?;
+    }
     Ok(spots)
 }
 

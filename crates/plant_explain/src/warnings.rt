@@ -1,250 +1,238 @@
 //! What is likely to be wrong in a plant that is accepted.
 
-use crate::globals::ALARMS;
-use crate::uses::{Use, Variables, use_by};
-use limit_causes::spot_at;
+use body_uses::{File, Looking, Warning, look};
+use plant_config::{AlarmRow, Plant};
 use plant_folder::PlantTexts;
-use plant_places::{FileOf, Spot, first_field, next_field, unquoted};
+use plant_places::{Field, FileOf, Spot, first_field, next_field};
 use plant_types::Region;
-use st_lexer::{Keyword, TokenKind};
 use std::alloc::{AllocError, Global};
-use std::str;
-use token_causes::{Role, cause_at, kind_at, role_of, section_after, word_at};
-use unit_words::{Entry, Source, What, entries_of, sources_of};
+use word_index::Names;
 
-/// Where variables are described.
-const VARIABLES: &str = "docs/LANGUAGE.md, \"Variables\"";
+/// The numbers of columns of the alarm database, from 0, which are the same in each version of it.
+const TAG: usize = 0;
 
-/// The most warnings that are told.
-const MOST_WARNINGS: usize = 20;
+const AREA: usize = 1;
 
-/// What is known of a plant while its sources are gone through.
+const CONDITION: usize = 3;
+
+const SUPPRESS: usize = 4;
+
+/// The field of an alarm, by its number from 0, and a column; `None` if there is none.
+fn field_at(text: &[u8], alarm: usize, column: usize) -> Option<Field> {
+    let mut field = first_field(text);
+    for _ in 0..text.len() {
+        if field.number == column && field.record > alarm {
+            return Some(field);
+        }
+        field = next_field(text, field)?;
+    }
+    None
+}
+
+/// The alarms of a plant while they are gone through.
 #[derive(Drop)]
-struct Plant<'s, 'a> {
-    sources: &'s [Source<'a>],
-    entries: &'s [Entry<'a>],
-    globals: Variables<'a>,
-    locals: Variables<'a>,
-    /// The number of the next name among the entries.
-    next: usize,
-    warnings: Vec<Spot>,
-}
-
-/// A warning at the token of a name.
-fn warning_at(
+struct Alarms<'p> {
     alloc: Global,
-    sources: &[Source<'_>],
-    entry: &Entry<'_>,
-    said: &str,
-) -> Result<Option<Spot>, AllocError> {
-    let word = entry.word;
-    let said = format!(in alloc; "warning: {said} '{word}'")?;
-    Ok(spot_at(sources, entry, said, VARIABLES))
+    plant: &'p Plant,
+    /// The text of the alarm database.
+    text: &'p [u8],
+    /// Of each area whether nobody may order its alarms, and that hasn't been told.
+    lone: Vec<bool>,
+    tags: Names,
 }
 
-/// Whether a global is an output of the plant.
-fn is_output(sources: &[Source<'_>], entry: &Entry<'_>) -> bool {
-    let Some(source) = sources.get(entry.source) else {
-        return false;
-    };
-    let address = kind_at(source.tokens.as_slice(), entry.token.saturating_add(2));
-    entry.what == What::Global && address == Some(TokenKind::Address(Region::Output))
-}
-
-/// What is likely to be wrong with a variable that nothing reads; empty where nothing is.
-fn unread(sources: &[Source<'_>], entry: &Entry<'_>, found: Use) -> &'static str {
-    if found.is_read || is_output(sources, entry) {
-        return "";
+/// The names of a plant's globals.
+fn globals_of(alloc: Global, plant: &Plant) -> Result<Names, AllocError> {
+    let mut names = Names::new(alloc);
+    for global in plant.globals() {
+        names.add(alloc, global.name.as_str())?;
     }
-    match entry.what {
-        What::Global => "nothing reads the global",
-        What::Input => "nothing reads the input",
-        What::Local(Keyword::Var | Keyword::VarInput) => "nothing reads the variable",
-        _ => "",
-    }
+    Ok(names)
 }
 
-impl<'s, 'a> Plant<'s, 'a> {
-    /// Keeps a warning at a name, where there is something to say.
-    fn warn(&mut self, alloc: Global, entry: &Entry<'a>, said: &str) -> Result<(), AllocError> {
-        if said.is_empty() || self.warnings.len() >= MOST_WARNINGS {
-            return Ok(());
+/// Whether no console of a plant has an area.
+fn is_lone(plant: &Plant, area: u32) -> bool {
+    for console in plant.consoles() {
+        if plant.may_order(console.number, area) {
+            return false;
         }
-        if let Some(spot) = warning_at(alloc, self.sources, entry, said)? {
-            self.warnings.push(spot)?;
+    }
+    true
+}
+
+/// Of each area of a plant whether no console has it.
+fn lone_areas(alloc: Global, plant: &Plant) -> Result<Vec<bool>, AllocError> {
+    let mut lone = Vec::new(alloc);
+    for area in 0..plant.areas() {
+        lone.push(is_lone(plant, area))?;
+    }
+    Ok(lone)
+}
+
+impl<'p> Alarms<'p> {
+    /// Keeps a warning at the field of a column of an alarm, by its number from 0.
+    fn warn(
+        &self,
+        looking: &mut Looking<'_>,
+        (alarm, column): (usize, usize),
+        said: String,
+    ) -> Result<(), AllocError> {
+        match field_at(self.text, alarm, column) {
+            Some(field) => looking.warn_in(File::Alarms, (field.from, field.until), said),
+            None => Ok(()),
         }
-        Ok(())
     }
 
-    /// Takes the declared word that comes next.
-    fn declare(&mut self, alloc: Global) -> Result<(), AllocError> {
-        let Some(entry) = self.entries.get(self.next) else {
+    /// Notes that the condition of an alarm is read, and tells where nothing assigns it.
+    fn condition(
+        &self,
+        looking: &mut Looking<'_>,
+        alarm: usize,
+        row: &AlarmRow,
+    ) -> Result<(), AllocError> {
+        let number = row.condition as usize;
+        let Some(known) = looking.globals.known.get_mut(number) else {
             return Ok(());
         };
-        let entry = *entry;
-        self.next = self.next.saturating_add(1);
-        match entry.what {
-            What::Local(Keyword::VarExternal) => Ok(()),
-            What::Local(_) => {
-                if self.globals.has(entry.word) {
-                    self.warn(alloc, &entry, "the global of this name is hidden by")?;
-                }
-                self.locals.add(alloc, entry)
-            }
-            _ => Ok(()),
+        known.is_read = true;
+        let is_idle = !known.is_assigned && !matches!(known.region, Some(Region::Input));
+        if !is_idle {
+            return Ok(());
         }
+        known.is_told = true;
+        let word = looking.globals.names.get(number).unwrap_or("");
+        let said = format!(in self.alloc;
+            "warning: nothing assigns '{word}', the condition of this alarm, and it is no input"
+        )?;
+        self.warn(looking, (alarm, CONDITION), said)
     }
 
-    /// Tells of the variables of the block or program that ends, and forgets them.
-    fn end_unit(&mut self, alloc: Global) -> Result<(), AllocError> {
-        for number in 0..self.locals.len() {
-            if let Some((entry, found)) = self.locals.at(number) {
-                let said = unread(self.sources, &entry, found);
-                self.warn(alloc, &entry, said)?;
-            }
+    /// Notes that what suppresses an alarm is read, and tells where that is its condition.
+    fn suppression(
+        &self,
+        looking: &mut Looking<'_>,
+        alarm: usize,
+        row: &AlarmRow,
+    ) -> Result<(), AllocError> {
+        let Some(number) = row.suppress else {
+            return Ok(());
+        };
+        if let Some(known) = looking.globals.known.get_mut(number as usize) {
+            known.is_read = true;
         }
-        self.locals = Variables::new(alloc);
-        Ok(())
+        if number != row.condition {
+            return Ok(());
+        }
+        let said = String::from_str(
+            self.alloc,
+            "warning: this alarm is suppressed by its own condition, so nobody ever hears of it",
+        )?;
+        self.warn(looking, (alarm, SUPPRESS), said)
     }
 
-    /// Takes a word by what it is there for.
-    fn take(&mut self, alloc: Global, word: &str, role: Role) -> Result<(), AllocError> {
-        match role {
-            Role::Title => {
-                self.next = self.next.saturating_add(1);
-                self.end_unit(alloc)
-            }
-            Role::Declared => self.declare(alloc),
-            _ => {
-                if let Some(found) = use_by(role) {
-                    if !self.locals.note(word, found) {
-                        self.globals.note(word, found);
-                    }
-                }
-                Ok(())
-            }
+    /// Tells of an area that no console has, once.
+    fn area(
+        &mut self,
+        looking: &mut Looking<'_>,
+        alarm: usize,
+        row: &AlarmRow,
+    ) -> Result<(), AllocError> {
+        let Some(is_lone) = self.lone.get_mut(row.area as usize) else {
+            return Ok(());
+        };
+        if !*is_lone {
+            return Ok(());
         }
+        *is_lone = false;
+        let said = String::from_str(
+            self.alloc,
+            "warning: no console has this area, so nobody may acknowledge its alarms",
+        )?;
+        self.warn(looking, (alarm, AREA), said)
     }
 
-    /// Goes through a source, until there are as many warnings as are told.
-    fn go_through(&mut self, alloc: Global, source: &Source<'a>) -> Result<(), AllocError> {
-        let tokens = source.tokens.as_slice();
-        let mut section = None;
-        for (number, token) in tokens.iter().enumerate() {
-            section = section_after(section, token.kind);
-            if matches!(token.kind, TokenKind::Word) {
-                let role = role_of(tokens, number, section.is_some());
-                self.take(alloc, word_at(source.text, tokens, number), role)?;
-            }
-            if self.warnings.len() >= MOST_WARNINGS {
+    /// Tells of a tag that differs from an earlier one by letter case alone.
+    fn tag(
+        &mut self,
+        looking: &mut Looking<'_>,
+        alarm: usize,
+        row: &AlarmRow,
+    ) -> Result<(), AllocError> {
+        let tag = row.tag.as_str();
+        if self.tags.add(self.alloc, tag)? {
+            return Ok(());
+        }
+        let number = self.tags.find(tag).unwrap_or(0);
+        let other = self.tags.get(number).unwrap_or("");
+        let said = format!(in self.alloc;
+            "warning: this tag differs from '{other}' by letter case alone, and they are two alarms"
+        )?;
+        self.warn(looking, (alarm, TAG), said)
+    }
+
+    /// Goes through the alarms.
+    fn go_through(&mut self, looking: &mut Looking<'_>) -> Result<(), AllocError> {
+        let plant = self.plant;
+        for (alarm, row) in plant.alarm_rows().iter().enumerate() {
+            if looking.is_full() {
                 return Ok(());
             }
-        }
-        self.end_unit(alloc)
-    }
-
-    /// Goes through the alarms: each condition and suppression is read. Of conditions that nothing assigns it tells.
-    fn go_through_alarms(&mut self, alloc: Global, text: &[u8]) -> Result<(), AllocError> {
-        let mut next = Some(first_field(text));
-        for _ in 0..text.len() {
-            let Some(field) = next else {
-                break;
-            };
-            if field.record > 0 && (field.number == 3 || field.number == 4) {
-                let word = str::from_utf8(unquoted(text, field)).unwrap_or("");
-                let mark = (field.from, field.until);
-                self.take_condition(alloc, word, mark, field.number == 3)?;
-            }
-            next = next_field(text, field);
-        }
-        Ok(())
-    }
-
-    /// Takes the condition of an alarm, or its suppression.
-    fn take_condition(
-        &mut self,
-        alloc: Global,
-        word: &str,
-        mark: (usize, usize),
-        is_condition: bool,
-    ) -> Result<(), AllocError> {
-        let Some(number) = self.globals.number(word) else {
-            return Ok(());
-        };
-        let Some((entry, found)) = self.globals.at(number) else {
-            return Ok(());
-        };
-        self.globals.note_at(
-            number,
-            Use {
-                is_read: true,
-                is_assigned: false,
-            },
-        );
-        let is_idle = entry.what == What::Global && !found.is_assigned;
-        if is_condition && is_idle && self.warnings.len() < MOST_WARNINGS {
-            let said = format!(in alloc;
-                "warning: nothing assigns '{word}', the condition of this alarm, and it is no input"
-            )?;
-            self.warnings.push(Spot {
-                file: FileOf::Alarms,
-                cause: cause_at(mark, said, ALARMS),
-            })?;
-        }
-        Ok(())
-    }
-
-    /// Tells of globals that nothing reads.
-    fn end_globals(&mut self, alloc: Global) -> Result<(), AllocError> {
-        for number in 0..self.globals.len() {
-            if let Some((entry, found)) = self.globals.at(number) {
-                let said = unread(self.sources, &entry, found);
-                self.warn(alloc, &entry, said)?;
-            }
-        }
-        Ok(())
-    }
-
-    /// Tells of blocks that nothing declares an instance of.
-    fn end_blocks(&mut self, alloc: Global) -> Result<(), AllocError> {
-        let mut kinds = word_index::Names::new(alloc);
-        for entry in self.entries {
-            if matches!(entry.what, What::Local(_)) {
-                kinds.add(alloc, entry.kind)?;
-            }
-        }
-        for entry in self.entries {
-            if entry.what == What::Block && kinds.find(entry.word).is_none() {
-                self.warn(alloc, entry, "nothing uses the block")?;
-            }
+            self.tag(looking, alarm, row)?;
+            self.area(looking, alarm, row)?;
+            self.condition(looking, alarm, row)?;
+            self.suppression(looking, alarm, row)?;
         }
         Ok(())
     }
 }
 
-/// What is likely to be wrong in an accepted plant, each with its place: conditions of alarms that nothing assigns, variables that hide a global or that
-/// nothing reads, and blocks that nothing uses; twenty at most.
-pub fn find_warnings(alloc: Global, texts: &PlantTexts<'_>) -> Result<Vec<Spot>, AllocError> {
-    let sources = sources_of(alloc, texts.sources)?;
-    let entries = entries_of(alloc, sources.as_slice())?;
-    let mut plant = Plant {
-        sources: sources.as_slice(),
-        entries: entries.as_slice(),
-        globals: Variables::new(alloc),
-        locals: Variables::new(alloc),
-        next: 0,
-        warnings: Vec::new(alloc),
+/// Where warnings are shown.
+fn spots_of(alloc: Global, warnings: Vec<Warning>) -> Result<Vec<Spot>, AllocError> {
+    let mut spots = Vec::new(alloc);
+    for warning in warnings {
+        let Warning { file, cause } = warning;
+        let file = match file {
+            File::Source(number) => FileOf::Source(number),
+            File::Alarms => FileOf::Alarms,
+        };
+        spots.push(Spot { file, cause })?;
+    }
+    Ok(spots)
+}
+
+/// Goes through the alarms of a plant, and then through what its sources left.
+fn look_on<'p>(
+    alloc: Global,
+    text: &'p [u8],
+    plant: &'p Plant,
+    looking: &mut Looking<'_>,
+) -> Result<(), AllocError> {
+    let mut alarms = Alarms {
+        alloc,
+        plant,
+        text,
+        lone: lone_areas(alloc, plant)?,
+        tags: Names::new(alloc),
     };
-    for entry in entries.as_slice() {
-        if matches!(entry.what, What::Global | What::Input) {
-            plant.globals.add(alloc, *entry)?;
+    let gone = alarms.go_through(looking);
+    drop(alarms);
+    gone?;
+    looking.end()
+}
+
+/// What is likely to be wrong in an accepted plant of texts, each with its place; twenty at most.
+pub fn find_warnings(
+    alloc: Global,
+    texts: &PlantTexts<'_>,
+    plant: &Plant,
+) -> Result<Vec<Spot>, AllocError> {
+    let globals = globals_of(alloc, plant)?;
+    let mut looking = look(alloc, texts.sources, globals)?;
+    match look_on(alloc, texts.alarms, plant, &mut looking) {
+        Ok(()) => spots_of(alloc, looking.into_warnings()),
+        Err(refused) => {
+            drop(looking);
+            Err(refused)
         }
     }
-    for source in sources.as_slice() {
-        plant.go_through(alloc, source)?;
-    }
-    plant.go_through_alarms(alloc, texts.alarms)?;
-    plant.end_globals(alloc)?;
-    plant.end_blocks(alloc)?;
-    Ok(plant.warnings)
 }

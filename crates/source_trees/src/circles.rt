@@ -1,6 +1,6 @@
 //! Function blocks that hold themselves (C8).
 
-use crate::plant::Plant;
+use crate::trees::Trees;
 use plant_types::{Text, same_word};
 use st_parser::{Pou, Sort};
 use std::alloc::{AllocError, Global};
@@ -28,28 +28,41 @@ fn add_held<'t>(
     Ok(())
 }
 
-/// Whether instances of a block lead to the block of a name.
-pub fn leads_back(
+/// Whether one of the blocks of words, or one behind it, is the block of a name; the words of those behind are added.
+fn finds<'t>(
     alloc: Global,
-    plant: &Plant<'_>,
-    word: &Text,
+    plant: &Trees<'t>,
     name: &str,
+    names: &mut Names,
+    words: &mut Vec<&'t Text>,
 ) -> Result<bool, AllocError> {
-    let mut names = Names::new(alloc);
-    let mut words = Vec::new(alloc);
-    names.add(alloc, word.as_str())?;
-    words.push(word)?;
     for number in 0..MOST_BLOCKS {
         let Some(word) = words.get(number) else {
-            break;
+            return Ok(false);
         };
         let word: &Text = *word;
         if same_word(word.as_bytes(), name.as_bytes()) {
             return Ok(true);
         }
         if let Some(pou) = plant.block(word) {
-            add_held(alloc, pou, &mut names, &mut words)?;
+            add_held(alloc, pou, names, words)?;
         }
     }
     Ok(false)
+}
+
+/// Whether instances of a block lead to the block of a name.
+pub fn leads_back<'t>(
+    alloc: Global,
+    plant: &Trees<'t>,
+    word: &'t Text,
+    name: &str,
+) -> Result<bool, AllocError> {
+    let mut names = Names::new(alloc);
+    let mut words = Vec::new(alloc);
+    words.push(word)?;
+    let found = finds(alloc, plant, name, &mut names, &mut words);
+    drop(names);
+    drop(words);
+    found
 }

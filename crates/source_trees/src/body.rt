@@ -1,11 +1,20 @@
-//! The names of a unit that is walked.
+//! The names of a unit.
 
-use crate::plant::Plant;
+use crate::trees::Trees;
 use plant_types::{Kind, Text};
 use st_names::{BodyScope, Declared, Scope};
 use st_parser::{Section, SectionKind, Sort};
 use std::alloc::{AllocError, Global};
 use word_index::Names;
+
+/// The name of a kind.
+pub fn kind_text(kind: Kind) -> &'static str {
+    match kind {
+        Kind::Bool => "BOOL",
+        Kind::Dint => "DINT",
+        Kind::Time => "TIME",
+    }
+}
 
 /// A block, a program, or the globals of a source.
 #[derive(Drop)]
@@ -19,7 +28,7 @@ pub struct Body<'t> {
 
 /// Whether it isn't certain what a declared name is: the block of an instance isn't there, or the instance can't stand there, or a VAR_EXTERNAL isn't of the
 /// kind of its global.
-fn is_doubtful(plant: &Plant<'_>, scope: &BodyScope<'_>, declared: &Declared<'_>) -> bool {
+fn is_doubtful(plant: &Trees<'_>, scope: &BodyScope<'_>, declared: &Declared<'_>) -> bool {
     match (declared.sort(), declared.section()) {
         (Sort::Block(word), SectionKind::Local) => !plant.is_sure_block(word),
         (Sort::Block(_), _) => true,
@@ -31,10 +40,14 @@ fn is_doubtful(plant: &Plant<'_>, scope: &BodyScope<'_>, declared: &Declared<'_>
     }
 }
 
-/// The names of a unit's own of which it isn't certain what they are: those that it declares twice too.
-fn doubts_of(alloc: Global, plant: &Plant<'_>, scope: &BodyScope<'_>) -> Result<Names, AllocError> {
-    let mut names = Names::new(alloc);
-    let mut doubts = Names::new(alloc);
+/// Adds the names of a unit's own to some, and those of which it isn't certain what they are to others.
+fn add_doubts(
+    alloc: Global,
+    plant: &Trees<'_>,
+    scope: &BodyScope<'_>,
+    names: &mut Names,
+    doubts: &mut Names,
+) -> Result<(), AllocError> {
     for declared in scope.declared() {
         let name = declared.name();
         let is_new = names.add(alloc, name.as_str())?;
@@ -42,28 +55,48 @@ fn doubts_of(alloc: Global, plant: &Plant<'_>, scope: &BodyScope<'_>) -> Result<
             doubts.add(alloc, name.as_str())?;
         }
     }
-    Ok(doubts)
+    Ok(())
+}
+
+/// The names of a unit's own of which it isn't certain what they are: those that it declares twice too.
+fn doubts_of(alloc: Global, plant: &Trees<'_>, scope: &BodyScope<'_>) -> Result<Names, AllocError> {
+    let mut names = Names::new(alloc);
+    let mut doubts = Names::new(alloc);
+    let added = add_doubts(alloc, plant, scope, &mut names, &mut doubts);
+    drop(names);
+    match added {
+        Ok(()) => Ok(doubts),
+        Err(refused) => {
+            drop(doubts);
+            Err(refused)
+        }
+    }
 }
 
 impl<'t> Body<'t> {
     /// The unit of a name that declares these sections itself.
     pub fn new(
         alloc: Global,
-        plant: &'t Plant<'t>,
+        plant: &'t Trees<'t>,
         name: &'t str,
         sections: &'t [Section],
     ) -> Result<Body<'t>, AllocError> {
         let scope = BodyScope::new(alloc, plant.shared, sections)?;
-        let doubts = doubts_of(alloc, plant, &scope)?;
-        Ok(Body {
-            name,
-            scope,
-            doubts,
-        })
+        match doubts_of(alloc, plant, &scope) {
+            Ok(doubts) => Ok(Body {
+                name,
+                scope,
+                doubts,
+            }),
+            Err(refused) => {
+                drop(scope);
+                Err(refused)
+            }
+        }
     }
 
     /// Whether it isn't certain what a name is.
-    pub fn doubts(&self, plant: &Plant<'_>, name: &Text) -> bool {
+    pub fn doubts(&self, plant: &Trees<'_>, name: &Text) -> bool {
         if self.doubts.find(name.as_str()).is_some() {
             return true;
         }
@@ -82,7 +115,7 @@ impl<'t> Body<'t> {
     }
 
     /// The kind of a variable, where that is certain.
-    pub fn kind_of(&self, plant: &Plant<'_>, name: &Text) -> Option<Kind> {
+    pub fn kind_of(&self, plant: &Trees<'_>, name: &Text) -> Option<Kind> {
         if self.doubts(plant, name) {
             None
         } else {

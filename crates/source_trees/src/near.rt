@@ -3,15 +3,20 @@
 use plant_types::same_word;
 use std::alloc::{AllocError, Global};
 
+/// With how many letters two words both begin.
+fn same_len(a: &[u8], b: &[u8]) -> usize {
+    for number in 0..a.len() {
+        match (a.get(number), b.get(number)) {
+            (Some(x), Some(y)) if x.eq_ignore_ascii_case(y) => {}
+            _ => return number,
+        }
+    }
+    a.len()
+}
+
 /// What is left of two words behind the letters that both begin with.
 fn rests<'a, 'b>(a: &'a [u8], b: &'b [u8]) -> (&'a [u8], &'b [u8]) {
-    let mut same = 0usize;
-    for (x, y) in a.iter().zip(b.iter()) {
-        if !x.eq_ignore_ascii_case(y) {
-            break;
-        }
-        same = same.saturating_add(1);
-    }
+    let same = same_len(a, b);
     (a.get(same..).unwrap_or(b""), b.get(same..).unwrap_or(b""))
 }
 
@@ -66,16 +71,24 @@ impl<'a> Nearest<'a> {
         }
     }
 
-    /// Takes a name that may be meant. Words of one letter or two have none that is near, nor have those of more than 64.
-    pub fn offer(&mut self, name: &'a str) {
+    /// Whether a name is so near that it may be meant. Words of one letter or two have none that is near, nor have those of more than 64.
+    pub fn is_near(&self, name: &str) -> bool {
         let (word, bytes) = (self.word.as_bytes(), name.as_bytes());
-        if self.is_close || word.len() < 3 || word.len() > 64 || bytes.len() > 64 {
+        if word.len() < 3 || word.len() > 64 || bytes.len() > 64 {
+            return false;
+        }
+        within_one(word, bytes) || (word.len() > 5 && within_two(word, bytes))
+    }
+
+    /// Takes a name that may be meant.
+    pub fn offer(&mut self, name: &'a str) {
+        if self.is_close || !self.is_near(name) {
             return;
         }
-        if within_one(word, bytes) {
+        if within_one(self.word.as_bytes(), name.as_bytes()) {
             self.best = name;
             self.is_close = true;
-        } else if self.best.is_empty() && word.len() > 5 && within_two(word, bytes) {
+        } else if self.best.is_empty() {
             self.best = name;
         }
     }

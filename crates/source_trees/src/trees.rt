@@ -1,4 +1,4 @@
-//! What there is to know of all sources.
+//! The sources of a plant, and their trees.
 
 use crate::titles::Titles;
 use plant_types::Text;
@@ -18,13 +18,13 @@ pub struct Source<'a> {
 
 /// The sources of a plant, and the names that they share.
 #[derive(Drop)]
-pub struct Plant<'t> {
+pub struct Trees<'t> {
     pub sources: &'t [Source<'t>],
     pub units: &'t [Unit],
     pub shared: &'t SharedNames<'t>,
     /// The names of no source: it knows the blocks that are there from the start, and no other.
     pub standard: &'t SharedNames<'t>,
-    pub titles: Titles,
+    pub titles: &'t Titles,
 }
 
 /// The sources of texts with their tokens.
@@ -56,7 +56,7 @@ pub fn units_of(alloc: Global, sources: &[Source<'_>]) -> Result<Option<Vec<Unit
     Ok(Some(units))
 }
 
-impl<'t> Plant<'t> {
+impl<'t> Trees<'t> {
     /// Whether a word is that of a block that is there from the start.
     pub fn is_standard(&self, word: &Text) -> bool {
         self.standard.is_block_type(word)

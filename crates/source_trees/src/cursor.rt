@@ -119,12 +119,13 @@ impl<'t> Cursor<'t> {
         self.tokens.len()
     }
 
-    /// Goes past a label of a CASE.
-    pub fn pass_label(&mut self) {
-        self.pass(Sought::Literal);
+    /// Goes past a label of a CASE, and returns the number of its first literal.
+    pub fn pass_label(&mut self) -> usize {
+        let number = self.pass(Sought::Literal);
         if kind_at(self.tokens, self.next) == Some(TokenKind::Symbol(Symbol::Range)) {
             self.pass(Sought::Literal);
         }
+        number
     }
 
     /// The number of the first token of a literal that ends with the one of a number: its minus, where it has one.
