@@ -5,9 +5,9 @@ ghost use Rattle.plant_config.specs.declared.fault.ConfigFault.TheVariants as co
 ghost use Rattle.plant_folder.specs.Verdicts.{refusal_line};
 ghost use Rattle.plant_explain.specs.Told.{BeginsWith};
 
-use crate::search::{MOST_FAULTS, find_all};
+use crate::search::{MOST_FAULTS, find_all, find_at_once, is_searched};
+use crate::stage::{Stage, stage_of};
 use crate::telling::under;
-use crate::units::spots_in_units;
 use plant_config::ConfigFault;
 use plant_folder::PlantTexts;
 use plant_places::{Spot, shown, shown_alone};
@@ -75,7 +75,8 @@ pub fn explain_all<H: Threads + Sync>(
     with_line(alloc, texts, fault, spots.as_slice())
 }
 
-/// The same of a plant that is refused for one of its units, for which no text is read again; `None` where it is refused for anything else.
+/// The same of a plant that is refused for its sources, for which it isn't read again; `None` where it is refused for
+/// anything else, and where rows are looked through too, for which it is read again.
 pub fn explain_units(
     alloc: Global,
     texts: &PlantTexts<'_>,
@@ -84,7 +85,10 @@ pub fn explain_units(
     requires { fault.now ≢ config_fault.Memory }
     ensures { IfOk result (λ told. IfSome told (λ text. BeginsWith (refusal_line fault.now) (string_bytes text))) }
 {
-    let Some(spots) = spots_in_units(alloc, texts, fault)? else {
+    if stage_of(fault) == Some(Stage::Sources) && is_searched(texts) {
+        return Ok(None);
+    }
+    let Some(spots) = find_at_once(alloc, texts, fault)? else {
         return Ok(None);
     };
     let text = with_line(alloc, texts, fault, spots.as_slice())?;

@@ -2,6 +2,7 @@
 
 use plant_folder::PlantTexts;
 use plant_places::{FileOf, Spot, first_field, next_field};
+use source_causes::units_start;
 use std::alloc::{AllocError, Global};
 use text_blanks::blanked;
 
@@ -88,12 +89,17 @@ impl Rest {
         }
     }
 
-    /// Leaves out a source; whether there is one of the number.
-    fn leave_out_source(&mut self, alloc: Global, number: usize) -> Result<bool, AllocError> {
-        let Some(text) = self.sources.get_mut(number) else {
-            return Ok(false);
-        };
-        *text = blanked(alloc, text.as_slice(), (0, text.len()), b' ')?;
+    /// Leaves out all blocks and programs of the sources, so that their globals are left; whether these are certainly all.
+    pub fn leave_out_units(&mut self, alloc: Global) -> Result<bool, AllocError> {
+        let mut left = Vec::new(alloc);
+        for source in self.sources.as_slice() {
+            let text = source.as_slice();
+            let Some(start) = units_start(alloc, text)? else {
+                return Ok(false);
+            };
+            left.push(blanked(alloc, text, (start, text.len()), b' ')?)?;
+        }
+        self.sources = left;
         Ok(true)
     }
 
@@ -106,14 +112,13 @@ impl Rest {
         Ok(true)
     }
 
-    /// Leaves out what is at fault: the source, or the row of the alarm database; whether anything can be left out.
+    /// Leaves out the row of the alarm database that is at fault; whether anything can be left out.
     pub fn leave_out(&mut self, alloc: Global, spot: &Spot) -> Result<bool, AllocError> {
         let Some(mark) = spot.cause.mark else {
             return Ok(false);
         };
         match spot.file {
-            FileOf::Plant => Ok(false),
-            FileOf::Source(number) => self.leave_out_source(alloc, number),
+            FileOf::Plant | FileOf::Source(_) => Ok(false),
             FileOf::Alarms => self.leave_out_row(alloc, mark.0),
         }
     }

@@ -1,12 +1,13 @@
 //! Further faults are looked for.
 
-ghost use Rattle.std.specs.Prelude.{◌≢◌, ◌≤◌, length, IfOk};
+ghost use Rattle.std.specs.Prelude.{◌≢◌, ◌≤◌, length, IfOk, IfSome};
 ghost use Rattle.plant_config.specs.declared.fault.ConfigFault.TheVariants as config_fault;
 
 use crate::finding::find;
 use crate::narrow::narrowed;
 use crate::refusal::refusal;
 use crate::rest::Rest;
+use crate::sources::spots_in_sources;
 use crate::stage::{Stage, stage_of};
 use crate::units::spots_in_units;
 use plant_config::ConfigFault;
@@ -25,7 +26,7 @@ const MOST_READINGS: usize = 40;
 const MOST_BYTES: usize = 1_048_576;
 
 /// How many bytes the texts of a plant have together.
-fn size_of(texts: &PlantTexts<'_>) -> usize {
+pub fn size_of(texts: &PlantTexts<'_>) -> usize {
     let mut size = texts.plant.len().saturating_add(texts.alarms.len());
     for source in texts.sources {
         size = size.saturating_add(source.1.len());
@@ -67,7 +68,38 @@ fn is_among(found: &[Spot], spot: &Spot) -> bool {
     found.iter().any(|other| other.file == spot.file && other.cause.mark == spot.cause.mark)
 }
 
-/// Adds the further faults of a stage to those that were found, 20 in all at most. Fails if allocation fails; those that were found by then are there.
+/// Adds the faults of the rows that are left to those that were found, 20 in all at most. Fails if memory was refused; those that were found by then are there.
+fn add_rows<H: Threads + Sync>(
+    rt: &H,
+    alloc: Global,
+    texts: &PlantTexts<'_>,
+    rest: &mut Rest,
+    found: &mut Vec<Spot>,
+) -> Result<(), AllocError>
+    requires { length found.old.items ≤ 20 }
+    ensures kept { length found.old.items ≤ length found.new.items }
+    ensures most { length found.new.items ≤ 20 }
+{
+    'readings: for _ in 0..MOST_READINGS {
+        if found.len() >= MOST_FAULTS {
+            return Ok(());
+        }
+        let Some(spot) = next_fault(rt, alloc, texts, rest, Stage::Rows)? else {
+            return Ok(());
+        };
+        let is_left_out = rest.leave_out(alloc, &spot)?;
+        if !is_among(found.as_slice(), &spot) {
+            found.push(spot)?;
+        }
+        if !is_left_out {
+            return Ok(());
+        }
+    }
+    Ok(())
+}
+
+/// Adds the faults of rows to those of a stage that were found, 20 in all at most: of the rows that are left where one is at fault, and of all rows where the sources are,
+/// as far as their globals are right. Fails if memory was refused; those that were found by then are there.
 fn add_further<H: Threads + Sync>(
     rt: &H,
     alloc: Global,
@@ -80,16 +112,33 @@ fn add_further<H: Threads + Sync>(
     ensures most { length found.new.items ≤ 20 }
 {
     let mut rest = Rest::of(alloc, texts)?;
-    'readings: for _ in 0..MOST_READINGS {
-        let Some(last) = found.last() else {
-            return Ok(());
-        };
-        if found.len() >= MOST_FAULTS || !rest.leave_out(alloc, last)? {
+    let is_left_out = match (stage, found.last()) {
+        (Stage::Sources, _) => rest.leave_out_units(alloc)?,
+        (Stage::Rows, Some(last)) => rest.leave_out(alloc, last)?,
+        (Stage::Rows, None) => false,
+    };
+    if !is_left_out {
+        return Ok(());
+    }
+    add_rows(rt, alloc, texts, &mut rest, found)
+}
+
+/// Adds what else is wrong in the spelling and the grammar of the sources to the fault that was found, in order of text, 20 in all at most. Fails if memory
+/// was refused; those that were found by then are there.
+fn add_in_sources(
+    alloc: Global,
+    texts: &PlantTexts<'_>,
+    found: &mut Vec<Spot>,
+) -> Result<(), AllocError>
+    requires { length found.old.items ≤ 20 }
+    ensures kept { length found.old.items ≤ length found.new.items }
+    ensures most { length found.new.items ≤ 20 }
+{
+    let spots = spots_in_sources(alloc, texts)?;
+    'spots: for spot in spots {
+        if found.len() >= MOST_FAULTS {
             return Ok(());
         }
-        let Some(spot) = next_fault(rt, alloc, texts, &rest, stage)? else {
-            return Ok(());
-        };
         if !is_among(found.as_slice(), &spot) {
             found.push(spot)?;
         }
@@ -97,8 +146,30 @@ fn add_further<H: Threads + Sync>(
     Ok(())
 }
 
-/// The fault of a refused plant, and further ones of the same stage; 20 at most. Those of units are all found in one reading, in order of text; others in the
-/// order in which they are found, and where memory is short these may be missing, but not the first.
+/// The faults of a refused plant of which all are found by reading each unit alone, 20 at most: first the one for which it is refused, then others of the same stage in
+/// order of text. `None` where it is refused for anything but its sources.
+pub fn find_at_once(
+    alloc: Global,
+    texts: &PlantTexts<'_>,
+    fault: &ConfigFault,
+) -> Result<Option<Vec<Spot>>, AllocError>
+    ensures least { IfOk result (λ found. IfSome found (λ spots. 1 ≤ length spots.items)) }
+    ensures most { IfOk result (λ found. IfSome found (λ spots. length spots.items ≤ 20)) }
+{
+    if let Some(found) = spots_in_units(alloc, texts, fault)? {
+        return Ok(Some(found));
+    }
+    if stage_of(fault) != Some(Stage::Sources) {
+        return Ok(None);
+    }
+    let mut found = Vec::new(alloc);
+    found.push(find(alloc, texts, fault)?)?;
+    let _ = add_in_sources(alloc, texts, &mut found);
+    Ok(Some(found))
+}
+
+/// The fault of a refused plant, and further ones; 20 at most: those of the same stage, and where the spelling or the grammar of sources is at fault, those of rows too.
+/// Those of rows are in the order in which they are found, and where memory is short these may be missing, but not the first.
 pub fn find_all<H: Threads + Sync>(
     rt: &H,
     alloc: Global,
@@ -109,13 +180,18 @@ pub fn find_all<H: Threads + Sync>(
     ensures least { IfOk result (λ found. 1 ≤ length found.items) }
     ensures most { IfOk result (λ found. length found.items ≤ 20) }
 {
-    if let Some(found) = spots_in_units(alloc, texts, fault)? {
+    let stage = stage_of(fault);
+    if let Some(found) = find_at_once(alloc, texts, fault)? {
+        let mut found = found;
+        if stage == Some(Stage::Sources) && is_searched(texts) {
+            let _ = add_further(rt, alloc, texts, Stage::Sources, &mut found);
+        }
         return Ok(found);
     }
     let mut found = Vec::new(alloc);
     let spot = find(alloc, texts, fault)?;
     found.push(narrowed(rt, alloc, texts, fault, spot)?)?;
-    let Some(stage) = stage_of(fault) else {
+    let Some(stage) = stage else {
         return Ok(found);
     };
     if !is_searched(texts) {

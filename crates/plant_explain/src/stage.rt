@@ -11,7 +11,7 @@ pub enum Stage {
     Rows,
 }
 
-/// The stage of a fault; `None` where the plant isn't read again for further faults.
+/// The stage of a fault; `None` where no further faults are looked for.
 pub fn stage_of(fault: &ConfigFault) -> Option<Stage> {
     match fault {
         ConfigFault::Spelling { .. } | ConfigFault::Grammar { .. } => Some(Stage::Sources),
