@@ -36,6 +36,22 @@ fn reason<R: Files>(rt: &R, alloc: Global, path: &str) -> Result<String, AllocEr
     String::from_str(alloc, UNREAD)
 }
 
+/// A text with a question mark in the place of each control character.
+fn printable(alloc: Global, text: &str) -> Result<String, AllocError> {
+    text.chars()
+        .map(|c| if c.is_control() { '?' } else { c })
+        .collect(alloc)
+}
+
+/// What is said of a name in which a control character stands; empty of another.
+fn hint(name: &str) -> &'static str {
+    if name.chars().any(|c| c.is_control()) {
+        "the name has a control character: in double quotes '\\' begins an escape, and a path is written with '/'\n"
+    } else {
+        ""
+    }
+}
+
 /// What a person is told of a file that can't be read: its name as the refusal has it, the path under which it is sought, and the system's reason. The file
 /// isn't read for this.
 pub fn why_missing<R: Files>(
@@ -45,7 +61,9 @@ pub fn why_missing<R: Files>(
     name: &str,
 ) -> Result<String, AllocError> {
     let reason = reason(rt, alloc, path)?;
+    let path = printable(alloc, path)?;
+    let (path, hint) = (path.as_str(), hint(name));
     format!(in alloc;
-        "FILE {name}\n{path}: {reason}\nread on: docs/PLANT.md, \"Reading the files\"\n"
+        "FILE {name}\n{path}: {reason}\n{hint}read on: docs/PLANT.md, \"Reading the files\"\n"
     )
 }

@@ -4,7 +4,7 @@ use crate::copies::Copies;
 use crate::greeting::greet;
 use crate::missing::why_missing;
 use plant_config::{ConfigFault, Plant};
-use plant_explain::{explain, explain_units, is_searched, warn};
+use plant_explain::{explain, explain_at_once, is_searched, warn};
 use plant_service::{Folder, Listener, PlantTexts, listing};
 use std::alloc::Global;
 use std::rt::Files;
@@ -80,7 +80,7 @@ impl<'a, R: Files + Eprint> Listener for Telling<'a, R> {
     }
 
     fn refused(&mut self, alloc: Global, texts: &PlantTexts<'_>, fault: &ConfigFault) {
-        if let Ok(Some(text)) = explain_units(alloc, texts, fault) {
+        if let Ok(Some(text)) = explain_at_once(alloc, texts, fault) {
             self.text = Some(text);
             return;
         }

@@ -6,7 +6,7 @@ ghost use Rattle.plant_folder.specs.Verdicts.{refusal_line};
 ghost use Rattle.plant_explain.specs.Told.{BeginsWith};
 
 use crate::search::{MOST_FAULTS, find_all, find_at_once, is_searched};
-use crate::stage::{Stage, stage_of};
+use crate::sources::is_of_sources;
 use crate::telling::under;
 use plant_config::ConfigFault;
 use plant_folder::PlantTexts;
@@ -75,9 +75,9 @@ pub fn explain_all<H: Threads + Sync>(
     with_line(alloc, texts, fault, spots.as_slice())
 }
 
-/// The same of a plant that is refused for its sources, for which it isn't read again; `None` where it is refused for
-/// anything else, and where rows are looked through too, for which it is read again.
-pub fn explain_units(
+/// The same of a plant that is refused for what is known at once, so that no text is read again: in one of its units, in its plant file or in a row of its alarm
+/// database, or in the spelling or the grammar of its sources, where it is too long to be read again; `None` where it is refused for anything else.
+pub fn explain_at_once(
     alloc: Global,
     texts: &PlantTexts<'_>,
     fault: &ConfigFault,
@@ -85,7 +85,7 @@ pub fn explain_units(
     requires { fault.now ≢ config_fault.Memory }
     ensures { IfOk result (λ told. IfSome told (λ text. BeginsWith (refusal_line fault.now) (string_bytes text))) }
 {
-    if stage_of(fault) == Some(Stage::Sources) && is_searched(texts) {
+    if is_of_sources(fault) && is_searched(texts) {
         return Ok(None);
     }
     let Some(spots) = find_at_once(alloc, texts, fault)? else {

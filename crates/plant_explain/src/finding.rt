@@ -1,19 +1,16 @@
 //! The cause of a refusal is looked for.
 
-use crate::globals::unknown;
 use crate::past::spot_of;
+use crate::tables::{first_of, spots_in_tables};
 use crate::units::{source_named, spots_in_units};
 use grammar_causes::ungrammatical;
 use limit_causes::{one_too_many, too_costly, too_deep};
 use plant_config::{ConfigFault, Limit};
 use plant_folder::PlantTexts;
-use plant_places::{
-    FileOf, Spot, byte_at, doubled, field_of, malformed, no_epoch, not_toml, over_limit, text_of,
-    uneven, wrong_keys,
-};
+use plant_places::{FileOf, Spot, byte_at, over_limit, text_of};
 use plant_types::Text;
 use std::alloc::{AllocError, Global};
-use token_causes::{Cause, misspelled};
+use token_causes::misspelled;
 
 /// The cause of a fault of spelling or grammar, at a line and a column.
 fn in_text(
@@ -34,25 +31,6 @@ fn in_text(
     Ok(Spot { file, cause })
 }
 
-/// The cause of a fault in the plant file, or in the alarm database.
-fn in_table(
-    alloc: Global,
-    refused: &PlantTexts<'_>,
-    fault: &ConfigFault,
-) -> Result<Cause, AllocError> {
-    match fault {
-        ConfigFault::NotToml(_) => not_toml(alloc, refused.plant),
-        ConfigFault::PlantFile(_) => wrong_keys(alloc, refused.plant),
-        ConfigFault::Epoch => no_epoch(alloc, refused.plant),
-        ConfigFault::Field { row, column, .. } => malformed(alloc, refused.alarms, *row, *column),
-        ConfigFault::Twice { row, .. } => doubled(alloc, refused.alarms, *row),
-        ConfigFault::Unknown { row, column, .. } => {
-            unknown(alloc, refused, field_of(refused.alarms, *row, *column))
-        }
-        _ => uneven(alloc, refused.alarms),
-    }
-}
-
 /// Where a limit isn't kept: at a word of a source, where one tells it.
 fn over(alloc: Global, refused: &PlantTexts<'_>, limit: Limit) -> Result<Spot, AllocError> {
     let texts = refused.sources;
@@ -69,7 +47,7 @@ fn over(alloc: Global, refused: &PlantTexts<'_>, limit: Limit) -> Result<Spot, A
     }
 }
 
-/// The file in which a refused plant has a fault that is of no unit, and its cause there.
+/// The file in which a refused plant has a fault that is of no unit and of no table, and its cause there.
 fn find_elsewhere(
     alloc: Global,
     refused: &PlantTexts<'_>,
@@ -83,14 +61,7 @@ fn find_elsewhere(
         ConfigFault::Grammar { file, line, column } => {
             in_text(alloc, refused, file, (*line, *column), false)
         }
-        ConfigFault::NotToml(_) | ConfigFault::PlantFile(_) | ConfigFault::Epoch => Ok(Spot {
-            file: FileOf::Plant,
-            cause: in_table(alloc, refused, fault)?,
-        }),
-        _ => Ok(Spot {
-            file: FileOf::Alarms,
-            cause: in_table(alloc, refused, fault)?,
-        }),
+        _ => over(alloc, refused, Limit::Turns),
     }
 }
 
@@ -104,6 +75,13 @@ pub fn find(
         let mut found = found;
         if !found.is_empty() {
             return Ok(found.remove(0));
+        }
+    }
+    if let Some(found) = spots_in_tables(alloc, refused, fault)? {
+        let mut found = found;
+        let first = first_of(fault);
+        if first < found.len() {
+            return Ok(found.remove(first));
         }
     }
     find_elsewhere(alloc, refused, fault)

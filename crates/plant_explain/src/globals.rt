@@ -1,14 +1,16 @@
-//! What is wrong with a name in the alarm database that the plant hasn't (C14): an area, or the BOOL global of a condition or a suppression.
+//! What is wrong in the rows of the alarm database (C11 to C14), and why a name there is no BOOL global's.
 
+use crate::search::is_searched;
+use alarm_db::RowMistake;
 use explain_bodies::no_bool_global;
 use plant_folder::PlantTexts;
-use plant_places::{Field, no_area, unquoted};
+use plant_places::{Field, row_cause, unquoted, wrong_field};
 use std::alloc::{AllocError, Global};
 use std::str;
-use token_causes::{Cause, cause_at, cause_of};
+use token_causes::{Cause, cause_at};
 
 /// Where alarms are described.
-const ALARMS: &str = "docs/PLANT.md, \"alarms.csv\"";
+pub const ALARMS: &str = "docs/PLANT.md, \"alarms.csv\"";
 
 /// The name that stands in a field; empty where it isn't UTF-8.
 fn name_in(alarms: &[u8], field: Field) -> &str {
@@ -19,20 +21,36 @@ fn name_in(alarms: &[u8], field: Field) -> &str {
     }
 }
 
-/// The cause of a field that names what the plant hasn't.
-pub fn unknown<'a>(
+/// The cause of a field that names what is no BOOL global's.
+fn unknown(
     alloc: Global,
-    refused: &PlantTexts<'a>,
-    field: Option<Field>,
+    alarms: &[u8],
+    sources: &[(&str, &[u8])],
+    field: Field,
 ) -> Result<Cause, AllocError> {
-    let Some(field) = field else {
-        let said = String::from_str(alloc, "a name in this row is not the plant's")?;
-        return Ok(cause_of(said, ALARMS));
-    };
-    if field.number == 1 {
-        return no_area(alloc, refused, field);
-    }
-    let name = name_in(refused.alarms, field);
-    let said = no_bool_global(alloc, refused.sources, name)?;
+    let said = no_bool_global(alloc, sources, name_in(alarms, field))?;
     Ok(cause_at((field.from, field.until), said, ALARMS))
+}
+
+/// The causes of the mistakes in rows. The sources are looked through for each row that names a variable, and only for the first where they are long.
+pub fn causes_in_rows(
+    alloc: Global,
+    refused: &PlantTexts<'_>,
+    mistakes: &[RowMistake],
+) -> Result<Vec<Cause>, AllocError> {
+    let is_short = is_searched(refused);
+    let mut sources = refused.sources;
+    let mut causes = Vec::new(alloc);
+    for wrong in mistakes {
+        if let Some(cause) = row_cause(alloc, refused, wrong)? {
+            causes.push(cause)?;
+            continue;
+        }
+        let field = wrong_field(refused.alarms, wrong);
+        causes.push(unknown(alloc, refused.alarms, sources, field)?)?;
+        if !is_short {
+            sources = &[];
+        }
+    }
+    Ok(causes)
 }

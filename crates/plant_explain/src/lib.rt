@@ -8,11 +8,10 @@
 //! Of a limit that the sources don't keep, the line of the refusal names no unit: where no word tells it, the program with which they are past it is
 //! found by reading the plant again without some of these.
 //!
-//! What is wrong in units (C6 to C9) explain_bodies finds all at once, and what is wrong in the spelling and the grammar of sources (C4, C5) source_causes does.
-//! For further faults of the alarm database (C11 to C14) the plant is read again without what was at fault: in a copy of its texts blanks stand in place of that row, and all
-//! else stands where it stood. Why this copy is refused is by `Plant::read` too, and so on. A fault of another stage ends the search, since it may come of what
-//! was left out: what is asked of a row is asked of the row alone, or that no earlier row has its tag, by the plant file and the globals, which stay. So what is told is a fault
-//! of the plant itself. Where the header is at fault, the search ends.
+//! What is wrong in units (C6 to C9) explain_bodies finds all at once, and what is wrong in the spelling and the grammar of sources (C4, C5) source_causes does. What is wrong
+//! in the plant file (C1 to C3) and in the rows of the alarm database (C11 to C14) their readers found, all at once too, and it comes with the fault. Behind mistakes of
+//! spelling and grammar those of rows are told too: the plant is read again without its blocks and programs, and where it is refused for a row then, by
+//! `Plant::read` too, that is wrong whatever the units will say.
 //!
 //! Proved is that the text begins with the line of the refusal, and that the copies are refused so; that a word is told which is wrong is tried on examples.
 #![tactic(auto)]
@@ -27,12 +26,12 @@ mod refusal;
 mod rest;
 mod search;
 mod sources;
-mod stage;
+mod tables;
 mod telling;
 mod units;
 mod warnings;
 
-pub use all_told::{explain_all, explain_units};
+pub use all_told::{explain_all, explain_at_once};
 pub use finding::find;
 pub use plant_folder::PlantTexts;
 pub use plant_places::{FileOf, Place, Spot, place_of};

@@ -7,9 +7,8 @@ use crate::finding::find;
 use crate::narrow::narrowed;
 use crate::refusal::refusal;
 use crate::rest::Rest;
-use crate::sources::spots_in_sources;
-use crate::stage::{Stage, stage_of};
-use crate::units::spots_in_units;
+use crate::sources::{is_of_sources, spots_in_sources};
+use crate::tables::{is_of_rows, spots_at_once, spots_in_tables};
 use plant_config::ConfigFault;
 use plant_folder::PlantTexts;
 use plant_places::Spot;
@@ -19,10 +18,7 @@ use std::thread::Threads;
 /// The most faults that are told.
 pub const MOST_FAULTS: usize = 20;
 
-/// A plant is read again at most so often: a fault whose place isn't known takes several readings.
-const MOST_READINGS: usize = 40;
-
-/// Of a plant with more bytes no further faults are told.
+/// A plant with more bytes isn't read again.
 const MOST_BYTES: usize = 1_048_576;
 
 /// How many bytes the texts of a plant have together.
@@ -34,33 +30,9 @@ pub fn size_of(texts: &PlantTexts<'_>) -> usize {
     size
 }
 
-/// Whether further faults of a plant are looked for: its texts have at most 1,048,576 bytes together.
+/// Whether a plant is read again for what is told of it: its texts have at most 1,048,576 bytes together.
 pub fn is_searched(texts: &PlantTexts<'_>) -> bool {
     size_of(texts) <= MOST_BYTES
-}
-
-/// The first fault of what is left of a plant, where it is one of a stage.
-fn next_fault<H: Threads + Sync>(
-    rt: &H,
-    alloc: Global,
-    texts: &PlantTexts<'_>,
-    rest: &Rest,
-    stage: Stage,
-) -> Result<Option<Spot>, AllocError> {
-    let sources = rest.pairs(alloc, texts)?;
-    let left = PlantTexts {
-        path: texts.path,
-        plant: texts.plant,
-        sources: sources.as_slice(),
-        alarms: rest.alarms.as_slice(),
-    };
-    match refusal(rt, alloc, &left)? {
-        Some(fault) if stage_of(&fault) == Some(stage) => {
-            let spot = find(alloc, &left, &fault)?;
-            Ok(Some(narrowed(rt, alloc, &left, &fault, spot)?))
-        }
-        _ => Ok(None),
-    }
 }
 
 /// Whether what is wrong is one of these already: where a unit is told, since no word in it is certain, it may be told again for the same.
@@ -68,59 +40,21 @@ fn is_among(found: &[Spot], spot: &Spot) -> bool {
     found.iter().any(|other| other.file == spot.file && other.cause.mark == spot.cause.mark)
 }
 
-/// Adds the faults of the rows that are left to those that were found, 20 in all at most. Fails if memory was refused; those that were found by then are there.
-fn add_rows<H: Threads + Sync>(
-    rt: &H,
-    alloc: Global,
-    texts: &PlantTexts<'_>,
-    rest: &mut Rest,
-    found: &mut Vec<Spot>,
-) -> Result<(), AllocError>
+/// Adds what isn't among those that were found, 20 in all at most. Fails if memory was refused; those that were added by then are there.
+fn add_new(found: &mut Vec<Spot>, spots: Vec<Spot>) -> Result<(), AllocError>
     requires { length found.old.items ≤ 20 }
     ensures kept { length found.old.items ≤ length found.new.items }
     ensures most { length found.new.items ≤ 20 }
 {
-    'readings: for _ in 0..MOST_READINGS {
+    'spots: for spot in spots {
         if found.len() >= MOST_FAULTS {
             return Ok(());
         }
-        let Some(spot) = next_fault(rt, alloc, texts, rest, Stage::Rows)? else {
-            return Ok(());
-        };
-        let is_left_out = rest.leave_out(alloc, &spot)?;
         if !is_among(found.as_slice(), &spot) {
             found.push(spot)?;
         }
-        if !is_left_out {
-            return Ok(());
-        }
     }
     Ok(())
-}
-
-/// Adds the faults of rows to those of a stage that were found, 20 in all at most: of the rows that are left where one is at fault, and of all rows where the sources are,
-/// as far as their globals are right. Fails if memory was refused; those that were found by then are there.
-fn add_further<H: Threads + Sync>(
-    rt: &H,
-    alloc: Global,
-    texts: &PlantTexts<'_>,
-    stage: Stage,
-    found: &mut Vec<Spot>,
-) -> Result<(), AllocError>
-    requires { length found.old.items ≤ 20 }
-    ensures kept { length found.old.items ≤ length found.new.items }
-    ensures most { length found.new.items ≤ 20 }
-{
-    let mut rest = Rest::of(alloc, texts)?;
-    let is_left_out = match (stage, found.last()) {
-        (Stage::Sources, _) => rest.leave_out_units(alloc)?,
-        (Stage::Rows, Some(last)) => rest.leave_out(alloc, last)?,
-        (Stage::Rows, None) => false,
-    };
-    if !is_left_out {
-        return Ok(());
-    }
-    add_rows(rt, alloc, texts, &mut rest, found)
 }
 
 /// Adds what else is wrong in the spelling and the grammar of the sources to the fault that was found, in order of text, 20 in all at most. Fails if memory
@@ -135,19 +69,52 @@ fn add_in_sources(
     ensures most { length found.new.items ≤ 20 }
 {
     let spots = spots_in_sources(alloc, texts)?;
-    'spots: for spot in spots {
-        if found.len() >= MOST_FAULTS {
-            return Ok(());
-        }
-        if !is_among(found.as_slice(), &spot) {
-            found.push(spot)?;
-        }
-    }
-    Ok(())
+    add_new(found, spots)
 }
 
-/// The faults of a refused plant of which all are found by reading each unit alone, 20 at most: first the one for which it is refused, then others of the same stage in
-/// order of text. `None` where it is refused for anything but its sources.
+/// What is wrong in the rows of the alarm database of a plant whose sources are at fault, as far as their globals are right; 20 at most.
+fn spots_in_rows<H: Threads + Sync>(
+    rt: &H,
+    alloc: Global,
+    texts: &PlantTexts<'_>,
+) -> Result<Option<Vec<Spot>>, AllocError> {
+    let mut rest = Rest::of(alloc, texts)?;
+    if !rest.leave_out_units(alloc)? {
+        return Ok(None);
+    }
+    let sources = rest.pairs(alloc, texts)?;
+    let left = PlantTexts {
+        path: texts.path,
+        plant: texts.plant,
+        sources: sources.as_slice(),
+        alarms: texts.alarms,
+    };
+    match refusal(rt, alloc, &left)? {
+        Some(fault) if is_of_rows(&fault) => spots_in_tables(alloc, &left, &fault),
+        _ => Ok(None),
+    }
+}
+
+/// Adds what is wrong in rows to the faults of sources that were found, in order of text, 20 in all at most. Fails if memory was refused; those that were
+/// found by then are there.
+fn add_in_rows<H: Threads + Sync>(
+    rt: &H,
+    alloc: Global,
+    texts: &PlantTexts<'_>,
+    found: &mut Vec<Spot>,
+) -> Result<(), AllocError>
+    requires { length found.old.items ≤ 20 }
+    ensures kept { length found.old.items ≤ length found.new.items }
+    ensures most { length found.new.items ≤ 20 }
+{
+    match spots_in_rows(rt, alloc, texts)? {
+        Some(spots) => add_new(found, spots),
+        None => Ok(()),
+    }
+}
+
+/// The faults of a refused plant where it is refused for what is known without reading it again, 20 at most: those of its units, of its plant file or of its rows, or those
+/// of the spelling and the grammar of its sources, of these first the one for which it is refused. `None` for a fault of anything else.
 pub fn find_at_once(
     alloc: Global,
     texts: &PlantTexts<'_>,
@@ -156,10 +123,10 @@ pub fn find_at_once(
     ensures least { IfOk result (λ found. IfSome found (λ spots. 1 ≤ length spots.items)) }
     ensures most { IfOk result (λ found. IfSome found (λ spots. length spots.items ≤ 20)) }
 {
-    if let Some(found) = spots_in_units(alloc, texts, fault)? {
+    if let Some(found) = spots_at_once(alloc, texts, fault)? {
         return Ok(Some(found));
     }
-    if stage_of(fault) != Some(Stage::Sources) {
+    if !is_of_sources(fault) {
         return Ok(None);
     }
     let mut found = Vec::new(alloc);
@@ -168,8 +135,8 @@ pub fn find_at_once(
     Ok(Some(found))
 }
 
-/// The fault of a refused plant, and further ones; 20 at most: those of the same stage, and where the spelling or the grammar of sources is at fault, those of rows too.
-/// Those of rows are in the order in which they are found, and where memory is short these may be missing, but not the first.
+/// The fault of a refused plant, and further ones, each in order of text; 20 at most: those of the same stage, and where the spelling or the grammar of sources is at fault, those of
+/// rows too. Where memory is short, further ones of sources and those of rows behind them may be missing.
 pub fn find_all<H: Threads + Sync>(
     rt: &H,
     alloc: Global,
@@ -180,23 +147,15 @@ pub fn find_all<H: Threads + Sync>(
     ensures least { IfOk result (λ found. 1 ≤ length found.items) }
     ensures most { IfOk result (λ found. length found.items ≤ 20) }
 {
-    let stage = stage_of(fault);
     if let Some(found) = find_at_once(alloc, texts, fault)? {
         let mut found = found;
-        if stage == Some(Stage::Sources) && is_searched(texts) {
-            let _ = add_further(rt, alloc, texts, Stage::Sources, &mut found);
+        if is_of_sources(fault) && is_searched(texts) {
+            let _ = add_in_rows(rt, alloc, texts, &mut found);
         }
         return Ok(found);
     }
     let mut found = Vec::new(alloc);
     let spot = find(alloc, texts, fault)?;
     found.push(narrowed(rt, alloc, texts, fault, spot)?)?;
-    let Some(stage) = stage else {
-        return Ok(found);
-    };
-    if !is_searched(texts) {
-        return Ok(found);
-    }
-    let _ = add_further(rt, alloc, texts, stage, &mut found);
     Ok(found)
 }

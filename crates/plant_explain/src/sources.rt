@@ -1,10 +1,19 @@
 //! What is wrong in the spelling and the grammar of the sources (C4, C5).
 
 use crate::search::{MOST_FAULTS, size_of};
+use plant_config::ConfigFault;
 use plant_folder::PlantTexts;
 use plant_places::{FileOf, Spot};
 use source_causes::{Reading, causes};
 use std::alloc::{AllocError, Global};
+
+/// Whether a fault is one of the spelling or the grammar of a source.
+pub fn is_of_sources(fault: &ConfigFault) -> bool {
+    matches!(
+        fault,
+        ConfigFault::Spelling { .. } | ConfigFault::Grammar { .. }
+    )
+}
 
 /// So many tokens are read at least, and one more for each byte of the plant.
 const LEAST_TOKENS: usize = 100_000;

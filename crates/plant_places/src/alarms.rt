@@ -1,10 +1,10 @@
-//! What is wrong in the alarm database (C11 to C14).
+//! What is wrong in the alarm database (C11 to C14), as its reader found it.
 
-use crate::fields::{Field, field_at, first_field, first_uneven, next_field};
-use crate::keys::unblanked;
+use crate::document::areas_of;
+use crate::fields::{Field, field_of_row, first_of_row, last_of_row, next_field, unquoted};
 use crate::place::place_at;
 use crate::texts::{WIDE, is_wide};
-use alarm_db::{Column, Version};
+use alarm_db::{Column, RowFault, RowMistake, Version};
 use plant_folder::PlantTexts;
 use std::alloc::{AllocError, Global};
 use std::str;
@@ -29,9 +29,9 @@ fn is_of_second(text: &[u8], field: Field) -> bool {
         || (field.number == 8 && is_named(text, field, Column::Text))
 }
 
-/// The version that the header tells, or is meant to tell.
-fn version_meant(text: &[u8]) -> Version {
-    let mut field = first_field(text);
+/// The version that a header is meant to tell.
+fn version_meant(text: &[u8], header: Field) -> Version {
+    let mut field = header;
     for _ in 0..text.len() {
         if field.record > 0 {
             return Version::First;
@@ -49,7 +49,7 @@ fn version_meant(text: &[u8]) -> Version {
 
 /// A field as it stands in the text; empty where it isn't UTF-8.
 fn shown(text: &[u8], field: Field) -> &str {
-    match str::from_utf8(part(text, field.from, field.until)) {
+    match str::from_utf8(unquoted(text, field)) {
         Ok(shown) => shown,
         Err(_) => "",
     }
@@ -66,9 +66,24 @@ fn other_parts(header: &[u8]) -> &'static str {
     }
 }
 
-/// What is wrong with the header.
-fn misheaded(alloc: Global, text: &[u8]) -> Result<Cause, AllocError> {
-    let first = first_field(text);
+/// What is said of a text that is no table at all; empty of another.
+fn no_table(text: &[u8]) -> &'static str {
+    if text.starts_with(b"PK\x03\x04") {
+        return "this file is a spreadsheet's own, and no text: save it there as CSV in UTF-8, with commas";
+    }
+    if is_wide(text) {
+        return WIDE;
+    }
+    ""
+}
+
+/// What is wrong with the header, which begins at a byte.
+fn misheaded(alloc: Global, text: &[u8], at: usize) -> Result<Cause, AllocError> {
+    let whole = no_table(text);
+    if !whole.is_empty() {
+        return Ok(cause_of(String::from_str(alloc, whole)?, ALARMS));
+    }
+    let first = first_of_row(text, at);
     let parts = other_parts(part(text, first.from, first.until));
     if !parts.is_empty() {
         let said = format!(in alloc;
@@ -76,14 +91,18 @@ fn misheaded(alloc: Global, text: &[u8]) -> Result<Cause, AllocError> {
         )?;
         return Ok(cause_at(mark_of(first), said, ALARMS));
     }
-    for (number, column) in version_meant(text).columns().iter().enumerate() {
-        let Some(field) = field_at(text, 0, number) else {
+    if !is_named(text, first, Column::Tag) && first.from == first.until {
+        let said = "the first line is the header, and the table has none: tag,area,priority,..";
+        return Ok(cause_at(mark_of(first), String::from_str(alloc, said)?, ALARMS));
+    }
+    for (number, column) in version_meant(text, first).columns().iter().enumerate() {
+        let Some(field) = field_of_row(text, at, number) else {
             break;
         };
         if !is_named(text, field, *column) {
             let name = column.name();
             let said = format!(in alloc;
-                "the header has '{name}' in this place, and commas between its names"
+                "the header has '{name}' in this place, in small letters, and commas without blanks between its names"
             )?;
             return Ok(cause_at(mark_of(field), said, ALARMS));
         }
@@ -92,12 +111,12 @@ fn misheaded(alloc: Global, text: &[u8]) -> Result<Cause, AllocError> {
         alloc,
         "the header is tag,area,priority,condition,suppress,latch,max_shelve_ms,text, or the same with on_delay_ms before text, and nothing more or less",
     )?;
-    Ok(cause_of(said, ALARMS))
+    Ok(cause_at(mark_of(last_of_row(text, at)), said, ALARMS))
 }
 
 /// What is said of a line that isn't meant as a row; empty of another.
 fn no_row(line: &[u8]) -> &'static str {
-    match unblanked(line) {
+    match line.trim_ascii_start() {
         [] => "this line has blanks alone, and so it is a row: leave it empty, or leave it out",
         [b'#', ..] => "the table has no remarks: each line is a row",
         _ => "",
@@ -109,12 +128,16 @@ fn uneven_row(
     alloc: Global,
     text: &[u8],
     last: Field,
-    wanted: usize,
+    (count, wanted): (usize, usize),
 ) -> Result<String, AllocError> {
-    let count = last.number.saturating_add(1);
     let unmeant = no_row(part(text, last.from, last.until));
     if count == 1 && !unmeant.is_empty() {
         return String::from_str(alloc, unmeant);
+    }
+    if count > wanted && last.from == last.until {
+        return format!(in alloc;
+            "this row has {count} fields, and {wanted} are wanted: its line ends with a comma too many"
+        );
     }
     if count > wanted {
         return format!(in alloc;
@@ -126,19 +149,46 @@ fn uneven_row(
     )
 }
 
-/// The cause of a header that isn't right, or of a row that hasn't as many fields as the header.
-pub fn uneven(alloc: Global, text: &[u8]) -> Result<Cause, AllocError> {
-    if is_wide(text) {
-        return Ok(cause_of(String::from_str(alloc, WIDE)?, ALARMS));
-    }
-    let wanted = version_meant(text).columns().len();
-    match first_uneven(text, wanted) {
-        Some(field) if field.record > 0 => {
-            let said = uneven_row(alloc, text, field, wanted)?;
-            Ok(cause_at(mark_of(field), said, ALARMS))
+/// The first line of a field that has several, by its bytes; `None` where the field has one line.
+fn first_line(text: &[u8], field: Field) -> Option<(usize, usize)> {
+    let end = part(text, field.from, field.until)
+        .iter()
+        .position(|byte| *byte == b'\n' || *byte == b'\r')?;
+    Some((field.from, field.from.saturating_add(end)))
+}
+
+/// What is said of a field that goes on in the next line.
+const GOES_ON: &str =
+    "here double quotes open a field that isn't closed in its line, and so the lines behind it belong to it";
+
+/// The first field of a row that goes on in the next line, by the bytes of its first line.
+fn open_field(text: &[u8], at: usize) -> Option<(usize, usize)> {
+    let mut field = first_of_row(text, at);
+    for _ in 0..text.len() {
+        if field.record > 0 {
+            return None;
         }
-        _ => misheaded(alloc, text),
+        if let Some(mark) = first_line(text, field) {
+            return Some(mark);
+        }
+        field = next_field(text, field)?;
     }
+    None
+}
+
+/// The cause of a row that has another number of fields than the header.
+fn uneven(
+    alloc: Global,
+    text: &[u8],
+    at: usize,
+    counts: (usize, usize),
+) -> Result<Cause, AllocError> {
+    if let Some(mark) = open_field(text, at) {
+        return Ok(cause_at(mark, String::from_str(alloc, GOES_ON)?, ALARMS));
+    }
+    let last = last_of_row(text, at);
+    let said = uneven_row(alloc, text, last, counts)?;
+    Ok(cause_at(mark_of(last), said, ALARMS))
 }
 
 /// The form of a column's fields.
@@ -152,91 +202,97 @@ fn form_of(column: Column) -> &'static str {
         Column::Latch => "is TRUE or FALSE",
         Column::MaxShelveMs => "is a number of milliseconds, at most 2592000000, without a unit",
         Column::OnDelayMs => "is a number of milliseconds, at most 86400000, without a unit",
-        Column::Text => "has at most 200 bytes of UTF-8, without tabs and line breaks",
+        Column::Text => "has at most 200 bytes of UTF-8, without tabs and other signs of control",
     }
 }
 
-/// The field of a row, from 1, and a column; `None` if there is none.
-pub fn field_of(text: &[u8], row: u32, column: Column) -> Option<Field> {
-    let number = version_meant(text).place(column)?;
-    field_at(text, row as usize, number)
+/// The bytes of a field that are no UTF-8; `None` where all are.
+fn no_utf8(text: &[u8], field: Field) -> Option<(usize, usize)> {
+    match str::from_utf8(part(text, field.from, field.until)) {
+        Ok(_) => None,
+        Err(error) => {
+            let at = field.from.saturating_add(error.valid_up_to());
+            Some((at, at.saturating_add(1)))
+        }
+    }
+}
+
+/// Whether a field is the first of a line that has commas alone.
+fn is_of_commas(text: &[u8], field: Field) -> bool {
+    let rest = part(text, field.from, text.len());
+    let line = rest.split(|byte| *byte == b'\n' || *byte == b'\r').next();
+    field.number == 0 && line.is_some_and(|line| line.iter().all(|byte| *byte == b','))
 }
 
 /// The cause of a field without its column's form.
-pub fn malformed(
+fn malformed(
     alloc: Global,
     text: &[u8],
-    row: u32,
+    field: Field,
     column: Column,
 ) -> Result<Cause, AllocError> {
+    if let Some(mark) = first_line(text, field) {
+        return Ok(cause_at(mark, String::from_str(alloc, GOES_ON)?, ALARMS));
+    }
+    if let Some(mark) = no_utf8(text, field) {
+        let said = String::from_str(alloc, "here the table isn't UTF-8: save it as UTF-8")?;
+        return Ok(cause_at(mark, said, ALARMS));
+    }
+    if is_of_commas(text, field) {
+        let said = "this line has commas alone, and so it is a row: leave it out";
+        return Ok(cause_at(mark_of(field), String::from_str(alloc, said)?, ALARMS));
+    }
     let (name, form) = (column.name(), form_of(column));
-    let said = format!(in alloc; "{name} {form}")?;
-    match field_of(text, row, column) {
-        Some(field) => Ok(cause_at(mark_of(field), said, ALARMS)),
-        None => Ok(cause_of(said, ALARMS)),
-    }
-}
-
-/// The bytes of a field, without the quotes around them.
-pub fn unquoted(text: &[u8], field: Field) -> &[u8] {
-    let bytes = part(text, field.from, field.until);
-    match bytes {
-        [b'"', inner @ .., b'"'] => inner,
-        _ => bytes,
-    }
-}
-
-/// The tag of an earlier row that is the tag of a row; `None` if there is none.
-fn first_same(text: &[u8], tag: Field) -> Option<Field> {
-    let wanted = unquoted(text, tag);
-    let mut field = first_field(text);
-    for _ in 0..text.len() {
-        if field.record >= tag.record {
-            return None;
-        }
-        let is_tag = field.record > 0 && field.number == 0;
-        if is_tag && unquoted(text, field) == wanted {
-            return Some(field);
-        }
-        field = next_field(text, field)?;
-    }
-    None
-}
-
-/// The cause of a tag that an earlier row has.
-pub fn doubled(alloc: Global, text: &[u8], row: u32) -> Result<Cause, AllocError> {
-    let Some(tag) = field_at(text, row as usize, 0) else {
-        let said = String::from_str(alloc, "a tag stands twice")?;
-        return Ok(cause_of(said, ALARMS));
+    let len = unquoted(text, field).len();
+    let said = if matches!(column, Column::Text) && len > 200 {
+        format!(in alloc; "{name} {form}, and this one has {len}")?
+    } else {
+        format!(in alloc; "{name} {form}")?
     };
+    Ok(cause_at(mark_of(field), said, ALARMS))
+}
+
+/// The cause of a tag that the row has which begins at another byte.
+fn doubled(alloc: Global, text: &[u8], tag: Field, first: usize) -> Result<Cause, AllocError> {
     let name = shown(text, tag);
-    let first = match first_same(text, tag) {
-        Some(first) => first.from,
-        None => tag.from,
-    };
-    let line = place_at(text, first).line;
+    let line = place_at(text, first_of_row(text, first).from).line;
     let said = format!(in alloc; "the tag '{name}' stands in line {line} already")?;
     Ok(cause_at(mark_of(tag), said, ALARMS))
 }
 
-/// The plant's areas, each behind a blank.
-fn areas_of(alloc: Global, plant: &[u8]) -> Result<String, AllocError> {
-    let mut list = String::new(alloc);
-    let Ok(file) = plant_file::read(alloc, plant) else {
-        return Ok(list);
-    };
-    for name in file.areas() {
-        list.push_str(" ")?;
-        list.push_str(name.as_str())?;
-    }
-    Ok(list)
-}
-
 /// The cause of an area that the plant hasn't.
-pub fn no_area(alloc: Global, refused: &PlantTexts<'_>, field: Field) -> Result<Cause, AllocError> {
+fn no_area(alloc: Global, refused: &PlantTexts<'_>, field: Field) -> Result<Cause, AllocError> {
     let name = shown(refused.alarms, field);
     let areas = areas_of(alloc, refused.plant)?;
     let areas = areas.as_str();
     let said = format!(in alloc; "the plant has no area '{name}'; its areas are:{areas}")?;
     Ok(cause_at(mark_of(field), said, ALARMS))
+}
+
+/// The field of a mistake.
+pub fn wrong_field(text: &[u8], wrong: &RowMistake) -> Field {
+    let number = wrong.field.unwrap_or(0);
+    match field_of_row(text, wrong.at, number) {
+        Some(field) => field,
+        None => first_of_row(text, wrong.at),
+    }
+}
+
+/// The cause of a mistake in a row; `None` for a variable that the plant hasn't, for which its sources have to be looked through.
+pub fn row_cause(
+    alloc: Global,
+    refused: &PlantTexts<'_>,
+    wrong: &RowMistake,
+) -> Result<Option<Cause>, AllocError> {
+    let text = refused.alarms;
+    let field = wrong_field(text, wrong);
+    let cause = match wrong.fault {
+        RowFault::NoHeader => misheaded(alloc, text, wrong.at)?,
+        RowFault::Uneven { fields, wanted } => uneven(alloc, text, wrong.at, (fields, wanted))?,
+        RowFault::Form(column) => malformed(alloc, text, field, column)?,
+        RowFault::Again { first } => doubled(alloc, text, field, first)?,
+        RowFault::Unknown(Column::Area) => no_area(alloc, refused, field)?,
+        RowFault::Unknown(_) => return Ok(None),
+    };
+    Ok(Some(cause))
 }

@@ -1,10 +1,9 @@
-//! What is wrong in the plant file (C1 to C3).
+//! What is wrong in the plant file (C1 to C3), as its reader found it.
 
-use crate::consoles::strange_part;
-use crate::keys::{key_mark, value_start};
-use crate::lists::{is_involved, next_quoted, strange_area, strange_key};
+use crate::keys::{Entry, Keys, keys_of};
 use crate::place::mark_len;
 use crate::texts::{WIDE, is_wide};
+use plant_file::{Mistake, Unread, Why};
 use std::alloc::{AllocError, Global};
 use std::str;
 use token_causes::{Cause, cause_at, cause_of, part};
@@ -12,159 +11,331 @@ use token_causes::{Cause, cause_at, cause_of, part};
 /// Where the keys are described.
 pub const KEYS: &str = "docs/PLANT.md, \"plant.toml\"";
 
+/// What is said where consoles stand under one header.
+const ONE_CONSOLE: &str =
+    "consoles stand below lines [[console]] alone: there is no line [console], and no key 'console' beside them";
+
+/// What is said of a text that is no TOML document, by what the reader of documents says.
+fn why_unread(message: &str) -> &'static str {
+    match message.as_bytes() {
+        b"invalid string" =>
+            "a text isn't closed in its line, or has a character that may not stand in one",
+        b"invalid escape sequence" =>
+            "a '\\' in double quotes begins a sign of its own: in the path of a file write '/'",
+        b"duplicate key" => "this stands here a second time",
+        b"missing comma between array elements, expected `,` or `]`" =>
+            "in this list a comma is missing before this, or the list's ']'",
+        b"missing comma between key-value pairs, expected `,` or `}`" =>
+            "a comma is missing before this, or a '}'",
+        b"key with no value, expected `=`" => "a '=' is missing behind the key",
+        b"unexpected key or value, expected newline, `#`" =>
+            "behind a value its line ends: what is this? (a text stands in quotes, items of a list in brackets)",
+        b"invalid value, expected a string, number, boolean, date-time, array or inline table" =>
+            "no value begins so: a text stands in quotes, a list in brackets",
+        b"invalid key, expected letters, numbers, `-`, `_` or a quoted key" =>
+            "no key begins so: a line is a key, '=' and a value, a header in brackets, or a remark behind '#'",
+        b"unclosed table, expected `]`" => "this header isn't closed with ']'",
+        b"unclosed array table, expected `]]`" => "this header isn't closed with ']]'",
+        b"invalid date-time" =>
+            "this is no date or time: the epoch stands in quotes, \"YYYY-MM-DDTHH:MM:SSZ\"",
+        b"number out of range" => "this number is out of range",
+        b"cannot extend a value with a dotted key" =>
+            "this key has a value already, to which nothing can be added",
+        _ => "",
+    }
+}
+
 /// Whether the header of a console stands at a byte, be it with one pair of brackets.
-fn is_console(text: &str, at: usize) -> bool {
-    let rest = part(text.as_bytes(), at, text.len());
+fn is_console(bytes: &[u8], at: usize) -> bool {
+    let rest = part(bytes, at, bytes.len());
     rest.starts_with(b"[console]") || rest.starts_with(b"[[console]]")
 }
 
-/// The cause of a text in UTF-8 that is no TOML document: where it isn't any more, as the reader says.
-fn misspelled(alloc: Global, text: &str, skipped: usize) -> Result<Cause, AllocError> {
-    let said =
-        "the plant file is no TOML document: mostly a quote or a bracket isn't closed, or a key stands twice";
-    let Err(error) = toml::table_from_str(alloc, text) else {
-        return Ok(cause_of(String::from_str(alloc, said)?, KEYS));
-    };
-    if error.is_memory() {
-        return Err(AllocError);
+/// The header `[console]`, where a document has one.
+fn lone_header(alloc: Global, bytes: &[u8]) -> Result<Option<(usize, usize)>, AllocError> {
+    let keys = keys_of(alloc, bytes)?;
+    for entry in keys.entries.as_slice() {
+        let is_header = part(bytes, entry.value.0, entry.value.1).starts_with(b"[console]");
+        if entry.console == 0 && is_header {
+            return Ok(Some(entry.value));
+        }
     }
-    let why = error.message();
-    let Some(span) = error.span() else {
-        return Ok(cause_of(format!(in alloc; "{said} ({why})")?, KEYS));
-    };
-    let at = (span.start, span.end);
-    let said = if is_console(text, at.0) {
-        String::from_str(
-            alloc,
-            "consoles stand below lines [[console]] alone: there is no line [console], and no key 'console' beside them",
-        )?
+    Ok(None)
+}
+
+/// The cause of a text in UTF-8 that is no TOML document: where it isn't any more, and why, as the reader says.
+fn misspelled(
+    alloc: Global,
+    bytes: &[u8],
+    mark: (usize, usize),
+    message: &str,
+) -> Result<Cause, AllocError> {
+    if is_console(bytes, mark.0) {
+        let header = lone_header(alloc, bytes)?.unwrap_or(mark);
+        let said = String::from_str(alloc, ONE_CONSOLE)?;
+        return Ok(cause_at(header, said, KEYS));
+    }
+    let why = why_unread(message);
+    let said = if why.is_empty() {
+        format!(in alloc; "here the plant file is no TOML document any more ({message})")?
     } else {
-        format!(in alloc; "{said} ({why})")?
+        format!(in alloc; "here the plant file is no TOML document any more: {why}")?
     };
-    let mark = (at.0.saturating_add(skipped), at.1.saturating_add(skipped));
     Ok(cause_at(mark, said, KEYS))
 }
 
 /// The cause of bytes that are no TOML document.
-pub fn not_toml(alloc: Global, bytes: &[u8]) -> Result<Cause, AllocError> {
+pub fn not_toml(alloc: Global, bytes: &[u8], unread: &Unread) -> Result<Cause, AllocError> {
     if is_wide(bytes) {
         return Ok(cause_of(String::from_str(alloc, WIDE)?, KEYS));
     }
-    let skipped = mark_len(bytes);
-    match str::from_utf8(bytes.get(skipped..).unwrap_or(b"")) {
-        Ok(text) => misspelled(alloc, text, skipped),
-        Err(error) => {
-            let at = error.valid_up_to().saturating_add(skipped);
+    match unread.message() {
+        Some(message) => misspelled(alloc, bytes, unread.bytes(), message),
+        None => {
             let said = String::from_str(
                 alloc,
                 "here the plant file isn't UTF-8: an editor can save it so",
             )?;
-            Ok(cause_at((at, at), said, KEYS))
+            Ok(cause_at(unread.bytes(), said, KEYS))
         }
     }
 }
 
-/// What is wrong with a key that the plant has to have, by the lines of the plant file.
-fn wrong_key(alloc: Global, bytes: &[u8], key: &str) -> Result<Option<Cause>, AllocError> {
-    if key_mark(bytes, 0, key).is_some() {
-        return Ok(None);
+/// The keys of the plant's, for which `console` is 0, or of a console's.
+fn known_keys(console: usize) -> &'static [&'static str] {
+    match console {
+        0 => &["name", "epoch", "areas", "sources", "alarms", "console"],
+        _ => &["number", "areas"],
     }
-    for console in 1..33 {
-        if let Some(mark) = key_mark(bytes, console, key) {
-            let said = format!(in alloc;
-                "'{key}' stands below a [[console]], and so it is that console's: the plant's own keys stand above the first"
-            )?;
-            return Ok(Some(cause_at(mark, said, KEYS)));
+}
+
+/// Whether a key is nearly another: the same but for letter case, or for an `s` at its end.
+fn is_near(key: &str, other: &str) -> bool {
+    let (key, other) = (key.as_bytes(), other.as_bytes());
+    let short = key.len().min(other.len());
+    let same = part(key, 0, short).eq_ignore_ascii_case(part(other, 0, short));
+    let (more, less) = (part(key, short, key.len()), part(other, short, other.len()));
+    same && (more.is_empty() || more == b"s".as_slice())
+        && (less.is_empty() || less == b"s".as_slice())
+}
+
+/// The known key that another nearly is; empty where none is.
+fn near_key(key: &str, console: usize) -> &'static str {
+    for other in known_keys(console) {
+        if is_near(key, *other) {
+            return *other;
         }
     }
-    let said = format!(in alloc; "the key '{key}' is missing")?;
-    Ok(Some(cause_of(said, KEYS)))
+    ""
 }
 
-/// What is wrong with what stands under a key, by its first byte: a text that has no quotes, or a list that has no brackets.
-fn wrong_value(alloc: Global, bytes: &[u8], key: &str) -> Result<Option<Cause>, AllocError> {
-    if is_involved(bytes) {
-        return Ok(None);
-    }
-    let Some(mark) = key_mark(bytes, 0, key) else {
-        return Ok(None);
-    };
-    let is_list = key == "areas" || key == "sources";
-    let (fits, form) = match (value_start(part(bytes, mark.0, mark.1)), is_list) {
-        (Some(first), true) => (first == b'[', "is a list in brackets, [..]"),
-        (Some(first), false) => (
-            first == b'"' || first == b'\'',
-            "is a text, and stands in quotes",
-        ),
-        (None, _) => return Ok(None),
-    };
-    if fits {
-        return Ok(None);
-    }
-    let said = format!(in alloc; "'{key}' {form}")?;
-    Ok(Some(cause_at(mark, said, KEYS)))
+/// Whether a key is missing, of the plant's or of a console's.
+fn is_missing(mistakes: &[Mistake], console: usize, key: &str) -> bool {
+    mistakes.iter().any(|other| {
+        other.why == Why::MissingKey && other.console == console && other.key.as_str() == key
+    })
 }
 
-/// The cause of a text under a key of the plant's that is empty, or has more bytes than it may.
+/// What is said of a key that there isn't.
+fn unknown_key(alloc: Global, mistakes: &[Mistake], wrong: &Mistake) -> Result<String, AllocError> {
+    let key = wrong.key.as_str();
+    if wrong.console > 0 && is_missing(mistakes, 0, key) {
+        return format!(in alloc;
+            "'{key}' stands below a [[console]], and so it is that console's: the plant's own keys stand above the first"
+        );
+    }
+    let whose = if wrong.console > 0 {
+        "a console"
+    } else {
+        "the plant"
+    };
+    let near = near_key(key, wrong.console);
+    if near.is_empty() {
+        return format!(in alloc; "{whose} has no key '{key}'");
+    }
+    format!(in alloc; "{whose} has no key '{key}': did you mean '{near}'?")
+}
+
+/// What is said of a text that is empty, or too long.
 fn wrong_length(
     alloc: Global,
-    bytes: &[u8],
-    key: &str,
+    wrong: &Mistake,
+    len: usize,
     most: usize,
-) -> Result<Option<Cause>, AllocError> {
-    if is_involved(bytes) {
-        return Ok(None);
+) -> Result<String, AllocError> {
+    let key = wrong.key.as_str();
+    if wrong.item.is_some() {
+        return format!(in alloc;
+            "the name of a file has 1 to {most} bytes, and this one has {len}"
+        );
     }
-    let Some(mark) = key_mark(bytes, 0, key) else {
-        return Ok(None);
-    };
-    let Some(text) = next_quoted(bytes, mark.0, mark.1) else {
-        return Ok(None);
-    };
-    let len = text.1.saturating_sub(text.0);
-    let is_single = value_start(part(bytes, mark.0, mark.1)) != Some(b'"');
-    if is_single || (len > 0 && len <= most) {
-        return Ok(None);
-    }
-    let said = format!(in alloc; "'{key}' is a text of 1 to {most} bytes, and this one has {len}")?;
-    Ok(Some(cause_at(mark, said, KEYS)))
+    format!(in alloc; "'{key}' is a text of 1 to {most} bytes, and this one has {len}")
 }
 
-/// The keys that a plant has to have.
-const PLANT_KEYS: [&str; 5] = ["name", "epoch", "areas", "sources", "alarms"];
+/// The plant's areas as they stand in their list, each behind a blank.
+fn areas_in(alloc: Global, bytes: &[u8], keys: &Keys) -> Result<String, AllocError> {
+    let mut list = String::new(alloc);
+    if let Some(entry) = keys.find(bytes, 0, "areas") {
+        for item in entry.items.as_slice() {
+            let text = part(bytes, item.0.saturating_add(1), item.1.saturating_sub(1));
+            list.push_str(" ")?;
+            list.push_str(str::from_utf8(text).unwrap_or(""))?;
+        }
+    }
+    Ok(list)
+}
 
-/// The cause of a document that isn't that of a plant file, or of sources that aren't those that it lists.
-pub fn wrong_keys(alloc: Global, bytes: &[u8]) -> Result<Cause, AllocError> {
-    for key in PLANT_KEYS {
-        if let Some(cause) = wrong_key(alloc, bytes, key)? {
-            return Ok(cause);
+/// The plant's areas as its file lists them, each behind a blank.
+pub fn areas_of(alloc: Global, bytes: &[u8]) -> Result<String, AllocError> {
+    let keys = keys_of(alloc, bytes)?;
+    areas_in(alloc, bytes, &keys)
+}
+
+/// What is said of an area of a console that the plant hasn't.
+fn strange_area(
+    alloc: Global,
+    bytes: &[u8],
+    keys: &Keys,
+    area: &str,
+) -> Result<String, AllocError> {
+    let areas = areas_in(alloc, bytes, keys)?;
+    let areas = areas.as_str();
+    format!(in alloc; "the plant has no area '{area}'; its areas are:{areas}")
+}
+
+/// What is said of a text that should stand under a key, or in its list.
+fn no_text(alloc: Global, wrong: &Mistake) -> Result<String, AllocError> {
+    let key = wrong.key.as_str();
+    if wrong.item.is_some() {
+        return String::from_str(
+            alloc,
+            "each item of this list is a text, and stands in quotes",
+        );
+    }
+    format!(in alloc; "'{key}' is a text, and stands in quotes")
+}
+
+/// What is said of a list that should stand under a key.
+fn no_list(alloc: Global, wrong: &Mistake) -> Result<String, AllocError> {
+    let key = wrong.key.as_str();
+    if key == "console" {
+        return String::from_str(alloc, ONE_CONSOLE);
+    }
+    format!(in alloc; "'{key}' is a list in brackets, [..]")
+}
+
+/// What is said of a key that isn't there.
+fn missing_key(alloc: Global, wrong: &Mistake) -> Result<String, AllocError> {
+    let key = wrong.key.as_str();
+    if wrong.console > 0 {
+        return format!(in alloc;
+            "each console has 'number' and 'areas', and this one has no '{key}'"
+        );
+    }
+    format!(in alloc; "the key '{key}' is missing")
+}
+
+/// What is said of a mistake in a document.
+fn said_of(
+    alloc: Global,
+    bytes: &[u8],
+    keys: &Keys,
+    mistakes: &[Mistake],
+    wrong: &Mistake,
+) -> Result<String, AllocError> {
+    match wrong.why {
+        Why::UnknownKey => unknown_key(alloc, mistakes, wrong),
+        Why::MissingKey => missing_key(alloc, wrong),
+        Why::NoText => no_text(alloc, wrong),
+        Why::NoList => no_list(alloc, wrong),
+        Why::Length { bytes: len, most } => wrong_length(alloc, wrong, len, most),
+        Why::StrangeArea => strange_area(alloc, bytes, keys, wrong.text.as_str()),
+        Why::NoNumber | Why::OutOfRange => String::from_str(
+            alloc,
+            "the number of a console is a whole number, 1 to 999999999, without quotes",
+        ),
+        Why::NoConsole => String::from_str(
+            alloc,
+            "a console is a table with 'number' and 'areas', below a line [[console]]",
+        ),
+        Why::NoAreaName => String::from_str(
+            alloc,
+            "an area has 1 to 32 letters of ASCII, digits, '_', '-' and '.', and no blanks",
+        ),
+        Why::Again => String::from_str(alloc, "this stands in the list already"),
+        Why::NumberAgain => String::from_str(alloc, "an earlier console has this number"),
+    }
+}
+
+/// The bytes of a console: of its header, or of its table in a list.
+fn console_mark(bytes: &[u8], keys: &Keys, console: usize) -> Option<(usize, usize)> {
+    let number = console.saturating_sub(1);
+    if let Some(header) = keys.consoles.get(number) {
+        return Some(*header);
+    }
+    keys.find(bytes, 0, "console")?.items.get(number).copied()
+}
+
+/// The bytes of a key, of what stands under it, or of an item of its list.
+fn mark_in(entry: &Entry, wrong: &Mistake) -> (usize, usize) {
+    match wrong.item {
+        Some(number) => entry.items.get(number).copied().unwrap_or(entry.value),
+        None if wrong.why == Why::UnknownKey => entry.key,
+        None => entry.value,
+    }
+}
+
+/// The bytes of a mistake; `None` for a key of the plant's that isn't there.
+fn mark_of(bytes: &[u8], keys: &Keys, wrong: &Mistake) -> Option<(usize, usize)> {
+    match keys.find(bytes, wrong.console, wrong.key.as_str()) {
+        Some(entry) => Some(mark_in(entry, wrong)),
+        None if wrong.console > 0 => console_mark(bytes, keys, wrong.console),
+        None => None,
+    }
+}
+
+/// Whether a missing key is told already by one that stands in its place: nearly the same one, or the same one below a console.
+fn is_told_by_other(mistakes: &[Mistake], missing: &Mistake) -> bool {
+    let key = missing.key.as_str();
+    missing.why == Why::MissingKey
+        && mistakes.iter().any(|other| {
+            let is_near = other.console == missing.console
+                && near_key(other.key.as_str(), other.console) == key;
+            let is_below = missing.console == 0 && other.console > 0 && other.key.as_str() == key;
+            other.why == Why::UnknownKey && (is_near || is_below)
+        })
+}
+
+/// The causes of a document that isn't that of a plant file, in the order of the text; what has no place comes first.
+pub fn wrong_keys(
+    alloc: Global,
+    bytes: &[u8],
+    mistakes: &[Mistake],
+) -> Result<Vec<Cause>, AllocError> {
+    let keys = keys_of(alloc, bytes)?;
+    let mut causes = Vec::new(alloc);
+    for wrong in mistakes {
+        if !is_told_by_other(mistakes, wrong) {
+            let said = said_of(alloc, bytes, &keys, mistakes, wrong)?;
+            let cause = match mark_of(bytes, &keys, wrong) {
+                Some(mark) => cause_at(mark, said, KEYS),
+                None => cause_of(said, KEYS),
+            };
+            causes.push(cause)?;
         }
     }
-    for key in PLANT_KEYS {
-        if let Some(cause) = wrong_value(alloc, bytes, key)? {
-            return Ok(cause);
-        }
+    if causes.is_empty() {
+        let said = String::from_str(
+            alloc,
+            "the sources that were handed in aren't those that 'sources' lists",
+        )?;
+        causes.push(cause_of(said, KEYS))?;
     }
-    if let Some(cause) = wrong_length(alloc, bytes, "name", 64)? {
-        return Ok(cause);
-    }
-    if let Some(cause) = wrong_length(alloc, bytes, "alarms", 255)? {
-        return Ok(cause);
-    }
-    if let Some(cause) = strange_key(alloc, bytes)? {
-        return Ok(cause);
-    }
-    if let Some(cause) = strange_part(alloc, bytes)? {
-        return Ok(cause);
-    }
-    if let Some(cause) = strange_area(alloc, bytes)? {
-        return Ok(cause);
-    }
-    let said = String::from_str(
-        alloc,
-        "something is wrong of which no place is told: a console without 'number' or 'areas'; a text that is empty or too long; a number that is none; one thing twice in a list; an unknown key",
-    )?;
-    Ok(cause_of(said, KEYS))
+    causes.sort_unstable_by_key(|cause: &Cause| match cause.mark {
+        Some(mark) => mark.0.saturating_add(1),
+        None => 0,
+    });
+    Ok(causes)
 }
 
 /// The cause of an epoch that is none.
@@ -173,8 +344,9 @@ pub fn no_epoch(alloc: Global, bytes: &[u8]) -> Result<Cause, AllocError> {
         alloc,
         "the epoch is no second of the years 1970 to 2399 in the form YYYY-MM-DDTHH:MM:SSZ",
     )?;
-    match key_mark(bytes, 0, "epoch") {
-        Some(mark) => Ok(cause_at(mark, said, KEYS)),
+    let keys = keys_of(alloc, bytes)?;
+    match keys.find(bytes, 0, "epoch") {
+        Some(entry) => Ok(cause_at(entry.value, said, KEYS)),
         None => Ok(cause_of(said, KEYS)),
     }
 }

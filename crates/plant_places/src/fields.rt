@@ -42,13 +42,7 @@ fn after_line_ends(text: &[u8], from: usize) -> usize {
 
 /// The first field of a text; in one without records it is empty.
 pub fn first_field(text: &[u8]) -> Field {
-    let from = after_line_ends(text, mark_len(text));
-    Field {
-        record: 0,
-        number: 0,
-        from,
-        until: field_end(text, from),
-    }
+    first_of_row(text, 0)
 }
 
 /// The field behind another; `None` behind the last.
@@ -74,34 +68,43 @@ pub fn next_field(text: &[u8], field: Field) -> Option<Field> {
     })
 }
 
-/// The field of a record and a number; `None` if there is none.
-pub fn field_at(text: &[u8], record: usize, number: usize) -> Option<Field> {
-    let mut field = first_field(text);
-    for _ in 0..text.len() {
-        if field.record == record && field.number == number {
-            return Some(field);
-        }
-        if field.record > record {
-            return None;
-        }
-        field = next_field(text, field)?;
+/// The first field of the row that begins at a byte, or behind the line ends there. It counts as that of record 0.
+pub fn first_of_row(text: &[u8], at: usize) -> Field {
+    let from = after_line_ends(text, at.max(mark_len(text)));
+    Field {
+        record: 0,
+        number: 0,
+        from,
+        until: field_end(text, from),
     }
-    None
 }
 
-/// The last field of the first record that hasn't so many; `None` if each has. The first record is the header.
-pub fn first_uneven(text: &[u8], wanted: usize) -> Option<Field> {
-    let mut field = first_field(text);
-    for _ in 0..text.len() {
-        let next = next_field(text, field);
-        let is_last = match next {
-            Some(next) => next.record != field.record,
-            None => true,
-        };
-        if is_last && field.number.saturating_add(1) != wanted {
-            return Some(field);
-        }
-        field = next?;
+/// The field of a number of the row that begins at a byte; `None` if it has none.
+pub fn field_of_row(text: &[u8], at: usize, number: usize) -> Option<Field> {
+    let mut field = first_of_row(text, at);
+    for _ in 0..number {
+        field = next_field(text, field)?;
     }
-    None
+    if field.record == 0 { Some(field) } else { None }
+}
+
+/// The last field of the row that begins at a byte.
+pub fn last_of_row(text: &[u8], at: usize) -> Field {
+    let mut field = first_of_row(text, at);
+    for _ in 0..text.len() {
+        match next_field(text, field) {
+            Some(next) if next.record == 0 => field = next,
+            _ => break,
+        }
+    }
+    field
+}
+
+/// The bytes of a field, without the quotes around them.
+pub fn unquoted(text: &[u8], field: Field) -> &[u8] {
+    let bytes = part(text, field.from, field.until);
+    match bytes {
+        [b'"', inner @ .., b'"'] => inner,
+        _ => bytes,
+    }
 }

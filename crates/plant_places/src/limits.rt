@@ -1,8 +1,7 @@
 //! The limit that isn't kept (C10).
 
-use crate::consoles::{MOST_CONSOLES, header_of};
-use crate::fields::field_at;
-use crate::keys::key_mark;
+use crate::fields::first_of_row;
+use crate::keys::keys_of;
 use crate::place::FileOf;
 use crate::texts::Spot;
 use plant_config::Limit;
@@ -12,6 +11,9 @@ use token_causes::{Cause, cause_at, cause_of};
 
 /// Where limits stand.
 const LIMITS: &str = "docs/PLANT.md, \"Limits (this profile)\"";
+
+/// The most consoles of a plant.
+const MOST_CONSOLES: usize = 32;
 
 /// The most alarms of a plant.
 const MOST_ALARMS: usize = 20_000;
@@ -66,15 +68,38 @@ fn key_of(limit: Limit) -> &'static str {
     }
 }
 
-/// The bytes of what is one too many: a header of a console, or the first field of a row of alarms; else of the line that has too much of something.
-fn mark_of(refused: &PlantTexts<'_>, limit: Limit) -> Option<(usize, usize)> {
-    match limit {
-        Limit::Consoles => header_of(refused.plant, MOST_CONSOLES.saturating_add(1)),
-        Limit::Alarms => {
-            let field = field_at(refused.alarms, MOST_ALARMS.saturating_add(1), 0)?;
-            Some((field.from, field.until))
+/// The bytes of the first field of the row that is one too many.
+fn row_too_many(alloc: Global, alarms: &[u8]) -> Option<(usize, usize)> {
+    let mut reader = csv::ReaderBuilder::new()
+        .has_headers(true)
+        .flexible(true)
+        .from_reader(alloc, alarms);
+    let mut row = csv::ByteRecord::new(alloc);
+    for _ in 0..MOST_ALARMS.saturating_add(1) {
+        if !matches!(reader.read_byte_record(&mut row), Ok(true)) {
+            return None;
         }
-        _ => key_mark(refused.plant, 0, key_of(limit)),
+    }
+    let field = first_of_row(alarms, row.position()?.byte() as usize);
+    Some((field.from, field.until))
+}
+
+/// The bytes of what is one too many: a header of a console, or the first field of a row of alarms; else of the list that has too much of something.
+fn mark_of(
+    alloc: Global,
+    refused: &PlantTexts<'_>,
+    limit: Limit,
+) -> Result<Option<(usize, usize)>, AllocError> {
+    if matches!(limit, Limit::Alarms) {
+        return Ok(row_too_many(alloc, refused.alarms));
+    }
+    let keys = keys_of(alloc, refused.plant)?;
+    if matches!(limit, Limit::Consoles) {
+        return Ok(keys.consoles.get(MOST_CONSOLES).copied());
+    }
+    match keys.find(refused.plant, 0, key_of(limit)) {
+        Some(entry) => Ok(Some(entry.value)),
+        None => Ok(None),
     }
 }
 
@@ -82,7 +107,7 @@ fn mark_of(refused: &PlantTexts<'_>, limit: Limit) -> Option<(usize, usize)> {
 fn cause(alloc: Global, refused: &PlantTexts<'_>, limit: Limit) -> Result<Cause, AllocError> {
     let (told, page) = told(limit);
     let said = String::from_str(alloc, told)?;
-    match mark_of(refused, limit) {
+    match mark_of(alloc, refused, limit)? {
         Some(mark) => Ok(cause_at(mark, said, page)),
         None => Ok(cause_of(said, page)),
     }

@@ -1,5 +1,5 @@
 use Rattle.std.proofs.Common.{◌≤◌, length}
-use Rattle.plant_explain.proofs.search.add_in_sources.Given as goal
+use Rattle.plant_explain.proofs.search.add_new.Given as goal
 
 -- none that was found is lost, and there are 20 at most
 abbrev pub invariant-spots : goal.invariant-spots
