@@ -3,4 +3,4 @@ use Rattle.plant_explain.proofs.search.add_new.Given as goal
 
 -- none that was found is lost, and there are 20 at most
 abbrev pub invariant-spots : goal.invariant-spots
-invariant-spots g l = (length l.fn.found.items ≤ length l.found.items) × (length l.found.items ≤ 20)
+invariant-spots l = (length l.fn.found.items ≤ length l.found.items) × (length l.found.items ≤ 20)
