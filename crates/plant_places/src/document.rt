@@ -16,33 +16,67 @@ const ONE_CONSOLE: &str =
     "consoles stand below lines [[console]] alone: there is no line [console], and no key 'console' beside them";
 
 /// What is said of a text that is no TOML document, by what the reader of documents says.
+const REASONS: &[(&str, &str)] = &[
+    (
+        "invalid string",
+        "a text isn't closed in its line, or has a character that may not stand in one",
+    ),
+    (
+        "invalid escape sequence",
+        "a '\\' in double quotes begins a sign of its own: in the path of a file write '/'",
+    ),
+    ("duplicate key", "this stands here a second time"),
+    (
+        "missing comma between array elements, expected `,` or `]`",
+        "in this list a comma is missing before this, or the list's ']'",
+    ),
+    (
+        "missing comma between key-value pairs, expected `,` or `}`",
+        "a comma is missing before this, or a '}'",
+    ),
+    (
+        "key with no value, expected `=`",
+        "a '=' is missing behind the key",
+    ),
+    (
+        "unexpected key or value, expected newline, `#`",
+        "behind a value its line ends: what is this? (a text stands in quotes, items of a list in brackets)",
+    ),
+    (
+        "invalid value, expected a string, number, boolean, date-time, array or inline table",
+        "no value begins so: a text stands in quotes, a list in brackets",
+    ),
+    (
+        "invalid key, expected letters, numbers, `-`, `_` or a quoted key",
+        "no key begins so: a line is a key, '=' and a value, a header in brackets, or a remark behind '#'",
+    ),
+    (
+        "unclosed table, expected `]`",
+        "this header isn't closed with ']'",
+    ),
+    (
+        "unclosed array table, expected `]]`",
+        "this header isn't closed with ']]'",
+    ),
+    (
+        "invalid date-time",
+        "this is no date or time: the epoch stands in quotes, \"YYYY-MM-DDTHH:MM:SSZ\"",
+    ),
+    ("number out of range", "this number is out of range"),
+    (
+        "cannot extend a value with a dotted key",
+        "this key has a value already, to which nothing can be added",
+    ),
+];
+
+/// What is said of a text that is no TOML document, by what the reader of documents says; nothing where that has no other words here.
 fn why_unread(message: &str) -> &'static str {
-    match message.as_bytes() {
-        b"invalid string" =>
-            "a text isn't closed in its line, or has a character that may not stand in one",
-        b"invalid escape sequence" =>
-            "a '\\' in double quotes begins a sign of its own: in the path of a file write '/'",
-        b"duplicate key" => "this stands here a second time",
-        b"missing comma between array elements, expected `,` or `]`" =>
-            "in this list a comma is missing before this, or the list's ']'",
-        b"missing comma between key-value pairs, expected `,` or `}`" =>
-            "a comma is missing before this, or a '}'",
-        b"key with no value, expected `=`" => "a '=' is missing behind the key",
-        b"unexpected key or value, expected newline, `#`" =>
-            "behind a value its line ends: what is this? (a text stands in quotes, items of a list in brackets)",
-        b"invalid value, expected a string, number, boolean, date-time, array or inline table" =>
-            "no value begins so: a text stands in quotes, a list in brackets",
-        b"invalid key, expected letters, numbers, `-`, `_` or a quoted key" =>
-            "no key begins so: a line is a key, '=' and a value, a header in brackets, or a remark behind '#'",
-        b"unclosed table, expected `]`" => "this header isn't closed with ']'",
-        b"unclosed array table, expected `]]`" => "this header isn't closed with ']]'",
-        b"invalid date-time" =>
-            "this is no date or time: the epoch stands in quotes, \"YYYY-MM-DDTHH:MM:SSZ\"",
-        b"number out of range" => "this number is out of range",
-        b"cannot extend a value with a dotted key" =>
-            "this key has a value already, to which nothing can be added",
-        _ => "",
+    for (told, said) in REASONS {
+        if *told == message {
+            return *said;
+        }
     }
+    ""
 }
 
 /// Whether the header of a console stands at a byte, be it with one pair of brackets.
