@@ -39,7 +39,7 @@ pub fn causes_in_rows(
     mistakes: &[RowMistake],
 ) -> Result<Vec<Cause>, AllocError> {
     let is_short = is_searched(refused);
-    let mut sources = refused.sources;
+    let mut is_first = true;
     let mut causes = Vec::new(alloc);
     for wrong in mistakes {
         if let Some(cause) = row_cause(alloc, refused, wrong)? {
@@ -47,10 +47,13 @@ pub fn causes_in_rows(
             continue;
         }
         let field = wrong_field(refused.alarms, wrong);
-        causes.push(unknown(alloc, refused.alarms, sources, field)?)?;
-        if !is_short {
-            sources = &[];
-        }
+        let cause = if is_short || is_first {
+            unknown(alloc, refused.alarms, refused.sources, field)?
+        } else {
+            unknown(alloc, refused.alarms, &[], field)?
+        };
+        is_first = false;
+        causes.push(cause)?;
     }
     Ok(causes)
 }
