@@ -18,6 +18,7 @@ fn trap_word(trap: Trap) -> (&'static [u8], usize)
     match trap {
         Trap::Overflow => (b" OVERFLOW\n      ", 10),
         Trap::DivZero => (b" DIVZERO\n       ", 9),
+        Trap::Index => (b" INDEX\n         ", 7),
     }
 }
 

@@ -30,6 +30,7 @@ fn why_none(trap: Trap) -> &'static str {
     match trap {
         Trap::DivZero => "has a 0 behind it, and nothing is divided by 0",
         Trap::Overflow => "makes a number here that is beyond those of its kind",
+        Trap::Index => "has an index outside the bounds of its array",
     }
 }
 

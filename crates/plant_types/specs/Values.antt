@@ -1,6 +1,7 @@
 -- Values of variables, their kinds and their ranges.
 use Rattle.std.specs.Prelude.{Bool, true, false, not, ◌||◌, if◌then◌else◌, Option, Some, None, ℕ, List, ℤ, pos, negsuc, int_lt, codes}
 use Rattle.std.specs.Ordering.{int_eq}
+use Rattle.plant_types.specs.declared.values.Bounds.{Bounds}
 use Rattle.plant_types.specs.declared.values.Given.{Given}
 use Rattle.plant_types.specs.declared.values.Given.TheVariants as given
 use Rattle.plant_types.specs.declared.values.Kind.{Kind}
@@ -59,3 +60,8 @@ fitted kind.Time (given.Whole n) = if is_outside (negsuc 9223372036854775807) (p
 abbrev pub trap_text : Trap → List ℕ
 trap_text trap.Overflow = codes "OVERFLOW"
 trap_text trap.DivZero = codes "DIVZERO"
+trap_text trap.Index = codes "INDEX"
+
+-- whether an array with these bounds has an element of an index: from the low bound to the high one
+abbrev pub has_index : Bounds → ℤ → Bool
+has_index bounds index = not (is_outside bounds.low bounds.high index)

@@ -12,5 +12,5 @@ mod words;
 pub use items::Items;
 pub use pair::Pair;
 pub use text::Text;
-pub use values::{Given, Kind, Place, Region, Trap, Value, fitted};
+pub use values::{Bounds, Given, Kind, Place, Region, Trap, Value, fitted};
 pub use words::{is_name, is_name_byte, same_word};

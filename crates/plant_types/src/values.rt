@@ -1,5 +1,5 @@
 ghost use Rattle.std.specs.Prelude.{◌≡◌, IsTrue};
-ghost use Rattle.plant_types.specs.Values.{kind_of, worth, value_of_kind, is_in_range, fitted, trap_text};
+ghost use Rattle.plant_types.specs.Values.{kind_of, worth, value_of_kind, is_in_range, fitted, trap_text, has_index};
 
 /// What a variable can hold (IEC 61131-3's BOOL, DINT and TIME).
 #[derive(Clone, Copy, PartialEq, Eq, Drop)]
@@ -36,6 +36,8 @@ pub enum Trap {
     Overflow,
     /// A division by 0.
     DivZero,
+    /// An index outside the bounds of an array.
+    Index,
 }
 
 impl Trap {
@@ -46,7 +48,25 @@ impl Trap {
         match self {
             Trap::Overflow => "OVERFLOW",
             Trap::DivZero => "DIVZERO",
+            Trap::Index => "INDEX",
         }
+    }
+}
+
+/// The bounds of an array: its elements have the indexes from `low` to `high`, both among them (IEC 61131-3).
+#[derive(Clone, Copy, PartialEq, Eq, Drop)]
+pub struct Bounds {
+    pub low: i32,
+    pub high: i32,
+}
+
+impl Bounds {
+    /// Whether an array with these bounds has an element of an index.
+    #[inline(always)]
+    pub fn has_index(self, index: i64) -> bool
+        ensures { result ≡ has_index self index }
+    {
+        i64::from(self.low) <= index && index <= i64::from(self.high)
     }
 }
 
