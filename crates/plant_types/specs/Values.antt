@@ -1,5 +1,5 @@
 -- Values of variables, their kinds and their ranges.
-use Rattle.std.specs.Prelude.{Bool, true, false, not, ◌||◌, if◌then◌else◌, Option, Some, None, ℕ, List, ℤ, pos, negsuc, int_lt, codes}
+use Rattle.std.specs.Prelude.{Bool, true, false, not, ◌||◌, if◌then◌else◌, Option, Some, None, Result, Ok, Err, ℕ, ◌+◌, List, ℤ, pos, negsuc, ◌-ℤ◌, nat_abs, int_lt, codes}
 use Rattle.std.specs.Ordering.{int_eq}
 use Rattle.plant_types.specs.declared.values.Bounds.{Bounds}
 use Rattle.plant_types.specs.declared.values.Given.{Given}
@@ -65,3 +65,15 @@ trap_text trap.Index = codes "INDEX"
 -- whether an array with these bounds has an element of an index: from the low bound to the high one
 abbrev pub has_index : Bounds → ℤ → Bool
 has_index bounds index = not (is_outside bounds.low bounds.high index)
+
+-- an index that is tested: itself, or the trap where the array has no such element
+abbrev pub indexed : Bounds → ℤ → Result ℤ Trap
+indexed bounds index = if has_index bounds index then Ok index else Err trap.Index
+
+-- how many elements an array of these bounds has, where the low one isn't above the high one
+abbrev pub row_length : Bounds → ℕ
+row_length bounds = nat_abs (bounds.high -ℤ bounds.low) + 1
+
+-- the number of an array's element, by that of its first one and an index within the bounds
+abbrev pub row_place : ℕ → Bounds → ℤ → ℕ
+row_place first bounds index = first + nat_abs (index -ℤ bounds.low)
