@@ -3,6 +3,8 @@ use Rattle.std.proofs.Common.{◌≡◌, ℤ, true, List, [], ◌∷◌}
 use Rattle.std.specs.Prelude.{◌&&◌}
 use Rattle.std.specs.List.{AllByRecursion, list_all}
 use Rattle.std.proofs.lemmas.Bool.{and_parts}
+use Rattle.plant_types.specs.declared.values.Bounds.{Bounds}
+use Rattle.plant_types.specs.Values.{has_index}
 use Rattle.st_tree.specs.Controls.{control_values}
 use Rattle.st_tree.specs.Plain.{PlainExpr, PlainBody}
 use Rattle.st_tree.specs.Fits.{Context}
@@ -10,6 +12,7 @@ use Rattle.st_tree.specs.Meaning.{Space, Ran, Done, Trapped, outcome, run_all}
 use Rattle.st_tree.specs.Mapping.{Mapping, mapped_expr, mapped_body, Known, expr_known, option_known, argument_known, stmt_known, body_known, branches_known, choices_known}
 use Rattle.st_tree.specs.Alike.{Agree, Same, SameOutcome, IsLawful}
 use Rattle.st_tree.specs.Ranges.{Leaves, IsInvariant}
+use Rattle.st_tree.proofs.FittedLaws.{index_within}
 use Rattle.st_tree.proofs.MappingLaws.{Sets, KeepsValues, Judgement, Steps, expr_alike, body_alike}
 
 -- what IsLawful asks, with any whole number for each known variable and input, and nothing of kinds
@@ -17,6 +20,8 @@ pub record IsLawfulForAny {V W A B : Type 0} (known : Known V) (mapping : Mappin
   pub path_is : from.path ≡ to.path
   pub variable_is : (v : V) (a : A) (b : B) → known.has_variable v ≡ true → Matches a b → from.get a v ≡ to.get b (mapping.variable v)
   pub put_matches : (v : V) (n : ℤ) (a : A) (b : B) → known.has_variable v ≡ true → Matches a b → Matches (from.put a v n) (to.put b (mapping.variable v) n)
+  pub element_is : (v : V) (bounds : Bounds) (i : ℤ) (a : A) (b : B) → known.has_array v bounds ≡ true → has_index bounds i ≡ true → Matches a b → from.get_at a v bounds i ≡ to.get_at b (mapping.array v) bounds i
+  pub put_at_matches : (v : V) (bounds : Bounds) (i n : ℤ) (a : A) (b : B) → known.has_array v bounds ≡ true → has_index bounds i ≡ true → Matches a b → Matches (from.put_at a v bounds i n) (to.put_at b (mapping.array v) bounds i n)
   pub output_is : (instance name : V) (a : A) (b : B) → known.has_output instance name ≡ true → Matches a b
       → from.get_output a instance name ≡ to.get_output b (mapping.instance instance) (mapping.output_name instance name)
   pub put_input_matches : (instance name : V) (n : ℤ) (a : A) (b : B) → known.has_input instance name ≡ true → Matches a b
@@ -30,7 +35,7 @@ all_of P each (n ∷ ns) = (each n, all_of P each ns)
 
 module _ {V W A B : Type 0} (known : Known V) (mapping : Mapping V W) (from : Space V A) (to : Space W B) (Matches : A → B → Type 0) (laws : IsLawfulForAny known mapping from to Matches) where
   values : KeepsValues known mapping from to Matches
-  values = record { path_is = laws.path_is; variable_is = laws.variable_is; output_is = laws.output_is; node_is = laws.node_is }
+  values = record { path_is = laws.path_is; variable_is = laws.variable_is; element_is = laws.element_is; output_is = laws.output_is; node_is = laws.node_is }
 
   -- that each name is known
   abbrev judged : Judgement V
@@ -47,6 +52,10 @@ module _ {V W A B : Type 0} (known : Known V) (mapping : Mapping V W) (from : Sp
     at_assign = λ number v e is.
         let p = and_parts (known.has_variable v) (expr_known known e) is in
         (p.1, λ a b n m gives. laws.put_matches v n a b p.0 m);
+    at_store = λ number v bounds index e is.
+        let p = and_parts (known.has_array v bounds) (expr_known known index && expr_known known e) is in
+        let q = and_parts (expr_known known index) (expr_known known e) p.1 in
+        (q.0, q.1, λ a b i n m told gives. laws.put_at_matches v bounds i n a b p.0 (index_within bounds (outcome from a index) i told) m);
     at_call = λ number instance arguments is.
         let p = and_parts (known.has_instance instance) (list_all (argument_known known instance) arguments) is in
         (λ a b m. laws.enter_agrees instance a b p.0 m, p.1);
@@ -100,6 +109,9 @@ module _ {V W A B : Type 0} (known : Known V) (mapping : Mapping V W) (from : Sp
       variable_is = λ v a b is m. laws.variable_is v a b is m.0;
       variable_in_range = λ v k a b m is. inv.variable_in_range a v k m.1 is;
       put_matches = λ v k n a b there may is fits m. (laws.put_matches v n a b there m.0, inv.put_keeps a v k n m.1 may is fits);
+      element_is = λ v bounds i a b is within m. laws.element_is v bounds i a b is within m.0;
+      element_in_range = λ v bounds i k a b m is within. inv.element_in_range a v bounds i k m.1 is within;
+      put_at_matches = λ v bounds i k n a b there is within fits m. (laws.put_at_matches v bounds i n a b there within m.0, inv.put_at_keeps a v bounds i k n m.1 is within fits);
       output_is = λ instance name a b is m. laws.output_is instance name a b is m.0;
       output_in_range = λ instance name k a b m is. inv.output_in_range a instance name k m.1 is;
       put_input_matches = λ instance name k n a b there is_one is fits m. (laws.put_input_matches instance name n a b there m.0, inv.put_input_keeps a instance name k n m.1 is_one is fits);

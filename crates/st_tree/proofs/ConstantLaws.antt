@@ -3,7 +3,7 @@ use Rattle.std.proofs.Common.{◌≡◌, refl, ap}
 use Rattle.std.specs.Prelude.{Option, Some, None, option_map, option_and_then}
 use Rattle.st_tree.specs.declared.tree.Unary.{Unary}
 use Rattle.st_tree.specs.declared.tree.Binary.{Binary}
-use Rattle.st_tree.specs.Plain.{PlainExpr, literal, read, output_of, unary, binary}
+use Rattle.st_tree.specs.Plain.{PlainExpr, literal, read, output_of, element, unary, binary}
 use Rattle.st_tree.specs.Operators.{Outcome, eval_unary, eval_binary}
 use Rattle.st_tree.specs.Meaning.{ValuesOf, value_of, then_one, then_two}
 use Rattle.st_tree.specs.Constants.{constant_of}
@@ -23,5 +23,6 @@ module _ {V : Type 0} (values : ValuesOf V) where
   constant_of_is_value_of (literal n) r is = cc
   constant_of_is_value_of (read v) r is = absurd (cc)
   constant_of_is_value_of (output_of instance name) r is = absurd (cc)
+  constant_of_is_value_of (element v bounds index) r is = absurd (cc)
   constant_of_is_value_of (unary op a) r is = unary_constant op (constant_of a) (value_of values a) r (λ x e. constant_of_is_value_of a x e) is
   constant_of_is_value_of (binary op a b) r is = binary_constant op (constant_of a) (constant_of b) (value_of values a) (value_of values b) r (λ x e. constant_of_is_value_of a x e) (λ x e. constant_of_is_value_of b x e) is

@@ -52,7 +52,7 @@ outputs timer q_name = Some kind.Bool
 outputs _ _ = None
 
 abbrev declared : Context Name
-declared = record { variable_kind = kinds; may_assign = assignable; is_instance = instances; input_kind = inputs; output_kind = outputs }
+declared = record { variable_kind = kinds; may_assign = assignable; is_instance = instances; input_kind = inputs; output_kind = outputs; element_kind = λ v bounds. None }
 
 -- b := 1 fits, b := 2 and b := (1) don't
 bit_fits : stmt_fits declared (assign 1 b (literal (Integer (pos 1)))) ≡ true
@@ -107,13 +107,15 @@ abbrev Pair : Type 0
 Pair = ℤ × ℤ
 
 abbrev one_of_each : Context (Unit {0})
-one_of_each = record { variable_kind = λ v. Some kind.Dint; may_assign = λ v. true; is_instance = λ v. true; input_kind = λ instance name. Some kind.Dint; output_kind = λ instance name. Some kind.Dint }
+one_of_each = record { variable_kind = λ v. Some kind.Dint; may_assign = λ v. true; is_instance = λ v. true; input_kind = λ instance name. Some kind.Dint; output_kind = λ instance name. Some kind.Dint; element_kind = λ v bounds. None }
 
 abbrev echo : Space (Unit {0}) Pair
 echo = record {
   path = [];
   get = λ w v. w.0;
   put = λ w v n. (n, w.1);
+  get_at = λ w v bounds i. w.0;
+  put_at = λ w v bounds i n. w;
   get_output = λ w instance name. w.1;
   put_input = λ w instance name n. (w.0, n);
   enter = λ w instance. Done w;
@@ -128,6 +130,8 @@ both_in_range =
     record {
       variable_in_range = λ w v k holds is. subst (λ k. InRange k w.0) (let e : kind.Dint ≡ k = cc in e) holds.0;
       output_in_range = λ w instance name k holds is. subst (λ k. InRange k w.1) (let e : kind.Dint ≡ k = cc in e) holds.1;
+      element_in_range = λ w v bounds i k holds is within. absurd (cc);
+      put_at_keeps = λ w v bounds i k n holds is within fits. absurd (cc);
       put_keeps = λ w v k n holds may is fits. (subst (λ k. InRange k n) (let e : k ≡ kind.Dint = cc in e) fits, holds.1);
       put_input_keeps = λ w instance name k n holds is_one is fits. (holds.0, subst (λ k. InRange k n) (let e : k ≡ kind.Dint = cc in e) fits);
       enter_keeps = λ w instance holds is_one. holds;

@@ -1,18 +1,21 @@
 -- The value of an expression that fits where a kind is declared is in the range of this kind.
 use Rattle.std.proofs.Common.{◌≡◌, refl, ap, subst, sym, ℤ, pos, Bool, true, false, arith}
-use Rattle.std.specs.Prelude.{Option, Some, None, Ok, Err, ◌&&◌, ◌||◌}
+use Rattle.std.specs.Prelude.{Option, Some, None, Ok, Err, if◌then◌else◌, ◌&&◌, ◌||◌}
 use Rattle.std.specs.Ordering.{int_eq}
 use Rattle.std.proofs.lemmas.Int.{ints}
+use Rattle.plant_types.specs.declared.values.Bounds.{Bounds}
 use Rattle.plant_types.specs.declared.values.Kind.{Kind}
 use Rattle.plant_types.specs.declared.values.Kind.TheVariants as kind
+use Rattle.plant_types.specs.declared.values.Trap.TheVariants.{Index}
+use Rattle.plant_types.specs.Values.{has_index, indexed}
 use Rattle.st_tree.specs.declared.tree.Literal.TheVariants.{Integer, Value}
 use Rattle.st_tree.specs.declared.controls.Span.{Span}
-use Rattle.st_tree.specs.Plain.{PlainExpr, literal, read, output_of, unary, binary}
+use Rattle.st_tree.specs.Plain.{PlainExpr, literal, read, output_of, element, unary, binary}
 use Rattle.st_tree.specs.Operators.{Outcome}
 use Rattle.st_tree.specs.Controls.{span_of}
 use Rattle.st_tree.specs.Kinds.{same_kind, kind_of_expr, is_kind, is_bit}
 use Rattle.st_tree.specs.Fits.{Context, sorts_of, is_of, fits_option}
-use Rattle.st_tree.specs.Meaning.{ValuesOf, value_of}
+use Rattle.st_tree.specs.Meaning.{then_one, ValuesOf, value_of}
 use Rattle.st_tree.specs.Ranges.{AreInRange}
 use Rattle.st_tree.proofs.RangeLaws.{InRange, value_in_range}
 
@@ -38,6 +41,15 @@ span_ends (Ok from) (Ok to) (Err trap) span is = absurd (cc)
 span_ends (Ok from) (Err trap) c span is = absurd (cc)
 span_ends (Err trap) b c span is = absurd (cc)
 
+-- an index that is tested is within the bounds
+indexed_by : (b : Bool) (n i : ℤ) → (if b then Ok n else Err Index) ≡ Ok i → (b ≡ true) × (n ≡ i)
+indexed_by true n i is = (refl, cc)
+indexed_by false n i is = absurd (cc)
+
+pub index_within : (bounds : Bounds) (o : Outcome) (i : ℤ) → then_one o (indexed bounds) ≡ Ok i → has_index bounds i ≡ true
+index_within bounds (Ok n) i is = let p = indexed_by (has_index bounds n) n i is in subst (λ k. has_index bounds k ≡ true) p.1 p.0
+index_within bounds (Err trap) i is = absurd (cc)
+
 bit_in_range : (m : ℤ) → (int_eq m (pos 0) || int_eq m (pos 1)) ≡ true → InRange kind.Bool m
 bit_in_range m is = grind (arith, ints, is)
 
@@ -52,6 +64,7 @@ module _ {V : Type 0} (context : Context V) (values : ValuesOf V) (within : AreI
   bit_in kind.Bool (literal (Value v)) n is gives = absurd (cc)
   bit_in kind.Bool (read v) n is gives = absurd (cc)
   bit_in kind.Bool (output_of instance name) n is gives = absurd (cc)
+  bit_in kind.Bool (element v bounds index) n is gives = absurd (cc)
   bit_in kind.Bool (unary op a) n is gives = absurd (cc)
   bit_in kind.Bool (binary op a b) n is gives = absurd (cc)
   bit_in kind.Dint e n is gives = absurd (cc)

@@ -7,8 +7,8 @@ use Rattle.st_tree.specs.declared.tree.Unary.{Unary}
 use Rattle.st_tree.specs.declared.tree.Unary.TheVariants.{Not, Negate, NegateTime}
 use Rattle.st_tree.specs.declared.tree.Binary.{Binary}
 use Rattle.st_tree.specs.declared.tree.Binary.TheVariants.{And, Xor, Or, Equal, Unequal, Less, Greater, AtMost, AtLeast, Add, AddTime, Subtract, SubtractTime, Multiply, Divide, Mod}
-use Rattle.st_tree.specs.Plain.{PlainExpr, literal, read, output_of, unary, binary}
-use Rattle.st_tree.specs.Kinds.{literal_in_range, literal_kind, same_kind, unary_kind, binary_kind, unary_result, binary_result, Sorts, KindsOf, AreSorts, kind_of_expr, kind_in, of_truths, of_numbers, of_times, of_sums, of_order}
+use Rattle.st_tree.specs.Plain.{PlainExpr, literal, read, output_of, element, unary, binary}
+use Rattle.st_tree.specs.Kinds.{literal_in_range, literal_kind, same_kind, unary_kind, binary_kind, unary_result, binary_result, Sorts, KindsOf, AreSorts, is_kind, kind_of_expr, kind_in, of_truths, of_numbers, of_times, of_sums, of_order}
 
 unary_result_is : (op : Unary) (a r : Kind) → unary_kind op a ≡ Some r → unary_result op a ≡ r
 unary_result_is Not kind.Bool r is = cc
@@ -86,6 +86,10 @@ literal_kind_is : (within : Bool) (k r : Kind) → (if within then Some k else N
 literal_kind_is true k r is = cc
 literal_kind_is false k r is = absurd (cc)
 
+element_kind_is : (is_index : Bool) (o : Option Kind) (r : Kind) → (if is_index then o else None) ≡ Some r → o ≡ Some r
+element_kind_is true o r is = is
+element_kind_is false o r is = absurd (cc)
+
 module _ {V : Type 0} (sorts : Sorts V) (kinds : KindsOf V) (agrees : AreSorts sorts kinds) where
   unary_of_kind : (op : Unary) (o : Option Kind) (a r : Kind) → ((k : Kind) → o ≡ Some k → a ≡ k) → option_and_then (unary_kind op) o ≡ Some r → unary_result op a ≡ r
   unary_of_kind op None a r same is = absurd (cc)
@@ -100,5 +104,6 @@ module _ {V : Type 0} (sorts : Sorts V) (kinds : KindsOf V) (agrees : AreSorts s
   kind_of_expr_is_kind_in (literal n) r is = literal_kind_is (literal_in_range n) (literal_kind n) r is
   kind_of_expr_is_kind_in (read v) r is = agrees.variable_is v r is
   kind_of_expr_is_kind_in (output_of instance name) r is = agrees.output_is instance name r is
+  kind_of_expr_is_kind_in (element v bounds index) r is = agrees.element_is v bounds r (element_kind_is (is_kind kind.Dint (kind_of_expr sorts index)) (sorts.element v bounds) r is)
   kind_of_expr_is_kind_in (unary op a) r is = unary_of_kind op (kind_of_expr sorts a) (kind_in kinds a) r (λ k e. kind_of_expr_is_kind_in a k e) is
   kind_of_expr_is_kind_in (binary op a b) r is = binary_of_kind op (kind_of_expr sorts a) (kind_of_expr sorts b) (kind_in kinds a) r (λ k e. kind_of_expr_is_kind_in a k e) is

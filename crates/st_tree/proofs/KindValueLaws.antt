@@ -3,6 +3,7 @@ use Rattle.std.proofs.Common.{◌≡◌, refl, ℤ, Bool, true, List, [], ◌∷
 use Rattle.std.specs.Prelude.{Option, Some, Ok, ◌&&◌}
 use Rattle.std.specs.List.{AllByRecursion, list_all}
 use Rattle.std.proofs.lemmas.Bool.{and_parts}
+use Rattle.plant_types.specs.declared.values.Bounds.{Bounds}
 use Rattle.plant_types.specs.declared.values.Kind.{Kind}
 use Rattle.plant_types.specs.declared.values.Kind.TheVariants as kind
 use Rattle.st_tree.specs.declared.controls.Span.{Span}
@@ -11,13 +12,13 @@ use Rattle.st_tree.specs.Kinds.{is_kind}
 use Rattle.st_tree.specs.Plain.{PlainExpr, output_of, PlainBody}
 use Rattle.st_tree.specs.Fits.{Context, sorts_of, is_of, option_is_of, fits_option, takes, argument_fits, stmt_fits, all_fit, branches_fit, choices_fit}
 use Rattle.st_tree.specs.Fits.{may_control, stmt_controls_fit, controls_fit, branches_controls_fit, choices_controls_fit}
-use Rattle.st_tree.specs.Meaning.{Space, values_in, outcome, step_of, run_all}
+use Rattle.st_tree.specs.Meaning.{Space, values_in, outcome, index_of, step_of, run_all}
 use Rattle.st_tree.specs.Mapping.{Mapping, mapped_expr, mapped_body, Known, expr_known, option_known, argument_known, stmt_known, body_known, branches_known, choices_known}
 use Rattle.st_tree.specs.Ranges.{AreInRange}
 use Rattle.st_tree.specs.Alike.{Same, SameOutcome, IsLawful, IsKeptBody}
 use Rattle.st_tree.proofs.RangeLaws.{InRange}
 use Rattle.st_tree.proofs.ControlRangeLaws.{control_values_in_range}
-use Rattle.st_tree.proofs.FittedLaws.{kind_is, span_ends, value_in, fitted_in}
+use Rattle.st_tree.proofs.FittedLaws.{kind_is, span_ends, index_within, value_in, fitted_in}
 use Rattle.st_tree.proofs.MappingLaws.{Sets, KeepsValues, Judgement, Steps, expr_alike, body_alike}
 
 all_map : (P Q : ℤ → Type 0) → ((n : ℤ) → P n → Q n) → (ns : List ℤ) → AllByRecursion P ns → AllByRecursion Q ns
@@ -36,7 +37,7 @@ joined x y z first second third = λ i. first i && (second i && third i)
 
 module _ {V W A B : Type 0} (context : Context V) (known : Known V) (mapping : Mapping V W) (from : Space V A) (to : Space W B) (Matches : A → B → Type 0) (laws : IsLawful context known mapping from to Matches) where
   values : KeepsValues known mapping from to Matches
-  values = record { path_is = laws.path_is; variable_is = laws.variable_is; output_is = laws.output_is; node_is = laws.node_is }
+  values = record { path_is = laws.path_is; variable_is = laws.variable_is; element_is = laws.element_is; output_is = laws.output_is; node_is = laws.node_is }
 
   -- that each name is known, and that kinds and control variables are right
   abbrev judged : Judgement V
@@ -50,7 +51,11 @@ module _ {V W A B : Type 0} (context : Context V) (known : Known V) (mapping : M
 
   -- the values that are read in a world that matches are in the ranges of their kinds
   values_within : (a : A) (b : B) → Matches a b → AreInRange (sorts_of context) (values_in from a)
-  values_within a b m = record { variable_in = λ v k. laws.variable_in_range v k a b m; output_in = λ instance name k. laws.output_in_range instance name k a b m }
+  values_within a b m = record {
+    variable_in = λ v k. laws.variable_in_range v k a b m;
+    output_in = λ instance name k. laws.output_in_range instance name k a b m;
+    element_in = λ v bounds i k. laws.element_in_range v bounds i k a b m;
+  }
 
   -- the value of an expression of a kind
   outcome_in : (e : PlainExpr V) (k : Kind) (a : A) (b : B) (n : ℤ) → Matches a b → is_of context k e ≡ true → outcome from a e ≡ Ok n → InRange k n
@@ -67,6 +72,12 @@ module _ {V W A B : Type 0} (context : Context V) (known : Known V) (mapping : M
       let p = and_parts (context.may_assign v) (fits_option context (context.variable_kind v) e) fits in
       let f = outcome_fits (context.variable_kind v) e a b n m p.1 gives in
       laws.put_matches v f.0 n a b there p.0 f.1 f.2 m
+
+  stored : (v : V) (bounds : Bounds) (index e : PlainExpr V) (a : A) (b : B) (i n : ℤ) → known.has_array v bounds ≡ true → fits_option context (context.element_kind v bounds) e ≡ true → Matches a b
+      → index_of from a bounds index ≡ Ok i → outcome from a e ≡ Ok n → Matches (from.put_at a v bounds i n) (to.put_at b (mapping.array v) bounds i n)
+  stored v bounds index e a b i n there fits m told gives =
+      let f = outcome_fits (context.element_kind v bounds) e a b n m fits gives in
+      laws.put_at_matches v bounds i f.0 n a b there f.1 (index_within bounds (outcome from a index) i told) f.2 m
 
   given : (instance name : V) (e : PlainExpr V) (a : A) (b : B) (n : ℤ) → known.has_input instance name ≡ true → context.is_instance instance ≡ true → fits_option context (context.input_kind instance name) e ≡ true → Matches a b → outcome from a e ≡ Ok n
       → Matches (from.put_input a instance name n) (to.put_input b (mapping.instance instance) (mapping.input_name instance name) n)
@@ -89,6 +100,11 @@ module _ {V W A B : Type 0} (context : Context V) (known : Known V) (mapping : M
         let t = three (known.has_variable v && expr_known known e) (takes context v e) true is in
         let p = and_parts (known.has_variable v) (expr_known known e) t.0 in
         (p.1, λ a b n m gives. assigned v e a b n p.0 t.1 m gives);
+    at_store = λ number v bounds index e is.
+        let t = three (known.has_array v bounds && (expr_known known index && expr_known known e)) (is_of context kind.Dint index && fits_option context (context.element_kind v bounds) e) true is in
+        let p = three (known.has_array v bounds) (expr_known known index) (expr_known known e) t.0 in
+        let q = and_parts (is_of context kind.Dint index) (fits_option context (context.element_kind v bounds) e) t.1 in
+        (p.1, p.2, λ a b i n m told gives. stored v bounds index e a b i n p.0 q.1 m told gives);
     at_call = λ number instance arguments is.
         let t = three (known.has_instance instance && list_all (argument_known known instance) arguments) (context.is_instance instance && list_all (argument_fits context instance) arguments) true is in
         let p = and_parts (known.has_instance instance) (list_all (argument_known known instance) arguments) t.0 in

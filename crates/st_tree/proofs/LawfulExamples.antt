@@ -16,7 +16,7 @@ use Rattle.st_tree.proofs.KindValueLaws.{kept_body}
 
 -- n : DINT, and no instance
 abbrev one_number : Context (Unit {0})
-one_number = record { variable_kind = λ v. Some kind.Dint; may_assign = λ v. true; is_instance = λ v. false; input_kind = λ instance name. None; output_kind = λ instance name. None }
+one_number = record { variable_kind = λ v. Some kind.Dint; may_assign = λ v. true; is_instance = λ v. false; input_kind = λ instance name. None; output_kind = λ instance name. None; element_kind = λ v bounds. None }
 
 -- a number of any size
 abbrev numbers : Space (Unit {0}) ℤ
@@ -24,6 +24,8 @@ numbers = record {
   path = [];
   get = λ w v. w;
   put = λ w v n. n;
+  get_at = λ w v bounds i. w;
+  put_at = λ w v bounds i n. w;
   get_output = λ w instance name. w;
   put_input = λ w instance name n. w;
   enter = λ w instance. Done w;
@@ -38,6 +40,8 @@ cells = record {
   path = [];
   get = λ w v. w;
   put = λ w v n. held (is_in_range kind.Dint n) n;
+  get_at = λ w v bounds i. w;
+  put_at = λ w v bounds i n. w;
   get_output = λ w instance name. w;
   put_input = λ w instance name n. w;
   enter = λ w instance. Done w;
@@ -59,6 +63,9 @@ cells_lawful = record {
   put_matches = λ v k n a b there may is fits m.
       let here : InRange kind.Dint n = subst (λ k. InRange k n) (let e : k ≡ kind.Dint = cc in e) fits in
       (held_is n (is_in_range kind.Dint n) refl here, here);
+  element_is = λ v bounds i a b is within m. m.0;
+  element_in_range = λ v bounds i k a b m is within. absurd (cc);
+  put_at_matches = λ v bounds i k n a b there is within fits m. absurd (cc);
   output_is = λ instance name a b is m. m.0;
   output_in_range = λ instance name k a b m is. absurd (cc);
   put_input_matches = λ instance name k n a b there is_one is fits m. absurd (cc);

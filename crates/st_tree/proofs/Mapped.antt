@@ -6,8 +6,8 @@ use Rattle.st_tree.specs.declared.tree.Branch.{Branch}
 use Rattle.st_tree.specs.declared.tree.Choice.{Choice}
 use Rattle.st_tree.specs.declared.tree.Label.{Label}
 use Rattle.st_tree.specs.declared.tree.Stmt.{Stmt}
-use Rattle.st_tree.specs.Plain.{PlainExpr, literal, read, output_of, unary, binary, PlainArgument, input, output}
-use Rattle.st_tree.specs.Plain.{PlainStmt, empty, assign, call, if_else, case_of, for_to, PlainBody, done, next, Branches, no_branch, branch, Choices, no_choice, choice}
+use Rattle.st_tree.specs.Plain.{PlainExpr, literal, read, output_of, element, unary, binary, PlainArgument, input, output}
+use Rattle.st_tree.specs.Plain.{PlainStmt, empty, assign, store, call, if_else, case_of, for_to, PlainBody, done, next, Branches, no_branch, branch, Choices, no_choice, choice}
 use Rattle.st_tree.specs.View.{view_argument, view_stmt, view_body, view_branch, view_branches, view_choice, view_choices, body_of, branches_of, choices_of}
 use Rattle.st_tree.specs.Mapping.{Mapping, mapped_expr, mapped_option, mapped_argument, mapped_stmt, mapped_body, mapped_branches, mapped_choices, identity}
 
@@ -51,6 +51,7 @@ module _ {V : Type 0} where
   same_expr (literal n) = refl
   same_expr (read v) = refl
   same_expr (output_of instance name) = refl
+  same_expr (element v bounds index) = ap (element v bounds) (same_expr index)
   same_expr (unary op a) = ap (unary op) (same_expr a)
   same_expr (binary op a b) = λ i. binary op (same_expr a i) (same_expr b i)
 
@@ -70,6 +71,7 @@ module _ {V : Type 0} where
     same_stmt : (s : PlainStmt V) → mapped_stmt identity s ≡ s
     same_stmt (empty number) = refl
     same_stmt (assign number v e) = ap (assign number v) (same_expr e)
+    same_stmt (store number v bounds index value) = λ i. store number v bounds (same_expr index i) (same_expr value i)
     same_stmt (call number instance arguments) = ap (call number instance) (same_arguments instance arguments)
     same_stmt (if_else number branches last) = λ i. if_else number (same_branches branches i) (same_body last i)
     same_stmt (case_of number e choices last) = λ i. case_of number (same_expr e i) (same_choices choices i) (same_body last i)

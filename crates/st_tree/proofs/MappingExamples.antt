@@ -36,6 +36,7 @@ q_cell _ = 4
 abbrev numbers : Mapping Name ℕ
 numbers = record {
   variable = λ name. 0;
+  array = λ name. 0;
   instance = instance_number;
   input_name = λ instance name. in_cell instance;
   output_name = λ instance name. q_cell instance;
@@ -57,7 +58,7 @@ abbrev folded : PlainExpr Name → PlainExpr Name
 folded e = literal_of (constant_of e) e
 
 abbrev folding : Mapping Name Name
-folding = record { variable = λ v. v; instance = λ v. v; input_name = λ instance name. name; output_name = λ instance name. name; node = folded }
+folding = record { variable = λ v. v; array = λ v. v; instance = λ v. v; input_name = λ instance name. name; output_name = λ instance name. name; node = folded }
 
 -- n := 2 + 3 * 4;
 folded_sum : mapped_body folding (next (assign 1 n (binary Add (literal (Integer (pos 2))) (binary Multiply (literal (Integer (pos 3))) (literal (Integer (pos 4)))))) done)

@@ -3,18 +3,20 @@ use Rattle.std.proofs.Common.{◌≡◌, ◌∙◌, ap, sym, subst, refl, ℕ, �
 use Rattle.std.specs.Prelude.{Option, Some, None, Result, Ok, Err, map, if◌then◌else◌}
 use Rattle.std.specs.List.{AllByRecursion}
 use Rattle.std.proofs.lemmas.Bool.{and_parts}
+use Rattle.plant_types.specs.declared.values.Bounds.{Bounds}
 use Rattle.plant_types.specs.declared.values.Trap.{Trap}
-use Rattle.plant_types.specs.Values.{is_true}
+use Rattle.plant_types.specs.Values.{is_true, has_index, indexed}
 use Rattle.st_tree.specs.declared.controls.Span.{Span}
 use Rattle.st_tree.specs.declared.tree.Label.{Label}
 use Rattle.st_tree.specs.Operators.{Outcome, eval_unary, eval_binary}
 use Rattle.st_tree.specs.Controls.{control_values, span_of}
-use Rattle.st_tree.specs.Plain.{PlainExpr, literal, read, output_of, unary, binary, PlainArgument, input, output}
-use Rattle.st_tree.specs.Plain.{PlainStmt, empty, assign, call, if_else, case_of, for_to, PlainBody, done, next, Branches, no_branch, branch, Choices, no_choice, choice}
-use Rattle.st_tree.specs.Meaning.{Spot, Space, Ran, Done, Trapped, then_one, then_two, then_run, with_value, turns, labels_fit, Chosen, Took, Passed, or_else, on_test, statement_spot, outcome, step_of, take_inputs, give_outputs, run, run_all, first_true, first_fit}
+use Rattle.st_tree.specs.Plain.{PlainExpr, literal, read, output_of, element, unary, binary, PlainArgument, input, output}
+use Rattle.st_tree.specs.Plain.{PlainStmt, empty, assign, store, call, if_else, case_of, for_to, PlainBody, done, next, Branches, no_branch, branch, Choices, no_choice, choice}
+use Rattle.st_tree.specs.Meaning.{Spot, Space, Ran, Done, Trapped, then_one, then_two, then_run, with_value, turns, labels_fit, Chosen, Took, Passed, or_else, on_test, statement_spot, outcome, index_of, step_of, take_inputs, give_outputs, run, run_all, first_true, first_fit}
 use Rattle.st_tree.specs.Mapping.{Mapping, mapped_expr, mapped_option, mapped_argument, mapped_stmt, mapped_body, mapped_branches, mapped_choices}
 use Rattle.st_tree.specs.Mapping.{Known, expr_known, option_known}
 use Rattle.st_tree.specs.Alike.{Agree, Same, SameOutcome}
+use Rattle.st_tree.proofs.FittedLaws.{index_within}
 
 module _ {A B : Type 0} (Matches : A → B → Type 0) where
   pub then_alike : (r : Ran A) (q : Ran B) (g : A → Ran A) (h : B → Ran B) → Agree Matches r q → Same Matches g h → Agree Matches (then_run r g) (then_run q h)
@@ -72,6 +74,7 @@ module _ {A B : Type 0} (Matches : A → B → Type 0) where
 pub record KeepsValues {V W A B : Type 0} (known : Known V) (mapping : Mapping V W) (from : Space V A) (to : Space W B) (Matches : A → B → Type 0) : Type 0 where
   pub path_is : from.path ≡ to.path
   pub variable_is : (v : V) (a : A) (b : B) → known.has_variable v ≡ true → Matches a b → from.get a v ≡ to.get b (mapping.variable v)
+  pub element_is : (v : V) (bounds : Bounds) (i : ℤ) (a : A) (b : B) → known.has_array v bounds ≡ true → has_index bounds i ≡ true → Matches a b → from.get_at a v bounds i ≡ to.get_at b (mapping.array v) bounds i
   pub output_is : (instance name : V) (a : A) (b : B) → known.has_output instance name ≡ true → Matches a b
       → from.get_output a instance name ≡ to.get_output b (mapping.instance instance) (mapping.output_name instance name)
   pub node_is : (e : PlainExpr W) (a : A) (b : B) → Matches a b → outcome to b (mapping.node e) ≡ outcome to b e
@@ -89,6 +92,9 @@ pub record Judgement (V : Type 0) : Type 0 where
 pub record Steps {V W A B : Type 0} (known : Known V) (judged : Judgement V) (mapping : Mapping V W) (from : Space V A) (to : Space W B) (Matches : A → B → Type 0) : Type 0 where
   pub at_assign : (number : ℕ) (v : V) (e : PlainExpr V) → judged.stmt (assign number v e) ≡ true
       → (expr_known known e ≡ true) × ((a : A) (b : B) (n : ℤ) → Matches a b → outcome from a e ≡ Ok n → Matches (from.put a v n) (to.put b (mapping.variable v) n))
+  pub at_store : (number : ℕ) (v : V) (bounds : Bounds) (index e : PlainExpr V) → judged.stmt (store number v bounds index e) ≡ true
+      → (expr_known known index ≡ true) × (expr_known known e ≡ true)
+      × ((a : A) (b : B) (i n : ℤ) → Matches a b → index_of from a bounds index ≡ Ok i → outcome from a e ≡ Ok n → Matches (from.put_at a v bounds i n) (to.put_at b (mapping.array v) bounds i n))
   pub at_call : (number : ℕ) (instance : V) (arguments : List (PlainArgument V)) → judged.stmt (call number instance arguments) ≡ true
       → ((a : A) (b : B) → Matches a b → Agree Matches (from.enter a instance) (to.enter b (mapping.instance instance))) × (judged.arguments instance arguments ≡ true)
   pub at_input : (instance name : V) (e : PlainExpr V) (rest : List (PlainArgument V)) → judged.arguments instance (input name e ∷ rest) ≡ true
@@ -112,6 +118,10 @@ pub record Steps {V W A B : Type 0} (known : Known V) (judged : Judgement V) (ma
       → (expr_known known test ≡ true) × (judged.body body ≡ true) × (judged.branches rest ≡ true)
   pub at_choice : (labels : List Label) (body : PlainBody V) (rest : Choices V) → judged.choices (choice labels body rest) ≡ true → (judged.body body ≡ true) × (judged.choices rest ≡ true)
 
+element_alike : (o p : Outcome) (f g : ℤ → ℤ) → o ≡ p → ((i : ℤ) → o ≡ Ok i → f i ≡ g i) → then_one o (λ i. Ok (f i)) ≡ then_one p (λ i. Ok (g i))
+element_alike (Ok i) p f g is same = (λ j. Ok (same i refl j)) ∙ ap (λ q. then_one q (λ i. Ok (g i))) is
+element_alike (Err trap) p f g is same = ap (λ q. then_one q (λ i. Ok (g i))) is
+
 module _ {V W A B : Type 0} (known : Known V) (mapping : Mapping V W) (from : Space V A) (to : Space W B) (Matches : A → B → Type 0) (laws : KeepsValues known mapping from to Matches) where
   at : (number : ℕ) → statement_spot from number ≡ statement_spot to number
   at number = ap (λ p. record { path = p; statement = number }) laws.path_is
@@ -120,6 +130,10 @@ module _ {V W A B : Type 0} (known : Known V) (mapping : Mapping V W) (from : Sp
   expr_alike (literal n) is a b m = refl
   expr_alike (read v) is a b m = ap Ok (laws.variable_is v a b is m)
   expr_alike (output_of instance name) is a b m = ap Ok (laws.output_is instance name a b is m)
+  expr_alike (element v bounds index) is a b m =
+      let parts = and_parts (known.has_array v bounds) (expr_known known index) is in
+      element_alike (index_of from a bounds index) (index_of to b bounds (mapped_expr mapping index)) (from.get_at a v bounds) (to.get_at b (mapping.array v) bounds) (ap (λ o. then_one o (indexed bounds)) (expr_alike index parts.1 a b m))
+      (λ i told. laws.element_is v bounds i a b parts.0 (index_within bounds (outcome from a index) i told) m)
   expr_alike (unary op x) is a b m =
       ap (λ o. then_one o (eval_unary op)) (expr_alike x is a b m) ∙ sym (laws.node_is (unary op (mapped_expr mapping x)) a b m)
   expr_alike (binary op x y) is a b m =
@@ -127,6 +141,10 @@ module _ {V W A B : Type 0} (known : Known V) (mapping : Mapping V W) (from : Sp
       let left = expr_alike x parts.0 a b m in
       let right = expr_alike y parts.1 a b m in
       (λ i. then_two (left i) (right i) (eval_binary op)) ∙ sym (laws.node_is (binary op (mapped_expr mapping x) (mapped_expr mapping y)) a b m)
+
+  -- an index that is tested
+  index_alike : (bounds : Bounds) (index : PlainExpr V) → expr_known known index ≡ true → (a : A) (b : B) → Matches a b → index_of from a bounds index ≡ index_of to b bounds (mapped_expr mapping index)
+  index_alike bounds index is a b m = ap (λ o. then_one o (indexed bounds)) (expr_alike index is a b m)
 
   step_alike : (by : Option (PlainExpr V)) → option_known known by ≡ true → (a : A) (b : B) → Matches a b → step_of from a by ≡ step_of to b (mapped_option mapping by)
   step_alike None is a b m = refl
@@ -163,6 +181,14 @@ module _ {V W A B : Type 0} (known : Known V) (mapping : Mapping V W) (from : Sp
           let s = steps.at_assign number v e is in
           valued Matches (statement_spot from number) (statement_spot to number) (outcome from a e) (outcome to b (mapped_expr mapping e)) a b
           (λ n. Done (from.put a v n)) (λ n. Done (to.put b (mapping.variable v) n)) m (at number) (expr_alike e s.0 a b m) (λ n gives. s.1 a b n m gives)
+      stmt_alike (store number v bounds index e) is a b m =
+          let s = steps.at_store number v bounds index e is in
+          valued Matches (statement_spot from number) (statement_spot to number) (index_of from a bounds index) (index_of to b bounds (mapped_expr mapping index)) a b
+          (λ i. with_value a (statement_spot from number) (outcome from a e) (λ n. Done (from.put_at a v bounds i n)))
+          (λ i. with_value b (statement_spot to number) (outcome to b (mapped_expr mapping e)) (λ n. Done (to.put_at b (mapping.array v) bounds i n)))
+          m (at number) (index_alike bounds index s.0 a b m)
+          (λ i told. valued Matches (statement_spot from number) (statement_spot to number) (outcome from a e) (outcome to b (mapped_expr mapping e)) a b
+          (λ n. Done (from.put_at a v bounds i n)) (λ n. Done (to.put_at b (mapping.array v) bounds i n)) m (at number) (expr_alike e s.1 a b m) (λ n gives. s.2 a b i n m told gives))
       stmt_alike (call number instance arguments) is a b m =
           let s = steps.at_call number instance arguments is in
           let own = mapping.instance instance in

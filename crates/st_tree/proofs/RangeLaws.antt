@@ -4,20 +4,21 @@ use Rattle.std.specs.Prelude.{Option, Some, None, option_and_then, if◌then◌e
 use Rattle.std.specs.Ordering.{int_eq}
 use Rattle.std.proofs.lemmas.Int.{ints}
 use Rattle.std.proofs.Math.Nat.{div-mul-le_self}
+use Rattle.plant_types.specs.declared.values.Bounds.{Bounds}
 use Rattle.plant_types.specs.declared.values.Kind.{Kind}
 use Rattle.plant_types.specs.declared.values.Kind.TheVariants as kind
-use Rattle.plant_types.specs.declared.values.Trap.TheVariants.{Overflow, DivZero}
-use Rattle.plant_types.specs.Values.{kind_of, truth, is_true, is_in_range, worth}
+use Rattle.plant_types.specs.declared.values.Trap.TheVariants.{Overflow, DivZero, Index}
+use Rattle.plant_types.specs.Values.{kind_of, truth, is_true, is_in_range, worth, has_index, indexed}
 use Rattle.st_tree.specs.declared.tree.Literal.{Literal}
 use Rattle.st_tree.specs.declared.tree.Literal.TheVariants.{Integer, Value}
 use Rattle.st_tree.specs.declared.tree.Unary.{Unary}
 use Rattle.st_tree.specs.declared.tree.Unary.TheVariants.{Not, Negate, NegateTime}
 use Rattle.st_tree.specs.declared.tree.Binary.{Binary}
 use Rattle.st_tree.specs.declared.tree.Binary.TheVariants.{And, Xor, Or, Equal, Unequal, Less, Greater, AtMost, AtLeast, Add, AddTime, Subtract, SubtractTime, Multiply, Divide, Mod}
-use Rattle.st_tree.specs.Plain.{PlainExpr, literal, read, output_of, unary, binary}
+use Rattle.st_tree.specs.Plain.{PlainExpr, literal, read, output_of, element, unary, binary}
 use Rattle.st_tree.specs.Operators.{Outcome, exactly_one, ranged, dint, verdict, remainder, eval_unary, eval_binary}
 use Rattle.st_tree.specs.Meaning.{literal_worth, then_one, then_two, ValuesOf, value_of}
-use Rattle.st_tree.specs.Kinds.{literal_in_range, same_kind, literal_kind, unary_kind, binary_kind, Sorts, kind_of_expr, of_truths, of_numbers, of_times, of_sums, of_order}
+use Rattle.st_tree.specs.Kinds.{literal_in_range, same_kind, literal_kind, unary_kind, binary_kind, Sorts, is_kind, kind_of_expr, of_truths, of_numbers, of_times, of_sums, of_order}
 use Rattle.st_tree.specs.Ranges.{AreInRange}
 
 -- a number is in the range of a kind
@@ -147,6 +148,12 @@ pub literal_in : (l : Literal) (k : Kind) (n : ℤ) → literal_in_range l ≡ t
 literal_in (Integer m) k n fits is gives = subst (InRange k) gives (to kind.Dint k m is fits)
 literal_in (Value v) k n fits is gives = subst (InRange k) gives (to (kind_of v) k (worth v) is fits)
 
+-- an element whose index is within the bounds
+index_case : (b : Bool) (bounds : Bounds) (m : ℤ) (k : Kind) (n : ℤ) (value : ℤ → ℤ) → has_index bounds m ≡ b → (has_index bounds m ≡ true → InRange k (value m))
+    → then_one (if b then Ok m else Err Index) (λ i. Ok (value i)) ≡ Ok n → InRange k n
+index_case true bounds m k n value is each gives = subst (InRange k) (let e : value m ≡ n = cc in e) (each is)
+index_case false bounds m k n value is each gives = absurd (cc)
+
 module _ {V : Type 0} (sorts : Sorts V) (values : ValuesOf V) (within : AreInRange sorts values) where
   unary_case : (op : Unary) (p : Option Kind) (o : Outcome) (k : Kind) (n : ℤ) → option_and_then (unary_kind op) p ≡ Some k → then_one o (eval_unary op) ≡ Ok n → InRange k n
   unary_case op None o k n is gives = absurd (cc)
@@ -165,10 +172,18 @@ module _ {V : Type 0} (sorts : Sorts V) (values : ValuesOf V) (within : AreInRan
   literal_case true l k n fits is gives = literal_in l k n fits (cc) gives
   literal_case false l k n fits is gives = absurd (cc)
 
+  element_case : (b : Bool) (p : Option Kind) (bounds : Bounds) (o : Outcome) (k : Kind) (n : ℤ) (value : ℤ → ℤ) → ((i : ℤ) → p ≡ Some k → has_index bounds i ≡ true → InRange k (value i))
+      → (if b then p else None) ≡ Some k → then_one (then_one o (indexed bounds)) (λ i. Ok (value i)) ≡ Ok n → InRange k n
+  element_case false p bounds o k n value each is gives = absurd (cc)
+  element_case true p bounds (Err trap) k n value each is gives = absurd (cc)
+  element_case true p bounds (Ok m) k n value each is gives = index_case (has_index bounds m) bounds m k n value refl (λ w. each m is w) gives
+
   pub value_in_range : (e : PlainExpr V) (k : Kind) (n : ℤ) → kind_of_expr sorts e ≡ Some k → value_of values e ≡ Ok n → InRange k n
   value_in_range (literal l) k n is gives = literal_case (literal_in_range l) l k n refl is (cc)
   value_in_range (read v) k n is gives = subst (InRange k) (cc) (within.variable_in v k is)
   value_in_range (output_of instance name) k n is gives = subst (InRange k) (cc) (within.output_in instance name k is)
+  value_in_range (element v bounds index) k n is gives =
+      element_case (is_kind kind.Dint (kind_of_expr sorts index)) (sorts.element v bounds) bounds (value_of values index) k n (values.element v bounds) (λ i e. within.element_in v bounds i k e) is gives
   value_in_range (unary op a) k n is gives = unary_case op (kind_of_expr sorts a) (value_of values a) k n is gives
   value_in_range (binary op a b) k n is gives =
       binary_case op (kind_of_expr sorts a) (kind_of_expr sorts b) (value_of values a) (value_of values b) k n (λ j x i g. value_in_range a j x i g) is gives

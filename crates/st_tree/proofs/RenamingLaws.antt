@@ -2,8 +2,8 @@
 use Rattle.std.proofs.Common.{◌≡◌, refl, ap, true}
 use Rattle.std.specs.Prelude.{◌&&◌, List, [], ◌∷◌, Option, Some, None}
 use Rattle.std.specs.List.{list_all}
-use Rattle.st_tree.specs.Plain.{PlainExpr, literal, read, output_of, unary, binary, PlainArgument, input, output}
-use Rattle.st_tree.specs.Plain.{PlainStmt, empty, assign, call, if_else, case_of, for_to, PlainBody, done, next, Branches, no_branch, branch, Choices, no_choice, choice}
+use Rattle.st_tree.specs.Plain.{PlainExpr, literal, read, output_of, element, unary, binary, PlainArgument, input, output}
+use Rattle.st_tree.specs.Plain.{PlainStmt, empty, assign, store, call, if_else, case_of, for_to, PlainBody, done, next, Branches, no_branch, branch, Choices, no_choice, choice}
 use Rattle.st_tree.specs.Meaning.{Space, Ran, Done, Trapped, run_all}
 use Rattle.st_tree.specs.Mapping.{mapped_body, identity, renaming, all_known, expr_known, option_known, argument_known, stmt_known, body_known, branches_known, choices_known}
 use Rattle.st_tree.specs.Alike.{Agree, renamed_space, renamed_context}
@@ -16,6 +16,7 @@ module _ {V : Type 0} where
   expr_all (literal n) = refl
   expr_all (read v) = refl
   expr_all (output_of instance name) = refl
+  expr_all (element v bounds index) = expr_all index
   expr_all (unary op a) = expr_all a
   expr_all (binary op a b) = λ i. expr_all a i && expr_all b i
 
@@ -35,6 +36,7 @@ module _ {V : Type 0} where
     stmt_all : (s : PlainStmt V) → stmt_known all_known s ≡ true
     stmt_all (empty number) = refl
     stmt_all (assign number v e) = expr_all e
+    stmt_all (store number v bounds index value) = λ i. expr_all index i && expr_all value i
     stmt_all (call number instance arguments) = arguments_all instance arguments
     stmt_all (if_else number branches last) = λ i. branches_all branches i && body_all last i
     stmt_all (case_of number e choices last) = λ i. expr_all e i && (choices_all choices i && body_all last i)
@@ -72,6 +74,8 @@ module _ {V W A : Type 0} (f : V → W) (space : Space W A) where
     path_is = refl;
     variable_is = λ v a b is same. ap (λ w. space.get w (f v)) same;
     put_matches = λ v n a b is same. ap (λ w. space.put w (f v) n) same;
+    element_is = λ v bounds i a b is within same. ap (λ w. space.get_at w (f v) bounds i) same;
+    put_at_matches = λ v bounds i n a b is within same. ap (λ w. space.put_at w (f v) bounds i n) same;
     output_is = λ instance name a b is same. ap (λ w. space.get_output w (f instance) (f name)) same;
     put_input_matches = λ instance name n a b is same. ap (λ w. space.put_input w (f instance) (f name) n) same;
     enter_agrees = λ instance a b is same. is_agree (space.enter a (f instance)) (space.enter b (f instance)) (ap (λ w. space.enter w (f instance)) same);
@@ -83,7 +87,9 @@ module _ {V W A : Type 0} (f : V → W) (space : Space W A) where
   renamed_kept context Holds inv = record {
     variable_in_range = λ w v k holds is. inv.variable_in_range w (f v) k holds is;
     output_in_range = λ w instance name k holds is. inv.output_in_range w (f instance) (f name) k holds is;
+    element_in_range = λ w v bounds i k holds is within. inv.element_in_range w (f v) bounds i k holds is within;
     put_keeps = λ w v k n holds may is fits. inv.put_keeps w (f v) k n holds may is fits;
+    put_at_keeps = λ w v bounds i k n holds is within fits. inv.put_at_keeps w (f v) bounds i k n holds is within fits;
     put_input_keeps = λ w instance name k n holds is_one is fits. inv.put_input_keeps w (f instance) (f name) k n holds is_one is fits;
     enter_keeps = λ w instance holds is_one. inv.enter_keeps w (f instance) holds is_one;
   }

@@ -3,21 +3,22 @@ use Rattle.std.proofs.Common.{◌≡◌, refl, ℕ, ℤ, Bool, true, false, List
 use Rattle.std.specs.Prelude.{Option, Some, Result, Ok, Err, ◌&&◌, if◌then◌else◌}
 use Rattle.std.specs.List.{AllByRecursion, list_all}
 use Rattle.std.proofs.lemmas.Bool.{and_parts}
+use Rattle.plant_types.specs.declared.values.Bounds.{Bounds}
 use Rattle.plant_types.specs.declared.values.Kind.{Kind}
 use Rattle.plant_types.specs.declared.values.Kind.TheVariants as kind
 use Rattle.plant_types.specs.declared.values.Trap.{Trap}
 use Rattle.plant_types.specs.Values.{is_true}
 use Rattle.st_tree.specs.Plain.{PlainExpr, output_of, PlainArgument, input, output}
-use Rattle.st_tree.specs.Plain.{PlainStmt, empty, assign, call, if_else, case_of, for_to, PlainBody, done, next, Branches, no_branch, branch, Choices, no_choice, choice}
+use Rattle.st_tree.specs.Plain.{PlainStmt, empty, assign, store, call, if_else, case_of, for_to, PlainBody, done, next, Branches, no_branch, branch, Choices, no_choice, choice}
 use Rattle.st_tree.specs.Operators.{Outcome}
 use Rattle.st_tree.specs.Controls.{control_values, span_of}
 use Rattle.st_tree.specs.Kinds.{is_kind}
 use Rattle.st_tree.specs.Fits.{Context, sorts_of, is_of, option_is_of, fits_option, takes, argument_fits, stmt_fits, all_fit, branches_fit, choices_fit}
 use Rattle.st_tree.specs.Fits.{may_control, stmt_controls_fit, controls_fit, branches_controls_fit, choices_controls_fit}
-use Rattle.st_tree.specs.Meaning.{Spot, Space, Ran, Done, Trapped, then_run, with_value, turns, labels_fit, Chosen, Took, Passed, or_else, on_test, statement_spot, values_in, outcome, step_of, take_inputs, give_outputs, run, run_all, first_true, first_fit}
+use Rattle.st_tree.specs.Meaning.{Spot, Space, Ran, Done, Trapped, then_run, with_value, turns, labels_fit, Chosen, Took, Passed, or_else, on_test, statement_spot, values_in, outcome, index_of, step_of, take_inputs, give_outputs, run, run_all, first_true, first_fit}
 use Rattle.st_tree.specs.Ranges.{Leaves, AreInRange, IsInvariant}
 use Rattle.st_tree.proofs.RangeLaws.{InRange}
-use Rattle.st_tree.proofs.FittedLaws.{kind_is, span_ends, value_in, fitted_in}
+use Rattle.st_tree.proofs.FittedLaws.{kind_is, span_ends, index_within, value_in, fitted_in}
 use Rattle.st_tree.proofs.ControlRangeLaws.{control_values_in_range}
 
 module _ {V W : Type 0} (context : Context V) (space : Space V W) (Holds : W → Type 0) (inv : IsInvariant context space Holds) where
@@ -27,7 +28,11 @@ module _ {V W : Type 0} (context : Context V) (space : Space V W) (Holds : W →
 
   -- the values that are read in a world are in the ranges of their kinds
   values_within : (w : W) → Holds w → AreInRange (sorts_of context) (values_in space w)
-  values_within w holds = record { variable_in = λ v k. inv.variable_in_range w v k holds; output_in = λ instance name k. inv.output_in_range w instance name k holds }
+  values_within w holds = record {
+    variable_in = λ v k. inv.variable_in_range w v k holds;
+    output_in = λ instance name k. inv.output_in_range w instance name k holds;
+    element_in = λ v bounds i k. inv.element_in_range w v bounds i k holds;
+  }
 
   -- the value of an expression of a kind
   outcome_in : (w : W) (e : PlainExpr V) (k : Kind) (n : ℤ) → Holds w → is_of context k e ≡ true → outcome space w e ≡ Ok n → InRange k n
@@ -39,12 +44,17 @@ module _ {V W : Type 0} (context : Context V) (space : Space V W) (Holds : W →
   outcome_fits o e w n holds fits gives =
       fitted_in context (values_in space w) (values_within w holds) o e n fits gives
 
-  -- an assignment that fits keeps the invariant, and so does an input of a call
+  -- an assignment that fits keeps the invariant, and so do one of an element and an input of a call
   taken : (v : V) (e : PlainExpr V) (w : W) (n : ℤ) → Holds w → takes context v e ≡ true → outcome space w e ≡ Ok n → Holds (space.put w v n)
   taken v e w n holds fits gives =
       let parts = and_parts (context.may_assign v) (fits_option context (context.variable_kind v) e) fits in
       let f = outcome_fits (context.variable_kind v) e w n holds parts.1 gives in
       inv.put_keeps w v f.0 n holds parts.0 f.1 f.2
+
+  stored : (v : V) (bounds : Bounds) (index e : PlainExpr V) (w : W) (i n : ℤ) → Holds w → fits_option context (context.element_kind v bounds) e ≡ true → index_of space w bounds index ≡ Ok i → outcome space w e ≡ Ok n → Holds (space.put_at w v bounds i n)
+  stored v bounds index e w i n holds fits told gives =
+      let f = outcome_fits (context.element_kind v bounds) e w n holds fits gives in
+      inv.put_at_keeps w v bounds i f.0 n holds f.1 (index_within bounds (outcome space w index) i told) f.2
 
   put_input_fits : (instance name : V) (e : PlainExpr V) (w : W) (n : ℤ) → Holds w → context.is_instance instance ≡ true → fits_option context (context.input_kind instance name) e ≡ true → outcome space w e ≡ Ok n
       → Holds (space.put_input w instance name n)
@@ -102,6 +112,11 @@ module _ {V W : Type 0} (context : Context V) (space : Space V W) (Holds : W →
     run_keeps (empty number) w fits may holds = holds
     run_keeps (assign number v e) w fits may holds =
         after_value w (statement_spot space number) (outcome space w e) (λ n. Done (space.put w v n)) holds (λ n gives. taken v e w n holds fits gives)
+    run_keeps (store number v bounds index value) w fits may holds =
+        let f = and_parts (is_of context kind.Dint index) (fits_option context (context.element_kind v bounds) value) fits in
+        after_value w (statement_spot space number) (index_of space w bounds index) (λ i. with_value w (statement_spot space number) (outcome space w value) (λ n. Done (space.put_at w v bounds i n))) holds
+        (λ i told. after_value w (statement_spot space number) (outcome space w value) (λ n. Done (space.put_at w v bounds i n)) holds
+        (λ n gives. stored v bounds index value w i n holds f.1 told gives))
     run_keeps (call number instance arguments) w fits may holds =
         let f = and_parts (context.is_instance instance) (list_all (argument_fits context instance) arguments) fits in
         after_run (then_run (take_inputs space number instance arguments w) (λ u. space.enter u instance)) (λ u. Done (give_outputs space instance arguments u))

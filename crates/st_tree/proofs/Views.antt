@@ -3,6 +3,7 @@ use Rattle.std.proofs.Common.{◌≡◌, ℕ, List, [], ◌∷◌, ◌++◌, ◌
 use Rattle.std.proofs.lemmas.List.{take_more, map_push}
 use Rattle.std.specs.Prelude.{Box, Vec, Option}
 use Rattle.std.specs.declared.alloc.Global.{Global}
+use Rattle.plant_types.specs.declared.values.Bounds.{Bounds}
 use Rattle.st_tree.specs.declared.tree.Unary.{Unary}
 use Rattle.st_tree.specs.declared.tree.Binary.{Binary}
 use Rattle.st_tree.specs.declared.tree.Label.{Label}
@@ -11,13 +12,13 @@ use Rattle.st_tree.specs.declared.tree.Argument.{Argument}
 use Rattle.st_tree.specs.declared.tree.Expr.{Expr, fold-roll-Expr}
 use Rattle.st_tree.specs.declared.tree.Expr.TheOpen.{Expr-F}
 use Rattle.st_tree.specs.declared.tree.Expr.TheVariants as expr
-use Rattle.st_tree.specs.declared.tree.Expr.TheVariants.{rolls-Literal, rolls-Read, rolls-Output, rolls-Unary, rolls-Binary}
+use Rattle.st_tree.specs.declared.tree.Expr.TheVariants.{rolls-Literal, rolls-Read, rolls-Output, rolls-Element, rolls-Unary, rolls-Binary}
 use Rattle.st_tree.specs.declared.tree.Branch.{Branch, roll-Branch, fold-roll-Branch, fold_out-Branch}
 use Rattle.st_tree.specs.declared.tree.Choice.{Choice, roll-Choice, fold-roll-Choice, fold_out-Choice}
-use Rattle.st_tree.specs.declared.tree.Stmt.{Stmt, Empty, Assign, Call, If, Case, For, fold-roll-Stmt}
+use Rattle.st_tree.specs.declared.tree.Stmt.{Stmt, Empty, Assign, Store, Call, If, Case, For, fold-roll-Stmt}
 use Rattle.st_tree.specs.declared.tree.Stmt.TheOpen.{Stmt-F}
-use Rattle.st_tree.specs.declared.tree.Stmt.TheVariants.{rolls-Empty, rolls-Assign, rolls-Call, rolls-If, rolls-Case, rolls-For}
-use Rattle.st_tree.specs.Plain.{PlainExpr, literal, read, output_of, unary, binary, PlainStmt, PlainBody, empty, assign, call, if_else, case_of, for_to}
+use Rattle.st_tree.specs.declared.tree.Stmt.TheVariants.{rolls-Empty, rolls-Assign, rolls-Store, rolls-Call, rolls-If, rolls-Case, rolls-For}
+use Rattle.st_tree.specs.Plain.{PlainExpr, literal, read, output_of, element, unary, binary, PlainStmt, PlainBody, empty, assign, store, call, if_else, case_of, for_to}
 use Rattle.st_tree.specs.View.{view_expr_step, view_step, view_branch_step, view_choice_step, view_expr, view_option, view_argument, view_stmt, view_body, view_branch, view_branches, view_choice, view_choices}
 
 module _ {V : Type 0} where
@@ -29,6 +30,9 @@ module _ {V : Type 0} where
 
   pub view_expr-Output : (instance name : V) → view_expr (expr.Output instance name) ≡ output_of instance name
   view_expr-Output instance name = ap view_expr (sym (rolls-Output instance name)) ∙ fold-roll-Expr V (PlainExpr V) view_expr_step (Expr-F.Output instance name)
+
+  pub view_expr-Element : (v : V) (bounds : Bounds) (index : Box (Expr V) Global) → view_expr (expr.Element v bounds index) ≡ element v bounds (view_expr index.value)
+  view_expr-Element v bounds index = ap view_expr (sym (rolls-Element v bounds index)) ∙ fold-roll-Expr V (PlainExpr V) view_expr_step (Expr-F.Element v bounds index)
 
   pub view_expr-Unary : (op : Unary) (a : Box (Expr V) Global) → view_expr (expr.Unary op a) ≡ unary op (view_expr a.value)
   view_expr-Unary op a = ap view_expr (sym (rolls-Unary op a)) ∙ fold-roll-Expr V (PlainExpr V) view_expr_step (Expr-F.Unary op a)
@@ -43,6 +47,11 @@ module _ {V : Type 0} where
   pub view_stmt-Assign : (number : ℕ) (v : V) (e : Expr V) → view_stmt (Assign number v e) ≡ assign number v (view_expr e)
   view_stmt-Assign number v e =
       ap view_stmt (sym (rolls-Assign number v e)) ∙ fold-roll-Stmt V (PlainStmt V) (PlainExpr V × PlainBody V) (List Label × PlainBody V) view_step view_branch_step view_choice_step (Stmt-F.Assign number v e)
+
+  pub view_stmt-Store : (number : ℕ) (v : V) (bounds : Bounds) (index value : Expr V) → view_stmt (Store number v bounds index value) ≡ store number v bounds (view_expr index) (view_expr value)
+  view_stmt-Store number v bounds index value =
+      ap view_stmt (sym (rolls-Store number v bounds index value))
+      ∙ fold-roll-Stmt V (PlainStmt V) (PlainExpr V × PlainBody V) (List Label × PlainBody V) view_step view_branch_step view_choice_step (Stmt-F.Store number v bounds index value)
 
   pub view_stmt-Call : (number : ℕ) (v : V) (arguments : Vec (Argument V) Global) → view_stmt (Call number v arguments) ≡ call number v (map view_argument arguments.items)
   view_stmt-Call number v arguments =

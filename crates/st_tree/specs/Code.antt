@@ -3,6 +3,7 @@ use Rattle.std.specs.Prelude.{◌≡◌, ℕ, zero, suc, ℤ, pos, negsuc, true,
 use Rattle.std.specs.Coded.{Coded, code_by}
 use Rattle.std.proofs.Common.{ap}
 use base.Stored.{Gv, gnil, gnum, gcons, num}
+use Rattle.plant_types.specs.declared.values.Bounds.{Bounds}
 use Rattle.plant_types.specs.declared.values.Value.{Value}
 use Rattle.plant_types.specs.declared.values.Value.TheVariants as value
 use Rattle.st_tree.specs.declared.tree.Literal.{Literal}
@@ -12,8 +13,8 @@ use Rattle.st_tree.specs.declared.tree.Unary.{Unary}
 use Rattle.st_tree.specs.declared.tree.Unary.TheVariants.{Not, Negate, NegateTime}
 use Rattle.st_tree.specs.declared.tree.Binary.{Binary}
 use Rattle.st_tree.specs.declared.tree.Binary.TheVariants.{And, Xor, Or, Equal, Unequal, Less, Greater, AtMost, AtLeast, Add, AddTime, Subtract, SubtractTime, Multiply, Divide, Mod}
-use Rattle.st_tree.specs.Plain.{PlainExpr, literal, read, output_of, unary, binary, PlainArgument, input, output}
-use Rattle.st_tree.specs.Plain.{PlainStmt, empty, assign, call, if_else, case_of, for_to, PlainBody, done, next, Branches, no_branch, branch, Choices, no_choice, choice}
+use Rattle.st_tree.specs.Plain.{PlainExpr, literal, read, output_of, element, unary, binary, PlainArgument, input, output}
+use Rattle.st_tree.specs.Plain.{PlainStmt, empty, assign, store, call, if_else, case_of, for_to, PlainBody, done, next, Branches, no_branch, branch, Choices, no_choice, choice}
 
 abbrev gv_code : Coded Gv
 gv_code = record { code = λ g. g; inj = λ x y p. p }
@@ -124,6 +125,16 @@ label_out _ = record { low = pos 0; high = pos 0 }
 pub label_back : (label : Label) → label_out (label_in label) ≡ label
 label_back label = λ i. record { low = whole_back label.low i; high = whole_back label.high i }
 
+abbrev bounds_in : Bounds → Gv
+bounds_in bounds = gcons (whole_in bounds.low) (whole_in bounds.high)
+
+abbrev bounds_out : Gv → Bounds
+bounds_out (gcons a b) = record { low = whole_out a; high = whole_out b }
+bounds_out _ = record { low = pos 0; high = pos 0 }
+
+pub bounds_back : (bounds : Bounds) → bounds_out (bounds_in bounds) ≡ bounds
+bounds_back bounds = λ i. record { low = whole_back bounds.low i; high = whole_back bounds.high i }
+
 abbrev value_in : Value → Gv
 value_in (value.Bool false) = gnil
 value_in (value.Bool true) = gnum 0
@@ -161,13 +172,15 @@ expr_in (read v) = gcons (gnum 1) (name_in v)
 expr_in (output_of instance name) = gcons (gnum 2) (gcons (name_in instance) (name_in name))
 expr_in (unary op a) = gcons (gnum 3) (gcons (unary_in op) (expr_in a))
 expr_in (binary op a b) = gcons (gnum 4) (gcons (binary_in op) (gcons (expr_in a) (expr_in b)))
+expr_in (element v bounds index) = gcons (gnum 5) (gcons (name_in v) (gcons (bounds_in bounds) (expr_in index)))
 
 abbrev expr_out : Gv → PlainExpr (List ℕ)
 expr_out (gcons (gnum zero) n) = literal (literal_out n)
 expr_out (gcons (gnum (suc zero)) v) = read (name_out v)
 expr_out (gcons (gnum (suc (suc zero))) (gcons instance name)) = output_of (name_out instance) (name_out name)
 expr_out (gcons (gnum (suc (suc (suc zero)))) (gcons op a)) = unary (unary_out op) (expr_out a)
-expr_out (gcons (gnum (suc (suc (suc (suc n))))) (gcons op (gcons a b))) = binary (binary_out op) (expr_out a) (expr_out b)
+expr_out (gcons (gnum (suc (suc (suc (suc zero))))) (gcons op (gcons a b))) = binary (binary_out op) (expr_out a) (expr_out b)
+expr_out (gcons (gnum (suc (suc (suc (suc (suc n)))))) (gcons v (gcons bounds index))) = element (name_out v) (bounds_out bounds) (expr_out index)
 expr_out _ = read []
 
 pub expr_back : (e : PlainExpr (List ℕ)) → expr_out (expr_in e) ≡ e
@@ -176,6 +189,7 @@ expr_back (read v) = ap read (name_back v)
 expr_back (output_of instance name) = λ i. output_of (name_back instance i) (name_back name i)
 expr_back (unary op a) = λ i. unary (unary_back op i) (expr_back a i)
 expr_back (binary op a b) = λ i. binary (binary_back op i) (expr_back a i) (expr_back b i)
+expr_back (element v bounds index) = λ i. element (name_back v i) (bounds_back bounds i) (expr_back index i)
 
 abbrev option_in : Option (PlainExpr (List ℕ)) → Gv
 option_in None = gnil
@@ -218,6 +232,7 @@ abbrev mutual
   stmt_in : PlainStmt (List ℕ) → Gv
   stmt_in (empty n) = gcons (gnum 0) (gnum n)
   stmt_in (assign n v e) = gcons (gnum 1) (gcons (gnum n) (gcons (name_in v) (expr_in e)))
+  stmt_in (store n v bounds index value) = gcons (gnum 6) (gcons (gnum n) (gcons (name_in v) (gcons (bounds_in bounds) (gcons (expr_in index) (expr_in value)))))
   stmt_in (call n v arguments) = gcons (gnum 2) (gcons (gnum n) (gcons (name_in v) (arguments_in arguments)))
   stmt_in (if_else n branches last) = gcons (gnum 3) (gcons (gnum n) (gcons (branches_in branches) (body_in last)))
   stmt_in (case_of n e choices last) = gcons (gnum 4) (gcons (gnum n) (gcons (expr_in e) (gcons (choices_in choices) (body_in last))))
@@ -242,8 +257,9 @@ abbrev mutual
   stmt_out (gcons (gnum (suc (suc zero))) (gcons n (gcons v arguments))) = call (num n) (name_out v) (arguments_out arguments)
   stmt_out (gcons (gnum (suc (suc (suc zero)))) (gcons n (gcons branches last))) = if_else (num n) (branches_out branches) (body_out last)
   stmt_out (gcons (gnum (suc (suc (suc (suc zero))))) (gcons n (gcons e (gcons choices last)))) = case_of (num n) (expr_out e) (choices_out choices) (body_out last)
-  stmt_out (gcons (gnum (suc (suc (suc (suc (suc form)))))) (gcons n (gcons v (gcons from (gcons to (gcons by body)))))) =
+  stmt_out (gcons (gnum (suc (suc (suc (suc (suc zero)))))) (gcons n (gcons v (gcons from (gcons to (gcons by body)))))) =
       for_to (num n) (name_out v) (expr_out from) (expr_out to) (option_out by) (body_out body)
+  stmt_out (gcons (gnum (suc (suc (suc (suc (suc (suc form))))))) (gcons n (gcons v (gcons bounds (gcons index value))))) = store (num n) (name_out v) (bounds_out bounds) (expr_out index) (expr_out value)
   stmt_out _ = empty 0
 
   body_out : Gv → PlainBody (List ℕ)
@@ -262,6 +278,7 @@ mutual
   pub stmt_back : (s : PlainStmt (List ℕ)) → stmt_out (stmt_in s) ≡ s
   stmt_back (empty n) = refl
   stmt_back (assign n v e) = λ i. assign n (name_back v i) (expr_back e i)
+  stmt_back (store n v bounds index value) = λ i. store n (name_back v i) (bounds_back bounds i) (expr_back index i) (expr_back value i)
   stmt_back (call n v arguments) = λ i. call n (name_back v i) (list_back argument_in argument_out argument_back arguments i)
   stmt_back (if_else n branches last) = λ i. if_else n (branches_back branches i) (body_back last i)
   stmt_back (case_of n e choices last) = λ i. case_of n (expr_back e i) (choices_back choices i) (body_back last i)

@@ -1,13 +1,14 @@
 -- What a body costs, and how large it is, by cases on the plain tree: what the limits on a source's size and on a scan's steps count.
 use Rattle.std.specs.Prelude.{ℕ, ◌+◌, ◌*◌, max, List, [], ◌∷◌, length, Option}
-use Rattle.st_tree.specs.Plain.{PlainExpr, literal, read, output_of, unary, binary, PlainArgument, input, output}
-use Rattle.st_tree.specs.Plain.{PlainStmt, empty, assign, call, if_else, case_of, for_to, PlainBody, done, next, Branches, no_branch, branch, Choices, no_choice, choice}
+use Rattle.st_tree.specs.Plain.{PlainExpr, literal, read, output_of, element, unary, binary, PlainArgument, input, output}
+use Rattle.st_tree.specs.Plain.{PlainStmt, empty, assign, store, call, if_else, case_of, for_to, PlainBody, done, next, Branches, no_branch, branch, Choices, no_choice, choice}
 
--- an expression costs the number of its literals, reads and operators
+-- an expression costs the number of its literals, reads and operators; an element costs 2 and its index
 abbrev pub expr_cost : {V : Type 0} → PlainExpr V → ℕ
 expr_cost (literal n) = 1
 expr_cost (read v) = 1
 expr_cost (output_of instance name) = 1
+expr_cost (element v bounds index) = 2 + expr_cost index
 expr_cost (unary op a) = 1 + expr_cost a
 expr_cost (binary op a b) = 1 + expr_cost a + expr_cost b
 
@@ -34,6 +35,7 @@ module _ {V : Type 0} (join : ℕ → ℕ → ℕ) (turns : PlainExpr V → Plai
     pub weight : PlainStmt V → ℕ
     weight (empty number) = 1
     weight (assign number v e) = 1 + expr_cost e
+    weight (store number v bounds index value) = 2 + expr_cost index + expr_cost value
     weight (call number instance arguments) = 1 + arguments_cost arguments + called instance
     weight (if_else number branches last) = 1 + tests_cost branches + join (branches_weight branches) (weight_all last)
     weight (case_of number e choices last) = 1 + expr_cost e + labels_cost choices + join (choices_weight choices) (weight_all last)

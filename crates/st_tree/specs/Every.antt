@@ -1,6 +1,6 @@
 -- A rule for each statement of a body, those inside others too.
 use Rattle.std.specs.Prelude.{Bool, true, ◌&&◌, List, [], ◌∷◌}
-use Rattle.st_tree.specs.Plain.{PlainExpr, PlainStmt, empty, assign, call, if_else, case_of, for_to, PlainBody, done, next, Branches, no_branch, branch, Choices, no_choice, choice}
+use Rattle.st_tree.specs.Plain.{PlainExpr, PlainStmt, empty, assign, store, call, if_else, case_of, for_to, PlainBody, done, next, Branches, no_branch, branch, Choices, no_choice, choice}
 
 -- the tests of an IF
 abbrev pub tests_of : {V : Type 0} → Branches V → List (PlainExpr V)
@@ -18,6 +18,7 @@ module _ {V : Type 0} (rule : PlainStmt V → Bool) where
     pub every_inside : PlainStmt V → Bool
     every_inside (empty number) = true
     every_inside (assign number v e) = true
+    every_inside (store number v bounds index value) = true
     every_inside (call number instance arguments) = true
     every_inside (if_else number branches last) = every_branch branches && every last
     every_inside (case_of number e choices last) = every_choice choices && every last

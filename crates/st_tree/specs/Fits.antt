@@ -1,10 +1,11 @@
 -- Whether each expression of a body has the kind that its place needs, by what is declared of the body's variables and instances.
 use Rattle.std.specs.Prelude.{Bool, true, false, ◌&&◌, Option, Some, None}
 use Rattle.std.specs.List.{list_all}
+use Rattle.plant_types.specs.declared.values.Bounds.{Bounds}
 use Rattle.plant_types.specs.declared.values.Kind.{Kind}
 use Rattle.plant_types.specs.declared.values.Kind.TheVariants as kind
 use Rattle.st_tree.specs.Plain.{PlainExpr, output_of, PlainArgument, input, output}
-use Rattle.st_tree.specs.Plain.{PlainStmt, empty, assign, call, if_else, case_of, for_to, PlainBody, done, next, Branches, no_branch, branch, Choices, no_choice, choice}
+use Rattle.st_tree.specs.Plain.{PlainStmt, empty, assign, store, call, if_else, case_of, for_to, PlainBody, done, next, Branches, no_branch, branch, Choices, no_choice, choice}
 use Rattle.st_tree.specs.Kinds.{Sorts, kind_of_expr, is_kind, fits_kind}
 
 -- what is declared of the variables and instances of a body
@@ -16,11 +17,13 @@ pub record Context (V : Type 0) : Type 0 where
   pub is_instance : V → Bool
   pub input_kind : V → V → Option Kind
   pub output_kind : V → V → Option Kind
+  -- the kind of an array's elements, if there is such an array with these bounds
+  pub element_kind : V → Bounds → Option Kind
 
 module _ {V : Type 0} (context : Context V) where
   -- the kinds that an expression knows of
   abbrev pub sorts_of : Sorts V
-  sorts_of = record { variable = context.variable_kind; output = context.output_kind }
+  sorts_of = record { variable = context.variable_kind; output = context.output_kind; element = context.element_kind }
 
   -- an expression is of a kind
   abbrev pub is_of : Kind → PlainExpr V → Bool
@@ -50,6 +53,7 @@ module _ {V : Type 0} (context : Context V) where
     pub stmt_fits : PlainStmt V → Bool
     stmt_fits (empty number) = true
     stmt_fits (assign number v e) = takes v e
+    stmt_fits (store number v bounds index value) = is_of kind.Dint index && fits_option (context.element_kind v bounds) value
     stmt_fits (call number instance arguments) = context.is_instance instance && list_all (argument_fits instance) arguments
     stmt_fits (if_else number branches last) = branches_fit branches && all_fit last
     stmt_fits (case_of number e choices last) = is_of kind.Dint e && (choices_fit choices && all_fit last)
@@ -76,6 +80,7 @@ module _ {V : Type 0} (context : Context V) where
     pub stmt_controls_fit : PlainStmt V → Bool
     stmt_controls_fit (empty number) = true
     stmt_controls_fit (assign number v e) = true
+    stmt_controls_fit (store number v bounds index value) = true
     stmt_controls_fit (call number instance arguments) = true
     stmt_controls_fit (if_else number branches last) = branches_controls_fit branches && controls_fit last
     stmt_controls_fit (case_of number e choices last) = choices_controls_fit choices && controls_fit last

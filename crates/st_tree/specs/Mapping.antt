@@ -1,12 +1,14 @@
 -- Bodies with other names in the places of their own: a variable's, an instance's, and those of an instance's inputs and outputs.
 use Rattle.std.specs.Prelude.{Bool, true, ◌&&◌, Option, Some, None, map}
 use Rattle.std.specs.List.{list_all}
-use Rattle.st_tree.specs.Plain.{PlainExpr, literal, read, output_of, unary, binary, PlainArgument, input, output}
-use Rattle.st_tree.specs.Plain.{PlainStmt, empty, assign, call, if_else, case_of, for_to, PlainBody, done, next, Branches, no_branch, branch, Choices, no_choice, choice}
+use Rattle.plant_types.specs.declared.values.Bounds.{Bounds}
+use Rattle.st_tree.specs.Plain.{PlainExpr, literal, read, output_of, element, unary, binary, PlainArgument, input, output}
+use Rattle.st_tree.specs.Plain.{PlainStmt, empty, assign, store, call, if_else, case_of, for_to, PlainBody, done, next, Branches, no_branch, branch, Choices, no_choice, choice}
 
 -- what stands in the place of each name
 pub record Mapping (V W : Type 0) : Type 0 where
   pub variable : V → W
+  pub array : V → W
   pub instance : V → W
   -- the name of an instance's input and that of an instance's output
   pub input_name : (instance name : V) → W
@@ -19,6 +21,7 @@ module _ {V W : Type 0} (mapping : Mapping V W) where
   mapped_expr (literal n) = literal n
   mapped_expr (read v) = read (mapping.variable v)
   mapped_expr (output_of instance name) = output_of (mapping.instance instance) (mapping.output_name instance name)
+  mapped_expr (element v bounds index) = element (mapping.array v) bounds (mapped_expr index)
   mapped_expr (unary op a) = mapping.node (unary op (mapped_expr a))
   mapped_expr (binary op a b) = mapping.node (binary op (mapped_expr a) (mapped_expr b))
 
@@ -37,6 +40,7 @@ module _ {V W : Type 0} (mapping : Mapping V W) where
     pub mapped_stmt : PlainStmt V → PlainStmt W
     mapped_stmt (empty number) = empty number
     mapped_stmt (assign number v e) = assign number (mapping.variable v) (mapped_expr e)
+    mapped_stmt (store number v bounds index value) = store number (mapping.array v) bounds (mapped_expr index) (mapped_expr value)
     mapped_stmt (call number instance arguments) = call number (mapping.instance instance) (map (mapped_argument instance) arguments)
     mapped_stmt (if_else number branches last) = if_else number (mapped_branches branches) (mapped_body last)
     mapped_stmt (case_of number e choices last) = case_of number (mapped_expr e) (mapped_choices choices) (mapped_body last)
@@ -56,22 +60,23 @@ module _ {V W : Type 0} (mapping : Mapping V W) where
 
 -- the mapping that changes nothing
 abbrev pub identity : {V : Type 0} → Mapping V V
-identity = record { variable = λ v. v; instance = λ v. v; input_name = λ instance name. name; output_name = λ instance name. name; node = λ e. e }
+identity = record { variable = λ v. v; array = λ v. v; instance = λ v. v; input_name = λ instance name. name; output_name = λ instance name. name; node = λ e. e }
 
 -- the mapping that puts one name in the place of each, whatever it is the name of
 abbrev pub renaming : {V W : Type 0} → (V → W) → Mapping V W
-renaming f = record { variable = f; instance = f; input_name = λ instance name. f name; output_name = λ instance name. f name; node = λ e. e }
+renaming f = record { variable = f; array = f; instance = f; input_name = λ instance name. f name; output_name = λ instance name. f name; node = λ e. e }
 
--- which names are known: those of variables, of instances, and of the inputs and outputs of an instance
+-- which names are known: those of variables, of arrays with bounds, of instances, and of the inputs and outputs of an instance
 pub record Known (V : Type 0) : Type 0 where
   pub has_variable : V → Bool
+  pub has_array : V → Bounds → Bool
   pub has_instance : V → Bool
   pub has_input : (instance name : V) → Bool
   pub has_output : (instance name : V) → Bool
 
 -- each name is known
 abbrev pub all_known : {V : Type 0} → Known V
-all_known = record { has_variable = λ v. true; has_instance = λ v. true; has_input = λ instance name. true; has_output = λ instance name. true }
+all_known = record { has_variable = λ v. true; has_array = λ v bounds. true; has_instance = λ v. true; has_input = λ instance name. true; has_output = λ instance name. true }
 
 -- each name that is used is known
 module _ {V : Type 0} (known : Known V) where
@@ -79,6 +84,7 @@ module _ {V : Type 0} (known : Known V) where
   expr_known (literal n) = true
   expr_known (read v) = known.has_variable v
   expr_known (output_of instance name) = known.has_output instance name
+  expr_known (element v bounds index) = known.has_array v bounds && expr_known index
   expr_known (unary op a) = expr_known a
   expr_known (binary op a b) = expr_known a && expr_known b
 
@@ -94,6 +100,7 @@ module _ {V : Type 0} (known : Known V) where
     pub stmt_known : PlainStmt V → Bool
     stmt_known (empty number) = true
     stmt_known (assign number v e) = known.has_variable v && expr_known e
+    stmt_known (store number v bounds index value) = known.has_array v bounds && (expr_known index && expr_known value)
     stmt_known (call number instance arguments) = known.has_instance instance && list_all (argument_known instance) arguments
     stmt_known (if_else number branches last) = branches_known branches && body_known last
     stmt_known (case_of number e choices last) = expr_known e && (choices_known choices && body_known last)

@@ -1,12 +1,14 @@
 -- What an expression and a body mean, by cases on the plain tree.
 use Rattle.std.specs.Prelude.{ℕ, ℤ, pos, int_lt, Bool, false, not, ◌&&◌, ◌||◌, if◌then◌else◌, Option, Some, None, Result, Ok, Err, List, [], ◌∷◌}
+use Rattle.plant_types.specs.declared.values.Bounds.{Bounds}
 use Rattle.plant_types.specs.declared.values.Trap.{Trap}
 use Rattle.plant_types.specs.Values as values
+use Rattle.plant_types.specs.Values.{indexed}
 use Rattle.st_tree.specs.declared.tree.Literal.{Literal}
 use Rattle.st_tree.specs.declared.tree.Literal.TheVariants.{Integer, Value}
 use Rattle.st_tree.specs.declared.tree.Label.{Label}
-use Rattle.st_tree.specs.Plain.{PlainExpr, literal, read, output_of, unary, binary, PlainArgument, input, output}
-use Rattle.st_tree.specs.Plain.{PlainStmt, empty, assign, call, if_else, case_of, for_to, PlainBody, done, next, Branches, no_branch, branch, Choices, no_choice, choice}
+use Rattle.st_tree.specs.Plain.{PlainExpr, literal, read, output_of, element, unary, binary, PlainArgument, input, output}
+use Rattle.st_tree.specs.Plain.{PlainStmt, empty, assign, store, call, if_else, case_of, for_to, PlainBody, done, next, Branches, no_branch, branch, Choices, no_choice, choice}
 use Rattle.st_tree.specs.Operators.{Outcome, eval_unary, eval_binary}
 use Rattle.st_tree.specs.Controls.{control_values, span_of}
 
@@ -23,16 +25,18 @@ then_one (Err trap) f = Err trap
 abbrev pub then_two : Outcome → Outcome → (ℤ → ℤ → Outcome) → Outcome
 then_two a b f = then_one a (λ x. then_one b (f x))
 
--- what an expression reads: the values of variables and of instances' outputs
+-- what an expression reads: the values of variables and of instances' outputs, and those of arrays' elements, by the arrays' bounds and the indexes
 pub record ValuesOf (V : Type 0) : Type 0 where
   pub variable : V → ℤ
   pub output : V → V → ℤ
+  pub element : V → Bounds → ℤ → ℤ
 
--- the outcome of an expression, by the values that it reads
+-- the outcome of an expression, by the values that it reads; the index of an element is tested before the element is read
 abbrev pub value_of : {V : Type 0} → ValuesOf V → PlainExpr V → Outcome
 value_of values (literal n) = Ok (literal_worth n)
 value_of values (read v) = Ok (values.variable v)
 value_of values (output_of instance name) = Ok (values.output instance name)
+value_of values (element v bounds index) = then_one (then_one (value_of values index) (indexed bounds)) (λ n. Ok (values.element v bounds n))
 value_of values (unary op a) = then_one (value_of values a) (eval_unary op)
 value_of values (binary op a b) = then_two (value_of values a) (value_of values b) (eval_binary op)
 
@@ -52,6 +56,9 @@ pub record Space (V W : Type 0) : Type 0 where
   -- a variable's value, and the world after a variable is assigned a value
   pub get : W → V → ℤ
   pub put : W → V → ℤ → W
+  -- the same of an array's element, by the array's bounds and its index
+  pub get_at : W → V → Bounds → ℤ → ℤ
+  pub put_at : W → V → Bounds → ℤ → ℤ → W
   -- the same of an instance's output and of an instance's input
   pub get_output : W → V → V → ℤ
   pub put_input : W → V → V → ℤ → W
@@ -98,11 +105,15 @@ statement_spot space number = record { path = space.path; statement = number }
 
 -- the values that an expression reads in a world
 abbrev pub values_in : {V W : Type 0} → Space V W → W → ValuesOf V
-values_in space w = record { variable = space.get w; output = space.get_output w }
+values_in space w = record { variable = space.get w; output = space.get_output w; element = space.get_at w }
 
 -- the outcome of an expression in a world
 abbrev pub outcome : {V W : Type 0} → Space V W → W → PlainExpr V → Outcome
 outcome space w e = value_of (values_in space w) e
+
+-- the outcome of an index in a world, once it is tested
+abbrev pub index_of : {V W : Type 0} → Space V W → W → Bounds → PlainExpr V → Outcome
+index_of space w bounds index = then_one (outcome space w index) (indexed bounds)
 
 -- the outcome of the step of a FOR, which is 1 where none is written
 abbrev pub step_of : {V W : Type 0} → Space V W → W → Option (PlainExpr V) → Outcome
@@ -127,6 +138,10 @@ abbrev mutual
   pub run : {V W : Type 0} → Space V W → PlainStmt V → W → Ran W
   run space (empty number) w = Done w
   run space (assign number v e) w = with_value w (statement_spot space number) (outcome space w e) (λ n. Done (space.put w v n))
+  -- the index is evaluated and tested first, then the right side is evaluated
+  run space (store number v bounds index value) w =
+      with_value w (statement_spot space number) (index_of space w bounds index) (λ i.
+      with_value w (statement_spot space number) (outcome space w value) (λ n. Done (space.put_at w v bounds i n)))
   run space (call number instance arguments) w =
       then_run (then_run (take_inputs space number instance arguments w) (λ u. space.enter u instance)) (λ u. Done (give_outputs space instance arguments u))
   run space (if_else number branches last) w = or_else (first_true space number branches w) (run_all space last)

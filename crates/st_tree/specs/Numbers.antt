@@ -1,12 +1,13 @@
 -- The numbers of statements, in the order of their first tokens: a statement before those inside it.
 use Rattle.std.specs.Prelude.{ℕ, ◌+◌}
-use Rattle.st_tree.specs.Plain.{PlainStmt, empty, assign, call, if_else, case_of, for_to, PlainBody, done, next, Branches, no_branch, branch, Choices, no_choice, choice}
+use Rattle.st_tree.specs.Plain.{PlainStmt, empty, assign, store, call, if_else, case_of, for_to, PlainBody, done, next, Branches, no_branch, branch, Choices, no_choice, choice}
 
 abbrev mutual
   -- how many statements a statement is, with those inside it
   pub count_stmt : {V : Type 0} → PlainStmt V → ℕ
   count_stmt (empty number) = 1
   count_stmt (assign number v e) = 1
+  count_stmt (store number v bounds index value) = 1
   count_stmt (call number instance arguments) = 1
   count_stmt (if_else number branches last) = 1 + count_branches branches + count_body last
   count_stmt (case_of number e choices last) = 1 + count_choices choices + count_body last
@@ -29,6 +30,7 @@ abbrev mutual
   pub numbered_stmt : {V : Type 0} → ℕ → PlainStmt V → PlainStmt V
   numbered_stmt n (empty number) = empty n
   numbered_stmt n (assign number v e) = assign n v e
+  numbered_stmt n (store number v bounds index value) = store n v bounds index value
   numbered_stmt n (call number instance arguments) = call n instance arguments
   numbered_stmt n (if_else number branches last) = if_else n (numbered_branches (n + 1) branches) (numbered (n + 1 + count_branches branches) last)
   numbered_stmt n (case_of number e choices last) = case_of n e (numbered_choices (n + 1) choices) (numbered (n + 1 + count_choices choices) last)

@@ -1,15 +1,17 @@
 -- Plain expressions and statements: those of the code, without where they are in memory.
 use Rattle.std.specs.Prelude.{ℕ, List, Option}
+use Rattle.plant_types.specs.declared.values.Bounds.{Bounds}
 use Rattle.st_tree.specs.declared.tree.Literal.{Literal}
 use Rattle.st_tree.specs.declared.tree.Unary.{Unary}
 use Rattle.st_tree.specs.declared.tree.Binary.{Binary}
 use Rattle.st_tree.specs.declared.tree.Label.{Label}
 
--- an expression over variables of the type V: a literal, a variable's value, an output of an instance, an operator with its operands
+-- an expression over variables of the type V: a literal, a variable's value, an output of an instance, an element of an array by its index, an operator with its operands
 pub data PlainExpr (V : Type 0) : Type 0 where
   literal : Literal → PlainExpr V
   read : V → PlainExpr V
   output_of : (instance name : V) → PlainExpr V
+  element : V → Bounds → PlainExpr V → PlainExpr V
   unary : Unary → PlainExpr V → PlainExpr V
   binary : Binary → PlainExpr V → PlainExpr V → PlainExpr V
 
@@ -23,6 +25,8 @@ mutual
   pub data PlainStmt (V : Type 0) : Type 0 where
     empty : ℕ → PlainStmt V
     assign : ℕ → V → PlainExpr V → PlainStmt V
+    -- to an element of an array, by its index
+    store : ℕ → V → Bounds → (index value : PlainExpr V) → PlainStmt V
     call : ℕ → V → List (PlainArgument V) → PlainStmt V
     -- IF
     if_else : ℕ → Branches V → PlainBody V → PlainStmt V

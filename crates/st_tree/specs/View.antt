@@ -9,14 +9,15 @@ use Rattle.st_tree.specs.declared.tree.Stmt.{Stmt, fold-Stmt}
 use Rattle.st_tree.specs.declared.tree.Branch.{Branch, fold-Branch}
 use Rattle.st_tree.specs.declared.tree.Choice.{Choice, fold-Choice}
 use Rattle.st_tree.specs.declared.tree.Stmt.TheOpen.{Stmt-F, Branch-F, Choice-F}
-use Rattle.st_tree.specs.Plain.{PlainExpr, literal, read, output_of, unary, binary, PlainArgument, input, output}
-use Rattle.st_tree.specs.Plain.{PlainStmt, empty, assign, call, if_else, case_of, for_to, PlainBody, done, next, Branches, no_branch, branch, Choices, no_choice, choice}
+use Rattle.st_tree.specs.Plain.{PlainExpr, literal, read, output_of, element, unary, binary, PlainArgument, input, output}
+use Rattle.st_tree.specs.Plain.{PlainStmt, empty, assign, store, call, if_else, case_of, for_to, PlainBody, done, next, Branches, no_branch, branch, Choices, no_choice, choice}
 
 module _ {V : Type 0} where
   abbrev pub view_expr_step : Expr-F V (PlainExpr V) → PlainExpr V
   view_expr_step (Expr-F.Literal n) = literal n
   view_expr_step (Expr-F.Read v) = read v
   view_expr_step (Expr-F.Output instance name) = output_of instance name
+  view_expr_step (Expr-F.Element v bounds index) = element v bounds index.value
   view_expr_step (Expr-F.Unary op a) = unary op a.value
   view_expr_step (Expr-F.Binary op a b) = binary op a.value b.value
 
@@ -55,6 +56,7 @@ module _ {V : Type 0} where
   abbrev pub view_step : Stmt-F V (PlainStmt V) (PlainExpr V × PlainBody V) (List Label × PlainBody V) → PlainStmt V
   view_step (Stmt-F.Empty number) = empty number
   view_step (Stmt-F.Assign number v e) = assign number v (view_expr e)
+  view_step (Stmt-F.Store number v bounds index value) = store number v bounds (view_expr index) (view_expr value)
   view_step (Stmt-F.Call number v arguments) = call number v (map view_argument arguments.items)
   view_step (Stmt-F.If number branches last) = if_else number (branches_of branches.items) (body_of last.items)
   view_step (Stmt-F.Case number e choices last) = case_of number (view_expr e) (choices_of choices.items) (body_of last.items)

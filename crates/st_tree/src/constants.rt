@@ -36,13 +36,13 @@ fn apply_binary(op: Binary, x: Result<i64, Trap>, y: Result<i64, Trap>) -> Resul
     eval_binary(op, x?, y?)
 }
 
-/// The outcome of a constant expression; `None` for one that reads a variable or an output.
+/// The outcome of a constant expression; `None` for one that reads a variable, an element or an output.
 pub fn constant<V>(expr: &Expr<V>) -> Option<Result<i64, Trap>>
     ensures { result ≡ constant_of (view_expr expr.now) }
 {
     match expr {
         Expr::Literal(literal) => Some(Ok(literal.worth())),
-        Expr::Read(_) | Expr::Output(_, _) => None,
+        Expr::Read(_) | Expr::Output(_, _) | Expr::Element(_, _, _) => None,
         Expr::Unary(op, a) => Some(apply_unary(*op, constant(a)?)),
         Expr::Binary(op, a, b) => {
             let left = constant(a)?;

@@ -57,6 +57,10 @@ impl<V: Duplicate> Pass<V, V> for Copies {
         name.duplicate(alloc)
     }
 
+    fn array(&self, alloc: Global, name: &V) -> Result<V, AllocError> {
+        name.duplicate(alloc)
+    }
+
     fn instance(&self, alloc: Global, name: &V) -> Result<V, AllocError> {
         name.duplicate(alloc)
     }

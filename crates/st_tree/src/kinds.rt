@@ -123,6 +123,10 @@ pub fn is_bit<V>(expr: &Expr<V>) -> bool
 {
     match expr {
         Expr::Literal(literal) => literal.is_bit(),
-        Expr::Read(_) | Expr::Output(_, _) | Expr::Unary(_, _) | Expr::Binary(_, _, _) => false,
+        Expr::Read(_)
+        | Expr::Output(_, _)
+        | Expr::Element(_, _, _)
+        | Expr::Unary(_, _)
+        | Expr::Binary(_, _, _) => false,
     }
 }

@@ -19,14 +19,14 @@ ghost use Rattle.st_tree.specs.declared.controls.Span.{Span};
 ghost use Rattle.st_tree.specs.declared.tree.Unary.{Unary};
 ghost use Rattle.st_tree.specs.declared.tree.Binary.{Binary};
 
-/// Where `kind_of_expr` finds a kind, `kind_in` gives the same one, if both have the same kinds of the variables and outputs.
+/// Where `kind_of_expr` finds a kind, `kind_in` gives the same one, if both have the same kinds of the variables, elements and outputs.
 /// So in a program without faults each operator is resolved by the kind that its operands have.
 pub fn kind_of_expr_is_kind_in()
     ensures { (sorts : Sorts (List ℕ)) (kinds : KindsOf (List ℕ)) → AreSorts sorts kinds
         → (e : PlainExpr (List ℕ)) (k : Kind) → kind_of_expr sorts e ≡ Some k → kind_in kinds e ≡ k }
 {}
 
-/// The outcome of a constant expression is its value, whatever its variables and outputs hold.
+/// The outcome of a constant expression is its value, whatever its variables, elements and outputs hold.
 pub fn constant_of_is_value_of<V>()
     ensures { (e : PlainExpr V) (outcome : Outcome) → constant_of e ≡ Some outcome
         → (values : ValuesOf V) → value_of values e ≡ outcome }
@@ -45,7 +45,7 @@ pub fn operators_stay_in_range()
     ensures binary { (op : Binary) (a b r : Kind) (x y n : ℤ) → binary_kind op a b ≡ Some r → is_in_range a x ≡ true → eval_binary op x y ≡ Ok n → is_in_range r n ≡ true }
 {}
 
-/// The value of an expression is in the range of its kind, if the values of its variables and of its outputs are in the ranges of theirs.
+/// The value of an expression is in the range of its kind, if the values of its variables, of its elements and of its outputs are in the ranges of theirs.
 pub fn value_stays_in_range<V>()
     ensures { (sorts : Sorts V) (values : ValuesOf V) → AreInRange sorts values
         → (e : PlainExpr V) (k : Kind) (n : ℤ) → kind_of_expr sorts e ≡ Some k → value_of values e ≡ Ok n → is_in_range k n ≡ true }

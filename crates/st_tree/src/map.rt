@@ -25,6 +25,11 @@ pub(crate) fn mapped_expr<V, W: Drop, P: Pass<V, W>>(
             let own = pass.instance(alloc, instance)?;
             Ok(Expr::Output(own, pass.output_name(alloc, instance, name)?))
         }
+        Expr::Element(name, bounds, index) => {
+            let array = pass.array(alloc, name)?;
+            let index = Box::new(alloc, mapped_expr(alloc, pass, index)?)?;
+            Ok(Expr::Element(array, *bounds, index))
+        }
         Expr::Unary(op, a) => {
             let a = Box::new(alloc, mapped_expr(alloc, pass, a)?)?;
             pass.node(alloc, Expr::Unary(*op, a))
@@ -150,6 +155,24 @@ fn mapped_stmt<V, W: Drop, P: Pass<V, W>>(
         Stmt::Assign(number, variable, expr) => {
             let variable = pass.variable(alloc, variable)?;
             Ok(Stmt::Assign(*number, variable, mapped_expr(alloc, pass, expr)?))
+        }
+        Stmt::Store {
+            number,
+            array,
+            bounds,
+            index,
+            value,
+        } => {
+            let array = pass.array(alloc, array)?;
+            let index = mapped_expr(alloc, pass, index)?;
+            let value = mapped_expr(alloc, pass, value)?;
+            Ok(Stmt::Store {
+                number: *number,
+                array,
+                bounds: *bounds,
+                index,
+                value,
+            })
         }
         Stmt::Call(number, instance, arguments) => {
             let own = pass.instance(alloc, instance)?;

@@ -43,6 +43,10 @@ pub trait Pass<V, W> {
     fn variable(&self, alloc: Global, name: &V) -> Result<W, AllocError>
         ensures { IfOk result (λ w. w ≡ (mapping self.now).variable name.now) };
 
+    /// Returns what stands in the place of an array.
+    fn array(&self, alloc: Global, name: &V) -> Result<W, AllocError>
+        ensures { IfOk result (λ w. w ≡ (mapping self.now).array name.now) };
+
     /// Returns what stands in the place of an instance.
     fn instance(&self, alloc: Global, name: &V) -> Result<W, AllocError>
         ensures { IfOk result (λ w. w ≡ (mapping self.now).instance name.now) };

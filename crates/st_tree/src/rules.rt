@@ -23,7 +23,9 @@ fn every_inside<V, R: Rule<V>>(alloc: Global, rule: &R, stmt: &Stmt<V>) -> Resul
     ensures { IfOk result (λ keep. keep ≡ every_inside (R.rule rule.now) (view_stmt stmt.now)) }
 {
     match stmt {
-        Stmt::Empty(_) | Stmt::Assign(_, _, _) | Stmt::Call(_, _, _) => Ok(true),
+        Stmt::Empty(_) | Stmt::Assign(_, _, _) | Stmt::Store { .. } | Stmt::Call(_, _, _) => Ok(
+            true,
+        ),
         Stmt::If(_, branches, last) => {
             if !every_branch(alloc, rule, branches)? {
                 return Ok(false);

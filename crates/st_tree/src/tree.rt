@@ -1,6 +1,6 @@
 //! Expressions and statements.
 
-use plant_types::Value;
+use plant_types::{Bounds, Value};
 
 /// A literal as it is written (IEC 61131-3).
 #[derive(Clone, Copy, Drop)]
@@ -67,6 +67,8 @@ pub enum Expr<V> {
     Read(V),
     /// `instance.output`: an output of a block's instance.
     Output(V, V),
+    /// `array[index]`: an element of an array with these bounds. A parser writes 0..0 for all bounds.
+    Element(V, Bounds, Box<Expr<V>>),
     Unary(Unary, Box<Expr<V>>),
     Binary(Binary, Box<Expr<V>>, Box<Expr<V>>),
 }
@@ -114,6 +116,14 @@ pub enum Stmt<V> {
     Empty(u32),
     /// `variable := expression`
     Assign(u32, V, Expr<V>),
+    /// `array[index] := value`, of an array with these bounds. A parser writes 0..0 for all bounds.
+    Store {
+        number: u32,
+        array: V,
+        bounds: Bounds,
+        index: Expr<V>,
+        value: Expr<V>,
+    },
     /// `instance(arguments)`
     Call(u32, V, Vec<Argument<V>>),
     /// `IF`, its branches (those of `ELSIF` too) and the body of `ELSE`, which is empty if none is written.
