@@ -2,14 +2,15 @@
 use Rattle.std.proofs.Common.{◌≡◌, ◌∙◌, refl, ap, sym, Bool, true, false}
 use Rattle.std.specs.Prelude.{Option, Some, None, option_map, option_and_then, Ok, if◌then◌else◌}
 use Rattle.plant_types.specs.declared.values.Kind.{Kind}
+use Rattle.plant_types.specs.declared.values.Kind.TheVariants as kind
 use Rattle.st_tree.specs.declared.tree.Literal.{Literal}
 use Rattle.st_tree.specs.declared.tree.Unary.{Unary}
 use Rattle.st_tree.specs.declared.tree.Binary.{Binary}
 use Rattle.st_tree.specs.Constants.{constant_of}
-use Rattle.st_tree.specs.Kinds.{literal_kind, literal_in_range, unary_kind, binary_kind, Sorts, kind_of_expr}
+use Rattle.st_tree.specs.Kinds.{literal_kind, literal_in_range, unary_kind, binary_kind, Sorts, is_kind, kind_of_expr}
 use Rattle.st_tree.specs.Meaning.{then_one, then_two}
 use Rattle.st_tree.specs.Operators.{Outcome, eval_unary, eval_binary}
-use Rattle.st_tree.specs.Plain.{PlainExpr, literal, read, output_of, unary, binary}
+use Rattle.st_tree.specs.Plain.{PlainExpr, literal, read, output_of, element, unary, binary}
 use Rattle.const_fold.specs.Folding.{folded_node, folded_expr}
 use Rattle.const_fold.proofs.LiteralLaws.{IsFor, node_holds}
 
@@ -23,6 +24,7 @@ module _ {V : Type 0} where
   constant_kept (literal n) = refl
   constant_kept (read v) = refl
   constant_kept (output_of instance name) = refl
+  constant_kept (element v bounds index) = refl
   constant_kept (unary op a) = node_constant (unary op (folded_expr a)) ∙ ap (option_map (λ x. then_one x (eval_unary op))) (constant_kept a)
   constant_kept (binary op a b) =
       node_constant (binary op (folded_expr a) (folded_expr b))
@@ -60,10 +62,17 @@ module _ {V : Type 0} (sorts : Sorts V) where
   binary_kept op (Some i) p None r k same also is = absurd (cc)
   binary_kept op (Some i) p (Some j) r k same also is = (λ t. option_and_then (λ x. option_and_then (binary_kind op x) (also j refl t)) (same i refl t)) ∙ is
 
+  element_kept : (o p : Option Kind) (element_kind : Option Kind) (k : Kind) → ((j : Kind) → o ≡ Some j → p ≡ Some j) → (if is_kind kind.Dint o then element_kind else None) ≡ Some k
+      → (if is_kind kind.Dint p then element_kind else None) ≡ Some k
+  element_kept None p element_kind k same is = absurd (cc)
+  element_kept (Some j) p element_kind k same is = ap (λ r. if is_kind kind.Dint r then element_kind else None) (same j refl) ∙ is
+
   pub kind_kept : (e : PlainExpr V) (k : Kind) → kind_of_expr sorts e ≡ Some k → kind_of_expr sorts (folded_expr e) ≡ Some k
   kind_kept (literal n) k is = is
   kind_kept (read v) k is = is
   kind_kept (output_of instance name) k is = is
+  kind_kept (element v bounds index) k is =
+      element_kept (kind_of_expr sorts index) (kind_of_expr sorts (folded_expr index)) (sorts.element v bounds) k (kind_kept index) is
   kind_kept (unary op a) k is =
       node_kind (unary op (folded_expr a)) k (unary_kept op (kind_of_expr sorts a) (kind_of_expr sorts (folded_expr a)) k (kind_kept a) is)
   kind_kept (binary op a b) k is =

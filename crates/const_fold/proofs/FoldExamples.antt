@@ -4,7 +4,7 @@ use Rattle.plant_types.specs.declared.values.Value.TheVariants as value
 use Rattle.st_tree.specs.declared.tree.Literal.TheVariants.{Integer, Value}
 use Rattle.st_tree.specs.declared.tree.Unary.TheVariants.{Not, Negate}
 use Rattle.st_tree.specs.declared.tree.Binary.TheVariants.{And, Less, Add, AddTime, Subtract, Multiply, Divide, Mod}
-use Rattle.st_tree.specs.Plain.{PlainExpr, literal, read, unary, binary, assign, done, next}
+use Rattle.st_tree.specs.Plain.{PlainExpr, literal, read, element, unary, binary, assign, done, next}
 use Rattle.const_fold.specs.Folding.{folded_expr, folded_body}
 
 -- an integer as it is written, a number that has a sign or is a result, a duration, a truth, and the variable y
@@ -65,6 +65,10 @@ truths = refl
 -- FALSE AND y stays, for y is no literal
 kept_truth : folded_expr (binary And (truth false) y) ≡ binary And (truth false) y
 kept_truth = refl
+
+-- w[1 + 1] is w[2], and w[5] of an array with the bounds 0..3 stays, as it traps
+folded_index : folded_expr (element 1 (record { low = pos 0; high = pos 3 }) (binary Add (integer 1) (integer 1))) ≡ element 1 (record { low = pos 0; high = pos 3 }) (dint (pos 2))
+folded_index = refl
 
 -- y := 2 + 3 * 4;
 statement : folded_body (next (assign 1 0 (binary Add (integer 2) (binary Multiply (integer 3) (integer 4)))) done) ≡ next (assign 1 0 (dint (pos 14))) done

@@ -16,7 +16,7 @@ use Rattle.st_tree.specs.declared.tree.Binary.{Binary}
 use Rattle.st_tree.specs.Kinds.{literal_kind, literal_in_range, unary_kind, binary_kind}
 use Rattle.st_tree.specs.Meaning.{literal_worth}
 use Rattle.st_tree.specs.Operators.{Outcome, eval_unary, eval_binary}
-use Rattle.st_tree.specs.Plain.{PlainExpr, literal, read, output_of, unary, binary}
+use Rattle.st_tree.specs.Plain.{PlainExpr, literal, read, output_of, element, unary, binary}
 use Rattle.const_fold.specs.Folding.{literal_of, unary_literal, binary_literal, literal_or, folded_node}
 
 -- a literal is of a kind, of a number and in range
@@ -84,6 +84,7 @@ module _ {V : Type 0} (Holds : PlainExpr V → PlainExpr V → Type 0) (same : (
   node_holds (literal n) = same (literal n)
   node_holds (read v) = same (read v)
   node_holds (output_of instance name) = same (output_of instance name)
+  node_holds (element v bounds index) = same (element v bounds index)
   node_holds (unary op (literal a)) = unary_by op a (unary_literal op a) refl
   node_holds (unary op a) = same (unary op a)
   node_holds (binary op (literal a) (literal b)) = binary_by op a b (binary_literal op a b) refl

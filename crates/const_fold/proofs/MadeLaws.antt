@@ -16,7 +16,7 @@ use Rattle.st_tree.specs.Constants.{constant_of}
 use Rattle.st_tree.specs.Kinds.{literal_kind, literal_in_range, unary_kind, binary_kind, Sorts, kind_of_expr}
 use Rattle.st_tree.specs.Meaning.{literal_worth, then_one, then_two}
 use Rattle.st_tree.specs.Operators.{Outcome, eval_unary, eval_binary}
-use Rattle.st_tree.specs.Plain.{PlainExpr, literal, read, output_of, unary, binary}
+use Rattle.st_tree.specs.Plain.{PlainExpr, literal, read, output_of, element, unary, binary}
 use Rattle.st_tree.proofs.RangeLaws.{literal_in, unary_in_range, binary_in_range}
 use Rattle.const_fold.specs.Folding.{literal_of, unary_literal, binary_literal, literal_or, folded_node, folded_expr}
 use Rattle.const_fold.specs.Laws.{IsLiteral}
@@ -90,6 +90,7 @@ module _ {V : Type 0} where
     literals_made (literal l) k n of gives = literal_made (literal_in_range l) l k n refl of (cc)
     literals_made (read v) k n of gives = absurd (cc)
     literals_made (output_of instance name) k n of gives = absurd (cc)
+    literals_made (element v bounds index) k n of gives = absurd (cc)
     literals_made (unary op a) k n of gives = unary_makes op (folded_expr a) (kind_of_expr sorts a) (constant_of a) (literals_made a) k n of gives
     literals_made (binary op a b) k n of gives =
         binary_makes op (folded_expr a) (folded_expr b) (kind_of_expr sorts a) (kind_of_expr sorts b) (constant_of a) (constant_of b) (literals_made a) (literals_made b) k n of gives

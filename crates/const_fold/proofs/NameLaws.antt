@@ -2,8 +2,8 @@
 use Rattle.std.proofs.Common.{◌≡◌, ◌∙◌, refl, ap, List, [], ◌∷◌, map}
 use Rattle.std.specs.Prelude.{◌&&◌, Option, Some, None}
 use Rattle.std.specs.List.{list_all}
-use Rattle.st_tree.specs.Plain.{PlainExpr, literal, read, output_of, unary, binary, PlainArgument, input, output}
-use Rattle.st_tree.specs.Plain.{PlainStmt, empty, assign, call, if_else, case_of, for_to, PlainBody, done, next, Branches, no_branch, branch, Choices, no_choice, choice}
+use Rattle.st_tree.specs.Plain.{PlainExpr, literal, read, output_of, element, unary, binary, PlainArgument, input, output}
+use Rattle.st_tree.specs.Plain.{PlainStmt, empty, assign, store, call, if_else, case_of, for_to, PlainBody, done, next, Branches, no_branch, branch, Choices, no_choice, choice}
 use Rattle.st_tree.specs.Mapping.{mapped_argument, mapped_branches, mapped_choices, Known, expr_known, option_known, argument_known, stmt_known, body_known, branches_known, choices_known}
 use Rattle.const_fold.specs.Folding.{folded_node, folding, folded_expr, folded_option, folded_stmt, folded_body}
 use Rattle.const_fold.proofs.LiteralLaws.{node_holds}
@@ -16,6 +16,7 @@ module _ {V : Type 0} (known : Known V) where
   expr_names (literal n) = refl
   expr_names (read v) = refl
   expr_names (output_of instance name) = refl
+  expr_names (element v bounds index) = ap (λ b. known.has_array v bounds && b) (expr_names index)
   expr_names (unary op a) = node_names (unary op (folded_expr a)) ∙ expr_names a
   expr_names (binary op a b) = node_names (binary op (folded_expr a) (folded_expr b)) ∙ (λ i. expr_names a i && expr_names b i)
 
@@ -35,6 +36,7 @@ module _ {V : Type 0} (known : Known V) where
     stmt_names : (s : PlainStmt V) → stmt_known known (folded_stmt s) ≡ stmt_known known s
     stmt_names (empty number) = refl
     stmt_names (assign number v e) = ap (λ b. known.has_variable v && b) (expr_names e)
+    stmt_names (store number v bounds index value) = λ i. known.has_array v bounds && (expr_names index i && expr_names value i)
     stmt_names (call number instance arguments) = ap (λ b. known.has_instance instance && b) (arguments_names instance arguments)
     stmt_names (if_else number branches last) = λ i. branches_names branches i && body_names last i
     stmt_names (case_of number e choices last) = λ i. expr_names e i && (choices_names choices i && body_names last i)

@@ -35,6 +35,8 @@ module _ {V W : Type 0} (space : Space V W) where
     path_is = refl;
     variable_is = λ v a b is same. ap (λ w. space.get w v) same;
     put_matches = λ v n a b is same. ap (λ w. space.put w v n) same;
+    element_is = λ v bounds i a b is within same. ap (λ w. space.get_at w v bounds i) same;
+    put_at_matches = λ v bounds i n a b is within same. ap (λ w. space.put_at w v bounds i n) same;
     output_is = λ instance name a b is same. ap (λ w. space.get_output w instance name) same;
     put_input_matches = λ instance name n a b is same. ap (λ w. space.put_input w instance name n) same;
     enter_agrees = λ instance a b is same. is_agree (space.enter a instance) (space.enter b instance) (ap (λ w. space.enter w instance) same);

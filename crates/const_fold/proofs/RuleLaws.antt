@@ -6,8 +6,8 @@ use Rattle.std.proofs.lemmas.Bool.{and_parts}
 use Rattle.plant_types.specs.declared.values.Kind.{Kind}
 use Rattle.plant_types.specs.declared.values.Kind.TheVariants as kind
 use Rattle.st_tree.specs.declared.tree.Label.{Label}
-use Rattle.st_tree.specs.Plain.{PlainExpr, literal, read, output_of, unary, binary, PlainArgument, input, output}
-use Rattle.st_tree.specs.Plain.{PlainStmt, empty, assign, call, if_else, case_of, for_to, PlainBody, done, next, Branches, no_branch, branch, Choices, no_choice, choice}
+use Rattle.st_tree.specs.Plain.{PlainExpr, literal, read, output_of, element, unary, binary, PlainArgument, input, output}
+use Rattle.st_tree.specs.Plain.{PlainStmt, empty, assign, store, call, if_else, case_of, for_to, PlainBody, done, next, Branches, no_branch, branch, Choices, no_choice, choice}
 use Rattle.st_tree.specs.Every.{every, every_inside, every_branch, every_choice}
 use Rattle.st_tree.specs.Fits.{Context, sorts_of, is_of, option_is_of, fits_option, argument_fits, stmt_fits, all_fit, branches_fit, choices_fit, may_control, stmt_controls_fit, controls_fit, branches_controls_fit, choices_controls_fit}
 use Rattle.st_tree.specs.Kinds.{kind_of_expr, is_kind, same_kind, is_bit}
@@ -28,6 +28,7 @@ bit_kept : {V : Type 0} (e : PlainExpr V) → is_bit e ≡ true → is_bit (fold
 bit_kept (literal n) is = is
 bit_kept (read v) is = is
 bit_kept (output_of instance name) is = is
+bit_kept (element v bounds index) is = absurd (cc)
 bit_kept (unary op a) is = absurd (cc)
 bit_kept (binary op a b) is = absurd (cc)
 
@@ -64,6 +65,9 @@ module _ {V : Type 0} (context : Context V) where
     stmt_kept (empty number) is = is
     stmt_kept (assign number v e) is =
         both (context.may_assign v) (fits_option context (context.variable_kind v) e) (context.may_assign v) (fits_option context (context.variable_kind v) (folded_expr e)) (λ h. h) (assigned_kept (context.variable_kind v) e) is
+    stmt_kept (store number v bounds index value) is =
+        both (is_of context kind.Dint index) (fits_option context (context.element_kind v bounds) value) (is_of context kind.Dint (folded_expr index)) (fits_option context (context.element_kind v bounds) (folded_expr value))
+        (of_kept kind.Dint index) (assigned_kept (context.element_kind v bounds) value) is
     stmt_kept (call number instance arguments) is =
         both (context.is_instance instance) (list_all (argument_fits context instance) arguments) (context.is_instance instance) (list_all (argument_fits context instance) (map (mapped_argument folding instance) arguments))
         (λ h. h) (arguments_kept instance arguments) is
@@ -97,6 +101,7 @@ module _ {V : Type 0} (context : Context V) where
     stmt_controls : (s : PlainStmt V) → stmt_controls_fit context (folded_stmt s) ≡ stmt_controls_fit context s
     stmt_controls (empty number) = refl
     stmt_controls (assign number v e) = refl
+    stmt_controls (store number v bounds index value) = refl
     stmt_controls (call number instance arguments) = refl
     stmt_controls (if_else number branches last) = λ i. branches_controls branches i && body_controls last i
     stmt_controls (case_of number e choices last) = λ i. choices_controls choices i && body_controls last i
@@ -119,6 +124,7 @@ module _ {V : Type 0} (rule : PlainStmt V → Bool) (keeps : (s : PlainStmt V) �
     inside_rules : (s : PlainStmt V) → every_inside rule (folded_stmt s) ≡ every_inside rule s
     inside_rules (empty number) = refl
     inside_rules (assign number v e) = refl
+    inside_rules (store number v bounds index value) = refl
     inside_rules (call number instance arguments) = refl
     inside_rules (if_else number branches last) = λ i. branches_rules branches i && body_rules last i
     inside_rules (case_of number e choices last) = λ i. choices_rules choices i && body_rules last i
@@ -144,6 +150,7 @@ module _ {V : Type 0} (test : List Label → Bool) where
   pub labels_stay : (s : PlainStmt V) → has_labels test (folded_stmt s) ≡ has_labels test s
   labels_stay (empty number) = refl
   labels_stay (assign number v e) = refl
+  labels_stay (store number v bounds index value) = refl
   labels_stay (call number instance arguments) = refl
   labels_stay (if_else number branches last) = refl
   labels_stay (case_of number e choices last) = all_labels_stay choices

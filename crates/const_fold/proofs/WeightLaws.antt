@@ -3,8 +3,8 @@ use Rattle.std.proofs.Common.{◌≡◌, refl, ap, ℕ, ◌+◌, ◌*◌, ◌≤
 use Rattle.std.specs.Prelude.{Option, Some, None, option_map}
 use Rattle.std.proofs.lemmas.Nat.{mul-le}
 use Rattle.st_tree.specs.Constants.{constant_of}
-use Rattle.st_tree.specs.Plain.{PlainExpr, literal, read, output_of, unary, binary, PlainArgument, input, output}
-use Rattle.st_tree.specs.Plain.{PlainStmt, empty, assign, call, if_else, case_of, for_to, PlainBody, done, next, Branches, no_branch, branch, Choices, no_choice, choice}
+use Rattle.st_tree.specs.Plain.{PlainExpr, literal, read, output_of, element, unary, binary, PlainArgument, input, output}
+use Rattle.st_tree.specs.Plain.{PlainStmt, empty, assign, store, call, if_else, case_of, for_to, PlainBody, done, next, Branches, no_branch, branch, Choices, no_choice, choice}
 use Rattle.st_tree.specs.Costs.{expr_cost, tests_cost, labels_cost, arguments_cost, weight, weight_all, branches_weight, choices_weight}
 use Rattle.st_tree.specs.Mapping.{mapped_argument, mapped_branches, mapped_choices}
 use Rattle.const_fold.specs.Folding.{folded_node, folding, folded_expr, folded_option, folded_stmt, folded_body}
@@ -20,6 +20,7 @@ module _ {V : Type 0} where
   expr_less (literal n) = omega arith
   expr_less (read v) = omega arith
   expr_less (output_of instance name) = omega arith
+  expr_less (element v bounds index) = let first = expr_less index in omega arith
   expr_less (unary op a) =
       let node : expr_cost (folded_node (unary op (folded_expr a))) ≤ 1 + expr_cost (folded_expr a) = node_less (unary op (folded_expr a)) in
       let first = expr_less a in
@@ -53,6 +54,7 @@ module _ (join : ℕ → ℕ → ℕ) (joins : (a b c d : ℕ) → a ≤ b → c
     stmt_less : (s : PlainStmt V) → weight join turns called (folded_stmt s) ≤ weight join turns called s
     stmt_less (empty number) = omega arith
     stmt_less (assign number v e) = let first = expr_less e in omega arith
+    stmt_less (store number v bounds index value) = let first = expr_less index in let second = expr_less value in omega arith
     stmt_less (call number instance arguments) = let first = arguments_less instance arguments in omega arith
     stmt_less (if_else number branches last) =
         let first = tests_less branches in

@@ -47,7 +47,7 @@ folded_node e = literal_or e (node_literal e)
 
 -- each name stays, and operators are folded once their operands are
 abbrev pub folding : {V : Type 0} → Mapping V V
-folding = record { variable = λ v. v; instance = λ v. v; input_name = λ instance name. name; output_name = λ instance name. name; node = folded_node }
+folding = record { variable = λ v. v; array = λ v. v; instance = λ v. v; input_name = λ instance name. name; output_name = λ instance name. name; node = folded_node }
 
 -- an expression, one that may be left out, a statement and a body with their constants folded
 abbrev pub folded_expr : {V : Type 0} → PlainExpr V → PlainExpr V

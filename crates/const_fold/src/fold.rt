@@ -37,6 +37,10 @@ impl<V: Duplicate> Pass<V, V> for Folding {
         name.duplicate(alloc)
     }
 
+    fn array(&self, alloc: Global, name: &V) -> Result<V, AllocError> {
+        name.duplicate(alloc)
+    }
+
     fn instance(&self, alloc: Global, name: &V) -> Result<V, AllocError> {
         name.duplicate(alloc)
     }

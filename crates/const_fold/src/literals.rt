@@ -13,7 +13,11 @@ fn literal_in<V>(expr: &Expr<V>) -> Option<Literal>
 {
     match expr {
         Expr::Literal(literal) => Some(*literal),
-        Expr::Read(_) | Expr::Output(_, _) | Expr::Unary(_, _) | Expr::Binary(_, _, _) => None,
+        Expr::Read(_)
+        | Expr::Output(_, _)
+        | Expr::Element(_, _, _)
+        | Expr::Unary(_, _)
+        | Expr::Binary(_, _, _) => None,
     }
 }
 
@@ -51,7 +55,7 @@ pub(crate) fn node_literal<V>(expr: &Expr<V>) -> Option<Literal>
     ensures { result ≡ node_literal (view_expr expr.now) }
 {
     match expr {
-        Expr::Literal(_) | Expr::Read(_) | Expr::Output(_, _) => None,
+        Expr::Literal(_) | Expr::Read(_) | Expr::Output(_, _) | Expr::Element(_, _, _) => None,
         Expr::Unary(op, a) => unary_literal(*op, literal_in(a)?),
         Expr::Binary(op, a, b) => {
             let left = literal_in(a)?;
