@@ -6,8 +6,8 @@ use Rattle.plant_types.specs.declared.values.Trap.{Trap}
 use Rattle.st_tree.specs.View.{view_body}
 use Rattle.st_tree.specs.Operators.{Outcome}
 use Rattle.st_tree.specs.Controls.{control_values, span_of}
-use Rattle.st_tree.specs.Plain.{PlainArgument, input, output, PlainStmt, empty, assign, call, if_else, case_of, for_to, PlainBody, done, next, Branches, no_branch, branch, Choices, no_choice, choice}
-use Rattle.st_tree.specs.Meaning.{Space, Ran, Done, Trapped, then_run, with_value, turns, labels_fit, Chosen, Took, Passed, or_else, on_test, outcome, step_of, take_inputs, give_outputs, run, run_all, first_true, first_fit, statement_spot}
+use Rattle.st_tree.specs.Plain.{PlainArgument, input, output, PlainStmt, empty, assign, store, call, if_else, case_of, for_to, PlainBody, done, next, Branches, no_branch, branch, Choices, no_choice, choice}
+use Rattle.st_tree.specs.Meaning.{Space, Ran, Done, Trapped, then_run, with_value, turns, labels_fit, Chosen, Took, Passed, or_else, on_test, outcome, index_of, step_of, take_inputs, give_outputs, run, run_all, first_true, first_fit, statement_spot}
 use Rattle.plant_cells.specs.Cells.{PlainCells}
 use Rattle.plant_cells.specs.Runs.{Path}
 use Rattle.block_walk.specs.declared.frame.Base.{Base}
@@ -90,6 +90,9 @@ module _ (t globals : ℕ) (inner : ℕ → Base → Path → PlainCells → Ran
     stmt_moved : (stmt : PlainStmt ℕ) (c : PlainCells) → run s stmt c ≡ under path (run r stmt c)
     stmt_moved (empty number) c = refl
     stmt_moved (assign number v e) c = value_moved c number (outcome r c e) (λ n. Done (s.put c v n)) (λ n. Done (r.put c v n)) (λ n. refl)
+    stmt_moved (store number v bounds index value) c =
+        value_moved c number (index_of r c bounds index) (λ i. with_value c (statement_spot s number) (outcome r c value) (λ n. Done (s.put_at c v bounds i n))) (λ i. with_value c (statement_spot r number) (outcome r c value) (λ n. Done (r.put_at c v bounds i n)))
+        (λ i. value_moved c number (outcome r c value) (λ n. Done (s.put_at c v bounds i n)) (λ n. Done (r.put_at c v bounds i n)) (λ n. refl))
     stmt_moved (call number instance arguments) c =
         both_moved (then_run (take_inputs s number instance arguments c) (λ u. s.enter u instance)) (then_run (take_inputs r number instance arguments c) (λ u. r.enter u instance)) (λ u. Done (give_outputs s instance arguments u)) (λ u. Done (give_outputs r instance arguments u))
         (both_moved (take_inputs s number instance arguments c) (take_inputs r number instance arguments c) (λ u. s.enter u instance) (λ u. r.enter u instance) (inputs_moved number instance arguments c) (λ u. called_moved (slice_get seats instance) u))

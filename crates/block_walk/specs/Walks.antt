@@ -1,6 +1,6 @@
 -- What bodies over numbers do, and what runs over cells give.
 use Rattle.std.specs.Prelude.{◌+◌, ◌-◌, ◌*◌, ◌^◌, ◌<◌, ℕ, ℤ, pos, Bool, true, false, nat_lt, if◌then◌else◌, List, [], ◌∷◌, ◌++◌, Option, Some, None, Result, Ok, Err, slice_get}
-use Rattle.plant_types.specs.Values.{is_true}
+use Rattle.plant_types.specs.Values.{is_true, row_place}
 use Rattle.std_blocks.specs.Calls.{call}
 use Rattle.st_tree.specs.View.{view_body}
 use Rattle.st_tree.specs.Meaning.{Space, Ran, Done, Trapped, Chosen, Took, Passed, run_all}
@@ -66,6 +66,8 @@ frame_space t globals inner seats base path = record {
   path = path;
   get = λ cells v. value_at cells (slot_of globals base v);
   put = λ cells v n. assigned cells (slot_of globals base v) n;
+  get_at = λ cells v bounds i. value_at cells (row_place (slot_of globals base v) bounds i);
+  put_at = λ cells v bounds i n. assigned cells (row_place (slot_of globals base v) bounds i) n;
   get_output = λ cells instance name. output_at (slice_get seats instance) base cells name;
   put_input = λ cells instance name n. with_input (slice_get seats instance) base cells name n;
   enter = λ cells instance. called t inner (slice_get seats instance) base path cells;

@@ -1,9 +1,9 @@
 //! Reads and writes cells by the numbers of a body, and evaluates its expressions.
 
-ghost use Rattle.std.specs.Prelude.{◌≡◌, ◌+◌, nat_lt, if◌then◌else◌, [], ◌∷◌, map, slice_get, IfOk, IfErr};
+ghost use Rattle.std.specs.Prelude.{◌≡◌, ◌+◌, ◌-ℤ◌, nat_abs, nat_lt, if◌then◌else◌, [], ◌∷◌, map, slice_get, IfOk, IfErr};
 ghost use Rattle.st_tree.specs.View.{view_expr, view_option, view_argument};
-ghost use Rattle.st_tree.specs.Meaning.{outcome, step_of, take_inputs, give_outputs};
-ghost use Rattle.plant_types.specs.Values.{is_true};
+ghost use Rattle.st_tree.specs.Meaning.{outcome, index_of, step_of, take_inputs, give_outputs};
+ghost use Rattle.plant_types.specs.Values.{is_true, indexed, row_place};
 ghost use Rattle.std_blocks.specs.Calls.{call};
 ghost use Rattle.plant_cells.specs.Cells.{value_at, assigned, clocked};
 ghost use Rattle.plant_cells.specs.Clocks.{shown_by};
@@ -12,7 +12,7 @@ ghost use Rattle.block_walk.specs.Walks.{slot_of, member_slot, output_at, with_i
 
 use crate::frame::{Base, Seat, SeatOf};
 use plant_cells::{Cells, Standard, Stop};
-use plant_types::{Place, Trap};
+use plant_types::{Bounds, Place, Trap};
 use st_tree::{Argument, Expr, eval_binary, eval_unary};
 
 /// The number that is so far from a base, if it is below a length.
@@ -71,6 +71,68 @@ pub(crate) fn set_variable(
         set_from(cells, variable as u128, 0, value);
     } else {
         set_from(cells, base.values, (variable - globals) as u128, value);
+    }
+}
+
+/// How far an index is from the low bound.
+fn offset_of(bounds: Bounds, index: i64) -> u128
+    ensures { result ≡ nat_abs (index -ℤ bounds.low) }
+{
+    (i128::from(index) - i128::from(bounds.low)).unsigned_abs()
+}
+
+/// The value of an element of an array.
+fn element(
+    cells: &Cells,
+    globals: usize,
+    base: Base,
+    array: usize,
+    bounds: Bounds,
+    index: i64,
+) -> i64
+    ensures { result ≡ value_at cells.now (row_place (slot_of globals base array) bounds index) }
+{
+    let offset = offset_of(bounds, index);
+    if array < globals {
+        value_from(cells, array as u128, offset)
+    } else {
+        value_from(cells, base.values, (array - globals) as u128 + offset)
+    }
+}
+
+/// Assigns an element of an array.
+pub(crate) fn set_element(
+    cells: &mut Cells,
+    globals: usize,
+    base: Base,
+    array: usize,
+    bounds: Bounds,
+    index: i64,
+    value: i64,
+)
+    ensures { cells.new ≡ assigned cells.old (row_place (slot_of globals base array) bounds index) value }
+{
+    let offset = offset_of(bounds, index);
+    if array < globals {
+        set_from(cells, array as u128, offset, value);
+    } else {
+        set_from(
+            cells,
+            base.values,
+            (array - globals) as u128 + offset,
+            value,
+        );
+    }
+}
+
+/// An index that is tested: the error is `Index` for one outside the bounds.
+fn tested(bounds: Bounds, index: i64) -> Result<i64, Trap>
+    ensures { result ≡ indexed bounds index }
+{
+    if bounds.has_index(index) {
+        Ok(index)
+    } else {
+        Err(Trap::Index)
     }
 }
 
@@ -170,6 +232,10 @@ pub(crate) fn outcome(
         Expr::Literal(literal) => Ok(literal.worth()),
         Expr::Read(slot) => Ok(variable(cells, globals, base, *slot)),
         Expr::Output(instance, name) => Ok(output(cells, seats, base, *instance, *name)),
+        Expr::Element(array, bounds, index) => {
+            let i = tested(*bounds, outcome(index, globals, seats, base, cells)?)?;
+            Ok(element(cells, globals, base, *array, *bounds, i))
+        }
         Expr::Unary(op, a) => {
             let x = outcome(a, globals, seats, base, cells)?;
             eval_unary(*op, x)
@@ -180,6 +246,20 @@ pub(crate) fn outcome(
             eval_binary(*op, x, y)
         }
     }
+}
+
+/// Evaluates an index, and tests it.
+pub(crate) fn index_of(
+    index: &Expr<usize>,
+    bounds: Bounds,
+    globals: usize,
+    seats: &[Seat],
+    base: Base,
+    cells: &Cells,
+) -> Result<i64, Trap>
+    ensures { result ≡ index_of (still globals seats.now base) cells.now bounds (view_expr index.now) }
+{
+    tested(bounds, outcome(index, globals, seats, base, cells)?)
 }
 
 /// Evaluates the step of a FOR, which is 1 where none is written.

@@ -11,7 +11,8 @@ ghost use Rattle.block_walk.specs.Walks.{HasRoom, called, placed, under, run_fra
 
 use crate::frame::{Base, Frame, Seat, SeatOf};
 use crate::reading::{
-    call_clock, give_outputs, in_statement, outcome, set_variable, step_of, take_inputs,
+    call_clock, give_outputs, in_statement, index_of, outcome, set_element, set_variable, step_of,
+    take_inputs,
 };
 use plant_cells::{Cells, Stop};
 use plant_types::Place;
@@ -100,6 +101,19 @@ fn run_stmt(
         Stmt::Assign(number, slot, expr) => {
             let n = in_statement(*number, outcome(expr, globals, seats, base, cells))?;
             set_variable(cells, globals, base, *slot, n);
+            Ok(())
+        }
+        Stmt::Store {
+            number,
+            array,
+            bounds,
+            index,
+            value,
+        } => {
+            let at = index_of(index, *bounds, globals, seats, base, cells);
+            let i = in_statement(*number, at)?;
+            let n = in_statement(*number, outcome(value, globals, seats, base, cells))?;
+            set_element(cells, globals, base, *array, *bounds, i, n);
             Ok(())
         }
         Stmt::Call(number, instance, arguments) => run_call(
