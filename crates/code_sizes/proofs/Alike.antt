@@ -1,7 +1,7 @@
 -- Bodies need the same words of stack up to a last number, where what they call does.
 use Rattle.std.proofs.Common.{refl, ℕ, max, List, Bool, true, false, Option, Some, None}
 use Rattle.std.specs.Prelude.{slice_get}
-use Rattle.st_tree.specs.Plain.{PlainStmt, empty, assign, call, if_else, case_of, for_to, PlainBody, done, next, Branches, no_branch, branch, Choices, no_choice, choice}
+use Rattle.st_tree.specs.Plain.{PlainStmt, empty, assign, store, call, if_else, case_of, for_to, PlainBody, done, next, Branches, no_branch, branch, Choices, no_choice, choice}
 use Rattle.st_tree.specs.View.{view_body}
 use Rattle.block_walk.specs.declared.frame.SeatOf.{SeatOf}
 use Rattle.block_walk.specs.declared.frame.SeatOf.TheVariants as seat_of
@@ -25,6 +25,7 @@ module _ (last : ℕ) (f g : ℕ → ℕ) (same : (k : ℕ) → Same last (f k) 
       stmt_alike : (s : PlainStmt ℕ) → Same last (stmt_words seats f s) (stmt_words seats g s)
       stmt_alike (empty number) = refl
       stmt_alike (assign number v e) = refl
+      stmt_alike (store number v bounds index value) = refl
       stmt_alike (call number instance arguments) =
           greatest last (inputs_words arguments) (inputs_words arguments) (entered 0 f (slice_get seats instance)) (entered 0 g (slice_get seats instance)) refl (found_alike (slice_get seats instance))
       stmt_alike (if_else number branches last_body) =

@@ -9,7 +9,7 @@ use Rattle.st_tree.specs.declared.tree.Branch.{Branch}
 use Rattle.st_tree.specs.declared.tree.Choice.{Choice}
 use Rattle.st_tree.specs.declared.tree.Expr.{Expr}
 use Rattle.st_tree.specs.declared.tree.Stmt.{Stmt, Call, If, Case, For}
-use Rattle.st_tree.specs.Plain.{PlainExpr, literal, read, output_of, unary, binary, PlainBody, Branches, no_branch, branch, Choices, no_choice, choice}
+use Rattle.st_tree.specs.Plain.{PlainExpr, literal, read, output_of, element, unary, binary, PlainBody, Branches, no_branch, branch, Choices, no_choice, choice}
 use Rattle.st_tree.specs.View.{view_expr, view_option, view_argument, view_stmt, view_body, view_branch, view_branches, view_choice, view_choices}
 use Rattle.st_tree.proofs.Views.{view_branch_is, view_choice_is, view_stmt-Call, view_stmt-If, view_stmt-Case, view_stmt-For}
 use Rattle.block_walk.specs.declared.frame.Seat.{Seat}
@@ -20,6 +20,7 @@ pub left_few : (b : PlainExpr ℕ) (m n : ℕ) → m ≤ binary_lines b m n
 left_few (literal x) m n = omega arith
 left_few (read v) m n = omega arith
 left_few (output_of instance name) m n = omega arith
+left_few (element v bounds index) m n = omega arith
 left_few (unary op a) m n = omega arith
 left_few (binary op a b) m n = omega arith
 
@@ -27,6 +28,7 @@ pub right_few : (b : PlainExpr ℕ) (m : ℕ) → 0 < m → expr_lines b ≤ bin
 right_few (literal x) m some = omega arith
 right_few (read v) m some = omega arith
 right_few (output_of instance name) m some = omega arith
+right_few (element v bounds index) m some = omega arith
 right_few (unary op a) m some = omega arith
 right_few (binary op a b) m some = omega arith
 

@@ -1,6 +1,6 @@
 -- Sums and greatest numbers of counts that stop are those of the true counts, up to where they stop.
 use Rattle.std.proofs.Common.{◌≡◌, ◌≤◌, ℕ, zero, suc, ◌+◌, min, max, arith}
-use Rattle.st_tree.specs.Plain.{PlainExpr, literal, read, output_of, unary, binary}
+use Rattle.st_tree.specs.Plain.{PlainExpr, literal, read, output_of, element, unary, binary}
 use Rattle.code_sizes.specs.Sizes.{binary_words, for_words}
 use Rattle.code_sizes.specs.Counts.{capped}
 
@@ -17,6 +17,7 @@ pub binary_stops : (e : PlainExpr ℕ) (left right : ℕ) → capped (binary_wor
 binary_stops (literal n) left right = omega arith
 binary_stops (read v) left right = omega arith
 binary_stops (output_of instance name) left right = omega arith
+binary_stops (element v bounds index) left right = omega arith
 binary_stops (unary op a) left right = omega arith
 binary_stops (binary op a b) left right = omega arith
 

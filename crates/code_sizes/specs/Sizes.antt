@@ -3,8 +3,8 @@ use Rattle.std.specs.Prelude.{ℕ, Bool, zero, suc, ℤ, pos, ◌+◌, max, if�
 use Rattle.std.specs.Option.{option_map_or}
 use Rattle.st_tree.specs.declared.tree.Label.{Label}
 use Rattle.st_tree.specs.declared.controls.Span.{Span}
-use Rattle.st_tree.specs.Plain.{PlainExpr, literal, read, output_of, unary, binary, PlainArgument, input, output}
-use Rattle.st_tree.specs.Plain.{PlainStmt, empty, assign, call, if_else, case_of, for_to, PlainBody, done, next, Branches, no_branch, branch, Choices, no_choice, choice}
+use Rattle.st_tree.specs.Plain.{PlainExpr, literal, read, output_of, element, unary, binary, PlainArgument, input, output}
+use Rattle.st_tree.specs.Plain.{PlainStmt, empty, assign, store, call, if_else, case_of, for_to, PlainBody, done, next, Branches, no_branch, branch, Choices, no_choice, choice}
 use Rattle.st_tree.specs.View.{view_body}
 use Rattle.st_tree.specs.Operators.{Outcome}
 use Rattle.st_tree.specs.Constants.{constant_of}
@@ -54,6 +54,7 @@ abbrev pub binary_lines : PlainExpr ℕ → (left right : ℕ) → ℕ
 binary_lines (literal n) left right = left + 1
 binary_lines (read v) left right = left + 1
 binary_lines (output_of instance name) left right = left + right + 2
+binary_lines (element v bounds index) left right = left + right + 2
 binary_lines (unary op a) left right = left + right + 2
 binary_lines (binary op a b) left right = left + right + 2
 
@@ -62,6 +63,7 @@ abbrev pub expr_lines : PlainExpr ℕ → ℕ
 expr_lines (literal n) = 1
 expr_lines (read v) = 1
 expr_lines (output_of instance name) = 1
+expr_lines (element v bounds index) = expr_lines index + 1
 expr_lines (unary op a) = expr_lines a + 1
 expr_lines (binary op a b) = binary_lines b (expr_lines a) (expr_lines b)
 
@@ -69,6 +71,7 @@ abbrev pub binary_words : PlainExpr ℕ → (left right : ℕ) → ℕ
 binary_words (literal n) left right = left
 binary_words (read v) left right = left
 binary_words (output_of instance name) left right = max left (right + 1)
+binary_words (element v bounds index) left right = max left (right + 1)
 binary_words (unary op a) left right = max left (right + 1)
 binary_words (binary op a b) left right = max left (right + 1)
 
@@ -77,6 +80,7 @@ abbrev pub expr_words : PlainExpr ℕ → ℕ
 expr_words (literal n) = 0
 expr_words (read v) = 0
 expr_words (output_of instance name) = 0
+expr_words (element v bounds index) = expr_words index
 expr_words (unary op a) = expr_words a
 expr_words (binary op a b) = binary_words b (expr_words a) (expr_words b)
 
@@ -139,6 +143,7 @@ module _ (seats : List Seat) (inner : ℕ → ℕ) where
     pub stmt_lines : PlainStmt ℕ → ℕ
     stmt_lines (empty number) = 0
     stmt_lines (assign number v e) = expr_lines e + 1
+    stmt_lines (store number v bounds index value) = expr_lines index + expr_lines value + 2
     stmt_lines (call number instance arguments) =
         inputs_lines (slice_get seats instance) arguments + entered 2 inner (slice_get seats instance) + outputs_lines arguments
     stmt_lines (if_else number branches last) = branches_lines branches (body_lines last)
@@ -164,6 +169,7 @@ module _ (seats : List Seat) (inner : ℕ → ℕ) where
     pub stmt_words : PlainStmt ℕ → ℕ
     stmt_words (empty number) = 0
     stmt_words (assign number v e) = expr_words e
+    stmt_words (store number v bounds index value) = max (expr_words index) (expr_words value + 1)
     stmt_words (call number instance arguments) = max (inputs_words arguments) (entered 0 inner (slice_get seats instance))
     stmt_words (if_else number branches last) = max (branches_words branches) (body_words last)
     stmt_words (case_of number e choices last) = max (expr_words e) (max (choices_words choices) (body_words last))

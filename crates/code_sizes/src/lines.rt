@@ -18,7 +18,8 @@ fn binary_lines(right: &Expr<usize>, left: u32, lines: u32) -> u32
 {
     match right {
         Expr::Literal(_) | Expr::Read(_) => left + 1,
-        Expr::Output(_, _) | Expr::Unary(_, _) | Expr::Binary(_, _, _) => left + lines + 2,
+        Expr::Output(_, _) | Expr::Element(_, _, _) | Expr::Unary(_, _) | Expr::Binary(_, _, _) =>
+            left + lines + 2,
     }
 }
 
@@ -29,6 +30,7 @@ pub fn expr_lines(expr: &Expr<usize>) -> u32
 {
     match expr {
         Expr::Literal(_) | Expr::Read(_) | Expr::Output(_, _) => 1,
+        Expr::Element(_, _, index) => expr_lines(index) + 1,
         Expr::Unary(_, a) => expr_lines(a) + 1,
         Expr::Binary(_, a, b) => {
             let left = expr_lines(a);
@@ -130,6 +132,7 @@ pub fn stmt_lines(table: &[Count], seats: &[Seat], stmt: &Stmt<usize>) -> u32
     match stmt {
         Stmt::Empty(_) => 0,
         Stmt::Assign(_, _, expr) => expr_lines(expr) + 1,
+        Stmt::Store { index, value, .. } => expr_lines(index) + expr_lines(value) + 2,
         Stmt::Call(_, instance, arguments) => call_lines(table, seats, *instance, arguments),
         Stmt::If(_, branches, last) => {
             let otherwise = body_lines(table, seats, last);

@@ -18,7 +18,8 @@ fn binary_words(right: &Expr<usize>, left: usize, words: usize) -> usize
 {
     match right {
         Expr::Literal(_) | Expr::Read(_) => left,
-        Expr::Output(_, _) | Expr::Unary(_, _) | Expr::Binary(_, _, _) => left.max(add(words, 1)),
+        Expr::Output(_, _) | Expr::Element(_, _, _) | Expr::Unary(_, _) | Expr::Binary(_, _, _) =>
+            left.max(add(words, 1)),
     }
 }
 
@@ -29,6 +30,7 @@ fn expr_words(expr: &Expr<usize>) -> usize
 {
     match expr {
         Expr::Literal(_) | Expr::Read(_) | Expr::Output(_, _) => 0,
+        Expr::Element(_, _, index) => expr_words(index),
         Expr::Unary(_, a) => expr_words(a),
         Expr::Binary(_, a, b) => {
             let left = expr_words(a);
@@ -96,6 +98,7 @@ fn stmt_words(table: &[Count], seats: &[Seat], stmt: &Stmt<usize>) -> usize
     match stmt {
         Stmt::Empty(_) => 0,
         Stmt::Assign(_, _, expr) => expr_words(expr),
+        Stmt::Store { index, value, .. } => expr_words(index).max(add(expr_words(value), 1)),
         Stmt::Call(_, instance, arguments) => {
             let inputs = inputs_words(arguments);
             inputs.max(entered_words(table, seats, *instance))
