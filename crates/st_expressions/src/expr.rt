@@ -90,6 +90,7 @@ fn in_parentheses(expr: Expr<Text>) -> Expr<Text>
         Expr::Literal(Literal::Value(value)) => Expr::Literal(Literal::Value(value)),
         Expr::Read(name) => Expr::Read(name),
         Expr::Output(instance, name) => Expr::Output(instance, name),
+        Expr::Element(name, bounds, index) => Expr::Element(name, bounds, index),
         Expr::Unary(op, a) => Expr::Unary(op, a),
         Expr::Binary(op, a, b) => Expr::Binary(op, a, b),
     }
