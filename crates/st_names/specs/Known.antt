@@ -3,8 +3,8 @@ use Rattle.std.specs.Prelude.{ℕ, Bool, true, not, ◌&&◌, ◌||◌, List, []
 use Rattle.std.specs.List.{list_all}
 use Rattle.std.specs.Option.{option_map_or}
 use Rattle.plant_types.specs.Words.{folded}
-use Rattle.st_tree.specs.Plain.{PlainExpr, literal, read, output_of, unary, binary, PlainArgument, input, output}
-use Rattle.st_tree.specs.Plain.{PlainStmt, empty, assign, call, if_else, case_of, for_to, PlainBody}
+use Rattle.st_tree.specs.Plain.{PlainExpr, literal, read, output_of, element, unary, binary, PlainArgument, input, output}
+use Rattle.st_tree.specs.Plain.{PlainStmt, empty, assign, store, call, if_else, case_of, for_to, PlainBody}
 use Rattle.st_names.specs.Every.{every, tests_of}
 use Rattle.st_parser.specs.declared.unit.Sort.{Sort}
 use Rattle.st_parser.specs.declared.unit.Sort.TheVariants as sort
@@ -47,11 +47,12 @@ module _ (units : List PlainUnit) (own : List PlainDeclared) where
   abbrev pub is_named : List ℕ → Bool
   is_named name = is_some (named units own name)
 
-  -- each name that an expression reads is there; an output is one of its instance
+  -- each name that an expression reads is there, that of an element's array too; an output is one of its instance
   abbrev pub expr_known : PlainExpr (List ℕ) → Bool
   expr_known (literal n) = true
   expr_known (read v) = is_named v
   expr_known (output_of instance name) = is_some (output_named units own instance name)
+  expr_known (element v bounds index) = is_named v && expr_known index
   expr_known (unary op a) = expr_known a
   expr_known (binary op a b) = expr_known a && expr_known b
 
@@ -63,10 +64,11 @@ module _ (units : List PlainUnit) (own : List PlainDeclared) where
   argument_known (input name e) = expr_known e
   argument_known (output name v) = is_named v
 
-  -- the names of a statement's own are there: those of its expressions, its variable, its instance and its arguments
+  -- the names of a statement's own are there: those of its expressions, its variable or array, its instance and its arguments
   abbrev pub stmt_known : PlainStmt (List ℕ) → Bool
   stmt_known (empty number) = true
   stmt_known (assign number v e) = is_named v && expr_known e
+  stmt_known (store number v bounds index value) = is_named v && expr_known index && expr_known value
   stmt_known (call number instance arguments) =
       is_named instance && list_all argument_known arguments && are_members (instance_type units own instance) arguments
   stmt_known (if_else number branches last) = list_all expr_known (tests_of branches)

@@ -26,6 +26,7 @@ fn expr_known<S: Scope>(scope: &S, expr: &Expr<Text>) -> bool
         Expr::Literal(_) => true,
         Expr::Read(name) => scope.is_named(name),
         Expr::Output(instance, name) => scope.has_output(instance, name),
+        Expr::Element(name, _, index) => scope.is_named(name) && expr_known(scope, index),
         Expr::Unary(_, a) => expr_known(scope, a),
         Expr::Binary(_, a, b) => expr_known(scope, a) && expr_known(scope, b),
     }
@@ -157,6 +158,12 @@ impl<'a, S: Scope> Rule for NamesKnown<'a, S> {
             Stmt::Assign(_, variable, expr) => {
                 Ok(scope.is_named(variable) && expr_known(scope, expr))
             }
+            Stmt::Store {
+                array,
+                index,
+                value,
+                ..
+            } => Ok(scope.is_named(array) && expr_known(scope, index) && expr_known(scope, value)),
             Stmt::Call(_, instance, arguments) => call_known(alloc, scope, instance, arguments),
             Stmt::If(_, branches, _) => Ok(tests_known(scope, branches)),
             Stmt::Case(_, selector, _, _) => Ok(expr_known(scope, selector)),
