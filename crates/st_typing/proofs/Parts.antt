@@ -2,7 +2,7 @@
 use Rattle.std.proofs.Common.{◌≡◌, ◌∙◌, ℕ, Bool, true, false, ◌&&◌, List, refl}
 use Rattle.std.specs.List.{list_all}
 use Rattle.plant_types.specs.declared.values.Kind.TheVariants as kind
-use Rattle.st_tree.specs.Plain.{PlainStmt, empty, assign, call, if_else, case_of, for_to, PlainBody, done, next, Branches, no_branch, branch, Choices, no_choice, choice}
+use Rattle.st_tree.specs.Plain.{PlainStmt, empty, assign, store, call, if_else, case_of, for_to, PlainBody, done, next, Branches, no_branch, branch, Choices, no_choice, choice}
 use Rattle.st_tree.specs.Fits.{Context, is_of, stmt_fits, all_fit, branches_fit, choices_fit}
 use Rattle.st_names.specs.Every.{every, every_inside, every_branch, every_choice, tests_of}
 use Rattle.st_typing.specs.Kinds.{parts_fit}
@@ -30,6 +30,7 @@ mutual
   pub stmt_parts : (context : Context (List ℕ)) (s : PlainStmt (List ℕ)) → (parts_fit context s && every_inside (parts_fit context) s) ≡ stmt_fits context s
   stmt_parts context (empty number) = refl
   stmt_parts context (assign number v e) = and_true (parts_fit context (assign number v e))
+  stmt_parts context (store number v bounds index value) = and_true (parts_fit context (store number v bounds index value))
   stmt_parts context (call number instance arguments) = and_true (parts_fit context (call number instance arguments))
   stmt_parts context (if_else number branches last) =
       rw (regrouped (list_all (is_of context kind.Bool) (tests_of branches)) (every_branch (parts_fit context) branches) (every (parts_fit context) last), branch_parts context branches, body_parts context last) refl

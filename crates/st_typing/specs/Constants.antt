@@ -7,7 +7,7 @@ use Rattle.plant_types.specs.Words.{same_word}
 use Rattle.plant_types.specs.declared.values.Kind.{Kind}
 use Rattle.plant_types.specs.declared.values.Kind.TheVariants as kind
 use Rattle.plant_types.specs.declared.values.Trap.{Trap}
-use Rattle.st_tree.specs.Plain.{PlainExpr, PlainArgument, input, output, PlainStmt, empty, assign, call, if_else, case_of, for_to, PlainBody}
+use Rattle.st_tree.specs.Plain.{PlainExpr, PlainArgument, input, output, PlainStmt, empty, assign, store, call, if_else, case_of, for_to, PlainBody}
 use Rattle.st_names.specs.Every.{every}
 use Rattle.st_tree.specs.Operators.{Outcome}
 use Rattle.st_tree.specs.Controls.{control_values, span_of}
@@ -36,10 +36,11 @@ outputs_assign v [] = false
 outputs_assign v (input name e ∷ rest) = outputs_assign v rest
 outputs_assign v (output name u ∷ rest) = same_word v u || outputs_assign v rest
 
--- a statement assigns a variable itself, as the control variable of a FOR too
+-- a statement assigns a variable itself, as the control variable of a FOR too; an element is no variable
 abbrev pub stmt_assigns : List ℕ → PlainStmt (List ℕ) → Bool
 stmt_assigns v (empty number) = false
 stmt_assigns v (assign number u e) = same_word v u
+stmt_assigns v (store number u bounds index value) = false
 stmt_assigns v (call number instance arguments) = outputs_assign v arguments
 stmt_assigns v (if_else number branches last) = false
 stmt_assigns v (case_of number e choices last) = false
@@ -59,9 +60,9 @@ abbrev pub turns_of : Option Outcome → Option Outcome → Option Outcome → �
 turns_of (Some from) (Some to) (Some step) = turns_in (span_of from to step)
 turns_of _ _ _ = 0
 
--- a constant expression reads no variable, so that no variable's kind chooses an operator
+-- a constant expression reads no variable and no element, so that no kind of these chooses an operator
 abbrev pub no_kinds : KindsOf (List ℕ)
-no_kinds = record { variable = λ name. kind.Bool; output = λ instance name. kind.Bool }
+no_kinds = record { variable = λ name. kind.Bool; output = λ instance name. kind.Bool; element = λ name. kind.Bool; bounds = λ name. record { low = pos 0; high = pos 0 } }
 
 -- the outcome of a constant expression, each operator being that of its operands' kind; none if it reads a variable
 abbrev pub meant_constant : PlainExpr (List ℕ) → Option Outcome

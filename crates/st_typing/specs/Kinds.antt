@@ -2,9 +2,10 @@
 use Rattle.std.specs.Prelude.{ℕ, Bool, true, false, not, ◌&&◌, if◌then◌else◌, List, [], Option, Some, None, is_some, is_none}
 use Rattle.std.specs.List.{list_all}
 use Rattle.std.specs.Option.{option_map_or}
+use Rattle.plant_types.specs.declared.values.Bounds.{Bounds}
 use Rattle.plant_types.specs.declared.values.Kind.{Kind}
 use Rattle.plant_types.specs.declared.values.Kind.TheVariants as kind
-use Rattle.st_tree.specs.Plain.{PlainExpr, PlainStmt, empty, assign, call, if_else, case_of, for_to}
+use Rattle.st_tree.specs.Plain.{PlainExpr, PlainStmt, empty, assign, store, call, if_else, case_of, for_to}
 use Rattle.st_tree.specs.Kinds.{is_kind}
 use Rattle.st_tree.specs.Fits.{Context, is_of, option_is_of, fits_option, takes, argument_fits, all_fit}
 use Rattle.st_parser.specs.declared.unit.SectionKind.{SectionKind}
@@ -16,6 +17,10 @@ use Rattle.st_names.specs.Every.{tests_of}
 use Rattle.st_names.specs.DeclaredNames.{PlainDeclared, declared_in}
 use Rattle.st_names.specs.Scopes.{variable_kind, instance_type, input_kind, output_kind, global_kind, is_assignable, is_external}
 
+-- the kind of an array's elements, if there is such an array with these bounds; no declaration makes one
+abbrev pub element_kind : List ℕ → Bounds → Option Kind
+element_kind name bounds = None
+
 -- what a body's names are declared as
 abbrev pub context_of : List PlainUnit → List PlainDeclared → Context (List ℕ)
 context_of units own = record {
@@ -24,6 +29,7 @@ context_of units own = record {
   is_instance = λ name. is_some (instance_type units own name);
   input_kind = input_kind units own;
   output_kind = output_kind units own;
+  element_kind = element_kind;
 }
 
 module _ (context : Context (List ℕ)) where
@@ -31,6 +37,7 @@ module _ (context : Context (List ℕ)) where
   abbrev pub parts_fit : PlainStmt (List ℕ) → Bool
   parts_fit (empty number) = true
   parts_fit (assign number v e) = takes context v e
+  parts_fit (store number v bounds index value) = is_of context kind.Dint index && fits_option context (context.element_kind v bounds) value
   parts_fit (call number instance arguments) = context.is_instance instance && list_all (argument_fits context instance) arguments
   parts_fit (if_else number branches last) = list_all (is_of context kind.Bool) (tests_of branches)
   parts_fit (case_of number e choices last) = is_of context kind.Dint e

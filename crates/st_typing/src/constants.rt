@@ -39,14 +39,14 @@ fn apply_binary(op: Binary, x: Result<i64, Trap>, y: Result<i64, Trap>) -> Resul
 }
 
 /// The outcome of a constant expression and its kind, each operator being that of its operands' kind; `None` for an expression that reads
-/// a variable or an output.
+/// a variable, an output or an element.
 fn kinded_constant(expr: &Expr<Text>) -> Option<(Result<i64, Trap>, Kind)>
     ensures outcome { (kinds : KindsOf (List ℕ)) → option_map (λ r. r.0) result ≡ constant_of (resolved_expr kinds (view_expr expr.now)) }
     ensures kind { (kinds : KindsOf (List ℕ)) → IfSome result (λ r. r.1 ≡ kind_in kinds (view_expr expr.now)) }
 {
     match expr {
         Expr::Literal(literal) => Some((Ok(literal.worth()), literal.kind())),
-        Expr::Read(_) | Expr::Output(_, _) => None,
+        Expr::Read(_) | Expr::Output(_, _) | Expr::Element(_, _, _) => None,
         Expr::Unary(op, a) => {
             let (x, kind) = kinded_constant(a)?;
             let outcome = apply_unary(resolved_unary(*op, kind), x);
@@ -61,7 +61,7 @@ fn kinded_constant(expr: &Expr<Text>) -> Option<(Result<i64, Trap>, Kind)>
     }
 }
 
-/// The outcome of a constant expression, as it is meant; `None` for one that reads a variable or an output.
+/// The outcome of a constant expression, as it is meant; `None` for one that reads a variable, an output or an element.
 fn meant_constant(expr: &Expr<Text>) -> Option<Result<i64, Trap>>
     ensures { result ≡ meant_constant (view_expr expr.now) }
 {
@@ -124,7 +124,7 @@ fn stmt_assigns(variable: &Text, stmt: &Stmt<Text>) -> bool
     ensures { result ≡ stmt_assigns variable.now (view_stmt stmt.now) }
 {
     match stmt {
-        Stmt::Empty(_) | Stmt::If(_, _, _) | Stmt::Case(_, _, _, _) => false,
+        Stmt::Empty(_) | Stmt::Store { .. } | Stmt::If(_, _, _) | Stmt::Case(_, _, _, _) => false,
         Stmt::Assign(_, other, _) => same_word(variable.as_bytes(), other.as_bytes()),
         Stmt::Call(_, _, arguments) => outputs_assign(variable, arguments),
         Stmt::For {

@@ -8,15 +8,22 @@ ghost use Rattle.st_tree.specs.Fits.{sorts_of, is_of, option_is_of, fits_option,
 ghost use Rattle.st_parser.specs.Units.{view_declaration, view_section, view_pou};
 ghost use Rattle.st_names.specs.DeclaredNames.{declared_as, declared_together, declared_by, declared_in, sort_kind};
 ghost use Rattle.st_names.specs.Every.{tests_of};
-ghost use Rattle.st_typing.specs.Kinds.{context_of, parts_fit, initial_fits, instance_fits, declared_fits, is_global, globals_misfit, pou_misfit};
+ghost use Rattle.st_typing.specs.Kinds.{element_kind, context_of, parts_fit, initial_fits, instance_fits, declared_fits, is_global, globals_misfit, pou_misfit};
 
-use plant_types::{Kind, Text};
+use plant_types::{Bounds, Kind, Text};
 use st_names::{Rule, Scope, every, sort_kind};
 use st_parser::{Declaration, Pou, Section, SectionKind, Sort};
 use st_tree::{Argument, Branch, Expr, Stmt, binary_kind, is_bit, unary_kind};
 use std::alloc::{AllocError, Global};
 
-/// The kind of an expression; `None` if an operator doesn't take its operands, or a name has no kind.
+/// The kind of an array's elements, if there is such an array with these bounds. No declaration makes one.
+fn element_kind(_name: &Text, _bounds: Bounds) -> Option<Kind>
+    ensures { result ≡ element_kind _name.now _bounds }
+{
+    None
+}
+
+/// The kind of an expression; `None` if an operator doesn't take its operands, an index isn't a DINT, or a name has no kind.
 fn kind_of_expr<S: Scope>(scope: &S, expr: &Expr<Text>) -> Option<Kind>
     ensures { result ≡ kind_of_expr (sorts_of (context_of (S.units scope.now) (S.own scope.now))) (view_expr expr.now) }
 {
@@ -24,6 +31,13 @@ fn kind_of_expr<S: Scope>(scope: &S, expr: &Expr<Text>) -> Option<Kind>
         Expr::Literal(literal) => Some(literal.kind()),
         Expr::Read(name) => scope.variable_kind(name),
         Expr::Output(instance, name) => scope.output_kind(instance, name),
+        Expr::Element(name, bounds, index) => {
+            if is_kind(Kind::Dint, kind_of_expr(scope, index)) {
+                element_kind(name, *bounds)
+            } else {
+                None
+            }
+        }
         Expr::Unary(op, a) => {
             let kind = kind_of_expr(scope, a)?;
             unary_kind(*op, kind)
@@ -139,6 +153,16 @@ impl<'a, S: Scope> Rule for PartsFit<'a, S> {
         Ok(match stmt {
             Stmt::Empty(_) => true,
             Stmt::Assign(_, name, expr) => takes(scope, name, expr),
+            Stmt::Store {
+                array,
+                bounds,
+                index,
+                value,
+                ..
+            } => {
+                is_of(scope, Kind::Dint, index)
+                    && fits_option(scope, element_kind(array, *bounds), value)
+            }
             Stmt::Call(_, instance, arguments) => {
                 scope.is_instance(instance) && arguments_fit(scope, instance, arguments)
             }
