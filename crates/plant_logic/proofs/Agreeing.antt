@@ -10,7 +10,7 @@ use Rattle.plant_logic.specs.declared.logic.BlockRef.TheVariants.{Ton, Tof, RTri
 use Rattle.plant_logic.specs.Source.{PlainRoutine, Source}
 use Rattle.plant_logic.specs.Names.{find_word, instance_words, instance_named, block_named, meant_in}
 use Rattle.plant_logic.specs.Blocks.{Declares, AsksDeclared}
-use Rattle.plant_logic.specs.Worlds.{Path, World, called, called_named, path_in, assign, output_at, words_of, routine_space, run_rule, block_begun, instances_begun, begun, begin_rule}
+use Rattle.plant_logic.specs.Worlds.{Path, World, called, called_named, path_in, element_path, assign, output_at, words_of, routine_space, run_rule, block_begun, instances_begun, begun, begin_rule}
 use Rattle.plant_logic.specs.Layout.{ClockAt, block_values, instance_values, own_values, values_rule, block_clocks, instance_clocks, clocks_rule}
 use Rattle.plant_logic.specs.Ranges.{KindAt, block_kinds, instance_kinds, own_kinds, kinds_rule}
 
@@ -104,6 +104,8 @@ space_agrees t f g r path agree = λ k. record {
   path = path;
   get = λ w name. w.values (path_in r path name);
   put = λ w name n. assign w (path_in r path name) n;
+  get_at = λ w name bounds i. w.values (element_path r path name i);
+  put_at = λ w name bounds i n. assign w (element_path r path name i) n;
   get_output = λ w instance name. output_at w (words_of (instance ∷ path)) (block_named r instance) name;
   put_input = λ w instance name n. assign w (words_of (name ∷ instance ∷ path)) n;
   enter = λ w instance. named_agree t f g r path w instance agree (instance_named r instance) refl k;

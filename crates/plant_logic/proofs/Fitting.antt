@@ -1,16 +1,17 @@
 -- A body that fits does so when it is meant, where the kinds by which it is meant are those of its context.
 use Rattle.std.proofs.Common.{◌≡◌, ◌∙◌, ap, sym, refl, ℕ, ◌+◌, Bool, true, List, [], ◌∷◌}
-use Rattle.std.specs.Prelude.{◌&&◌, ◌||◌, map, Option, Some, None, option_and_then, option_map}
+use Rattle.std.specs.Prelude.{◌&&◌, ◌||◌, if◌then◌else◌, map, Option, Some, None, option_and_then, option_map}
 use Rattle.std.specs.List.{list_all}
 use Rattle.std.proofs.lemmas.Bool.{and_parts, or_right}
+use Rattle.plant_types.specs.declared.values.Bounds.{Bounds}
 use Rattle.plant_types.specs.declared.values.Kind.{Kind}
 use Rattle.plant_types.specs.declared.values.Kind.TheVariants as kind
 use Rattle.st_tree.specs.declared.tree.Unary.{Unary}
 use Rattle.st_tree.specs.declared.tree.Unary.TheVariants.{Not, Negate, NegateTime}
 use Rattle.st_tree.specs.declared.tree.Binary.{Binary}
 use Rattle.st_tree.specs.declared.tree.Binary.TheVariants.{And, Xor, Or, Equal, Unequal, Less, Greater, AtMost, AtLeast, Add, AddTime, Subtract, SubtractTime, Multiply, Divide, Mod}
-use Rattle.st_tree.specs.Plain.{PlainExpr, literal, read, output_of, unary, binary, PlainArgument, input, output}
-use Rattle.st_tree.specs.Plain.{PlainStmt, empty, assign, call, if_else, case_of, for_to, PlainBody, done, next, Branches, no_branch, branch, Choices, no_choice, choice}
+use Rattle.st_tree.specs.Plain.{PlainExpr, literal, read, output_of, element, unary, binary, PlainArgument, input, output}
+use Rattle.st_tree.specs.Plain.{PlainStmt, empty, assign, store, call, if_else, case_of, for_to, PlainBody, done, next, Branches, no_branch, branch, Choices, no_choice, choice}
 use Rattle.st_tree.specs.Every.{every, every_inside, every_branch, every_choice}
 use Rattle.st_tree.specs.Numbers.{count_stmt, count_body, count_branches, count_choices, numbered_stmt, numbered, numbered_branches, numbered_choices}
 use Rattle.st_tree.specs.Kinds.{KindsOf, AreSorts, kind_of_expr, kind_in, is_kind, same_kind, is_bit, unary_kind, binary_kind, resolved_unary, resolved_binary, resolved_expr, resolved_argument, resolved_stmt, resolved_body, resolved_branches, resolved_choices, meant}
@@ -25,6 +26,7 @@ freely context = record {
   is_instance = context.is_instance;
   input_kind = context.input_kind;
   output_kind = context.output_kind;
+  element_kind = context.element_kind;
 }
 
 -- ---- an operator that is chosen has the kind of the one that is written
@@ -81,11 +83,20 @@ suits_kept : (k : Kind) (o p : Option Kind) (bit other : Bool) → ((r : Kind) �
 suits_kept k None p bit other kept same is = or_right (is_kind k p) other (sym same ∙ is)
 suits_kept k (Some r) p bit other kept same is = (λ i. is_kind k (kept r refl i) || sym same i) ∙ is
 
-module _ {V : Type 0} (context : Context V) (kinds : KindsOf V) (agrees : AreSorts (sorts_of context) kinds) where
+-- an element has its kind within the bounds that are declared
+element_kept : (o p e f : Option Kind) (r : Kind) → ((k : Kind) → o ≡ Some k → p ≡ Some k) → ((k : Kind) → e ≡ Some k → f ≡ Some k) → (if is_kind kind.Dint o then e else None) ≡ Some r → (if is_kind kind.Dint p then f else None) ≡ Some r
+element_kept None p e f r kept bounded is = absurd (cc)
+element_kept (Some kind.Bool) p e f r kept bounded is = absurd (cc)
+element_kept (Some kind.Dint) p e f r kept bounded is = ap (λ o. if is_kind kind.Dint o then f else None) (kept kind.Dint refl) ∙ bounded r is
+element_kept (Some kind.Time) p e f r kept bounded is = absurd (cc)
+
+module _ {V : Type 0} (context : Context V) (kinds : KindsOf V) (agrees : AreSorts (sorts_of context) kinds)
+    (bounded : (v : V) (bounds : Bounds) (k : Kind) → context.element_kind v bounds ≡ Some k → context.element_kind v (kinds.bounds v) ≡ Some k) where
   bit_kept : (e : PlainExpr V) → is_bit e ≡ is_bit (resolved_expr kinds e)
   bit_kept (literal n) = refl
   bit_kept (read v) = refl
   bit_kept (output_of instance name) = refl
+  bit_kept (element v bounds index) = refl
   bit_kept (unary op a) = refl
   bit_kept (binary op a b) = refl
 
@@ -103,6 +114,8 @@ module _ {V : Type 0} (context : Context V) (kinds : KindsOf V) (agrees : AreSor
   kind_kept (literal n) r is = is
   kind_kept (read v) r is = is
   kind_kept (output_of instance name) r is = is
+  kind_kept (element v bounds index) r is =
+      element_kept (of_expr index) (of_expr (chosen index)) (context.element_kind v bounds) (context.element_kind v (kinds.bounds v)) r (λ k e. kind_kept index k e) (bounded v bounds) is
   kind_kept (unary op a) r is = unary_kept op (of_expr a) (of_expr (chosen a)) (kind_in kinds a) r (λ k e. kind_kept a k e) (λ k e. kind_is a k e) is
   kind_kept (binary op a b) r is = binary_kept op (of_expr a) (of_expr b) (of_expr (chosen a)) (of_expr (chosen b)) (kind_in kinds a) r (λ k e. kind_kept a k e) (λ k e. kind_kept b k e) (λ k e. kind_is a k e) is
 
@@ -121,6 +134,10 @@ module _ {V : Type 0} (context : Context V) (kinds : KindsOf V) (agrees : AreSor
 
   abbrev free : Context V
   free = freely context
+
+  stored_by : (o : Option Kind) (v : V) (bounds : Bounds) (e : PlainExpr V) → context.element_kind v bounds ≡ o → fits_option context o e ≡ true → fits_option context (context.element_kind v (kinds.bounds v)) (chosen e) ≡ true
+  stored_by None v bounds e is fits = absurd (cc)
+  stored_by (Some k) v bounds e is fits = ap (λ o. fits_option context o (chosen e)) (bounded v bounds k is) ∙ fits_kept (Some k) e fits
 
   takes_kept : (v : V) (e : PlainExpr V) → takes context v e ≡ true → takes free v (chosen e) ≡ true
   takes_kept v e h = fits_kept (context.variable_kind v) e (and_parts (context.may_assign v) (fits_option context (context.variable_kind v) e) h).1
@@ -141,6 +158,9 @@ module _ {V : Type 0} (context : Context V) (kinds : KindsOf V) (agrees : AreSor
     stmt_kept : (n : ℕ) (s : PlainStmt V) → stmt_fits context s ≡ true → stmt_fits free (resolved_stmt kinds (numbered_stmt n s)) ≡ true
     stmt_kept n (empty number) h = refl
     stmt_kept n (assign number v e) h = takes_kept v e h
+    stmt_kept n (store number v bounds index value) h =
+        let p = and_parts (is_of context kind.Dint index) (fits_option context (context.element_kind v bounds) value) h in
+        λ i. of_kept kind.Dint index p.0 i && stored_by (context.element_kind v bounds) v bounds value refl p.1 i
     stmt_kept n (call number instance arguments) h =
         let p = and_parts (context.is_instance instance) (list_all (argument_fits context instance) arguments) h in
         λ i. p.0 i && arguments_kept instance arguments p.1 i
@@ -187,6 +207,7 @@ module _ {V : Type 0} (context : Context V) (kinds : KindsOf V) (rule : PlainStm
     stmt_controls : (n : ℕ) (s : PlainStmt V) → rule s ≡ true → every_inside rule s ≡ true → stmt_controls_fit context (resolved_stmt kinds (numbered_stmt n s)) ≡ true
     stmt_controls n (empty number) h inside = refl
     stmt_controls n (assign number v e) h inside = refl
+    stmt_controls n (store number v bounds index value) h inside = refl
     stmt_controls n (call number instance arguments) h inside = refl
     stmt_controls n (if_else number branches last) h inside =
         let p = and_parts (every_branch rule branches) (every rule last) inside in

@@ -6,6 +6,7 @@ use Rattle.std.specs.Option.{option_map_or}
 use Rattle.std.proofs.lemmas.Bool.{and_parts, or_parts}
 use Rattle.std.proofs.lemmas.List.Elements.{All-nil, All-cons, All-head, All-tail, All-filter, All-weaker}
 use Rattle.plant_types.specs.Words.{folded}
+use Rattle.plant_types.specs.declared.values.Bounds.{Bounds}
 use Rattle.plant_types.specs.declared.values.Kind.{Kind}
 use Rattle.plant_types.specs.declared.values.Kind.TheVariants as kind
 use Rattle.plant_types.specs.Values.{is_in_range}
@@ -197,6 +198,8 @@ module _ (units : List PlainUnit) (typed : AreTyped units) (order : List ℕ) (b
           record {
             variable_in_range = λ w v k holds is. value_in source w (kind_at (path_in r path v) k) holds (variable_here v k is);
             output_in_range = λ w instance name k holds is. output_here w instance name k holds is;
+            element_in_range = λ w v bounds i k holds is within. absurd (cc);
+            put_at_keeps = λ w v bounds i k n holds is within fits. absurd (cc);
             put_keeps = λ w v k n holds may is fits. put_in source w (kind_at (path_in r path v) k) n named (variable_here v k is) fits holds;
             put_input_keeps = λ w instance name k n holds is_one is fits. put_in source w (kind_at (folded name ∷ folded instance ∷ words_of path) k) n named (input_here instance name k is) fits holds;
             enter_keeps = λ w instance holds is_one. entered w instance (instance_named r instance) refl holds;
@@ -210,13 +213,22 @@ module _ (units : List PlainUnit) (typed : AreTyped units) (order : List ℕ) (b
           run_all_keeps (freely (context_of units own)) (routine_space t inner r path) Holds invariant (meant_in source r body) w fits
           (meant_controls (freely (context_of units own)) (kinds_named source r) rule controls body allowed) holds
 
+    -- no declaration makes an array
+    no_element : {A : Type 0} (context : Context (List ℕ)) (v : List ℕ) (bounds : Bounds) (k : Kind) → freely context ≡ freely (context_of units own) → context.element_kind v bounds ≡ Some k → A
+    no_element context v bounds k same is = let none : context.element_kind v bounds ≡ None = ap (λ (c : Context (List ℕ)). c.element_kind v bounds) same in absurd (cc)
+
     -- what fits as it is declared fits as it is meant
     pub body_fits : (context : Context (List ℕ)) (body : PlainBody (List ℕ)) → freely context ≡ freely (context_of units own) → ((v : List ℕ) (k : Kind) → context.variable_kind v ≡ Some k → variable_kind units own v ≡ Some k)
         → ((instance name : List ℕ) (k : Kind) → context.output_kind instance name ≡ Some k → output_kind units own instance name ≡ Some k) → all_fit context body ≡ true → all_fit (freely (context_of units own)) (meant_in source r body) ≡ true
     body_fits context body same variables outputs fits =
         subst (λ c. all_fit c (meant_in source r body) ≡ true) same
         (meant_fits context (kinds_named source r)
-        (record { variable_is = λ v k is. (variable_at units apart own r scope v k (variables v k is)).kind_is; output_is = λ instance name k is. output_agrees instance name k (outputs instance name k is) }) body fits)
+        (record {
+          variable_is = λ v k is. (variable_at units apart own r scope v k (variables v k is)).kind_is;
+          output_is = λ instance name k is. output_agrees instance name k (outputs instance name k is);
+          element_is = λ v bounds k is. no_element context v bounds k same is;
+        })
+        (λ v bounds k is. no_element context v bounds k same is) body fits)
 
   -- a control variable of a FOR that is allowed is a DINT
   control_by : (own : List PlainDeclared) (name : List ℕ) (o : Option PlainDeclared) → find_declared own name ≡ o → can_control o ≡ true → is_kind kind.Dint (variable_kind units own name) ≡ true

@@ -1,8 +1,9 @@
 -- Names in a routine, and what they name: its own variables hide globals.
-use Rattle.std.specs.Prelude.{ℕ, List, map, position, Option, option_map, option_and_then, unwrap_or, slice_get, if◌then◌else◌, None, Some, codes}
+use Rattle.std.specs.Prelude.{ℕ, pos, List, map, position, Option, option_map, option_and_then, unwrap_or, slice_get, if◌then◌else◌, None, Some, codes}
 use Rattle.std.specs.Option.{option_map_or}
 use Rattle.std.specs.Str.{bytes_eq}
 use Rattle.plant_types.specs.Words.{folded, same_word}
+use Rattle.plant_types.specs.declared.values.Bounds.{Bounds}
 use Rattle.plant_types.specs.declared.values.Kind.{Kind}
 use Rattle.plant_types.specs.declared.values.Kind.TheVariants as kind
 use Rattle.st_tree.specs.Plain.{PlainBody}
@@ -70,10 +71,17 @@ output_kind_of blocks (Some (Declared n)) name = option_map_or (λ b. unwrap_or 
 abbrev pub output_kind_named : List PlainRoutine → PlainRoutine → (instance name : List ℕ) → Kind
 output_kind_named blocks r instance name = output_kind_of blocks (block_named r instance) name
 
+-- the kind of an array's elements and its bounds; no source has an array
+abbrev pub element_kind_named : List ℕ → Kind
+element_kind_named name = kind.Bool
+
+abbrev pub bounds_named : List ℕ → Bounds
+bounds_named name = record { low = pos 0; high = pos 0 }
+
 -- the kinds of the names in a routine of a source
 abbrev pub kinds_named : Source → PlainRoutine → KindsOf (List ℕ)
-kinds_named source r = record { variable = kind_named source.globals r; output = output_kind_named source.blocks r }
+kinds_named source r = record { variable = kind_named source.globals r; output = output_kind_named source.blocks r; element = element_kind_named; bounds = bounds_named }
 
--- the body that is meant by the body or the initial values of a routine of a source: its statements are numbered from 1, and each operator is that of its operands' kind
+-- the body that is meant by the body or the initial values of a routine of a source: its statements are numbered from 1, each operator is that of its operands' kind, and each array has its declared bounds
 abbrev pub meant_in : Source → PlainRoutine → PlainBody (List ℕ) → PlainBody (List ℕ)
 meant_in source r body = meant (kinds_named source r) body

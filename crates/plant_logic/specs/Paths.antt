@@ -2,7 +2,7 @@
 use Rattle.std.specs.Prelude.{ℕ, Bool, if◌then◌else◌, List, [], ◌∷◌, ◌++◌, map, codes}
 use Rattle.std.specs.List.{list_any}
 use Rattle.plant_types.specs.Words.{same_word}
-use Rattle.st_tree.specs.Plain.{PlainStmt, empty, assign, call, if_else, case_of, for_to, PlainBody, done, next, Branches, no_branch, branch, Choices, no_choice, choice}
+use Rattle.st_tree.specs.Plain.{PlainStmt, empty, assign, store, call, if_else, case_of, for_to, PlainBody, done, next, Branches, no_branch, branch, Choices, no_choice, choice}
 use Rattle.plant_logic.specs.declared.logic.Instance.{Instance}
 use Rattle.plant_logic.specs.declared.logic.BlockRef.{BlockRef}
 use Rattle.plant_logic.specs.declared.logic.BlockRef.TheVariants.{Ton, Tof, RTrig, Declared}
@@ -15,6 +15,7 @@ abbrev mutual
   pub called_in_stmt : {V : Type 0} → PlainStmt V → List V
   called_in_stmt (empty number) = []
   called_in_stmt (assign number v e) = []
+  called_in_stmt (store number v bounds index value) = []
   called_in_stmt (call number instance arguments) = instance ∷ []
   called_in_stmt (if_else number branches last) = called_in_branches branches ++ called_in last
   called_in_stmt (case_of number e choices last) = called_in_choices choices ++ called_in last

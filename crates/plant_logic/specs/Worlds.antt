@@ -1,5 +1,5 @@
 -- Worlds, and what routines do in them.
-use Rattle.std.specs.Prelude.{ℕ, ℤ, pos, Bool, true, false, ◌&&◌, if◌then◌else◌, List, [], ◌∷◌, map, is_some, Option, Some, None, slice_get, codes}
+use Rattle.std.specs.Prelude.{ℕ, ℤ, pos, negsuc, Bool, true, false, ◌&&◌, if◌then◌else◌, List, [], ◌∷◌, map, is_some, Option, Some, None, slice_get, codes}
 use Rattle.std.specs.Str.{bytes_eq}
 use Rattle.plant_types.specs.Words.{folded, same_word}
 use Rattle.plant_types.specs.Values.{truth, is_true}
@@ -51,6 +51,15 @@ path_of name = folded name ∷ []
 abbrev pub path_in : PlainRoutine → Path → List ℕ → Path
 path_in r path name = if is_some (find_word (own_words r.locals) name) then folded name ∷ words_of path else path_of name
 
+-- the word of an index, which is no name's: '[' and the number, with '-' before that of a negative one
+abbrev pub index_word : ℤ → List ℕ
+index_word (pos n) = 91 ∷ n ∷ []
+index_word (negsuc n) = 91 ∷ 45 ∷ n ∷ []
+
+-- the path of an array's element, by its index
+abbrev pub element_path : PlainRoutine → Path → List ℕ → ℤ → Path
+element_path r path name i = index_word i ∷ path_in r path name
+
 -- a standard block's inputs and outputs, in small letters
 abbrev pub in_word : List ℕ
 in_word = codes "in"
@@ -98,6 +107,8 @@ routine_space t inner r path = record {
   path = path;
   get = λ w name. w.values (path_in r path name);
   put = λ w name n. assign w (path_in r path name) n;
+  get_at = λ w name bounds i. w.values (element_path r path name i);
+  put_at = λ w name bounds i n. assign w (element_path r path name i) n;
   get_output = λ w instance name. output_at w (words_of (instance ∷ path)) (block_named r instance) name;
   put_input = λ w instance name n. assign w (words_of (name ∷ instance ∷ path)) n;
   enter = λ w instance. called_named t inner path w (instance_named r instance);
