@@ -2,7 +2,7 @@
 use Rattle.std.proofs.Common.{◌≡◌, ap, refl, ℕ, ◌+◌, ◌*◌, min, List, [], ◌∷◌, length, Option, Some, None, inl, inr, arith}
 use Rattle.std.specs.List.{sum_by}
 use Rattle.std.proofs.lemmas.List.Sums.{sum_by-cons}
-use Rattle.st_tree.specs.Plain.{PlainExpr, PlainStmt, empty, assign, call, if_else, case_of, for_to, PlainBody, done, next, Branches, no_branch, branch, Choices, no_choice, choice}
+use Rattle.st_tree.specs.Plain.{PlainExpr, PlainStmt, empty, assign, store, call, if_else, case_of, for_to, PlainBody, done, next, Branches, no_branch, branch, Choices, no_choice, choice}
 use Rattle.st_tree.specs.Costs.{expr_cost, tests_cost, labels_cost, arguments_cost, weight, weight_all, branches_weight, choices_weight}
 use Rattle.block_order.specs.Chains.{Among}
 use Rattle.plant_logic.specs.declared.logic.BlockRef.{BlockRef}
@@ -38,6 +38,7 @@ module _ (join : ℕ → ℕ → ℕ) (last : ℕ) (joins : (a b c d : ℕ) → 
     stmt_alike : (s : PlainStmt V) → Same last (weight join turns f s) (weight join turns g s)
     stmt_alike (empty number) = refl
     stmt_alike (assign number v e) = refl
+    stmt_alike (store number v bounds index value) = refl
     stmt_alike (call number instance arguments) = sums last (1 + arguments_cost arguments) (1 + arguments_cost arguments) (f instance) (g instance) refl (same instance)
     stmt_alike (if_else number branches last_body) =
         sums last (1 + tests_cost branches) (1 + tests_cost branches) (join (branches_weight join turns f branches) (weight_all join turns f last_body)) (join (branches_weight join turns g branches) (weight_all join turns g last_body)) refl

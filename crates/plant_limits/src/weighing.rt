@@ -52,6 +52,7 @@ fn weigh_expr(last: u64, expr: &Expr<Text>) -> u64
 {
     match expr {
         Expr::Literal(_) | Expr::Read(_) | Expr::Output(_, _) => add(last, 1, 0),
+        Expr::Element(_, _, index) => add(last, 2, weigh_expr(last, index)),
         Expr::Unary(_, a) => add(last, 1, weigh_expr(last, a)),
         Expr::Binary(_, a, b) => {
             let left = weigh_expr(last, a);
@@ -138,6 +139,11 @@ fn weigh_stmt(scale: &Scale<'_>, stmt: &Stmt<Text>) -> u64
     match stmt {
         Stmt::Empty(_) => add(last, 1, 0),
         Stmt::Assign(_, _, expr) => add(last, 1, weigh_expr(last, expr)),
+        Stmt::Store { index, value, .. } => {
+            let at = weigh_expr(last, index);
+            let stored = weigh_expr(last, value);
+            add(last, add(last, 2, at), stored)
+        }
         Stmt::Call(_, name, arguments) => {
             let given = weigh_arguments(last, arguments);
             let called = weigh_called(scale, name);
