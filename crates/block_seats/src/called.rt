@@ -33,7 +33,7 @@ fn add_stmt(alloc: Global, names: &mut Names, stmt: &Stmt<Text>) -> Result<(), A
     ensures { IfOk result (λ _. (n : List ℕ) → is_among names.new n ≡ (is_among names.old n || list_any (same_word n) (called_in_stmt (view_stmt stmt.now)))) }
 {
     match stmt {
-        Stmt::Empty(_) | Stmt::Assign(_, _, _) => Ok(()),
+        Stmt::Empty(_) | Stmt::Assign(_, _, _) | Stmt::Store { .. } => Ok(()),
         Stmt::Call(_, instance, _) => add_name(alloc, names, instance),
         Stmt::If(_, branches, last) => {
             add_branches(alloc, names, branches)?;
