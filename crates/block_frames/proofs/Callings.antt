@@ -7,17 +7,18 @@ use Rattle.std.specs.Cmp.Lexicographic.{bytes_decides}
 use Rattle.std.proofs.lemmas.Bool.{and_parts, or_left, or_right}
 use Rattle.std.proofs.lemmas.List.Folds.{list_all-append}
 use Rattle.plant_types.specs.Words.{folded, same_word}
-use Rattle.st_tree.specs.Plain.{PlainExpr, literal, read, output_of, unary, binary, PlainArgument, input, output, PlainStmt, empty, assign, call, if_else, case_of, for_to, PlainBody, done, next, Branches, no_branch, branch, Choices, no_choice, choice}
+use Rattle.st_tree.specs.Plain.{PlainExpr, literal, read, output_of, element, unary, binary, PlainArgument, input, output, PlainStmt, empty, assign, store, call, if_else, case_of, for_to, PlainBody, done, next, Branches, no_branch, branch, Choices, no_choice, choice}
 use Rattle.st_tree.specs.Mapping.{Known, expr_known, option_known, argument_known, stmt_known, body_known, branches_known, choices_known}
 use Rattle.plant_logic.specs.Source.{PlainRoutine, Source}
 use Rattle.plant_logic.specs.Paths.{called_in_stmt, called_in, called_in_branches, called_in_choices, is_called}
 use Rattle.block_frames.proofs.Fitting.{both}
-use Rattle.block_frames.specs.Numbers.{variable_number, instance_number, input_number, output_number, numbered_in}
+use Rattle.block_frames.specs.Numbers.{variable_number, array_number, instance_number, input_number, output_number, numbered_in}
 
 -- the names that have a number, of instances those that the routine calls
 abbrev pub called_known : Source → PlainRoutine → Known (List ℕ)
 called_known source r = record {
   has_variable = λ name. is_some (variable_number source r name);
+  has_array = λ name bounds. is_some (array_number name);
   has_instance = λ name. is_some (instance_number r name) && is_called r name;
   has_input = λ instance name. is_some (input_number source r instance name);
   has_output = λ instance name. is_some (output_number source r instance name);
@@ -26,12 +27,13 @@ called_known source r = record {
 -- a body in which each name is known is known by what also says something of the instances, if that is so of each that is called
 module _ {V : Type 0} (known : Known V) (test : V → Bool) where
   abbrev more : Known V
-  more = record { has_variable = known.has_variable; has_instance = λ v. known.has_instance v && test v; has_input = known.has_input; has_output = known.has_output }
+  more = record { has_variable = known.has_variable; has_array = known.has_array; has_instance = λ v. known.has_instance v && test v; has_input = known.has_input; has_output = known.has_output }
 
   expr_more : (e : PlainExpr V) → expr_known more e ≡ expr_known known e
   expr_more (literal n) = refl
   expr_more (read v) = refl
   expr_more (output_of instance name) = refl
+  expr_more (element v bounds index) = λ i. known.has_array v bounds && expr_more index i
   expr_more (unary op a) = expr_more a
   expr_more (binary op a b) = λ i. expr_more a i && expr_more b i
 
@@ -54,6 +56,7 @@ module _ {V : Type 0} (known : Known V) (test : V → Bool) where
     stmt_more : (s : PlainStmt V) → stmt_known known s ≡ true → list_all test (called_in_stmt s) ≡ true → stmt_known more s ≡ true
     stmt_more (empty number) is all = refl
     stmt_more (assign number v e) is all = (λ i. known.has_variable v && expr_more e i) ∙ is
+    stmt_more (store number v bounds index value) is all = (λ i. known.has_array v bounds && (expr_more index i && expr_more value i)) ∙ is
     stmt_more (call number instance arguments) is all =
         let parts = and_parts (known.has_instance instance) (list_all (argument_known known instance) arguments) is in
         let passes = and_parts (test instance) true all in

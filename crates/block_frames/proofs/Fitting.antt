@@ -1,12 +1,12 @@
 -- The names of a body whose kinds are right are known.
 use Rattle.std.proofs.Common.{◌≡◌, refl, ℕ, Bool, true, false, List, [], ◌∷◌, Option, Some, None, inl, inr}
-use Rattle.std.specs.Prelude.{◌&&◌, option_and_then}
+use Rattle.std.specs.Prelude.{◌&&◌, if◌then◌else◌, option_and_then}
 use Rattle.std.specs.List.{list_all}
 use Rattle.std.proofs.lemmas.Bool.{and_parts, or_cases}
 use Rattle.plant_types.specs.declared.values.Kind.{Kind}
 use Rattle.plant_types.specs.declared.values.Kind.TheVariants as kind
-use Rattle.st_tree.specs.Plain.{PlainExpr, literal, read, output_of, unary, binary, PlainArgument, input, output}
-use Rattle.st_tree.specs.Plain.{PlainStmt, empty, assign, call, if_else, case_of, for_to, PlainBody, done, next, Branches, no_branch, branch, Choices, no_choice, choice}
+use Rattle.st_tree.specs.Plain.{PlainExpr, literal, read, output_of, element, unary, binary, PlainArgument, input, output}
+use Rattle.st_tree.specs.Plain.{PlainStmt, empty, assign, store, call, if_else, case_of, for_to, PlainBody, done, next, Branches, no_branch, branch, Choices, no_choice, choice}
 use Rattle.st_tree.specs.Kinds.{unary_kind, binary_kind, kind_of_expr, is_kind, is_bit, same_kind}
 use Rattle.st_tree.specs.Fits.{Context, sorts_of, is_of, option_is_of, fits_option, takes, argument_fits, stmt_fits, all_fit, branches_fit, choices_fit}
 use Rattle.st_tree.specs.Every.{every, every_inside, every_branch, every_choice}
@@ -21,6 +21,13 @@ pub some_kind : (k : Kind) (o : Option Kind) → is_kind k o ≡ true → (found
 some_kind k None is = absurd (cc)
 some_kind k (Some found) is = (found, refl)
 
+-- an element has a kind where its index is a DINT
+tested_kind : (o e : Option Kind) (k : Kind) → (if is_kind kind.Dint o then e else None) ≡ Some k → (o ≡ Some kind.Dint) × (e ≡ Some k)
+tested_kind None e k is = absurd (cc)
+tested_kind (Some kind.Bool) e k is = absurd (cc)
+tested_kind (Some kind.Dint) e k is = (refl, is)
+tested_kind (Some kind.Time) e k is = absurd (cc)
+
 pub both : (a b : Bool) → a ≡ true → b ≡ true → (a && b) ≡ true
 both true b is also = also
 both false b is also = is
@@ -31,6 +38,9 @@ module _ {V : Type 0} (context : Context V) (known : Known V) (are : KnowsNames 
   kind_known (literal n) k is = refl
   kind_known (read v) k is = are.variables v k is
   kind_known (output_of instance name) k is = are.outputs instance name k is
+  kind_known (element v bounds index) k is =
+      let first = tested_kind (kind_of_expr (sorts_of context) index) (context.element_kind v bounds) k is in
+      both (known.has_array v bounds) (expr_known known index) (are.arrays v bounds k first.1) (kind_known index kind.Dint first.0)
   kind_known (unary op a) k is =
       let first = and_then_some (unary_kind op) (kind_of_expr (sorts_of context) a) k is in
       kind_known a first.0 first.1
@@ -50,6 +60,7 @@ module _ {V : Type 0} (context : Context V) (known : Known V) (are : KnowsNames 
   bit_known (literal n) is = refl
   bit_known (read v) is = absurd (cc)
   bit_known (output_of instance name) is = absurd (cc)
+  bit_known (element v bounds index) is = absurd (cc)
   bit_known (unary op a) is = absurd (cc)
   bit_known (binary op a b) is = absurd (cc)
 
@@ -87,6 +98,11 @@ module _ {V : Type 0} (context : Context V) (known : Known V) (are : KnowsNames 
     stmt_is : (s : PlainStmt V) → stmt_fits context s ≡ true → rule s ≡ true → every_inside rule s ≡ true → stmt_known known s ≡ true
     stmt_is (empty number) is own inside = refl
     stmt_is (assign number v e) is own inside = let it = taken_known v e is in both (known.has_variable v) (expr_known known e) it.0 it.1
+    stmt_is (store number v bounds index value) is own inside =
+        let parts = and_parts (is_of context kind.Dint index) (fits_option context (context.element_kind v bounds) value) is in
+        let it = fitting_known (context.element_kind v bounds) value parts.1 in
+        both (known.has_array v bounds) (expr_known known index && expr_known known value) (are.arrays v bounds it.0 it.1)
+        (both (expr_known known index) (expr_known known value) (of_known kind.Dint index parts.0) it.2)
     stmt_is (call number instance arguments) is own inside =
         let parts = and_parts (context.is_instance instance) (list_all (argument_fits context instance) arguments) is in
         both (known.has_instance instance) (list_all (argument_known known instance) arguments) (are.instances instance parts.0) (arguments_are instance arguments parts.1)

@@ -8,7 +8,7 @@ use Rattle.std.proofs.lemmas.Bool.{and_parts, and_from, or_left}
 use Rattle.plant_types.specs.Words.{folded, same_word}
 use Rattle.plant_types.specs.declared.values.Kind.{Kind}
 use Rattle.block_order.specs.Chains.{Among}
-use Rattle.st_tree.specs.Plain.{PlainExpr, literal, read, output_of, unary, binary, PlainStmt}
+use Rattle.st_tree.specs.Plain.{PlainExpr, literal, read, output_of, element, unary, binary, PlainStmt}
 use Rattle.st_tree.specs.Operators.{Outcome}
 use Rattle.st_tree.specs.Kinds.{is_kind}
 use Rattle.st_tree.specs.Mapping.{Known, expr_known, body_known}
@@ -39,6 +39,7 @@ module _ (known : Known (List ℕ)) where
   constant_known (literal n) o is = refl
   constant_known (read v) o is = absurd (cc)
   constant_known (output_of instance name) o is = absurd (cc)
+  constant_known (element v bounds index) o is = absurd (cc)
   constant_known (unary op a) o is = let part = mapped_some _ (meant_constant a) o is in constant_known a part.0 part.1
   constant_known (binary op a b) o is =
       let first = and_then_some _ (meant_constant a) o is in

@@ -5,7 +5,7 @@ use Rattle.st_tree.specs.declared.tree.Stmt.{Stmt}
 use Rattle.st_tree.specs.declared.tree.Branch.{Branch}
 use Rattle.st_tree.specs.declared.tree.Choice.{Choice}
 use Rattle.st_tree.specs.declared.tree.Label.{Label}
-use Rattle.st_tree.specs.Plain.{PlainExpr, PlainStmt, empty, assign, call, if_else, case_of, for_to, PlainBody, done, next, Branches, no_branch, branch, Choices, no_choice, choice}
+use Rattle.st_tree.specs.Plain.{PlainExpr, PlainStmt, empty, assign, store, call, if_else, case_of, for_to, PlainBody, done, next, Branches, no_branch, branch, Choices, no_choice, choice}
 use Rattle.st_tree.specs.Numbers.{count_stmt, count_body, count_branches, count_choices}
 use Rattle.st_tree.specs.View.{view_stmt, view_body, view_branch, view_branches, view_choice, view_choices}
 use Rattle.block_frames.specs.declared.scope.Scope.{Scope}
@@ -51,6 +51,7 @@ push_choices (y ∷ ys) x b = ap (choice (view_choice y).0 (view_choice y).1) (p
 pub one_at_least : {V : Type 0} (s : PlainStmt V) → 1 ≤ count_stmt s
 one_at_least (empty number) = omega arith
 one_at_least (assign number v e) = omega arith
+one_at_least (store number v bounds index value) = omega arith
 one_at_least (call number instance arguments) = omega arith
 one_at_least (if_else number branches last) = omega arith
 one_at_least (case_of number e choices last) = omega arith

@@ -169,6 +169,7 @@ module _ (units : List PlainUnit) where
         body_is (context_of units own) (numbered_in source (routine p))
         (record {
           variables = variable_numbered units p fits;
+          arrays = λ v bounds k is. absurd (cc);
           assigned = assigned_numbered;
           instances = instance_numbered units p fits variables;
           inputs = input_numbered units p fits variables;

@@ -2,8 +2,9 @@
 use Rattle.std.proofs.Common.{◌≡◌, ◌∙◌, refl, ℕ, ◌+◌, List, [], ◌∷◌, Option, Some, None}
 use Rattle.std.specs.Prelude.{◌&&◌, map, option_map}
 use Rattle.std.specs.List.{list_all}
-use Rattle.st_tree.specs.Plain.{PlainExpr, literal, read, output_of, unary, binary, PlainArgument, input, output}
-use Rattle.st_tree.specs.Plain.{PlainStmt, empty, assign, call, if_else, case_of, for_to, PlainBody, done, next, Branches, no_branch, branch, Choices, no_choice, choice}
+use Rattle.plant_types.specs.declared.values.Bounds.{Bounds}
+use Rattle.st_tree.specs.Plain.{PlainExpr, literal, read, output_of, element, unary, binary, PlainArgument, input, output}
+use Rattle.st_tree.specs.Plain.{PlainStmt, empty, assign, store, call, if_else, case_of, for_to, PlainBody, done, next, Branches, no_branch, branch, Choices, no_choice, choice}
 use Rattle.st_tree.specs.Numbers.{count_stmt, count_body, count_branches, count_choices, numbered_stmt, numbered, numbered_branches, numbered_choices}
 use Rattle.st_tree.specs.Kinds.{KindsOf, resolved_expr, resolved_argument, resolved_stmt, resolved_body, resolved_branches, resolved_choices, meant}
 use Rattle.st_tree.specs.Mapping.{Known, expr_known, option_known, argument_known, stmt_known, body_known, branches_known, choices_known}
@@ -13,6 +14,7 @@ module _ {V : Type 0} (known : Known V) where
     stmt_numbered : (n : ℕ) (s : PlainStmt V) → stmt_known known (numbered_stmt n s) ≡ stmt_known known s
     stmt_numbered n (empty number) = refl
     stmt_numbered n (assign number v e) = refl
+    stmt_numbered n (store number v bounds index value) = refl
     stmt_numbered n (call number instance arguments) = refl
     stmt_numbered n (if_else number branches last) = λ i. branches_numbered (n + 1) branches i && body_numbered (n + 1 + count_branches branches) last i
     stmt_numbered n (case_of number e choices last) = λ i. expr_known known e && (choices_numbered (n + 1) choices i && body_numbered (n + 1 + count_choices choices) last i)
@@ -30,11 +32,13 @@ module _ {V : Type 0} (known : Known V) where
     choices_numbered n no_choice = refl
     choices_numbered n (choice labels body rest) = λ i. body_numbered n body i && choices_numbered (n + count_body body) rest i
 
-  module _ (kinds : KindsOf V) where
+  -- an array is known with its declared bounds as it is with those that are written
+  module _ (kinds : KindsOf V) (bounded : (v : V) (bounds : Bounds) → known.has_array v (kinds.bounds v) ≡ known.has_array v bounds) where
     expr_resolved : (e : PlainExpr V) → expr_known known (resolved_expr kinds e) ≡ expr_known known e
     expr_resolved (literal n) = refl
     expr_resolved (read v) = refl
     expr_resolved (output_of instance name) = refl
+    expr_resolved (element v bounds index) = λ i. bounded v bounds i && expr_resolved index i
     expr_resolved (unary op a) = expr_resolved a
     expr_resolved (binary op a b) = λ i. expr_resolved a i && expr_resolved b i
 
@@ -54,6 +58,7 @@ module _ {V : Type 0} (known : Known V) where
       stmt_resolved : (s : PlainStmt V) → stmt_known known (resolved_stmt kinds s) ≡ stmt_known known s
       stmt_resolved (empty number) = refl
       stmt_resolved (assign number v e) = λ i. known.has_variable v && expr_resolved e i
+      stmt_resolved (store number v bounds index value) = λ i. bounded v bounds i && (expr_resolved index i && expr_resolved value i)
       stmt_resolved (call number instance arguments) = λ i. known.has_instance instance && arguments_resolved instance arguments i
       stmt_resolved (if_else number branches last) = λ i. branches_resolved branches i && body_resolved last i
       stmt_resolved (case_of number e choices last) = λ i. expr_resolved e i && (choices_resolved choices i && body_resolved last i)

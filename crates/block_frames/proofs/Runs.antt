@@ -51,7 +51,7 @@ module _ (source : Source) (order : List ℕ) (below : AreBelow source.blocks or
       let known = called_known source r in
       subst (λ body. Agree (Matches source) (run_rule source t inner r path w) (run_all to body cells)) (sym it.body_is)
       (body_same known (numbers source r) from to (Matches source) (spaces_lawful source order below named r seats it.seats_are path base values clocks t inner lower callees)
-      (meant_in source r r.body) (meant_known known (kinds_named source r) r.body ∙ calls_known source r names.in_body) w cells stands)
+      (meant_in source r r.body) (meant_known known (kinds_named source r) (λ v bounds. refl) r.body ∙ calls_known source r names.in_body) w cells stands)
 
   module _ (frames : List Frame) (are : IsFrames source order frames) (types : HasItsTypes source) (names : HasAllNames source) where
     abbrev lower : ℕ → ℕ → Base → Path → PlainCells → Ran PlainCells

@@ -21,11 +21,11 @@ use Rattle.plant_logic.specs.declared.logic.Instance.{Instance}
 use Rattle.plant_logic.specs.declared.logic.BlockRef.{BlockRef}
 use Rattle.plant_logic.specs.declared.logic.BlockRef.TheVariants.{Ton, Tof, RTrig, Declared}
 use Rattle.plant_logic.specs.Source.{PlainRoutine, Source, global_cells}
-use Rattle.plant_logic.specs.Names.{find_word, own_words, global_words, instance_words, own_kind, global_kind, block_named, kind_named, output_kind_of, output_kind_named, kinds_named, meant_in}
+use Rattle.plant_logic.specs.Names.{find_word, own_words, global_words, instance_words, own_kind, global_kind, block_named, kind_named, output_kind_of, output_kind_named, element_kind_named, bounds_named, kinds_named, meant_in}
 use Rattle.plant_logic.specs.Seats.{own_or_global, member_number}
 use Rattle.block_frames.specs.declared.names.Variables.{Variables}
 use Rattle.block_frames.specs.declared.scope.Scope.{Scope}
-use Rattle.block_frames.specs.Numbers.{shown_number, numbers}
+use Rattle.block_frames.specs.Numbers.{shown_number, array_number, numbers}
 use Rattle.block_frames.specs.Scoped.{kind_among, block_among, AreVariables, AreMembers, IsScope, local_names, local_kinds, own_variables, global_variables, scope_variable, scope_kind, scope_instance, own_number, own_kind_of, input_among, output_among, output_kind_by, scope_input, scope_output, scope_output_kind, scope_kinds, flat_body}
 
 prefix-map : {X Y : Type 0} (p : Y → Bool) (f : X → Y) (xs : List X) → prefix_len (λ x. p (f x)) xs ≡ prefix_len p (map f xs)
@@ -161,10 +161,10 @@ module _ (source : Source) (r : PlainRoutine) (scope : Scope) (is : IsScope sour
   output_kind_is instance name = kind_by (block_among scope.instances.now instance) name ∙ ap (λ o. output_kind_of source.blocks o name) (block_is instance)
 
   kinds_are : scope_kinds scope ≡ kinds_named source r
-  kinds_are = λ i. record { variable = λ name. kind_is name i; output = λ instance name. output_kind_is instance name i }
+  kinds_are = λ i. record { variable = λ name. kind_is name i; output = λ instance name. output_kind_is instance name i; element = element_kind_named; bounds = bounds_named }
 
   abbrev maps_at : (body : PlainBody (List ℕ)) → (variable : List ℕ → ℕ) (instance : List ℕ → ℕ) (input output : List ℕ → List ℕ → ℕ) (kinds : KindsOf (List ℕ)) → PlainBody ℕ
-  maps_at body variable instance input output kinds = mapped_body (record { variable = variable; instance = instance; input_name = input; output_name = output; node = λ e. e }) (resolved_body kinds (numbered 1 body))
+  maps_at body variable instance input output kinds = mapped_body (record { variable = variable; array = λ name. unwrap_or (array_number name) 0; instance = instance; input_name = input; output_name = output; node = λ e. e }) (resolved_body kinds (numbered 1 body))
 
   -- a body over numbers is the one that the definition gives
   pub flat_is : (body : PlainBody (List ℕ)) → flat_body scope 1 body ≡ mapped_body (numbers source r) (meant_in source r body)

@@ -213,6 +213,8 @@ module _ (source : Source) (order : List ℕ) (below : AreBelow source.blocks or
       path_is = refl;
       variable_is = λ v w cells is m. sym (value_held source cells w m (slot_of (global_cells source) base (unwrap_or (variable_number source r v) 0)) (path_in r path v) (variable_at w cells m v is));
       put_matches = λ v x w cells is m. value_put source cells w m named (slot_of (global_cells source) base (unwrap_or (variable_number source r v) 0)) (path_in r path v) x (variable_at w cells m v is);
+      element_is = λ v bounds i w cells is within m. absurd (cc);
+      put_at_matches = λ v bounds i x w cells is within m. absurd (cc);
       output_is = λ instance name w cells is m. shows instance name w cells is m;
       put_input_matches = λ instance name x w cells is m. takes instance name x w cells is m;
       enter_agrees = λ instance w cells is m. let parts = and_parts (is_some (instance_number r instance)) (is_called r instance) is in entered instance w cells parts.0 parts.1 m;

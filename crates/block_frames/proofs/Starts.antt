@@ -81,6 +81,8 @@ module _ (source : Source) (order : List ℕ) (below : AreBelow source.blocks or
       path_is = refl;
       variable_is = λ v w cells is m. sym (value_held source cells w m (slot_of (global_cells source) base (unwrap_or (variable_number source r v) 0)) (path_in r path v) (variable_at v is));
       put_matches = λ v x w cells is m. value_put source cells w m named (slot_of (global_cells source) base (unwrap_or (variable_number source r v) 0)) (path_in r path v) x (variable_at v is);
+      element_is = λ v bounds i w cells is within m. absurd (cc);
+      put_at_matches = λ v bounds i x w cells is within m. absurd (cc);
       output_is = λ instance name w cells is m. absurd (cc);
       put_input_matches = λ instance name x w cells is m. absurd (cc);
       enter_agrees = λ instance w cells is m. absurd (cc);
@@ -96,7 +98,7 @@ module _ (source : Source) (order : List ℕ) (below : AreBelow source.blocks or
         let to = frame_space 0 (global_cells source) inner [] base path in
         let known = variables_in source r in
         let same = body_same known (numbers source r) from to (Matches source) starts_lawful (meant_in source r r.starts)
-        (meant_known known (kinds_named source r) r.starts ∙ names.in_starts) w cells stands in
+        (meant_known known (kinds_named source r) (λ v bounds. refl) r.starts ∙ names.in_starts) w cells stands in
         let moved = body_moved 0 (global_cells source) inner (run_within 0 (global_cells source) [] 0) (λ k at below_it c. refl) [] base path body cells in
         let left : left_by (run_all to body cells) ≡ left_by (run_all (start_space (global_cells source) base) (view_body frame.starts.items) cells) =
         ap left_by moved ∙ left_under path (run_all (start_space (global_cells source) base) body cells)

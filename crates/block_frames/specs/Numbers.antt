@@ -2,6 +2,7 @@
 use Rattle.std.specs.Prelude.{◌≡◌, ℕ, true, false, if◌then◌else◌, List, length, Option, Some, None, is_some, option_and_then, unwrap_or, codes}
 use Rattle.std.specs.List.{All}
 use Rattle.plant_types.specs.Words.{same_word}
+use Rattle.plant_types.specs.declared.values.Bounds.{Bounds}
 use Rattle.plant_types.specs.declared.values.Kind.{Kind}
 use Rattle.st_tree.specs.Fits.{Context}
 use Rattle.st_tree.specs.Mapping.{Mapping, Known, body_known}
@@ -39,10 +40,15 @@ shown_number source (Declared n) name = member_number source.blocks (Declared n)
 abbrev pub output_number : Source → PlainRoutine → (instance name : List ℕ) → Option ℕ
 output_number source r instance name = option_and_then (λ b. shown_number source b name) (block_named r instance)
 
+-- the number of an array, that of its first element; no routine has an array
+abbrev pub array_number : List ℕ → Option ℕ
+array_number name = None
+
 -- numbers for the names in a routine; 0 for a name that isn't known
 abbrev pub numbers : Source → PlainRoutine → Mapping (List ℕ) ℕ
 numbers source r = record {
   variable = λ name. unwrap_or (variable_number source r name) 0;
+  array = λ name. unwrap_or (array_number name) 0;
   instance = λ name. unwrap_or (instance_number r name) 0;
   input_name = λ instance name. unwrap_or (input_number source r instance name) 0;
   output_name = λ instance name. unwrap_or (output_number source r instance name) 0;
@@ -53,6 +59,7 @@ numbers source r = record {
 abbrev pub numbered_in : Source → PlainRoutine → Known (List ℕ)
 numbered_in source r = record {
   has_variable = λ name. is_some (variable_number source r name);
+  has_array = λ name bounds. is_some (array_number name);
   has_instance = λ name. is_some (instance_number r name);
   has_input = λ instance name. is_some (input_number source r instance name);
   has_output = λ instance name. is_some (output_number source r instance name);
@@ -62,15 +69,17 @@ numbered_in source r = record {
 abbrev pub variables_in : Source → PlainRoutine → Known (List ℕ)
 variables_in source r = record {
   has_variable = λ name. is_some (variable_number source r name);
+  has_array = λ name bounds. false;
   has_instance = λ name. false;
   has_input = λ instance name. false;
   has_output = λ instance name. false;
 }
 
--- what is declared of a body's names is known: each variable, each instance, and each input and output of an instance
+-- what is declared of a body's names is known: each variable, each array, each instance, and each input and output of an instance
 pub record KnowsNames {V : Type 0} (context : Context V) (known : Known V) : Type 0 where
   pub variables : (v : V) (k : Kind) → context.variable_kind v ≡ Some k → known.has_variable v ≡ true
   pub assigned : (v : V) → context.may_assign v ≡ true → known.has_variable v ≡ true
+  pub arrays : (v : V) (bounds : Bounds) (k : Kind) → context.element_kind v bounds ≡ Some k → known.has_array v bounds ≡ true
   pub instances : (v : V) → context.is_instance v ≡ true → known.has_instance v ≡ true
   pub inputs : (instance name : V) (k : Kind) → context.input_kind instance name ≡ Some k → known.has_input instance name ≡ true
   pub outputs : (instance name : V) (k : Kind) → context.output_kind instance name ≡ Some k → known.has_output instance name ≡ true

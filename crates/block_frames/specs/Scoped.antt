@@ -16,8 +16,8 @@ use Rattle.plant_logic.specs.declared.logic.BlockRef.{BlockRef}
 use Rattle.plant_logic.specs.declared.logic.BlockRef.TheVariants.{Ton, Tof, RTrig, Declared}
 use Rattle.plant_logic.specs.Source.{PlainRoutine, Source}
 use Rattle.plant_logic.specs.Seats.{own_or_global, timer_number}
-use Rattle.plant_logic.specs.Names.{meant_in}
-use Rattle.block_frames.specs.Numbers.{timer_shows, numbers}
+use Rattle.plant_logic.specs.Names.{element_kind_named, bounds_named, meant_in}
+use Rattle.block_frames.specs.Numbers.{timer_shows, array_number, numbers}
 use Rattle.block_frames.specs.declared.names.Variables.{Variables}
 use Rattle.block_frames.specs.declared.names.Instances.{Instances}
 use Rattle.block_frames.specs.declared.scope.Scope.{Scope}
@@ -119,12 +119,13 @@ scope_output_kind scope instance name = output_kind_by scope.members.now (block_
 
 -- the kinds of the names
 abbrev pub scope_kinds : Scope → KindsOf (List ℕ)
-scope_kinds scope = record { variable = scope_kind scope; output = scope_output_kind scope }
+scope_kinds scope = record { variable = scope_kind scope; output = scope_output_kind scope; element = element_kind_named; bounds = bounds_named }
 
 -- the numbers in the places of the names
 abbrev pub mapping_of : Scope → Mapping (List ℕ) ℕ
 mapping_of scope = record {
   variable = scope_variable scope;
+  array = λ name. unwrap_or (array_number name) 0;
   instance = scope_instance scope;
   input_name = scope_input scope;
   output_name = scope_output scope;

@@ -5,6 +5,7 @@ ghost use Rattle.std.specs.Prelude.{◌≡◌, ◌<◌, ◌+◌, ◌^◌, IfOk, 
 ghost use Rattle.st_tree.specs.View.{view_expr, view_option, view_argument, view_stmt, view_body, view_branches, view_choices};
 ghost use Rattle.st_tree.specs.Kinds.{kind_in, resolved_argument};
 ghost use Rattle.st_tree.specs.Mapping.{mapped_argument};
+ghost use Rattle.st_tree.specs.Plain.{store};
 ghost use Rattle.st_tree.specs.Numbers.{count_stmt, count_body, count_branches, count_choices};
 ghost use Rattle.block_frames.specs.Scoped.{scope_kinds, mapping_of, flat_expr, flat_option, flat_argument, flat_stmt, flat_body, flat_branches, flat_choices};
 
@@ -36,6 +37,16 @@ fn resolve_kinded(
             let output = scope.output(instance.as_str(), name.as_str());
             let kind = scope.output_kind(instance.as_str(), name.as_str());
             Ok((Expr::Output(own, output), kind))
+        }
+        Expr::Element(name, _, index) => {
+            let (index, _) = resolve_kinded(alloc, scope, index)?;
+            let index = Box::new(alloc, index)?;
+            let array = scope.array(name.as_str());
+            let bounds = scope.bounds(name.as_str());
+            Ok((
+                Expr::Element(array, bounds, index),
+                scope.element_kind(name.as_str()),
+            ))
         }
         Expr::Unary(op, a) => {
             let (a, kind) = resolve_kinded(alloc, scope, a)?;
@@ -149,6 +160,28 @@ fn next_number(number: &mut u32) -> u32
     own
 }
 
+/// Resolves an assignment to an element of an array, whose statement has this number.
+fn resolve_store(
+    alloc: Global,
+    scope: &Scope<'_>,
+    number: u32,
+    array: &Text,
+    index: &Expr<Text>,
+    value: &Expr<Text>,
+) -> Result<Stmt<usize>, AllocError>
+    ensures { IfOk result (λ s. view_stmt s ≡ store number ((mapping_of scope.now).array array.now) ((scope_kinds scope.now).bounds array.now) (flat_expr scope.now (view_expr index.now)) (flat_expr scope.now (view_expr value.now))) }
+{
+    let index = resolve_expr(alloc, scope, index)?;
+    let value = resolve_expr(alloc, scope, value)?;
+    Ok(Stmt::Store {
+        number,
+        array: scope.array(array.as_str()),
+        bounds: scope.bounds(array.as_str()),
+        index,
+        value,
+    })
+}
+
 /// Resolves a statement. `number` is that of its first statement, and then that after its last.
 #[cycle(resolve)]
 fn resolve_stmt(
@@ -168,6 +201,12 @@ fn resolve_stmt(
             let target = scope.variable(variable.as_str());
             Ok(Stmt::Assign(own, target, resolve_expr(alloc, scope, expr)?))
         }
+        Stmt::Store {
+            array,
+            index,
+            value,
+            ..
+        } => resolve_store(alloc, scope, own, array, index, value),
         Stmt::Call(_, instance, arguments) => {
             let called = scope.instance(instance.as_str());
             let arguments = resolve_arguments(alloc, scope, instance, arguments)?;

@@ -3,11 +3,11 @@
 ghost use Rattle.std.specs.Prelude.{◌≡◌};
 ghost use Rattle.plant_logic.specs.Seats.{timer_number};
 ghost use Rattle.block_frames.specs.Numbers.{timer_shows};
-ghost use Rattle.block_frames.specs.Scoped.{scope_variable, scope_kind, scope_instance, own_number, own_kind_of, input_among, output_among, output_kind_by, scope_input, scope_output, scope_output_kind};
+ghost use Rattle.block_frames.specs.Scoped.{mapping_of, scope_kinds, scope_variable, scope_kind, scope_instance, own_number, own_kind_of, input_among, output_among, output_kind_by, scope_input, scope_output, scope_output_kind};
 
 use crate::names::{Instances, Variables};
 use plant_logic::BlockRef;
-use plant_types::{Kind, same_word};
+use plant_types::{Bounds, Kind, same_word};
 
 /// The names that a routine may use: the globals, its own variables and its instances, and the variables of each block type by number.
 #[derive(Drop)]
@@ -136,6 +136,27 @@ impl<'a> Scope<'a> {
             Some(kind) => kind,
             None => self.globals.kind(name).unwrap_or(Kind::Bool),
         }
+    }
+
+    /// The number of the array of a name, that of its first element. No routine has an array.
+    pub fn array(&self, _name: &str) -> usize
+        ensures { result ≡ (mapping_of self.now).array _name.now }
+    {
+        0
+    }
+
+    /// The declared bounds of the array of a name.
+    pub fn bounds(&self, _name: &str) -> Bounds
+        ensures { result ≡ (scope_kinds self.now).bounds _name.now }
+    {
+        Bounds { low: 0, high: 0 }
+    }
+
+    /// The kind of an array's elements.
+    pub fn element_kind(&self, _name: &str) -> Kind
+        ensures { result ≡ (scope_kinds self.now).element _name.now }
+    {
+        Kind::Bool
     }
 
     /// The number of the instance of a name.
