@@ -5,7 +5,7 @@ use Rattle.plant_types.specs.declared.values.Place.{Place}
 use Rattle.st_tree.specs.declared.tree.Binary.{Binary}
 use Rattle.st_tree.specs.declared.tree.Label.{Label}
 use Rattle.st_tree.specs.declared.controls.Span.{Span}
-use Rattle.st_tree.specs.Plain.{PlainExpr, literal, read, output_of, unary, binary, PlainArgument, input, output, PlainStmt, empty, assign, call, if_else, case_of, for_to, PlainBody, done, next, Branches, no_branch, branch, Choices, no_choice, choice}
+use Rattle.st_tree.specs.Plain.{PlainExpr, literal, read, output_of, element, unary, binary, PlainArgument, input, output, PlainStmt, empty, assign, store, call, if_else, case_of, for_to, PlainBody, done, next, Branches, no_branch, branch, Choices, no_choice, choice}
 use Rattle.st_tree.specs.Controls.{control_values}
 use Rattle.block_walk.specs.declared.frame.SeatOf.{SeatOf}
 use Rattle.block_walk.specs.declared.frame.SeatOf.TheVariants as seat_of
@@ -25,6 +25,7 @@ pub binary_long : (globals : ℕ) (base : Base) (place : Place) (op : Binary) (b
 binary_long globals base place op (literal x) c d m n h g = one_more c _ m h
 binary_long globals base place op (read v) c d m n h g = one_more c _ m h
 binary_long globals base place op (output_of instance name) c d m n h g = stacked c d _ _ m n h g
+binary_long globals base place op (element v bounds index) c d m n h g = stacked c d _ _ m n h g
 binary_long globals base place op (unary other a) c d m n h g = stacked c d _ _ m n h g
 binary_long globals base place op (binary other a b) c d m n h g = stacked c d _ _ m n h g
 
@@ -82,6 +83,7 @@ module _ (globals : ℕ) (seats : List Seat) (lines : ℕ → ℕ) (inner : ℕ 
   expr_long place (literal n) = refl
   expr_long place (read v) = refl
   expr_long place (output_of instance name) = refl
+  expr_long place (element v bounds index) = one_more (expr_code globals seats lines inner base path place index) _ (expr_lines index) (expr_long place index)
   expr_long place (unary op a) = one_more (expr_code globals seats lines inner base path place a) _ (expr_lines a) (expr_long place a)
   expr_long place (binary op a b) = binary_long globals base place op b _ _ (expr_lines a) (expr_lines b) (expr_long place a) (expr_long place b)
 
@@ -130,6 +132,9 @@ module _ (globals : ℕ) (seats : List Seat) (lines : ℕ → ℕ) (inner : ℕ 
       pub stmt_long : (s : PlainStmt ℕ) → Long (stmt_code globals seats lines inner base path s) (stmt_lines seats lines s)
       stmt_long (empty number) pc = refl
       stmt_long (assign number v e) pc = one_more (expr_code globals seats lines inner base path (place_of path number) e) _ (expr_lines e) (expr_long (place_of path number) e)
+      stmt_long (store number v bounds index value) pc =
+          let place = place_of path number in
+          stacked (expr_code globals seats lines inner base path place index) (expr_code globals seats lines inner base path place value) _ _ (expr_lines index) (expr_lines value) (expr_long place index) (expr_long place value)
       stmt_long (call number instance arguments) pc = call_long (place_of path number) (slice_get seats instance) arguments pc
       stmt_long (if_else number branches last) pc = branches_long (place_of path number) branches (body_code globals seats lines inner base path last) (body_lines seats lines last) (body_long last) pc
       stmt_long (case_of number e choices last) pc =

@@ -2,6 +2,7 @@ pub mod Parts
 pub mod Lengths
 pub mod Steps
 pub mod Exprs
+pub mod Stores
 pub mod Longer
 pub mod Pairs
 pub mod Loops
@@ -17,6 +18,7 @@ pub mod Numbered
 pub mod Ends
 pub mod Places
 pub mod Within
+pub mod Rows
 pub mod Sound
 pub mod Words
 pub mod Made

@@ -8,7 +8,7 @@ use Rattle.plant_types.specs.Values.{is_in_range}
 use Rattle.plant_types.specs.declared.values.Kind.TheVariants as kind
 use Rattle.plant_types.specs.declared.values.Trap.{Trap}
 use Rattle.st_tree.specs.declared.controls.Span.{Span}
-use Rattle.st_tree.specs.Plain.{PlainExpr, literal, read, output_of, unary, binary}
+use Rattle.st_tree.specs.Plain.{PlainExpr, literal, read, output_of, element, unary, binary}
 use Rattle.st_tree.specs.Operators.{Outcome, eval_unary, eval_binary}
 use Rattle.st_tree.specs.Meaning.{Space, then_one, then_two, outcome, step_of}
 use Rattle.st_tree.specs.Controls.{values_from, control_values, count_in, span_of}
@@ -102,6 +102,7 @@ module _ (space : Space ℕ PlainCells) (w : PlainCells) where
   known (literal n) = refl
   known (read v) = tt
   known (output_of instance name) = tt
+  known (element v bounds index) = tt
   known (unary op a) = known_one (constant_of a) (outcome space w a) (eval_unary op) (known a)
   known (binary op a b) = known_two (constant_of a) (constant_of b) (outcome space w a) (outcome space w b) (eval_binary op) (known a) (known b)
 

@@ -4,15 +4,16 @@ use Rattle.std.specs.Prelude.{Vec, slice_get, ◌&&◌}
 use Rattle.std.specs.List.{list_all}
 use Rattle.std.specs.declared.alloc.Global.{Global}
 use Rattle.std.proofs.lemmas.Bool.{and_parts}
+use Rattle.plant_types.specs.declared.values.Bounds.{Bounds}
 use Rattle.st_tree.specs.declared.tree.Argument.{Argument}
 use Rattle.st_tree.specs.declared.tree.Argument.TheVariants as argument
 use Rattle.st_tree.specs.declared.tree.Branch.{Branch}
 use Rattle.st_tree.specs.declared.tree.Choice.{Choice}
 use Rattle.st_tree.specs.declared.tree.Expr.{Expr}
-use Rattle.st_tree.specs.declared.tree.Stmt.{Stmt, Assign, Call, If, Case, For}
+use Rattle.st_tree.specs.declared.tree.Stmt.{Stmt, Assign, Store, Call, If, Case, For}
 use Rattle.st_tree.specs.Mapping.{Known, expr_known, option_known, argument_known, stmt_known, body_known, branches_known, choices_known}
 use Rattle.st_tree.specs.View.{view_expr, view_option, view_argument, view_stmt, view_body, view_branch, view_branches, view_choice, view_choices}
-use Rattle.st_tree.proofs.Views.{view_stmt-Call, view_stmt-If, view_stmt-Case, view_stmt-For}
+use Rattle.st_tree.proofs.Views.{view_stmt-Store, view_stmt-Call, view_stmt-If, view_stmt-Case, view_stmt-For}
 use Rattle.plant_cells.specs.declared.clock.Standard.{Standard}
 use Rattle.block_walk.specs.declared.frame.Seat.{Seat}
 use Rattle.block_walk.specs.declared.frame.Base.{Base}
@@ -66,6 +67,13 @@ module _ (known : Known ℕ) where
   -- the parts of a statement
   pub known_assign : (s : Stmt ℕ) (number v : ℕ) (e : Expr ℕ) → s ≡ Assign number v e → stmt_known known (view_stmt s) ≡ true → (known.has_variable v ≡ true) × (expr_known known (view_expr e) ≡ true)
   known_assign s number v e is h = and_parts (known.has_variable v) (expr_known known (view_expr e)) (subst (λ p. stmt_known known p ≡ true) (ap view_stmt is ∙ view_assigned number v e) h)
+
+  pub known_store : (s : Stmt ℕ) (number v : ℕ) (bounds : Bounds) (index value : Expr ℕ) → s ≡ Store number v bounds index value → stmt_known known (view_stmt s) ≡ true
+      → (known.has_array v bounds ≡ true) × (expr_known known (view_expr index) ≡ true) × (expr_known known (view_expr value) ≡ true)
+  known_store s number v bounds index value is h =
+      let p = and_parts (known.has_array v bounds) (expr_known known (view_expr index) && expr_known known (view_expr value)) (subst (λ p. stmt_known known p ≡ true) (ap view_stmt is ∙ view_stmt-Store number v bounds index value) h) in
+      let q = and_parts (expr_known known (view_expr index)) (expr_known known (view_expr value)) p.1 in
+      (p.0, q.0, q.1)
 
   pub known_call : (s : Stmt ℕ) (number instance : ℕ) (arguments : Vec (Argument ℕ) Global) → s ≡ Call number instance arguments → stmt_known known (view_stmt s) ≡ true
       → (known.has_instance instance ≡ true) × (list_all (argument_known known instance) (map view_argument arguments.items) ≡ true)

@@ -4,8 +4,8 @@ use Rattle.std.specs.Prelude.{slice_get}
 use Rattle.std.specs.Option.{option_map_or}
 use Rattle.std.proofs.lemmas.Bool.{cases_lt}
 use Rattle.st_tree.specs.declared.tree.Label.{Label}
-use Rattle.st_tree.specs.Plain.{PlainExpr, literal, read, output_of, unary, binary, PlainArgument, input, output}
-use Rattle.st_tree.specs.Plain.{PlainStmt, empty, assign, call, if_else, case_of, for_to, PlainBody, done, next, Branches, no_branch, branch, Choices, no_choice, choice}
+use Rattle.st_tree.specs.Plain.{PlainExpr, literal, read, output_of, element, unary, binary, PlainArgument, input, output}
+use Rattle.st_tree.specs.Plain.{PlainStmt, empty, assign, store, call, if_else, case_of, for_to, PlainBody, done, next, Branches, no_branch, branch, Choices, no_choice, choice}
 use Rattle.st_tree.specs.View.{view_body}
 use Rattle.st_tree.specs.Costs.{expr_cost, tests_cost, labels_cost, arguments_cost, weight, weight_all, branches_weight, choices_weight}
 use Rattle.block_walk.specs.declared.frame.SeatOf.{SeatOf}
@@ -21,6 +21,7 @@ binary_few : (b : PlainExpr ℕ) (m n c d : ℕ) → m + 1 ≤ 2 * c → n + 1 �
 binary_few (literal x) m n c d h g k = omega arith
 binary_few (read v) m n c d h g k = omega arith
 binary_few (output_of instance name) m n c d h g k = omega arith
+binary_few (element v bounds index) m n c d h g k = omega arith
 binary_few (unary op a) m n c d h g k = omega arith
 binary_few (binary op a b) m n c d h g k = omega arith
 
@@ -28,6 +29,7 @@ some : (e : PlainExpr ℕ) → 1 ≤ expr_cost e
 some (literal n) = omega arith
 some (read v) = omega arith
 some (output_of instance name) = omega arith
+some (element v bounds index) = omega arith
 some (unary op a) = omega arith
 some (binary op a b) = omega arith
 
@@ -35,6 +37,7 @@ expr_few : (e : PlainExpr ℕ) → expr_lines e + 1 ≤ 2 * expr_cost e
 expr_few (literal n) = omega arith
 expr_few (read v) = omega arith
 expr_few (output_of instance name) = omega arith
+expr_few (element v bounds index) = let h = expr_few index in omega arith
 expr_few (unary op a) = let h = expr_few a in omega arith
 expr_few (binary op a b) = binary_few b (expr_lines a) (expr_lines b) (expr_cost a) (expr_cost b) (expr_few a) (expr_few b) (some b)
 
@@ -79,6 +82,7 @@ module _ (lines sizes : ℕ → ℕ) (few : (k : ℕ) → lines k ≤ 3 * sizes 
       stmt_few : (s : PlainStmt ℕ) → stmt_lines seats lines s ≤ 3 * weight add one (called_cost sizes seats) s
       stmt_few (empty number) = omega arith
       stmt_few (assign number v e) = let h = expr_few e in omega arith
+      stmt_few (store number v bounds index value) = let h = expr_few index in let g = expr_few value in omega arith
       stmt_few (call number instance arguments) = let h = arguments_few (slice_get seats instance) arguments in let g = enter_few (slice_get seats instance) in omega arith
       stmt_few (if_else number branches last) = let h = branches_few branches (body_lines seats lines last) (weight_all add one (called_cost sizes seats) last) (body_few last) in omega arith
       stmt_few (case_of number e choices last) = let h = choices_few choices (body_lines seats lines last) (weight_all add one (called_cost sizes seats) last) (body_few last) in let g = expr_few e in omega arith

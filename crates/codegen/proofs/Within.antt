@@ -5,11 +5,12 @@ use Rattle.std.specs.List.{AllByRecursion, list_all}
 use Rattle.std.proofs.lemmas.Bool.{cases_lt, and_parts}
 use Rattle.std.proofs.lemmas.List.Elements.{All-from_recursion, All-contains}
 use Rattle.std.proofs.lemmas.Option.{none-some, same_Some}
+use Rattle.plant_types.specs.declared.values.Bounds.{Bounds}
 use Rattle.plant_types.specs.declared.values.Place.{Place}
 use Rattle.st_tree.specs.declared.tree.Binary.{Binary}
 use Rattle.st_tree.specs.declared.tree.Label.{Label}
 use Rattle.st_tree.specs.declared.controls.Span.{Span}
-use Rattle.st_tree.specs.Plain.{PlainExpr, literal, read, output_of, unary, binary, PlainArgument, input, output, PlainStmt, empty, assign, call, if_else, case_of, for_to, PlainBody, done, next, Branches, no_branch, branch, Choices, no_choice, choice}
+use Rattle.st_tree.specs.Plain.{PlainExpr, literal, read, output_of, element, unary, binary, PlainArgument, input, output, PlainStmt, empty, assign, store, call, if_else, case_of, for_to, PlainBody, done, next, Branches, no_branch, branch, Choices, no_choice, choice}
 use Rattle.st_tree.specs.Mapping.{Known, expr_known, option_known, argument_known, stmt_known, body_known, branches_known, choices_known}
 use Rattle.st_tree.specs.View.{view_body}
 use Rattle.st_tree.specs.Controls.{control_values}
@@ -24,6 +25,7 @@ use Rattle.block_walk.specs.Walks.{member_slot, base_of}
 use Rattle.block_walk.proofs.Firsts.{first_is}
 use Rattle.acc_vm.specs.declared.instr.Instr.{Instr}
 use Rattle.acc_vm.specs.declared.instr.Instr.TheVariants as instr
+use Rattle.acc_vm.specs.Operands.{row_slots}
 use Rattle.acc_vm.specs.Codes.{values_past, clocks_past, values_named, clocks_named}
 use Rattle.acc_vm.proofs.Table.{past_below, past_append}
 use Rattle.code_slices.specs.Slots.{slots_read, slots_written, clocks_of, SomeHas, Names, NamesClock}
@@ -31,7 +33,7 @@ use Rattle.code_sizes.specs.Sizes.{constant_span, expr_lines, inputs_lines, stmt
 use Rattle.codegen.specs.Pairs.{both as both_in_one, paired, is_same_place, joined, joined_of}
 use Rattle.std.specs.Option.{option_or, unwrap_or}
 use Rattle.codegen.specs.Codes.{Line, Coder, Part, place_of, output_by, output_instr, binary_code, put_code, pt_instr, branch_code, labels_code, choice_code, loop_code, for_code, expr_code, inputs_code, outputs_code, enter_by, enter_code, stmt_code, body_code, branches_code, choices_code, frame_part, program_lines, code_of}
-use Rattle.codegen.specs.Within.{has_input, has_shown, has_output, has_pt, has_called, has_instance, there, routine_there, frame_there, IsThere, NamesAsFrame}
+use Rattle.codegen.specs.Within.{has_row, has_input, has_shown, has_output, has_pt, has_called, has_instance, there, routine_there, frame_there, IsThere, NamesAsFrame}
 use Rattle.codegen.proofs.Parts.{none, part_is, part_past}
 use Rattle.codegen.proofs.Frames.{part_none}
 
@@ -53,6 +55,21 @@ module _ (has_value has_clock : ℕ → Bool) where
 
   slot : (n : ℕ) → has_value n ≡ true → ((has_value n ≡ true) × Unit {0}) × Unit {0}
   slot n h = ((h, tt), tt)
+
+  row_all : (xs : List ℕ) → list_all has_value xs ≡ true → AllByRecursion (λ s. has_value s ≡ true) xs
+  row_all [] h = tt
+  row_all (x ∷ xs) h = let p = and_parts (has_value x) (list_all has_value xs) h in (p.0, row_all xs p.1)
+
+  row_front : (xs : List ℕ) → list_all has_value xs ≡ true → AllByRecursion (λ s. has_value s ≡ true) (xs ++ [])
+  row_front [] h = tt
+  row_front (x ∷ xs) h = let p = and_parts (has_value x) (list_all has_value xs) h in (p.0, row_front xs p.1)
+
+  -- an instruction that reads an element, and one that assigns it
+  read_row : (first : ℕ) (bounds : Bounds) → has_row has_value first bounds ≡ true → IsIn (instr.LoadAt first bounds)
+  read_row first bounds h = (row_front (row_slots bounds (first ∷ [])) h, tt)
+
+  written_row : (first : ℕ) (bounds : Bounds) → has_row has_value first bounds ≡ true → IsIn (instr.StoreAt first bounds)
+  written_row first bounds h = (row_all (row_slots bounds (first ∷ [])) h, tt)
 
   clock : (n : ℕ) → has_clock n ≡ true → Unit {0} × ((has_clock n ≡ true) × Unit {0})
   clock n h = (tt, (h, tt))
@@ -109,6 +126,7 @@ module _ (has_value has_clock : ℕ → Bool) where
     binary_in place op (literal n) c d h x y = both c _ x (nothing, tt)
     binary_in place op (read v) c d h x y = both c _ x (slot _ h, tt)
     binary_in place op (output_of instance name) c d h x y = both c _ x (nothing, both d _ y (nothing, tt))
+    binary_in place op (element v bounds index) c d h x y = both c _ x (nothing, both d _ y (nothing, tt))
     binary_in place op (unary other a) c d h x y = both c _ x (nothing, both d _ y (nothing, tt))
     binary_in place op (binary other a b) c d h x y = both c _ x (nothing, both d _ y (nothing, tt))
 
@@ -116,6 +134,9 @@ module _ (has_value has_clock : ℕ → Bool) where
     expr_in place (literal n) h = (nothing, tt)
     expr_in place (read v) h = (slot _ h, tt)
     expr_in place (output_of instance name) h = (output_in (slice_get seats instance) base name h, tt)
+    expr_in place (element v bounds index) h =
+        let p = and_parts (known.has_array v bounds) (expr_known known index) h in
+        both (expr_code globals seats lines inner base path place index) _ (expr_in place index p.1) (read_row _ bounds p.0, tt)
     expr_in place (unary op a) h = both (expr_code globals seats lines inner base path place a) _ (expr_in place a h) (nothing, tt)
     expr_in place (binary op a b) h =
         let p = and_parts (expr_known known a) (expr_known known b) h in
@@ -161,6 +182,12 @@ module _ (has_value has_clock : ℕ → Bool) where
       stmt_in (assign number v e) pc h =
           let p = and_parts (known.has_variable v) (expr_known known e) h in
           both (expr_code globals seats lines inner base path (place_of path number) e) _ (expr_in (place_of path number) e p.1) (slot _ p.0, tt)
+      stmt_in (store number v bounds index value) pc h =
+          let place = place_of path number in
+          let p = and_parts (known.has_array v bounds) (expr_known known index && expr_known known value) h in
+          let q = and_parts (expr_known known index) (expr_known known value) p.1 in
+          both (expr_code globals seats lines inner base path place index) _ (expr_in place index q.0)
+          (nothing, both (expr_code globals seats lines inner base path place value) _ (expr_in place value q.1) (written_row _ bounds p.0, tt))
       stmt_in (call number instance arguments) pc h =
           let p = and_parts (known.has_instance instance) (list_all (argument_known known instance) arguments) h in
           let place = place_of path number in

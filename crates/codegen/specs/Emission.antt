@@ -1,8 +1,9 @@
 -- What the emission of a routine's code knows, and what it appends.
 use Rattle.std.specs.Prelude.{◌≡◌, ◌≤◌, ◌+◌, ◌^◌, ℕ, List, [], ◌∷◌, ◌++◌, length, Option}
+use Rattle.plant_types.specs.declared.values.Bounds.{Bounds}
 use Rattle.plant_types.specs.declared.values.Place.{Place}
 use Rattle.st_tree.specs.declared.tree.Binary.{Binary}
-use Rattle.st_tree.specs.Plain.{PlainExpr, literal, read, output_of, unary, binary, PlainArgument, PlainStmt, PlainBody, Branches, Choices}
+use Rattle.st_tree.specs.Plain.{PlainExpr, literal, read, output_of, element, unary, binary, PlainArgument, PlainStmt, PlainBody, Branches, Choices}
 use Rattle.st_tree.specs.Meaning.{literal_worth}
 use Rattle.st_tree.specs.Mapping.{Known}
 use Rattle.block_walk.specs.declared.frame.Seat.{Seat}
@@ -35,7 +36,7 @@ pub record IsLaid (s : Scope) : Type 0 where
   pub in_turn : AreInTurn s.frames.now
   pub steady : AreSteady s.frames.now
 
--- which names of a scope's routine stand for numbers of 32 bits: those of its variables and of its instances, with all that the frames name that it comes to call
+-- which names of a scope's routine stand for numbers of 32 bits: those of its variables, of each element of its arrays and of its instances, with all that the frames name that it comes to call
 abbrev pub named : Scope → Known ℕ
 named s = there fits fits s.globals (frame_there fits fits s.globals s.frames.now s.limit) s.seats.now s.base
 
@@ -48,12 +49,16 @@ abbrev pub operator_code : (globals : ℕ) → Base → Place → Binary → Pla
 operator_code globals base place op (literal n) right = (instr.BinaryLiteral op (literal_worth n), place) ∷ []
 operator_code globals base place op (read v) right = (instr.BinarySlot op (slot_of globals base v), place) ∷ []
 operator_code globals base place op (output_of instance name) right = (instr.Push, place) ∷ (right ++ (instr.Binary op, place) ∷ [])
+operator_code globals base place op (element v bounds index) right = (instr.Push, place) ∷ (right ++ (instr.Binary op, place) ∷ [])
 operator_code globals base place op (unary other a) right = (instr.Push, place) ∷ (right ++ (instr.Binary op, place) ∷ [])
 operator_code globals base place op (binary other a b) right = (instr.Push, place) ∷ (right ++ (instr.Binary op, place) ∷ [])
 
 -- the code of the parts of a routine in a scope
 abbrev pub expr_code : Scope → Place → PlainExpr ℕ → List Line
 expr_code s = codes.expr_code s.globals s.seats.now (lines_at s.table.now) (coders s.globals s.frames.now s.limit) s.base s.path
+
+abbrev pub store_code : Scope → Place → ℕ → Bounds → (index value : PlainExpr ℕ) → List Line
+store_code s = codes.store_code s.globals s.seats.now (lines_at s.table.now) (coders s.globals s.frames.now s.limit) s.base s.path
 
 abbrev pub inputs_code : Scope → Place → Option Seat → List (PlainArgument ℕ) → List Line
 inputs_code s = codes.inputs_code s.globals s.seats.now (lines_at s.table.now) (coders s.globals s.frames.now s.limit) s.base s.path

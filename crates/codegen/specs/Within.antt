@@ -1,5 +1,7 @@
 -- Whether what a frame names, and what its code names, is among given values and clocks.
-use Rattle.std.specs.Prelude.{◌≡◌, ◌<◌, ◌≤◌, ℕ, ◌+◌, Bool, true, nat_lt, ◌&&◌, if◌then◌else◌, List, length, Option, Some, None, slice_get}
+use Rattle.std.specs.Prelude.{◌≡◌, ◌<◌, ◌≤◌, ℕ, ◌+◌, Bool, true, nat_lt, ◌&&◌, if◌then◌else◌, List, [], ◌∷◌, length, Option, Some, None, slice_get}
+use Rattle.std.specs.List.{list_all}
+use Rattle.plant_types.specs.declared.values.Bounds.{Bounds}
 use Rattle.st_tree.specs.View.{view_body}
 use Rattle.st_tree.specs.Mapping.{Known, body_known}
 use Rattle.plant_cells.specs.declared.clock.Standard.{Standard}
@@ -11,11 +13,16 @@ use Rattle.block_walk.specs.declared.frame.Base.{Base}
 use Rattle.block_walk.specs.declared.frame.Frame.{Frame}
 use Rattle.block_walk.specs.Frames.{of_first}
 use Rattle.block_walk.specs.Walks.{slot_of, member_slot, base_of}
+use Rattle.acc_vm.specs.Operands.{row_slots}
 use Rattle.acc_vm.specs.Codes.{PlainCode}
 use Rattle.code_slices.specs.Slots.{Names, NamesClock}
 
 -- by tests that tell which values and which clocks there are
 module _ (has_value has_clock : ℕ → Bool) where
+  -- each element of an array is there, by the slot of its first one
+  abbrev pub has_row : ℕ → Bounds → Bool
+  has_row first bounds = list_all has_value (row_slots bounds (first ∷ []))
+
   -- an input of an instance is there
   abbrev pub has_input : Option Seat → Base → ℕ → Bool
   has_input None base name = true
@@ -50,6 +57,7 @@ module _ (has_value has_clock : ℕ → Bool) where
     abbrev pub there : (ℕ → Base → Bool) → List Seat → Base → Known ℕ
     there inner seats base = record {
       has_variable = λ v. has_value (slot_of globals base v);
+      has_array = λ v bounds. has_row (slot_of globals base v) bounds;
       has_instance = λ instance. has_instance inner (slice_get seats instance) base;
       has_input = λ instance name. has_input (slice_get seats instance) base name;
       has_output = λ instance name. has_output (slice_get seats instance) base name;

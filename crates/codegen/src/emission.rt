@@ -15,7 +15,7 @@ ghost use Rattle.codegen.specs.Emission.{AreLines, IsLaid, named, coders, body_l
 ghost use Rattle.codegen.specs.Within.{fits, frame_there};
 
 use crate::arguments::{emit_inputs, emit_outputs, emit_standard};
-use crate::expressions::emit_expr;
+use crate::expressions::{emit_expr, emit_store};
 use crate::lines::{emit, emit_labels};
 use crate::numbers::{base_of, left_of, slot_of};
 use crate::scope::Scope;
@@ -111,6 +111,19 @@ fn emit_stmt(
             let slot = slot_of(scope.globals, scope.base, *variable);
             emit_expr(scope, out, place, expr)?;
             emit(out, Instr::Store(slot), place)
+        }
+        Stmt::Store {
+            number,
+            array,
+            bounds,
+            index,
+            value,
+        } => {
+            let place = Place {
+                path: scope.path,
+                statement: *number,
+            };
+            emit_store(scope, out, place, (*array, *bounds), index, value)
         }
         Stmt::Call(statement, instance, arguments) => {
             let place = Place {

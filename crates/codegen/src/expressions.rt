@@ -5,12 +5,14 @@ ghost use Rattle.st_tree.specs.View.{view_expr};
 ghost use Rattle.st_tree.specs.Mapping.{expr_known};
 ghost use Rattle.codegen.specs.Emission as code;
 ghost use Rattle.codegen.specs.Emission.{operator_code, named};
+ghost use Rattle.codegen.specs.Within.{fits, has_row};
+ghost use Rattle.block_walk.specs.Walks.{slot_of};
 
 use crate::lines::emit;
-use crate::numbers::{output_instr, slot_of};
+use crate::numbers::{output_instr, row_of, slot_of};
 use crate::scope::Scope;
 use acc_vm::Instr;
-use plant_types::Place;
+use plant_types::{Bounds, Place};
 use st_tree::{Binary, Expr};
 use std::alloc::AllocError;
 
@@ -34,6 +36,11 @@ pub(crate) fn emit_expr(
         Expr::Output(instance, name) => {
             let load = output_instr(scope.seats, *instance, scope.base, *name);
             emit(out, load, place)
+        }
+        Expr::Element(array, bounds, at) => {
+            let first = row_of(scope.globals, scope.base, *array, *bounds);
+            emit_expr(scope, out, place, at)?;
+            emit(out, Instr::LoadAt(first, *bounds), place)
         }
         Expr::Unary(op, a) => {
             emit_expr(scope, out, place, a)?;
@@ -64,10 +71,31 @@ fn emit_operator(
             let slot = slot_of(scope.globals, scope.base, *variable);
             emit(out, Instr::BinarySlot(op, slot), place)
         }
-        Expr::Output(_, _) | Expr::Unary(_, _) | Expr::Binary(_, _, _) => {
+        Expr::Output(_, _) | Expr::Element(_, _, _) | Expr::Unary(_, _) | Expr::Binary(_, _, _) => {
             emit(out, Instr::Push, place)?;
             emit_expr(scope, out, place, right)?;
             emit(out, Instr::Binary(op), place)
         }
     }
+}
+
+/// Appends an assignment to an element of an array, by its number and its bounds: the index is tested before the right side is evaluated.
+pub(crate) fn emit_store(
+    scope: &Scope<'_>,
+    out: &mut Vec<(Instr, Place)>,
+    place: Place,
+    array: (usize, Bounds),
+    index: &Expr<usize>,
+    value: &Expr<usize>,
+) -> Result<(), AllocError>
+    requires row { has_row fits (slot_of scope.now.globals scope.now.base array.0) array.1 ≡ true }
+    requires index { expr_known (named scope.now) (view_expr index.now) ≡ true }
+    requires value { expr_known (named scope.now) (view_expr value.now) ≡ true }
+    ensures { IfOk result (λ _. out.new.items ≡ out.old.items ++ code.store_code scope.now place array.0 array.1 (view_expr index.now) (view_expr value.now)) }
+{
+    let first = row_of(scope.globals, scope.base, array.0, array.1);
+    emit_expr(scope, out, place, index)?;
+    emit(out, Instr::Locate(array.1), place)?;
+    emit_expr(scope, out, place, value)?;
+    emit(out, Instr::StoreAt(first, array.1), place)
 }

@@ -3,11 +3,12 @@
 ghost use Rattle.std.specs.Prelude.{◌≡◌, ◌<◌, ℕ, ◌+◌, ◌^◌, pos, true, slice_get};
 ghost use Rattle.block_walk.specs.Walks.{HasRoom, slot_of, member_slot, base_of};
 ghost use Rattle.codegen.specs.Codes.{output_instr, pt_instr};
-ghost use Rattle.codegen.specs.Within.{fits, has_output, has_pt};
+ghost use Rattle.codegen.specs.Within.{fits, has_row, has_output, has_pt};
 
 use acc_vm::Instr;
 use block_walk::{Base, Seat, SeatOf};
 use plant_cells::Standard;
+use plant_types::Bounds;
 
 /// The turns that are left after the first one, as a word.
 pub(crate) fn left_of(turns: u128) -> i64
@@ -27,6 +28,14 @@ pub(crate) fn slot_of(globals: usize, base: Base, variable: usize) -> u32
     } else {
         (base.values + (variable - globals) as u128) as u32
     }
+}
+
+/// The slot of the first element of an array.
+pub(crate) fn row_of(globals: usize, base: Base, array: usize, bounds: Bounds) -> u32
+    requires { has_row fits (slot_of globals base array) bounds ≡ true }
+    ensures { result ≡ slot_of globals base array }
+{
+    slot_of(globals, base, array)
 }
 
 /// The slot of an input or output of an instance.

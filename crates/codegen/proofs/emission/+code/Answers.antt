@@ -11,7 +11,7 @@ use Rattle.st_tree.specs.Mapping.{expr_known, argument_known, body_known, branch
 use Rattle.st_tree.specs.Controls.{control_values}
 use Rattle.st_tree.specs.View.{view_expr, view_argument, view_stmt, view_body, view_branch, view_branches, view_choice, view_choices}
 use Rattle.st_tree.proofs.Depth.{size-If, size-Case, size-For}
-use Rattle.st_tree.proofs.Views.{view_stmt-Call, view_stmt-If, view_stmt-Case, view_stmt-For, view_branch_is, view_choice_is}
+use Rattle.st_tree.proofs.Views.{view_stmt-Store, view_stmt-Call, view_stmt-If, view_stmt-Case, view_stmt-For, view_branch_is, view_choice_is}
 use Rattle.plant_cells.specs.Runs.{Path}
 use Rattle.block_walk.specs.declared.frame.Base.{Base}
 use Rattle.block_walk.specs.Frames.{InTurn, frame_paths, routine_paths}
@@ -32,7 +32,7 @@ use Rattle.codegen.proofs.Numbered.{numbers_below}
 use Rattle.code_sizes.proofs.Few.{body_at, turning, behind_branches, behind_choices, long_call, long_if, long_case, long_for}
 use Rattle.codegen.proofs.Long.{frame_long, entered_long, branch_fits, choice_fits}
 use Rattle.codegen.proofs.Steady.{steady_at, steady_branch, steady_choice, steady_if, steady_case, steady_for, turns_few}
-use Rattle.codegen.proofs.Naming.{known_at, known_branch, known_choice, known_assign, known_call, known_if, known_case, known_for, known_standard, known_frame}
+use Rattle.codegen.proofs.Naming.{known_at, known_branch, known_choice, known_assign, known_store, known_call, known_if, known_case, known_for, known_standard, known_frame}
 use Rattle.codegen.proofs.emission.+code.Goals as goal
 use Rattle.codegen.proofs.emission.+code.Goals.{emit_enter-then-not-seat-via-then-not-seat, emit_enter-then-not-seat-via-else-not-seat+then-k-scope, emit_choices-then-labels-gt0+in_ok-emit_choice, emit_choices-else-labels-gt0}
 
@@ -493,6 +493,23 @@ emit_stmt-slot_of-slot-requires t c = (known_assign (named c.args.scope.now) c.a
 
 pub emit_stmt-emit_expr-requires : goal.emit_stmt-emit_expr-requires
 emit_stmt-emit_expr-requires t c = (known_assign (named c.args.scope.now) c.args.stmt.now c.in-Assign.statement c.in-Assign.variable c.in-Assign.expr c.in-Assign.is c.requires.named).1
+
+pub emit_stmt-emit_store-requires-clause-row : goal.emit_stmt-emit_store-requires-clause-row
+emit_stmt-emit_store-requires-clause-row t c =
+    (known_store (named c.args.scope.now) c.args.stmt.now c.in-Store.number c.in-Store.array c.in-Store.bounds c.in-Store.index c.in-Store.value c.in-Store.is c.requires.named).0
+
+pub emit_stmt-emit_store-requires-clause-index : goal.emit_stmt-emit_store-requires-clause-index
+emit_stmt-emit_store-requires-clause-index t c =
+    (known_store (named c.args.scope.now) c.args.stmt.now c.in-Store.number c.in-Store.array c.in-Store.bounds c.in-Store.index c.in-Store.value c.in-Store.is c.requires.named).1
+
+pub emit_stmt-emit_store-requires-clause-value : goal.emit_stmt-emit_store-requires-clause-value
+emit_stmt-emit_store-requires-clause-value t c =
+    (known_store (named c.args.scope.now) c.args.stmt.now c.in-Store.number c.in-Store.array c.in-Store.bounds c.in-Store.index c.in-Store.value c.in-Store.is c.requires.named).2
+
+pub emit_stmt-returns-in-Store : goal.emit_stmt-returns-in-Store
+emit_stmt-returns-in-Store t c =
+    let viewed = ap view_stmt c.in-Store.is ∙ view_stmt-Store c.in-Store.number c.in-Store.array c.in-Store.bounds c.in-Store.index c.in-Store.value in
+    subst (λ z. IfOk c.emit_store.result (λ x. c.emit_store.new.out.items ≡ c.args.out.now.items ++ z)) (ap (λ p. code.stmt_code c.args.scope.now p c.args.pc) (sym viewed)) c.emit_store.ensures
 
 pub emit_stmt-emit_call-requires : goal.emit_stmt-emit_call-requires
 emit_stmt-emit_call-requires t c =
