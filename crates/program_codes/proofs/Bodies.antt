@@ -2,7 +2,7 @@
 use Rattle.std.proofs.Common.{◌≡◌, ◌∙◌, refl, ap, sym, subst, ℕ, ℤ, pos}
 use Rattle.std.specs.Prelude.{Option, Some, None, option_map}
 use Rattle.st_tree.specs.Plain.{PlainExpr}
-use Rattle.st_tree.specs.Plain.{PlainStmt, empty, assign, call, if_else, case_of, for_to, PlainBody, done, next, Branches, no_branch, branch, Choices, no_choice, choice}
+use Rattle.st_tree.specs.Plain.{PlainStmt, empty, assign, store, call, if_else, case_of, for_to, PlainBody, done, next, Branches, no_branch, branch, Choices, no_choice, choice}
 use Rattle.st_tree.specs.Constants.{constant_of}
 use Rattle.st_tree.specs.Mapping.{mapped_branches, mapped_choices}
 use Rattle.st_tree.specs.Operators.{Outcome}
@@ -42,6 +42,7 @@ module _ (constants : KeepsConstants) where
     stmt_steady : (s : PlainStmt ℕ) → SteadyStmt s → SteadyStmt (folded_stmt s)
     stmt_steady (empty number) h = tt
     stmt_steady (assign number v e) h = tt
+    stmt_steady (store number v bounds index value) h = tt
     stmt_steady (call number instance arguments) h = tt
     stmt_steady (if_else number branches last) h = (branches_steady branches h.0, body_steady last h.1)
     stmt_steady (case_of number e choices last) h = (choices_steady choices h.0, body_steady last h.1)

@@ -4,7 +4,7 @@ use Rattle.std.specs.Prelude.{Option, Some, None, slice_get}
 use Rattle.std.specs.Option.{option_map_or}
 use Rattle.std.proofs.lemmas.Nat.{mul-le}
 use Rattle.st_tree.specs.Plain.{PlainExpr}
-use Rattle.st_tree.specs.Plain.{PlainStmt, empty, assign, call, if_else, case_of, for_to, PlainBody, done, next, Branches, no_branch, branch, Choices, no_choice, choice}
+use Rattle.st_tree.specs.Plain.{PlainStmt, empty, assign, store, call, if_else, case_of, for_to, PlainBody, done, next, Branches, no_branch, branch, Choices, no_choice, choice}
 use Rattle.st_tree.specs.Costs.{weight, weight_all, branches_weight, choices_weight}
 use Rattle.block_walk.specs.declared.frame.SeatOf.{SeatOf}
 use Rattle.block_walk.specs.declared.frame.SeatOf.TheVariants as seat_of
@@ -17,6 +17,7 @@ module _ (join : ℕ → ℕ → ℕ) (rises : (a b c d : ℕ) → a ≤ c → b
     stmt_less : (s : PlainStmt ℕ) → weight join turns f s ≤ weight join turns g s
     stmt_less (empty number) = omega arith
     stmt_less (assign number v e) = omega arith
+    stmt_less (store number v bounds index value) = omega arith
     stmt_less (call number instance arguments) = let h = less instance in omega arith
     stmt_less (if_else number branches last) = let h = rises (branches_weight join turns f branches) (weight_all join turns f last) (branches_weight join turns g branches) (weight_all join turns g last) (branches_less branches) (body_less last) in omega arith
     stmt_less (case_of number e choices last) = let h = rises (choices_weight join turns f choices) (weight_all join turns f last) (choices_weight join turns g choices) (weight_all join turns g last) (choices_less choices) (body_less last) in omega arith

@@ -69,7 +69,7 @@ module _ (first t globals : ℕ) (inner outer : ℕ → Base → Path → PlainC
       λ cs instance. at_seat (λ o. called t inner o base path cs) (λ o. called t outer o base path cs) first refl (λ seat is. called_by_same seat.of base seat path cs is) seats are instance
       in
       let same = frame_space t globals inner seats base path in
-      λ i. run_all (record { path = same.path; get = same.get; put = same.put; get_output = same.get_output; put_input = same.put_input; enter = λ cs instance. enters cs instance i }) (view_body frame.body.items) cells
+      λ i. run_all (record { path = same.path; get = same.get; put = same.put; get_at = same.get_at; put_at = same.put_at; get_output = same.get_output; put_input = same.put_input; enter = λ cs instance. enters cs instance i }) (view_body frame.body.items) cells
 
 module _ (has_value has_clock : ℕ → Bool) (first globals : ℕ) (inner outer : ℕ → Base → Bool) (alike : AreAlike first inner outer) where
   has_called_same : (of : SeatOf) (base : Base) (seat : Seat) → IsOfFirst first of → has_called has_value has_clock inner of base seat ≡ has_called has_value has_clock outer of base seat
@@ -83,7 +83,7 @@ module _ (has_value has_clock : ℕ → Bool) (first globals : ℕ) (inner outer
       λ instance. at_seat (λ o. has_instance has_value has_clock inner o base) (λ o. has_instance has_value has_clock outer o base) first refl (λ seat is. has_called_same seat.of base seat is) seats are instance
       in
       let same = there has_value has_clock globals inner seats base in
-      λ i. body_known (record { has_variable = same.has_variable; has_instance = λ instance. called_same instance i; has_input = same.has_input; has_output = same.has_output }) (view_body frame.body.items)
+      λ i. body_known (record { has_variable = same.has_variable; has_array = same.has_array; has_instance = λ instance. called_same instance i; has_input = same.has_input; has_output = same.has_output }) (view_body frame.body.items)
 
 module _ (first : ℕ) (inner outer : ℕ → ℕ) (alike : AreAlike first inner outer) where
   seat_cost_same : (of : SeatOf) → IsOfFirst first of → seat_cost inner of ≡ seat_cost outer of
