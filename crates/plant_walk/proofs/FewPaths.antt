@@ -10,7 +10,7 @@ use Rattle.std.proofs.lemmas.List.{length-map, get_or-map}
 use Rattle.std.proofs.lemmas.List.Sums.{sum_by-cons}
 use Rattle.std.proofs.lemmas.Option.{slice_get_within, get_or_from_slice_get}
 use Rattle.plant_types.specs.Words.{folded, same_word}
-use Rattle.st_tree.specs.Plain.{PlainStmt, empty, assign, call, if_else, case_of, for_to, PlainBody, done, next, Branches, no_branch, branch, Choices, no_choice, choice}
+use Rattle.st_tree.specs.Plain.{PlainStmt, empty, assign, store, call, if_else, case_of, for_to, PlainBody, done, next, Branches, no_branch, branch, Choices, no_choice, choice}
 use Rattle.st_tree.specs.Costs.{weight, weight_all, branches_weight, choices_weight}
 use Rattle.block_order.specs.Chains.{Among}
 use Rattle.st_names.specs.Taken.{repeats, is_among}
@@ -53,6 +53,7 @@ module _ (called : List ℕ → ℕ) where
     stmt_heavy : (s : PlainStmt (List ℕ)) → weight_of heavy (called_in_stmt s) ≤ weight (λ a b. a + b) (λ from to by. 1) called s
     stmt_heavy (empty number) = omega arith
     stmt_heavy (assign number v e) = omega arith
+    stmt_heavy (store number v bounds index value) = omega arith
     stmt_heavy (call number instance arguments) = omega arith
     stmt_heavy (if_else number branches last) =
         let sum = weight_append heavy (called_in_branches branches) (called_in last) in

@@ -3,8 +3,9 @@ use Rattle.std.proofs.Common.{◌≡◌, ℕ, ◌+◌, Bool, true, List, [], ◌
 use Rattle.std.specs.Prelude.{◌&&◌, option_map}
 use Rattle.std.specs.List.{list_all}
 use Rattle.std.proofs.lemmas.Bool.{and_parts}
-use Rattle.st_tree.specs.Plain.{PlainExpr, literal, read, output_of, unary, binary, PlainArgument, input, output}
-use Rattle.st_tree.specs.Plain.{PlainStmt, empty, assign, call, if_else, case_of, for_to, PlainBody, done, next, Branches, no_branch, branch, Choices, no_choice, choice}
+use Rattle.plant_types.specs.declared.values.Bounds.{Bounds}
+use Rattle.st_tree.specs.Plain.{PlainExpr, literal, read, output_of, element, unary, binary, PlainArgument, input, output}
+use Rattle.st_tree.specs.Plain.{PlainStmt, empty, assign, store, call, if_else, case_of, for_to, PlainBody, done, next, Branches, no_branch, branch, Choices, no_choice, choice}
 use Rattle.st_tree.specs.Numbers.{count_stmt, count_body, count_branches, count_choices, numbered_stmt, numbered, numbered_branches, numbered_choices}
 use Rattle.st_tree.specs.Kinds.{KindsOf, resolved_expr, resolved_argument, resolved_stmt, resolved_body, resolved_branches, resolved_choices, meant}
 use Rattle.st_tree.specs.Mapping.{Mapping, mapped_expr, mapped_option, mapped_argument, mapped_stmt, mapped_body, mapped_branches, mapped_choices, Known, expr_known, option_known, argument_known, stmt_known, body_known, branches_known, choices_known}
@@ -17,11 +18,14 @@ module _ {V W : Type 0} (m : Mapping V W) (from : Known V) (to : Known W) (node 
     (instance : (i : V) → from.has_instance i ≡ true → to.has_instance (m.instance i) ≡ true)
     (input_is : (i name : V) → from.has_input i name ≡ true → to.has_input (m.instance i) (m.input_name i name) ≡ true)
     (output_is : (i name : V) → from.has_output i name ≡ true → to.has_output (m.instance i) (m.output_name i name) ≡ true)
-    (kinds : KindsOf V) where
+    (kinds : KindsOf V) (array : (v : V) (bounds : Bounds) → from.has_array v bounds ≡ true → to.has_array (m.array v) (kinds.bounds v) ≡ true) where
   expr_goes : (e : PlainExpr V) → expr_known from e ≡ true → expr_known to (mapped_expr m (resolved_expr kinds e)) ≡ true
   expr_goes (literal n) h = refl
   expr_goes (read v) h = variable v h
   expr_goes (output_of i name) h = output_is i name h
+  expr_goes (element v bounds index) h =
+      let p = and_parts (from.has_array v bounds) (expr_known from index) h in
+      both (to.has_array (m.array v) (kinds.bounds v)) (expr_known to (mapped_expr m (resolved_expr kinds index))) (array v bounds p.0) (expr_goes index p.1)
   expr_goes (unary op a) h = node _ (expr_goes a h)
   expr_goes (binary op a b) h =
       let p = and_parts (expr_known from a) (expr_known from b) h in
@@ -68,6 +72,10 @@ module _ {V W : Type 0} (m : Mapping V W) (from : Known V) (to : Known W) (node 
     stmt_goes n (assign number v e) h =
         let p = and_parts (from.has_variable v) (expr_known from e) h in
         both (to.has_variable (m.variable v)) (expr_is e) (variable v p.0) (expr_goes e p.1)
+    stmt_goes n (store number v bounds index value) h =
+        let p = and_parts (from.has_array v bounds) (expr_known from index && expr_known from value) h in
+        let q = and_parts (expr_known from index) (expr_known from value) p.1 in
+        both (to.has_array (m.array v) (kinds.bounds v)) (expr_is index && expr_is value) (array v bounds p.0) (both (expr_is index) (expr_is value) (expr_goes index q.0) (expr_goes value q.1))
     stmt_goes n (call number i arguments) h =
         let p = and_parts (from.has_instance i) (list_all (argument_known from i) arguments) h in
         both (to.has_instance (m.instance i)) (list_all (argument_known to (m.instance i)) (map (mapped_argument m i) (map (resolved_argument kinds) arguments))) (instance i p.0) (arguments_go i arguments p.1)

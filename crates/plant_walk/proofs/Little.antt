@@ -6,7 +6,7 @@ use Rattle.std.specs.Option.{option_map_or}
 use Rattle.std.proofs.lemmas.Bool.{cases_Bool, or_parts}
 use Rattle.std.proofs.lemmas.List.Sums.{sum_by-cons}
 use Rattle.plant_types.specs.Words.{same_word}
-use Rattle.st_tree.specs.Plain.{PlainStmt, empty, assign, call, if_else, case_of, for_to, PlainBody, done, next, Branches, no_branch, branch, Choices, no_choice, choice}
+use Rattle.st_tree.specs.Plain.{PlainStmt, empty, assign, store, call, if_else, case_of, for_to, PlainBody, done, next, Branches, no_branch, branch, Choices, no_choice, choice}
 use Rattle.st_tree.specs.Numbers.{count_stmt, count_body, count_branches, count_choices}
 use Rattle.st_tree.specs.Costs.{weight, weight_all, branches_weight, choices_weight}
 use Rattle.block_order.specs.Chains.{Among}
@@ -30,6 +30,7 @@ module _ (called : List ℕ → ℕ) where
     stmt_few : (s : PlainStmt (List ℕ)) → count_stmt s ≤ weight (λ a b. a + b) (λ from to by. 1) called s
     stmt_few (empty number) = omega arith
     stmt_few (assign number v e) = omega arith
+    stmt_few (store number v bounds index value) = omega arith
     stmt_few (call number instance arguments) = omega arith
     stmt_few (if_else number branches last) = let first = branches_few branches in let rest = body_few last in omega (arith, first, rest)
     stmt_few (case_of number e choices last) = let first = choices_few choices in let rest = body_few last in omega (arith, first, rest)

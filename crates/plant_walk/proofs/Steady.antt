@@ -1,6 +1,6 @@
 -- Each FOR in the frames of well-formed units has constant bounds, which are DINTs, and a constant step.
 use Rattle.std.proofs.Common.{◌≡◌, ◌∙◌, ◌<◌, ◌+◌, ◌-◌, ap, sym, subst, refl, ℕ, zero, suc, ℤ, pos, Bool, true, false, List, [], ◌∷◌, length, nat_lt, Option, Some, None, slice_get, inl, inr, arith}
-use Rattle.std.specs.Prelude.{◌&&◌, unwrap_or, option_map, option_and_then, Ok, Err}
+use Rattle.std.specs.Prelude.{◌&&◌, if◌then◌else◌, unwrap_or, option_map, option_and_then, Ok, Err}
 use Rattle.std.proofs.lemmas.Bool.{and_parts, cases_Bool}
 use Rattle.std.proofs.lemmas.Bool.Decides.{nat_tests}
 use Rattle.std.proofs.lemmas.Option.{slice_get_within}
@@ -11,8 +11,8 @@ use Rattle.st_tree.specs.declared.tree.Unary.{Unary}
 use Rattle.st_tree.specs.declared.tree.Unary.TheVariants.{Not, Negate, NegateTime}
 use Rattle.st_tree.specs.declared.tree.Binary.{Binary}
 use Rattle.st_tree.specs.declared.tree.Binary.TheVariants.{And, Xor, Or, Equal, Unequal, Less, Greater, AtMost, AtLeast, Add, AddTime, Subtract, SubtractTime, Multiply, Divide, Mod}
-use Rattle.st_tree.specs.Plain.{PlainExpr, literal, read, output_of, unary, binary}
-use Rattle.st_tree.specs.Plain.{PlainStmt, empty, assign, call, if_else, case_of, for_to, PlainBody, done, next, Branches, no_branch, branch, Choices, no_choice, choice}
+use Rattle.st_tree.specs.Plain.{PlainExpr, literal, read, output_of, element, unary, binary}
+use Rattle.st_tree.specs.Plain.{PlainStmt, empty, assign, store, call, if_else, case_of, for_to, PlainBody, done, next, Branches, no_branch, branch, Choices, no_choice, choice}
 use Rattle.st_tree.specs.View.{view_body}
 use Rattle.st_tree.specs.Operators.{Outcome, eval_unary, eval_binary}
 use Rattle.st_tree.specs.Meaning.{ValuesOf, then_one, then_two}
@@ -48,11 +48,11 @@ use Rattle.codegen.specs.Codes.{IsSteady, SteadyStmt, SteadyBody, SteadyBranches
 abbrev pub Name : Type 0
 Name = List ℕ
 
--- an element that a list is long enough for
-element : {A : Type 0} (xs : List A) (n : ℕ) → n < length xs → (x : A) × (slice_get xs n ≡ Some x)
-element [] n less = absurd (omega arith)
-element (x ∷ xs) zero less = (x, refl)
-element (x ∷ xs) (suc n) less = element xs n (omega (arith, less))
+-- an item that a list is long enough for
+item_there : {A : Type 0} (xs : List A) (n : ℕ) → n < length xs → (x : A) × (slice_get xs n ≡ Some x)
+item_there [] n less = absurd (omega arith)
+item_there (x ∷ xs) zero less = (x, refl)
+item_there (x ∷ xs) (suc n) less = item_there xs n (omega (arith, less))
 
 -- ---- a constant expression is resolved in one way
 module _ (k l : KindsOf Name) where
@@ -77,6 +77,7 @@ module _ (k l : KindsOf Name) where
   constant_alike (literal n) x is = (is, refl)
   constant_alike (read v) x is = absurd (cc)
   constant_alike (output_of instance name) x is = absurd (cc)
+  constant_alike (element v bounds index) x is = absurd (cc)
   constant_alike (unary op a) x is = unary_alike op (kind_in k a) (kind_in l a) (constant_of (resolved_expr k a)) (constant_of (resolved_expr l a)) x (λ y e. constant_alike a y e) is
   constant_alike (binary op a b) x is =
       binary_alike op (kind_in k a) (kind_in l a) (constant_of (resolved_expr k a)) (constant_of (resolved_expr l a)) (constant_of (resolved_expr k b)) (constant_of (resolved_expr l b)) x
@@ -88,6 +89,7 @@ module _ (source : Source) (r : PlainRoutine) where
   constant_mapped (literal n) = refl
   constant_mapped (read v) = refl
   constant_mapped (output_of instance name) = refl
+  constant_mapped (element v bounds index) = refl
   constant_mapped (unary op a) = ap (option_map (λ x. then_one x (eval_unary op))) (constant_mapped a)
   constant_mapped (binary op a b) = λ i. option_and_then (λ x. option_map (λ y. then_two x y (eval_binary op)) (constant_mapped b i)) (constant_mapped a i)
 
@@ -130,20 +132,45 @@ zero_in kind.Bool = refl
 zero_in kind.Dint = refl
 zero_in kind.Time = refl
 
+mapped_there : {A B : Type 0} (f : A → B) (o : Option A) (b : B) → option_map f o ≡ Some b → (a : A) × (o ≡ Some a)
+mapped_there f None b is = absurd (cc)
+mapped_there f (Some a) b is = (a, refl)
+
+chained_there : {A B : Type 0} (f : A → Option B) (o : Option A) (b : B) → option_and_then f o ≡ Some b → (a : A) × (o ≡ Some a) × (f a ≡ Some b)
+chained_there f None b is = absurd (cc)
+chained_there f (Some a) b is = (a, refl, is)
+
+no_kind_either_way : (b : Bool) (r : Kind) (o : Option Kind) → (if b then None else None) ≡ Some r → o ≡ Some r
+no_kind_either_way true r o is = absurd (cc)
+no_kind_either_way false r o is = absurd (cc)
+
 -- ---- the value of a constant expression is in the range of its kind
 module _ (sorts : Sorts Name) where
+  -- a constant expression reads no element
+  abbrev bare : Sorts Name
+  bare = record { variable = sorts.variable; output = sorts.output; element = λ v bounds. None }
+
   abbrev told : KindsOf Name
-  told = record { variable = λ v. unwrap_or (sorts.variable v) kind.Bool; output = λ instance name. unwrap_or (sorts.output instance name) kind.Bool }
+  told = record {
+    variable = λ v. unwrap_or (sorts.variable v) kind.Bool;
+    output = λ instance name. unwrap_or (sorts.output instance name) kind.Bool;
+    element = λ v. kind.Bool;
+    bounds = λ v. record { low = pos 0; high = pos 0 };
+  }
 
-  told_are : AreSorts sorts told
-  told_are = record { variable_is = λ v k is. ap (λ o. unwrap_or o kind.Bool) is; output_is = λ instance name k is. ap (λ o. unwrap_or o kind.Bool) is }
+  told_are : AreSorts bare told
+  told_are = record {
+    variable_is = λ v k is. ap (λ o. unwrap_or o kind.Bool) is;
+    output_is = λ instance name k is. ap (λ o. unwrap_or o kind.Bool) is;
+    element_is = λ v bounds k is. absurd (cc);
+  }
 
-  -- where each variable and each output holds 0
+  -- where each variable, each output and each element holds 0
   abbrev zeros : ValuesOf Name
-  zeros = record { variable = λ v. pos 0; output = λ instance name. pos 0 }
+  zeros = record { variable = λ v. pos 0; output = λ instance name. pos 0; element = λ v bounds i. pos 0 }
 
-  in_one : (e : PlainExpr Name) (k : Kind) → kind_of_expr sorts e ≡ Some k → kind_in told e ≡ k
-  in_one = kind_of_expr_is_kind_in sorts told told_are
+  in_one : (e : PlainExpr Name) (k : Kind) → kind_of_expr bare e ≡ Some k → kind_in told e ≡ k
+  in_one = kind_of_expr_is_kind_in bare told told_are
 
   unary_kept : (op : Unary) (o p : Option Kind) (a r : Kind) → ((k : Kind) → o ≡ Some k → p ≡ Some k) → ((k : Kind) → o ≡ Some k → a ≡ k) → option_and_then (unary_kind op) o ≡ Some r → option_and_then (unary_kind (resolved_unary op a)) p ≡ Some r
   unary_kept op None p a r kept same is = absurd (cc)
@@ -156,19 +183,35 @@ module _ (sorts : Sorts Name) where
   binary_kept op (Some k) p (Some l) t a r kept other same is =
       (λ i. option_and_then (λ m. option_and_then (binary_kind (resolved_binary op (same k refl i)) m) (other l refl i)) (kept k refl i)) ∙ binary_still op k l r is
 
-  kind_kept : (e : PlainExpr Name) (r : Kind) → kind_of_expr sorts e ≡ Some r → kind_of_expr sorts (resolved_expr told e) ≡ Some r
+  kind_kept : (e : PlainExpr Name) (r : Kind) → kind_of_expr bare e ≡ Some r → kind_of_expr bare (resolved_expr told e) ≡ Some r
   kind_kept (literal n) r is = is
   kind_kept (read v) r is = is
   kind_kept (output_of instance name) r is = is
+  kind_kept (element v bounds index) r is =
+      no_kind_either_way (is_kind kind.Dint (kind_of_expr bare index)) r (kind_of_expr bare (resolved_expr told (element v bounds index))) is
   kind_kept (unary op a) r is =
-      unary_kept op (kind_of_expr sorts a) (kind_of_expr sorts (resolved_expr told a)) (kind_in told a) r (λ k e. kind_kept a k e) (λ k e. in_one a k e) is
+      unary_kept op (kind_of_expr bare a) (kind_of_expr bare (resolved_expr told a)) (kind_in told a) r (λ k e. kind_kept a k e) (λ k e. in_one a k e) is
   kind_kept (binary op a b) r is =
-      binary_kept op (kind_of_expr sorts a) (kind_of_expr sorts (resolved_expr told a)) (kind_of_expr sorts b)
-      (kind_of_expr sorts (resolved_expr told b)) (kind_in told a) r (λ k e. kind_kept a k e) (λ k e. kind_kept b k e) (λ k e. in_one a k e) is
+      binary_kept op (kind_of_expr bare a) (kind_of_expr bare (resolved_expr told a)) (kind_of_expr bare b)
+      (kind_of_expr bare (resolved_expr told b)) (kind_in told a) r (λ k e. kind_kept a k e) (λ k e. kind_kept b k e) (λ k e. in_one a k e) is
+
+  bare_kind : (e : PlainExpr Name) (o : Outcome) → constant_of (resolved_expr told e) ≡ Some o → kind_of_expr bare e ≡ kind_of_expr sorts e
+  bare_kind (literal n) o gives = refl
+  bare_kind (read v) o gives = refl
+  bare_kind (output_of instance name) o gives = refl
+  bare_kind (element v bounds index) o gives = absurd (cc)
+  bare_kind (unary op a) o gives =
+      let part = mapped_there _ (constant_of (resolved_expr told a)) o gives in
+      ap (option_and_then (unary_kind op)) (bare_kind a part.0 part.1)
+  bare_kind (binary op a b) o gives =
+      let first = chained_there _ (constant_of (resolved_expr told a)) o gives in
+      let second = mapped_there _ (constant_of (resolved_expr told b)) o first.2 in
+      λ i. option_and_then (λ k. option_and_then (binary_kind op k) (bare_kind b second.0 second.1 i)) (bare_kind a first.0 first.1 i)
 
   constant_in_range : (e : PlainExpr Name) (k : Kind) (n : ℤ) → kind_of_expr sorts e ≡ Some k → constant_of (resolved_expr told e) ≡ Some (Ok n) → InRange k n
   constant_in_range e k n is gives =
-      value_in_range sorts zeros (record { variable_in = λ v k is. zero_in k; output_in = λ instance name k is. zero_in k }) (resolved_expr told e) k n (kind_kept e k is)
+      value_in_range bare zeros (record { variable_in = λ v k is. zero_in k; output_in = λ instance name k is. zero_in k; element_in = λ v bounds i k is within. zero_in k }) (resolved_expr told e) k n
+      (kind_kept e k (bare_kind e (Ok n) gives ∙ is))
       (constant_of_is_value_of zeros (resolved_expr told e) (Ok n) gives)
 
 -- ---- bounds and steps
@@ -225,6 +268,7 @@ module _ (source : Source) (r : PlainRoutine) (context : Context Name) (own : Li
     stmt_steady : (n : ℕ) (s : PlainStmt Name) → stmt_allowed own s ≡ true → every_inside (stmt_allowed own) s ≡ true → stmt_fits context s ≡ true → SteadyStmt (mapped_stmt (numbers source r) (resolved_stmt kinds (numbered_stmt n s)))
     stmt_steady n (empty number) allowed inside fits = tt
     stmt_steady n (assign number v e) allowed inside fits = tt
+    stmt_steady n (store number v bounds index value) allowed inside fits = tt
     stmt_steady n (call number instance arguments) allowed inside fits = tt
     stmt_steady n (if_else number branches last) allowed inside fits =
         let p = and_parts (every_branch (stmt_allowed own) branches) (every (stmt_allowed own) last) inside in
@@ -283,7 +327,7 @@ module _ (units : List PlainUnit) (typed : AreTyped units) (order : List ℕ) (f
 
   block_steady : (k n : ℕ) (frame : Frame) → slice_get order k ≡ Some n → slice_get frames k ≡ Some frame → flagged are.used n ≡ true → SteadyBody (view_body frame.body.items)
   block_steady k n frame at here used =
-      let r = element source.blocks n (below.within n (among_at order k n at)) in
+      let r = item_there source.blocks n (below.within n (among_at order k n at)) in
       run_steady (flagged are.run n) r.0 frame (block_typed units typed r.0 (among_at source.blocks n r.0 r.1)) (are.of_blocks k n r.0 frame at r.1 here used)
 
   blank_steady : (k n : ℕ) (frame : Frame) → slice_get order k ≡ Some n → slice_get frames k ≡ Some frame → flagged are.used n ≡ false → SteadyBody (view_body frame.body.items)
@@ -291,7 +335,7 @@ module _ (units : List PlainUnit) (typed : AreTyped units) (order : List ℕ) (f
 
   program_steady : (k : ℕ) (frame : Frame) → k < length source.programs → slice_get frames (length order + k) ≡ Some frame → SteadyBody (view_body frame.body.items)
   program_steady k frame less here =
-      let p = element source.programs k less in
+      let p = item_there source.programs k less in
       run_steady true p.0 frame (program_typed units typed p.0 (among_at source.programs k p.0 p.1)) (are.of_programs k p.0 frame p.1 here)
 
   -- each FOR of a frame has constant bounds, which are DINTs, and a constant step
@@ -301,7 +345,7 @@ module _ (units : List PlainUnit) (typed : AreTyped units) (order : List ℕ) (f
       let whole = are.whole in
       elim (cases_Bool (nat_lt k (length order))) [
         | inl less ↦ (
-            let n = element order k (grind (arith, nat_tests)) in
+            let n = item_there order k (grind (arith, nat_tests)) in
             elim (cases_Bool (flagged are.used n.0)) [
               | inl used ↦ block_steady k n.0 frame n.1 here used
               | inr off ↦ blank_steady k n.0 frame n.1 here off

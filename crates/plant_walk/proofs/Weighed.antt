@@ -10,8 +10,8 @@ use Rattle.st_tree.specs.Costs.{expr_cost, tests_cost, labels_cost, arguments_co
 use Rattle.st_tree.specs.Kinds.{KindsOf, resolved_expr, resolved_argument, resolved_stmt, resolved_body, resolved_branches, resolved_choices}
 use Rattle.st_tree.specs.Mapping.{mapped_expr, mapped_option, mapped_argument, mapped_stmt, mapped_body, mapped_branches, mapped_choices, expr_known, option_known, argument_known, stmt_known, body_known, branches_known, choices_known}
 use Rattle.st_tree.specs.Numbers.{numbered_stmt, numbered, numbered_branches, numbered_choices, count_stmt, count_body, count_branches, count_choices}
-use Rattle.st_tree.specs.Plain.{PlainExpr, literal, read, output_of, unary, binary, PlainArgument, input, output}
-use Rattle.st_tree.specs.Plain.{PlainStmt, empty, assign, call, if_else, case_of, for_to, PlainBody, done, next, Branches, no_branch, branch, Choices, no_choice, choice}
+use Rattle.st_tree.specs.Plain.{PlainExpr, literal, read, output_of, element, unary, binary, PlainArgument, input, output}
+use Rattle.st_tree.specs.Plain.{PlainStmt, empty, assign, store, call, if_else, case_of, for_to, PlainBody, done, next, Branches, no_branch, branch, Choices, no_choice, choice}
 use Rattle.st_typing.specs.Constants.{no_kinds, meant_constant, constant_step, for_turns}
 use Rattle.st_typing.specs.Constants as typing
 use Rattle.plant_logic.specs.Source.{PlainRoutine, Source}
@@ -74,6 +74,7 @@ module _ (source : Source) (r : PlainRoutine) where
   expr_same (literal n) = refl
   expr_same (read v) = refl
   expr_same (output_of instance name) = refl
+  expr_same (element v bounds index) = ap (λ n. 2 + n) (expr_same index)
   expr_same (unary op a) = ap (λ n. 1 + n) (expr_same a)
   expr_same (binary op a b) = λ i. 1 + expr_same a i + expr_same b i
 
@@ -119,6 +120,10 @@ module _ (source : Source) (r : PlainRoutine) where
       stmt_less : (n : ℕ) (s : PlainStmt Name) → stmt_known (numbered_in source r) s ≡ true → stmt_inner n s ≤ weight join written outer s
       stmt_less n (empty number) known = omega arith
       stmt_less n (assign number v e) known = let first = expr_same e in omega (arith, first)
+      stmt_less n (store number v bounds index value) known =
+          let first = expr_same index in
+          let second = expr_same value in
+          omega (arith, first, second)
       stmt_less n (call number instance arguments) known =
           let p = and_parts (is_some (instance_number r instance)) (list_all (argument_known (numbered_in source r) instance) arguments) known in
           let called = less instance p.0 in

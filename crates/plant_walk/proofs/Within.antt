@@ -195,7 +195,7 @@ module _ (source : Source) (order : List ℕ) (below : AreBelow source.blocks or
         variable_goes (λ name h. instance_by name (find_word (instance_words r.instances) name) refl h)
         (λ instance name h. input_by instance name (find_word (instance_words r.instances) instance) refl h)
         (λ instance name h. output_by instance name (find_word (instance_words r.instances) instance) refl h)
-        (kinds_named source r) r.body names.in_body
+        (kinds_named source r) (λ name bounds h. absurd (cc)) r.body names.in_body
 
   module _ (frames : List Frame) (are : IsFrames source order frames) (types : HasItsTypes source) (names : HasAllNames source) where
     abbrev reached : (limit k : ℕ) → Base → Bool
