@@ -87,6 +87,11 @@ impl<'p> Looking<'p> {
                 self.note(name, Use::Read);
                 Ok(())
             }
+            Expr::Element(name, _, index) => {
+                let _ = cursor.pass_name(name);
+                self.note(name, Use::Read);
+                self.expr(cursor, index)
+            }
             Expr::Unary(_, a) => self.expr(cursor, a),
             Expr::Binary(op, a, b) => {
                 self.expr(cursor, a)?;
@@ -159,6 +164,17 @@ impl<'p> Looking<'p> {
                 let _ = cursor.pass_name(name);
                 self.assign(name)?;
                 self.expr(cursor, expr)
+            }
+            Stmt::Store {
+                array,
+                index,
+                value,
+                ..
+            } => {
+                let _ = cursor.pass_name(array);
+                self.assign(array)?;
+                self.expr(cursor, index)?;
+                self.expr(cursor, value)
             }
             Stmt::Call(_, instance, arguments) => {
                 let _ = cursor.pass_name(instance);

@@ -65,6 +65,17 @@ fn binary_worth(op: Binary, number: usize, kind: Kind, worths: (Worth, Worth)) -
     }
 }
 
+/// The part that an element of an array and its index are, where the array's name has a number.
+fn element_part(first: usize, index: &Part) -> Part {
+    Part {
+        kind: None,
+        first,
+        behind: index.behind.saturating_add(1),
+        form: Form::Other,
+        worth: Worth::Varies(first),
+    }
+}
+
 impl<'t> Teller<'t> {
     /// Walks a literal.
     fn literal(&mut self, literal: Literal) -> Part {
@@ -203,6 +214,12 @@ impl<'t> Teller<'t> {
             Expr::Literal(literal) => Ok(self.literal(*literal)),
             Expr::Read(name) => self.read(body, name, wanted),
             Expr::Output(instance, name) => self.output(body, instance, name),
+            Expr::Element(name, _, index) => {
+                let first = self.cursor.pass_name(name);
+                let _ = self.is_named(body, name, first, wanted)?;
+                let part = self.expr(body, index, Wanted::of(Some(Kind::Dint)))?;
+                Ok(element_part(first, &part))
+            }
             Expr::Unary(op, a) => {
                 let number = self.cursor.pass(Sought::Operator);
                 let part = self.expr(body, a, wanted_below(*op))?;

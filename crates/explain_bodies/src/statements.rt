@@ -98,12 +98,33 @@ impl<'t> Teller<'t> {
         self.turns(number.saturating_sub(1), &from, &to, by.as_ref())
     }
 
+    /// Walks an assignment to an element of an array.
+    fn store(
+        &mut self,
+        body: &Body<'_>,
+        array: &Text,
+        index: &Expr<Text>,
+        value: &Expr<Text>,
+    ) -> Result<(), AllocError> {
+        let number = self.cursor.pass_name(array);
+        let _ = self.is_named(body, array, number, Wanted::of(None))?;
+        let _ = self.value(body, index, Some(Kind::Dint), None)?;
+        let _ = self.value(body, value, None, None)?;
+        Ok(())
+    }
+
     /// Walks a statement.
     #[cycle(statements)]
     fn stmt(&mut self, body: &Body<'_>, stmt: &'t Stmt<Text>) -> Result<(), AllocError> {
         match stmt {
             Stmt::Empty(_) => Ok(()),
             Stmt::Assign(_, name, expr) => self.assign(body, name, expr),
+            Stmt::Store {
+                array,
+                index,
+                value,
+                ..
+            } => self.store(body, array, index, value),
             Stmt::Call(_, instance, arguments) => self.call(body, instance, arguments),
             Stmt::If(_, branches, last) => {
                 self.branches(body, branches)?;
