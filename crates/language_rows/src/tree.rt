@@ -51,6 +51,12 @@ fn show(expr: &Expr<Text>, page: &mut Page) {
             page.add(".");
             page.add(name.as_str());
         }
+        Expr::Element(name, _, index) => {
+            page.add(name.as_str());
+            page.add("[");
+            show(index, page);
+            page.add("]");
+        }
         Expr::Unary(Unary::Not, a) => {
             page.add("NOT ");
             show(a, page);
@@ -138,6 +144,18 @@ fn show_stmt(stmt: &Stmt<Text>, page: &mut Page) {
     match stmt {
         Stmt::Empty(_) => {}
         Stmt::Assign(_, target, value) => show_assignment(target, value, page),
+        Stmt::Store {
+            array,
+            index,
+            value,
+            ..
+        } => {
+            page.add(array.as_str());
+            page.add("[");
+            show(index, page);
+            page.add("] := ");
+            show(value, page);
+        }
         Stmt::Call(_, name, arguments) => {
             page.add(name.as_str());
             page.add("( ");

@@ -115,6 +115,10 @@ impl Pass<usize, usize> for Named {
         Ok(self.name)
     }
 
+    fn array(&self, _alloc: Global, _name: &usize) -> Result<usize, AllocError> {
+        Ok(self.name)
+    }
+
     fn instance(&self, _alloc: Global, _name: &usize) -> Result<usize, AllocError> {
         Ok(self.name)
     }
