@@ -2,7 +2,6 @@ mod AllRecords
 mod DigitLaws
 mod Gathered
 mod RowLaws
-mod TagTables
 mod Taken
 mod TextLaws
 mod TwiceLaws

@@ -3,4 +3,3 @@ pub mod Databases
 pub mod Forms
 pub mod Gathering
 pub mod Rows
-pub mod Tags

@@ -1,39 +1,33 @@
 //! The tags of alarms, in an index.
 
-ghost use Rattle.std.specs.Prelude.{◌≡◌, ◌++◌, ◌∷◌, [], IfOk, length, not, if◌then◌else◌, position};
+ghost use Rattle.std.specs.Prelude.{◌≡◌, ◌++◌, ◌∷◌, [], ◌<◌, IfOk, Some, length, not, if◌then◌else◌, position, slice_get};
 ghost use Rattle.std.specs.Str.{bytes_eq};
 ghost use Rattle.alarm_db.specs.Databases.{is_among};
 
 use std::alloc::{AllocError, Global};
-use std::collections::HashMap;
 use std::marker::Model;
+use word_index::{Case, Table};
 
 /// Tags, numbered from 0 in order; letter case counts. Contracts see a list of tags.
 pub struct Tags {
-    tags: Vec<String>,
-    /// The number of each tag.
-    numbers: HashMap<String, usize>,
+    table: Table,
 }
 
 impl Drop for Tags {
     fn drop(self) {
-        let Tags {
-            tags: _,
-            numbers: _,
-        } = self;
+        let Tags { table: _ } = self;
     }
 }
 
 impl Model for Tags {
-    ghost use Rattle.std.specs.Prelude.{◌≡◌, List, ℕ, map, string_bytes, vec_len};
-    ghost use Rattle.std.specs.HashMap.{get_by_text, hash_map_len};
-    ghost use Rattle.alarm_db.specs.Tags.{AreNumbered};
+    ghost use Rattle.std.specs.Prelude.{◌≡◌, List, ℕ};
+    ghost use Rattle.word_index.specs.declared.table.Case.TheVariants.{Counts};
 
     ghost Value = { List (List ℕ) };
 
-    ghost view = { λ t. map string_bytes t.tags.items };
+    ghost view = { λ t. t.table.names };
 
-    ghost invariant = { λ t. AreNumbered (map string_bytes t.tags.items) (get_by_text t.numbers) };
+    ghost invariant = { λ t. t.table.letters ≡ Counts };
 }
 
 impl Tags {
@@ -42,8 +36,7 @@ impl Tags {
         ensures { result ≡ [] }
     {
         Tags {
-            tags: Vec::new(alloc),
-            numbers: HashMap::new(alloc),
+            table: Table::new(alloc, Case::Counts),
         }
     }
 
@@ -51,14 +44,23 @@ impl Tags {
     pub fn len(&self) -> usize
         ensures { result ≡ length self.now }
     {
-        self.tags.len()
+        self.table.len()
+    }
+
+    /// The tag of a number.
+    #[inline(always)]
+    pub fn tag(&self, number: usize) -> &str
+        requires { number < length self.now }
+        ensures { slice_get self.now number ≡ Some result.now }
+    {
+        self.table.at(number)
     }
 
     /// The number of a tag; `None` if it isn't there.
     pub fn number(&self, tag: &str) -> Option<usize>
         ensures { result ≡ position (bytes_eq tag.now) self.now }
     {
-        self.numbers.get(tag).copied()
+        self.table.find(tag)
     }
 
     /// Adds a tag if it isn't there yet. Returns whether it was added. Fails if allocation fails.
@@ -66,15 +68,7 @@ impl Tags {
         ensures added { IfOk result (λ added. added ≡ not (is_among self.old tag.now)) }
         ensures tags { IfOk result (λ added. self.new ≡ (if added then self.old ++ tag.now ∷ [] else self.old)) }
     {
-        if self.numbers.contains_key(tag) {
-            return Ok(false);
-        }
-        self.tags.reserve(1)?;
-        let own = String::from_str(alloc, tag)?;
-        let key = String::from_str(alloc, tag)?;
-        self.numbers.insert(key, self.tags.len())?;
-        self.tags.push_reserved(own);
-        Ok(true)
+        self.table.add(alloc, tag)
     }
 
     /// The same tags, each with its number. Fails if allocation fails.
@@ -82,8 +76,7 @@ impl Tags {
         ensures { IfOk result (λ copy. copy ≡ self.now) }
     {
         Ok(Tags {
-            tags: self.tags.clone()?,
-            numbers: self.numbers.clone()?,
+            table: self.table.copy()?,
         })
     }
 }

@@ -1,2 +1,7 @@
+mod Apart
+mod Finding
+mod Ending
+mod Linking
+mod Following
 mod Examples
 pub mod Numbering

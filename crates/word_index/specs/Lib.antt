@@ -1,2 +1,5 @@
+pub mod Chains
+pub mod Found
 pub mod Names
-pub mod Words
+pub mod Tables
+pub mod Texts

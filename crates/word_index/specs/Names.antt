@@ -1,5 +1,5 @@
 -- Names in a list.
-use Rattle.std.specs.Prelude.{◌≡◌, ℕ, Bool, List, Option, position}
+use Rattle.std.specs.Prelude.{ℕ, Bool, List, Option, position}
 use Rattle.std.specs.List.{list_any}
 use Rattle.plant_types.specs.Words.{same_word}
 
@@ -10,7 +10,3 @@ find_name names name = position (same_word name) names
 -- whether a name is the same word as one of them
 abbrev pub is_among : List (List ℕ) → List ℕ → Bool
 is_among names name = list_any (same_word name) names
-
--- a table has the number of each name, and of no other word
-abbrev pub AreNumbered : List (List ℕ) → (List ℕ → Option ℕ) → Type 0
-AreNumbered names number = (word : List ℕ) → number word ≡ find_name names word

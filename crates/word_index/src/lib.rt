@@ -1,9 +1,13 @@
-//! Names that are found in any letter case, without a look at each and without memory.
+//! Names that are found without a look at each and without memory, in any letter case or in their own. They lie one behind another in one text.
 //!
-//! Contracts see `Names` as the list of its names as they were added, each without another that is the same word.
+//! Contracts see `Names` as the list of its names as they were added, each without another that is the same word, and a `Table` as such a list and
+//! whether letter case has a meaning in it.
 #![tactic(auto)]
 
+mod chains;
 mod names;
-mod word;
+mod table;
+mod texts;
 
 pub use names::Names;
+pub use table::{Case, Table};

@@ -1,62 +1,32 @@
+//! Names in which letter case has no meaning.
+
 ghost use Rattle.std.specs.Prelude.{◌≡◌, ◌++◌, ◌∷◌, [], ◌<◌, ◌^◌, length, not, IfSome, IfOk, OnErr, IsTrue, ◌↔◌, if◌then◌else◌, option_copied, slice_get};
-ghost use Rattle.std.specs.HashMap.{get};
-ghost use Rattle.plant_types.specs.Words.{same_word};
 ghost use Rattle.word_index.specs.Names.{find_name, is_among};
 
-use crate::word::Word;
+use crate::table::{Case, Table};
 use std::alloc::{AllocError, Global};
-use std::borrow::CowStr;
-use std::collections::HashMap;
 use std::marker::Model;
 
 /// Names in the order in which they were added, numbered from 0, in which letter case has no meaning (IEC 61131-3).
-// By std's map beside a list, and not by a set of the crate indexmap: each crate with a public type that holds one of these carries all that is
-// known of that crate.
 pub struct Names {
-    names: Vec<String>,
-    /// The number of each name.
-    numbers: HashMap<Word<'static>, usize>,
+    table: Table,
 }
 
 impl Drop for Names {
     fn drop(self) {
-        let Names {
-            names: _,
-            numbers: _,
-        } = self;
+        let Names { table: _ } = self;
     }
 }
 
 impl Model for Names {
-    ghost use Rattle.std.specs.Prelude.{◌≡◌, List, ℕ, map, string_bytes, vec_len};
-    ghost use Rattle.std.specs.HashMap.{get, hash_map_len};
-    ghost use Rattle.plant_types.specs.Words.{same_word};
-    ghost use Rattle.word_index.specs.Names.{AreNumbered};
+    ghost use Rattle.std.specs.Prelude.{◌≡◌, List, ℕ};
+    ghost use Rattle.word_index.specs.declared.table.Case.TheVariants.{HasNoMeaning};
 
     ghost Value = { List (List ℕ) };
 
-    ghost view = { λ n. map string_bytes n.names.items };
+    ghost view = { λ n. n.table.names };
 
-    ghost invariant = { λ n. AreNumbered (map string_bytes n.names.items) (get same_word n.numbers) × (hash_map_len n.numbers ≡ vec_len n.names) };
-}
-
-/// The number that a table has for a name. The table's words live as long as the name.
-fn number_in<'a>(numbers: &'a HashMap<Word<'a>, usize>, name: &'a str) -> Option<usize>
-    ensures { result ≡ get same_word numbers.now name.now }
-{
-    let word = Word {
-        text: CowStr::Borrowed(name),
-    };
-    numbers.get(&word).copied()
-}
-
-/// A word that owns a copy of a name. Fails if allocation fails.
-fn word_of(alloc: Global, name: &str) -> Result<Word<'static>, AllocError>
-    ensures { IfOk result (λ word. word ≡ name.now) }
-{
-    Ok(Word {
-        text: CowStr::Owned(String::from_str(alloc, name)?),
-    })
+    ghost invariant = { λ n. n.table.letters ≡ HasNoMeaning };
 }
 
 impl Names {
@@ -65,8 +35,7 @@ impl Names {
         ensures { result ≡ [] }
     {
         Names {
-            names: Vec::new(alloc),
-            numbers: HashMap::new(alloc),
+            table: Table::new(alloc, Case::HasNoMeaning),
         }
     }
 
@@ -75,15 +44,14 @@ impl Names {
         ensures number { result ≡ find_name self.now name.now }
         ensures within { IfSome result (λ number. number < length self.now) }
     {
-        number_in(&self.numbers, name)
+        self.table.find(name)
     }
 
     /// The name of a number, as it was added; `None` if there is none.
     pub fn get(&self, number: usize) -> Option<&str>
         ensures { option_copied result ≡ slice_get self.now number }
     {
-        let name = self.names.get(number)?;
-        Some(name.as_str())
+        self.table.get(number)
     }
 
     /// The number of names.
@@ -91,31 +59,23 @@ impl Names {
         ensures count { result ≡ length self.now }
         ensures small { result < 2 ^ 63 }
     {
-        self.numbers.len()
+        self.table.len()
     }
 
     /// Whether there are no names.
     pub fn is_empty(&self) -> bool
         ensures { IsTrue result ↔ (self.now ≡ []) }
     {
-        self.names.is_empty()
+        self.table.len() == 0
     }
 
-    /// Adds a name, and returns true; false if it is there already, in any letter case, and then nothing changes. Fails if allocation fails.
+    /// Adds a name, and returns true; false if it is there already, in any letter case, and then nothing changes. Fails as `Table::add` does.
     pub fn add(&mut self, alloc: Global, name: &str) -> Result<bool, AllocError>
         ensures added { IfOk result (λ added. added ≡ not (is_among self.old name.now)) }
         ensures names { IfOk result (λ added. self.new ≡ (if added then self.old ++ name.now ∷ [] else self.old)) }
         ensures err { OnErr result (self.new ≡ self.old) }
     {
-        if number_in(&self.numbers, name).is_some() {
-            return Ok(false);
-        }
-        self.names.reserve(1)?;
-        let own = String::from_str(alloc, name)?;
-        let word = word_of(alloc, name)?;
-        self.numbers.insert(word, self.names.len())?;
-        self.names.push_reserved(own);
-        Ok(true)
+        self.table.add(alloc, name)
     }
 
     /// The same names, each with its number. Fails if allocation fails.
@@ -123,8 +83,7 @@ impl Names {
         ensures { IfOk result (λ copy. copy ≡ self.now) }
     {
         Ok(Names {
-            names: self.names.clone()?,
-            numbers: self.numbers.clone()?,
+            table: self.table.copy()?,
         })
     }
 }

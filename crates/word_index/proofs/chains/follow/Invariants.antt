@@ -1,0 +1,13 @@
+use Rattle.std.proofs.Common.{ℕ, List, ◌≤◌, length}
+use Rattle.word_index.specs.Chains.{chain_of, IsLink, GoBack}
+use Rattle.word_index.proofs.Following.{IsAlong}
+use Rattle.word_index.proofs.chains.follow.Given as goal
+
+abbrev pub invariant-loop-link : goal.invariant-loop-link
+invariant-loop-link l = record {
+  within : l.link.count ≤ length l.links;
+  along : (hashes : List ℕ) (chains end : ℕ) → GoBack hashes chains end l.links → IsLink hashes chains end (chain_of l.hash chains) l.fn.from → IsAlong hashes chains end l.hash l.link;
+}
+
+abbrev pub decreases-loop-link : goal.decreases-loop-link
+decreases-loop-link l = l.link.count

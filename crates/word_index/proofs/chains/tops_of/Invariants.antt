@@ -1,0 +1,11 @@
+use Rattle.std.proofs.Common.{◌≡◌, length}
+use Rattle.word_index.specs.Chains.{GoBack, BeginAtTops}
+use Rattle.word_index.proofs.chains.tops_of.Given as goal
+
+abbrev pub invariant-loop-number : goal.invariant-loop-number
+invariant-loop-number l = record {
+  wide : length l.tops.items ≡ l.chains;
+  size : length l.links ≡ length l.hashes;
+  begin : BeginAtTops l.hashes l.number l.tops.items;
+  back : GoBack l.hashes l.chains l.number l.links;
+}

@@ -1,0 +1,48 @@
+-- Numbers in chains by hash: each leads to the one before it in its chain.
+use Rattle.std.specs.Prelude.{◌≡◌, ℕ, ◌+◌, ◌-◌, ◌<◌, ◌≤◌, List, Option, Some, None, length, slice_index, slice_index_or, bit_and}
+use Rattle.word_index.specs.declared.chains.Link.{Link}
+
+-- the hashes of numbers, and how many numbers there is room for
+pub record PlainChains : Type 0 where
+  pub hashes : List ℕ
+  pub room : ℕ
+
+-- the chain of a hash, where there are this many, a power of two
+abbrev pub chain_of : ℕ → ℕ → ℕ
+chain_of hash chains = bit_and hash (chains - 1)
+
+-- none of the numbers from one up to before another has this hash
+abbrev pub HaveOthers : List ℕ → ℕ → ℕ → ℕ → Type 0
+HaveOthers hashes from end hash = (k : ℕ) → from ≤ k → k < end → slice_index hashes k ≡ hash → ⊥
+
+-- the last number with a hash among those before an end
+abbrev pub IsLast : List ℕ → ℕ → ℕ → Option ℕ → Type 0
+IsLast hashes end hash None = HaveOthers hashes 0 end hash
+IsLast hashes end hash (Some number) = (number < end) × ((slice_index hashes number ≡ hash) × HaveOthers hashes (number + 1) end hash)
+
+-- the link of a place in a list
+abbrev pub link_at : List Link → ℕ → Link
+link_at links place = slice_index_or links place (record { count = 0; hash = 0 })
+
+-- a link leads to the last of some first numbers that is in a chain, and knows its hash
+pub record IsLink (hashes : List ℕ) (chains end which : ℕ) (link : Link) : Type 0 where
+  pub within : link.count ≤ end
+  pub behind : (k : ℕ) → link.count ≤ k → k < end → chain_of (slice_index hashes k) chains ≡ which → ⊥
+  pub chain : (k : ℕ) → link.count ≡ k + 1 → chain_of (slice_index hashes k) chains ≡ which
+  pub hash : (k : ℕ) → link.count ≡ k + 1 → slice_index hashes k ≡ link.hash
+
+-- each of some first numbers leads to the one before it in its chain
+abbrev pub GoBack : List ℕ → ℕ → ℕ → List Link → Type 0
+GoBack hashes chains end links = (k : ℕ) → k < end → IsLink hashes chains k (chain_of (slice_index hashes k) chains) (link_at links k)
+
+-- each chain begins at the last of its numbers
+abbrev pub BeginAtTops : List ℕ → ℕ → List Link → Type 0
+BeginAtTops hashes end tops = (chain : ℕ) → chain < length tops → IsLink hashes (length tops) end chain (link_at tops chain)
+
+-- chains of all numbers
+pub record AreChains (hashes : List ℕ) (tops links : List Link) : Type 0 where
+  pub few : length hashes < 4294967296
+  pub size : length links ≡ length hashes
+  pub wide : 0 < length hashes → 0 < length tops
+  pub begin : BeginAtTops hashes (length hashes) tops
+  pub back : GoBack hashes (length tops) (length hashes) links
