@@ -76,7 +76,7 @@ pub replied : (w : PlainBank) (n : ℕ) (v : Verb) (a new : PlainAlarm) (res : R
 replied w n v a new res e h = rw (e, reply_of) (told_is (after_order v w.moment a) a new res h)
 
 -- the number kept for an alarm that is there
-kept_end : (xs : List PlainAlarm) (k : ℕ) (a : PlainAlarm) → slice_get xs k ≡ Some a → slice_index (map (λ (x : PlainAlarm). end_or_never (end_of x.state)) xs) k ≡ end_or_never (end_of a.state)
+pub kept_end : (xs : List PlainAlarm) (k : ℕ) (a : PlainAlarm) → slice_get xs k ≡ Some a → slice_index (map (λ (x : PlainAlarm). end_or_never (end_of x.state)) xs) k ≡ end_or_never (end_of a.state)
 kept_end xs k a e = get_or_from_slice_get (map (λ (x : PlainAlarm). end_or_never (end_of x.state)) xs) k (end_or_never (end_of a.state)) 0 (slice_get-map (λ (x : PlainAlarm). end_or_never (end_of x.state)) xs k ∙ ap (option_map (λ (x : PlainAlarm). end_or_never (end_of x.state))) e)
 
 in_list : (xs : List PlainAlarm) (k : ℕ) (a : PlainAlarm) → slice_get xs k ≡ Some a → k < length (map (λ (x : PlainAlarm). end_or_never (end_of x.state)) xs)

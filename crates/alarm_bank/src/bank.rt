@@ -1,6 +1,6 @@
 //! The alarms of a plant.
 
-ghost use Rattle.std.specs.Prelude.{◌≡◌, ℕ, ◌≤◌, ◌<◌, ◌^◌, List, length, slice_get, IfSome, IfNone, IfOk, OnOk, All, Some, slice_set, map, false};
+ghost use Rattle.std.specs.Prelude.{◌≡◌, ℕ, ◌≤◌, ◌<◌, ◌^◌, List, length, slice_get, IfSome, IfNone, IfOk, OnOk, All, Some, slice_set, slice_index, map, false};
 ghost use Rattle.alarm_machine.specs.declared.limits.TheConstants.{LAST_MOMENT};
 ghost use Rattle.alarm_machine.specs.Alarms.{PlainAlarm, end_of, EndsInRange};
 ghost use Rattle.alarm_bank.specs.Banks.{IsSite, scan_each, after_event, reply_of, counted, end_or_never, IsNextEnd, NoneShelved, IsSettled};
@@ -57,6 +57,22 @@ fn end_or_never(alarm: &Alarm) -> u64
     match alarm.end() {
         Some(end) => end,
         None => u64::MAX,
+    }
+}
+
+/// Puts the end of an alarm's shelf in the place of another alarm's.
+// Few alarms are shelved, and where neither is, the tree isn't touched.
+#[inline(always)]
+fn put_end(shelf: &mut Shelf, at: usize, old: &Alarm, new: &Alarm)
+    requires at { at < length shelf.old }
+    requires few { length shelf.old < 2 ^ 32 }
+    requires was { slice_index shelf.old at ≡ end_or_never (end_of old.now.state) }
+    ensures shelf { shelf.new ≡ slice_set shelf.old at (end_or_never (end_of new.now.state)) }
+    ensures in_range { EndsInRange new.now.state }
+    ensures settled { IsSettled new.now }
+{
+    if old.end().is_some() || new.end().is_some() {
+        shelf.put(at, end_or_never(new));
     }
 }
 
@@ -180,9 +196,9 @@ impl Bank {
         requires { at < length self.old.alarms }
         ensures { self.new ≡ record self.old { alarms = slice_set self.old.alarms at alarm.now } }
     {
+        put_end(&mut self.shelf, at, &self.alarms[at], alarm);
         self.alarms[at] = *alarm;
         self.summary.put(at, alarm.state().code());
-        self.shelf.put(at, end_or_never(alarm));
     }
 
     /// Takes a scan, which steps the alarms that don't rest.
