@@ -10,6 +10,7 @@ use plant_logic::Variable;
 use plant_types::{Kind, Text};
 use plant_walk::Framed;
 use std::alloc::{AllocError, AllocFailed, Global};
+use trace::Shown;
 
 /// Why there are no alarms of rows. Rows count from 1.
 #[derive(Clone, Copy, Drop)]
@@ -130,7 +131,7 @@ fn alarm_of(areas: &TextSet, logic: &Framed, row: DatabaseRow) -> Result<AlarmRo
 {
     match numbers_of(areas, logic, &row) {
         Ok((area, condition, suppress)) => Ok(AlarmRow {
-            tag: row.tag,
+            tag: Shown::of(&row.tag),
             area,
             priority: row.priority,
             condition,

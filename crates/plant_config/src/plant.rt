@@ -425,7 +425,7 @@ impl Plant {
         requires { alarm < length self.now.alarms }
         ensures { result.now ≡ tag_of self.now alarm }
     {
-        self.alarms[alarm as usize].tag.as_str()
+        self.tags.tag(alarm as usize)
     }
 
     /// The priority of an alarm: 1 to 4, 1 the highest.

@@ -4,11 +4,12 @@ ghost use Rattle.std.specs.Prelude.{◌≡◌, IfOk};
 
 use plant_types::Text;
 use std::alloc::{AllocError, Global};
+use trace::Shown;
 
 /// An alarm of a plant. Areas and globals are named by their numbers, from 0 in the order of their declaration.
 pub struct AlarmRow {
-    /// The alarm's name, in which letter case counts.
-    pub tag: Text,
+    /// The alarm's name, in which letter case counts: contracts alone see it. The plant keeps it among its tags.
+    pub tag: Shown<Text>,
     /// The number of its area.
     pub area: u32,
     /// 1 to 4, 1 the highest (ISA-18.2 leaves their number to the site).
@@ -49,7 +50,7 @@ impl AlarmRow {
         ensures { IfOk result (λ copy. copy ≡ self.now) }
     {
         Ok(AlarmRow {
-            tag: self.tag.copy(alloc)?,
+            tag: self.tag.again(),
             area: self.area,
             priority: self.priority,
             condition: self.condition,

@@ -156,9 +156,8 @@ impl<'p> Alarms<'p> {
         &mut self,
         looking: &mut Looking<'_>,
         alarm: usize,
-        row: &AlarmRow,
+        tag: &str,
     ) -> Result<(), AllocError> {
-        let tag = row.tag.as_str();
         if self.tags.add(self.alloc, tag)? {
             return Ok(());
         }
@@ -177,7 +176,7 @@ impl<'p> Alarms<'p> {
             if looking.is_full() {
                 return Ok(());
             }
-            self.tag(looking, alarm, row)?;
+            self.tag(looking, alarm, plant.tag(alarm as u32))?;
             self.area(looking, alarm, row)?;
             self.condition(looking, alarm, row)?;
             self.suppression(looking, alarm, row)?;
