@@ -1,8 +1,8 @@
--- How chains grow by one alarm, and what marking along them leaves.
-use Rattle.std.proofs.Common.{◌≡◌, ◌≢◌, ℕ, zero, suc, ◌+◌, ◌<◌, ◌≤◌, ◌==◌, ℤ, inl, inr, ◌⊎◌, Bool, true, false, Option, Some, None, List, [], ◌∷◌, ◌++◌, length, slice_get, slice_index, slice_set, if◌then◌else◌, arith, refl, ap, sym, ◌∙◌, length-append}
+-- How chains grow by one alarm.
+use Rattle.std.proofs.Common.{◌≡◌, ◌≢◌, ℕ, zero, suc, ◌+◌, ◌<◌, ◌≤◌, ◌==◌, inl, inr, ◌⊎◌, Option, Some, None, List, [], ◌∷◌, ◌++◌, length, slice_index, if◌then◌else◌, arith, refl, ap, sym, ◌∙◌, length-append}
 use Rattle.std.proofs.lemmas.Bool.{cases_lt}
 use Rattle.std.proofs.lemmas.Bool.Decides.{eqb_tells}
-use Rattle.alarm_watch.specs.Chains.{GoesDown, HasKey, AreChains, ChangesAreMarked, ChangesOfAreMarked}
+use Rattle.alarm_watch.specs.Chains.{GoesDown, HasKey, AreChains}
 
 -- an alarm with a global among some and one more is one of them, or that one
 key_cases : (keys : List (Option ℕ)) (k : Option ℕ) (n g : ℕ) → HasKey (keys ++ k ∷ []) n g → ((n < length keys) × HasKey keys n g) ⊎ ((n ≡ length keys) × (k ≡ Some g))
@@ -144,107 +144,8 @@ chains_with keys first new next global link v link_is v_is put a =
       ];
     }
 
--- a mark that isn't set after one was set is another, and wasn't set before
-pub unmarked_set : (marks : List Bool) (at n : ℕ) → slice_get (slice_set marks at true) n ≡ Some false → (n ≢ at) × (slice_get marks n ≡ Some false)
-unmarked_set [] at n h = absurd (cc h)
-unmarked_set (m ∷ marks) zero zero h = absurd (cc h)
-unmarked_set (m ∷ marks) zero (suc n) h = (λ e. absurd (omega (arith, e)), h)
-unmarked_set (m ∷ marks) (suc at) zero h = (λ e. absurd (omega (arith, e)), h)
-unmarked_set (m ∷ marks) (suc at) (suc n) h = let r = unmarked_set marks at n h in (λ e. r.0 (omega (arith, e)), r.1)
-
--- the alarms of a chain are marked up to a link
-pub record MarkedTo (next : List ℕ) (from link : ℕ) (before marks : List Bool) : Type 0 where
-  pub size : length marks ≡ length next
-  pub within : link ≤ length next
-  pub kept : (n : ℕ) → slice_get marks n ≡ Some false → slice_get before n ≡ Some false
-  pub left : (keys : List (Option ℕ)) (first : List ℕ) (g n : ℕ) → AreChains keys first next → from ≡ slice_index first g → HasKey keys n g → slice_get marks n ≡ Some false → n < link
-  pub own : (keys : List (Option ℕ)) (first : List ℕ) (g e : ℕ) → AreChains keys first next → from ≡ slice_index first g → link ≡ e + 1 → HasKey keys e g
-
-pub marked_none : (next : List ℕ) (from : ℕ) (marks : List Bool) → from ≤ length next → length marks ≡ length next → MarkedTo next from from marks marks
-marked_none next from marks within size = record {
-  size = size;
-  within = within;
-  kept = λ n h. h;
-  left = λ keys first g n a from_is has unmarked. let low = a.last g n has in omega (arith, from_is, low);
-  own = λ keys first g e a from_is link_is. a.begins g e (sym from_is ∙ link_is);
-}
-
-pub marked_next : (next : List ℕ) (from link at : ℕ) (before marks : List Bool) → GoesDown next → link ≡ at + 1 → length (slice_set marks at true) ≡ length marks
-    → MarkedTo next from link before marks → MarkedTo next from (slice_index next at) before (slice_set marks at true)
-marked_next next from link at before marks down link_is same m =
-    let within = m.within in
-    let size = m.size in
-    let low = down at (omega (arith, within, link_is)) in
-    record {
-      size = omega (arith, same, size);
-      within = omega (arith, low, within, link_is);
-      kept = λ n h. m.kept n (unmarked_set marks at n h).1;
-      left = λ keys first g n a from_is has unmarked.
-          let u = unmarked_set marks at n unmarked in
-          let below = m.left keys first g n a from_is has u.1 in
-          elim (cases_lt n at) [
-            | inl less ↦ a.before g at n (m.own keys first g at a from_is link_is) has less
-            | inr not_less ↦ absurd (u.0 (omega (arith, below, link_is, not_less)))
-          ];
-      own = λ keys first g e a from_is to. a.links g at e (m.own keys first g at a from_is link_is) to;
-    }
-
--- the alarms of some globals, from one up to before another, are marked where the global changed
-pub record MarkedFrom (first next : List ℕ) (old new : ℕ → ℤ) (from to : ℕ) (before marks : List Bool) : Type 0 where
-  pub size : length marks ≡ length next
-  pub kept : (n : ℕ) → slice_get marks n ≡ Some false → slice_get before n ≡ Some false
-  pub marked : (keys : List (Option ℕ)) → AreChains keys first next → ChangesOfAreMarked from to keys old new marks
-
-pub from_none : (first next : List ℕ) (old new : ℕ → ℤ) (from : ℕ) (marks : List Bool) → length marks ≡ length next → MarkedFrom first next old new from from marks marks
-from_none first next old new from marks size = record { size = size; kept = λ n h. h; marked = λ keys a n g low less has unmarked. absurd (omega (arith, low, less)) }
-
--- some globals more, whose alarms are marked if they changed
-pub from_more : (first next : List ℕ) (old new : ℕ → ℤ) (from i j : ℕ) (before marks after : List Bool) → length after ≡ length next → ((n : ℕ) → slice_get after n ≡ Some false → slice_get marks n ≡ Some false)
-    → ((keys : List (Option ℕ)) → AreChains keys first next → ChangesOfAreMarked i j keys old new after)
-    → MarkedFrom first next old new from i before marks → MarkedFrom first next old new from j before after
-from_more first next old new from i j before marks after size kept here m = record {
-  size = size;
-  kept = λ n h. m.kept n (kept n h);
-  marked = λ keys a n g low less has unmarked. elim (cases_lt g i) [
-    | inl below ↦ m.marked keys a n g low below has (kept n unmarked)
-    | inr high ↦ here keys a n g (omega (arith, high)) less has unmarked
-  ];
-}
-
--- one global more
-pub from_next : (first next : List ℕ) (old new : ℕ → ℤ) (from i : ℕ) (before marks after : List Bool) → length after ≡ length next → ((n : ℕ) → slice_get after n ≡ Some false → slice_get marks n ≡ Some false)
-    → ((keys : List (Option ℕ)) (n : ℕ) → AreChains keys first next → HasKey keys n i → slice_get after n ≡ Some false → old i ≡ new i)
-    → MarkedFrom first next old new from i before marks → MarkedFrom first next old new from (i + 1) before after
-from_next first next old new from i before marks after size kept here m =
-    from_more first next old new from i (i + 1) before marks after size kept (λ keys a n g low less has unmarked. let g_is : g ≡ i = omega (arith, less, low) in rw g_is (here keys n a (rw g_is at has) unmarked)) m
-
 -- a global beyond all chains has no alarm
-past : (first : List ℕ) (g : ℕ) → length first ≤ g → slice_index first g ≡ 0
+pub past : (first : List ℕ) (g : ℕ) → length first ≤ g → slice_index first g ≡ 0
 past [] g h = refl
 past (x ∷ first) zero h = absurd (omega (arith, h))
 past (x ∷ first) (suc g) h = past first g (omega (arith, h))
-
--- those beyond the last chain need no mark
-pub from_all : (first next : List ℕ) (old new : ℕ → ℤ) (from i end : ℕ) (before marks : List Bool) → ((end ≤ i) ⊎ (length first ≤ i)) → MarkedFrom first next old new from i before marks
-    → (keys : List (Option ℕ)) → AreChains keys first next → ChangesOfAreMarked from end keys old new marks
-from_all first next old new from i end before marks all m keys a n g low less has unmarked =
-    elim (cases_lt g i) [
-      | inl below ↦ m.marked keys a n g low below has unmarked
-      | inr high ↦ elim all [
-        | inl ended ↦ absurd (omega (arith, high, ended, less))
-        | inr past_all ↦ let none = past first g (omega (arith, past_all, high)) in let top = a.last g n has in absurd (omega (arith, none, top))
-      ]
-    ]
-
--- the globals below one and those from it on are all
-pub all_marked : (first next : List ℕ) (old new : ℕ → ℤ) (i end : ℕ) (before marks after : List Bool) → length first ≤ end → MarkedFrom first next old new 0 i before marks
-    → ((n : ℕ) → slice_get after n ≡ Some false → slice_get marks n ≡ Some false) → ((keys : List (Option ℕ)) → AreChains keys first next → ChangesOfAreMarked i end keys old new after)
-    → (keys : List (Option ℕ)) → AreChains keys first next → ChangesAreMarked keys old new after
-all_marked first next old new i end before marks after long m kept here keys a n g has unmarked =
-    elim (cases_lt g i) [
-      | inl below ↦ m.marked keys a n g (omega arith) below has (kept n unmarked)
-      | inr high ↦ elim (cases_lt g end) [
-        | inl less ↦ here keys a n g (omega (arith, high)) less has unmarked
-        | inr beyond ↦ let none = past first g (omega (arith, long, beyond)) in let top = a.last g n has in absurd (omega (arith, none, top))
-      ]
-    ]

@@ -1,2 +1,4 @@
+mod Marked
+mod Ranged
 pub mod ChainLaws
 pub mod WatchLaws

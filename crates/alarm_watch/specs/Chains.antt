@@ -24,6 +24,30 @@ pub record AreChains (keys : List (Option ℕ)) (first next : List ℕ) : Type 0
   pub before : (g e n : ℕ) → HasKey keys e g → HasKey keys n g → n < e → n < slice_index next e
   pub links : (g e d : ℕ) → HasKey keys e g → slice_index next e ≡ d + 1 → HasKey keys d g
 
+-- where the alarms of each global stand in a list of alarms, of which there are so many: from its start up to that of the next
+pub record AreRanges (count : ℕ) (starts alarms : List ℕ) : Type 0 where
+  pub rises : (g : ℕ) → g + 1 < length starts → slice_index starts g ≤ slice_index starts (g + 1)
+  pub within : (g : ℕ) → g < length starts → slice_index starts g ≤ length alarms
+  pub numbers : (p : ℕ) → p < length alarms → slice_index alarms p < count
+
+-- a list of alarms begins as another one did, and the others are alarms too
+pub record IsLonger (count : ℕ) (old new : List ℕ) : Type 0 where
+  pub longer : length old ≤ length new
+  pub front : (p : ℕ) → p < length old → slice_index new p ≡ slice_index old p
+  pub numbers : (p : ℕ) → length old ≤ p → p < length new → slice_index new p < count
+
+-- an alarm stands among those of a range
+pub record StandsIn (alarms : List ℕ) (from end n : ℕ) : Type 0 where
+  pub place : ℕ
+  pub low : from ≤ place
+  pub high : place < end
+  pub is : slice_index alarms place ≡ n
+
+-- each alarm that has a global stands in its range
+pub record HaveRanges (keys : List (Option ℕ)) (starts alarms : List ℕ) : Type 0 where
+  pub there : (g n : ℕ) → HasKey keys n g → g + 1 < length starts
+  pub stand : (g n : ℕ) → HasKey keys n g → StandsIn alarms (slice_index starts g) (slice_index starts (g + 1)) n
+
 -- an alarm that isn't marked has a global whose value is what it was
 abbrev pub ChangesAreMarked : List (Option ℕ) → (ℕ → ℤ) → (ℕ → ℤ) → List Bool → Type 0
 ChangesAreMarked keys before now marks = (n g : ℕ) → HasKey keys n g → slice_get marks n ≡ Some false → before g ≡ now g
@@ -40,8 +64,10 @@ condition_keys watches = map (λ watch. Some watch.condition) watches
 abbrev pub suppress_keys : List Watch → List (Option ℕ)
 suppress_keys watches = map (λ watch. watch.suppress) watches
 
--- the chains by condition and by suppression are those of what alarms watch
-pub record IsIndex (watches : List Watch) (first_condition next_condition first_suppress next_suppress : List ℕ) : Type 0 where
+-- the ranges by condition and by suppression are those of what alarms watch
+pub record IsIndex (watches : List Watch) (condition_starts condition_alarms suppress_starts suppress_alarms : List ℕ) : Type 0 where
   pub few : length watches < 4294967296
-  pub conditions : AreChains (condition_keys watches) first_condition next_condition
-  pub suppressions : AreChains (suppress_keys watches) first_suppress next_suppress
+  pub condition_ranges : AreRanges (length watches) condition_starts condition_alarms
+  pub conditions : HaveRanges (condition_keys watches) condition_starts condition_alarms
+  pub suppress_ranges : AreRanges (length watches) suppress_starts suppress_alarms
+  pub suppressions : HaveRanges (suppress_keys watches) suppress_starts suppress_alarms

@@ -1,8 +1,8 @@
 //! For each global the alarms that watch it, in chains: the last one first, and from each one to the one before it.
 
-ghost use Rattle.std.specs.Prelude.{◌≡◌, ℕ, ◌+◌, ◌<◌, ◌≤◌, ◌^◌, ◌==◌, Bool, true, false, if◌then◌else◌, Option, Some, None, List, pos, length, slice_get, slice_index, slice_index_or, IfOk};
+ghost use Rattle.std.specs.Prelude.{◌≡◌, ℕ, ◌+◌, ◌<◌, ◌≤◌, ◌^◌, ◌==◌, Bool, true, false, if◌then◌else◌, Option, Some, None, List, pos, length, slice_get, slice_index, slice_index_or, IfOk, OnOk};
 ghost use Rattle.plant_cells.specs.Cells.{value_at};
-ghost use Rattle.alarm_watch.specs.Chains.{AreChains, GoesDown, HaveTops, ChangesAreMarked, ChangesOfAreMarked};
+ghost use Rattle.alarm_watch.specs.Chains.{AreChains, GoesDown, HaveTops, HasKey, AreRanges, StandsIn, HaveRanges, IsLonger, ChangesAreMarked, ChangesOfAreMarked};
 
 use crate::watched::number_at;
 use plant_cells::Cells;
@@ -52,45 +52,113 @@ pub fn chains_of(alloc: Global, keys: &[Option<u32>]) -> Result<Chains, AllocErr
     Ok(Chains { first, next })
 }
 
-/// Marks the alarms of a chain.
-fn mark_chain(next: &[u32], from: u32, marks: &mut [bool])
+/// For each global the alarms that watch it, side by side in one list.
+pub struct Ranges {
+    /// For each global where its alarms begin, and for one more.
+    pub starts: Vec<u32>,
+    /// The alarms.
+    pub alarms: Vec<u32>,
+}
+
+impl Drop for Ranges {
+    fn drop(self) {
+        let Ranges {
+            starts: _,
+            alarms: _,
+        } = self;
+    }
+}
+
+/// Appends the alarms of a chain. Fails if allocation fails.
+fn push_chain(next: &[u32], from: u32, alarms: &mut Vec<u32>) -> Result<(), AllocError>
     requires down { GoesDown next.now }
     requires from { from ≤ length next.now }
-    requires marks { length marks.old ≡ length next.now }
-    ensures kept { (n : ℕ) → slice_get marks.new n ≡ Some false → slice_get marks.old n ≡ Some false }
-    ensures marked { (keys : List (Option ℕ)) (first : List ℕ) (g n : ℕ) → AreChains keys first next.now → from ≡ slice_index first g → slice_index_or keys n None ≡ Some g → slice_get marks.new n ≡ Some false → ⊥ }
+    ensures front { OnOk result (IsLonger (length next.now) alarms.old.items alarms.new.items) }
+    ensures stand { OnOk result ((keys : List (Option ℕ)) (first : List ℕ) (g n : ℕ) → AreChains keys first next.now → from ≡ slice_index first g → HasKey keys n g → StandsIn alarms.new.items (length alarms.old.items) (length alarms.new.items) n) }
 {
     let mut link = from;
     while link != 0 {
-        let at = (link - 1) as usize;
-        marks[at] = true;
-        link = next[at];
+        alarms.push(link - 1)?;
+        link = next[(link - 1) as usize];
     }
+    Ok(())
+}
+
+/// A number of 32 bits. Fails if it is greater.
+fn place_of(number: usize) -> Result<u32, AllocError>
+    ensures { IfOk result (λ place. place ≡ number) }
+{
+    match u32::try_from(number) {
+        Ok(place) => Ok(place),
+        Err(_) => Err(AllocError),
+    }
+}
+
+/// The alarms of each global side by side, by their chains. Fails if allocation fails.
+pub fn ranges_of(alloc: Global, chains: &Chains) -> Result<Ranges, AllocError>
+    requires down { GoesDown chains.now.next.items }
+    requires tops { HaveTops chains.now.first.items chains.now.next.items }
+    ensures ranges { IfOk result (λ ranges. AreRanges (length chains.now.next.items) ranges.starts.items ranges.alarms.items) }
+    ensures stand { IfOk result (λ ranges. (keys : List (Option ℕ)) → AreChains keys chains.now.first.items chains.now.next.items → HaveRanges keys ranges.starts.items ranges.alarms.items) }
+{
+    let mut starts = Vec::new(alloc);
+    let mut alarms = Vec::new(alloc);
+    starts.push(0)?;
+    for at in 0..chains.first.len() {
+        push_chain(chains.next.as_slice(), chains.first[at], &mut alarms)?;
+        starts.push(place_of(alarms.len())?)?;
+    }
+    Ok(Ranges { starts, alarms })
+}
+
+/// Marks the alarms of a list from one place up to before another.
+#[inline(always)]
+fn mark_between(alarms: &[u32], start: usize, stop: usize, marks: &mut [bool])
+    requires stop { stop ≤ length alarms.now }
+    requires numbers { (p : ℕ) → p < length alarms.now → slice_index alarms.now p < length marks.old }
+    ensures size { length marks.new ≡ length marks.old }
+    ensures kept { (n : ℕ) → slice_get marks.new n ≡ Some false → slice_get marks.old n ≡ Some false }
+    ensures marked { (n : ℕ) → StandsIn alarms.now start stop n → slice_get marks.new n ≡ Some false → ⊥ }
+{
+    for place in start..stop {
+        marks[alarms[place] as usize] = true;
+    }
+}
+
+/// Marks the alarms of a global that holds another number in other cells.
+#[inline(always)]
+fn mark_global(ranges: &Ranges, before: &Cells, now: &Cells, at: usize, marks: &mut [bool])
+    requires ranges { AreRanges (length marks.old) ranges.now.starts.items ranges.now.alarms.items }
+    requires at { at + 1 < length ranges.now.starts.items }
+    ensures size { length marks.new ≡ length marks.old }
+    ensures kept { (n : ℕ) → slice_get marks.new n ≡ Some false → slice_get marks.old n ≡ Some false }
+    ensures marked { (keys : List (Option ℕ)) (n : ℕ) → HaveRanges keys ranges.now.starts.items ranges.now.alarms.items → HasKey keys n at → slice_get marks.new n ≡ Some false → value_at before.now at ≡ value_at now.now at }
+{
+    if number_at(before, at) == number_at(now, at) {
+        return;
+    }
+    let start = ranges.starts[at] as usize;
+    let stop = ranges.starts[at + 1] as usize;
+    mark_between(ranges.alarms.as_slice(), start, stop, marks);
 }
 
 /// Marks the alarms whose global is one of some globals, from one up to before another, and holds another number in other cells.
 #[inline(never)]
 fn mark_globals(
-    chains: &Chains,
+    ranges: &Ranges,
     before: &Cells,
     now: &Cells,
     from: usize,
     end: usize,
     marks: &mut [bool],
 )
-    requires down { GoesDown chains.now.next.items }
-    requires tops { HaveTops chains.now.first.items chains.now.next.items }
-    requires marks { length marks.old ≡ length chains.now.next.items }
+    requires ranges { AreRanges (length marks.old) ranges.now.starts.items ranges.now.alarms.items }
+    ensures size { length marks.new ≡ length marks.old }
     ensures kept { (n : ℕ) → slice_get marks.new n ≡ Some false → slice_get marks.old n ≡ Some false }
-    ensures marked { (keys : List (Option ℕ)) → AreChains keys chains.now.first.items chains.now.next.items → ChangesOfAreMarked from end keys (value_at before.now) (value_at now.now) marks.new }
+    ensures marked { (keys : List (Option ℕ)) → HaveRanges keys ranges.now.starts.items ranges.now.alarms.items → ChangesOfAreMarked from end keys (value_at before.now) (value_at now.now) marks.new }
 {
-    let first = chains.first.as_slice();
-    let next = chains.next.as_slice();
-    for at in from..end.min(first.len()) {
-        let link = first[at];
-        if link != 0 && number_at(before, at) != number_at(now, at) {
-            mark_chain(next, link, marks);
-        }
+    for at in from..end.min(ranges.starts.len().saturating_sub(1)) {
+        mark_global(ranges, before, now, at, marks);
     }
 }
 
@@ -112,29 +180,25 @@ fn is_same(before: &[i64], now: &[i64], from: usize) -> bool
     same
 }
 
-/// Marks the alarms of two kinds of chains whose global holds another number in other cells. Globals are compared by blocks, and looked at
+/// Marks the alarms of two kinds of ranges whose global holds another number in other cells. Globals are compared by blocks, and looked at
 /// one by one where a block differs.
 // It stands by itself: among what stands around it, what its loop needs would not stay in registers.
 #[inline(never)]
 pub fn mark_changed(
-    conditions: &Chains,
-    suppressions: &Chains,
+    conditions: &Ranges,
+    suppressions: &Ranges,
     before: &Cells,
     now: &Cells,
     marks: &mut [bool],
 )
-    requires condition_down { GoesDown conditions.now.next.items }
-    requires condition_tops { HaveTops conditions.now.first.items conditions.now.next.items }
-    requires suppress_down { GoesDown suppressions.now.next.items }
-    requires suppress_tops { HaveTops suppressions.now.first.items suppressions.now.next.items }
-    requires condition_marks { length marks.old ≡ length conditions.now.next.items }
-    requires suppress_marks { length marks.old ≡ length suppressions.now.next.items }
-    ensures conditions { (keys : List (Option ℕ)) → AreChains keys conditions.now.first.items conditions.now.next.items → ChangesAreMarked keys (value_at before.now) (value_at now.now) marks.new }
-    ensures suppressions { (keys : List (Option ℕ)) → AreChains keys suppressions.now.first.items suppressions.now.next.items → ChangesAreMarked keys (value_at before.now) (value_at now.now) marks.new }
+    requires conditions { AreRanges (length marks.old) conditions.now.starts.items conditions.now.alarms.items }
+    requires suppressions { AreRanges (length marks.old) suppressions.now.starts.items suppressions.now.alarms.items }
+    ensures conditions { (keys : List (Option ℕ)) → HaveRanges keys conditions.now.starts.items conditions.now.alarms.items → ChangesAreMarked keys (value_at before.now) (value_at now.now) marks.new }
+    ensures suppressions { (keys : List (Option ℕ)) → HaveRanges keys suppressions.now.starts.items suppressions.now.alarms.items → ChangesAreMarked keys (value_at before.now) (value_at now.now) marks.new }
 {
     let old = before.as_slice();
     let new = now.as_slice();
-    let end = conditions.first.len().max(suppressions.first.len());
+    let end = conditions.starts.len().max(suppressions.starts.len());
     let blocks = old.len().min(new.len()).min(end) / BLOCK;
     for block in 0..blocks {
         let from = block * BLOCK;

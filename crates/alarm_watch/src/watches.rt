@@ -7,7 +7,7 @@ ghost use Rattle.alarm_watch.specs.Chains.{condition_keys, suppress_keys, Change
 ghost use Rattle.alarm_watch.specs.Watched.{alarms_watched, watched_conditions, Follow};
 ghost use Rattle.alarm_delays.specs.Delays.{AreMet, have_none};
 
-use crate::chains::{Chains, chains_of, mark_changed};
+use crate::chains::{Ranges, chains_of, mark_changed, ranges_of};
 use crate::watched::{Watch, Watched};
 use alarm_bank::Bank;
 use alarm_delays::Delays;
@@ -19,8 +19,8 @@ use std::marker::Model;
 /// What each alarm watches, in the order of the alarms, and by each global the alarms that watch it.
 pub struct Watches {
     watches: Vec<Watch>,
-    conditions: Chains,
-    suppressions: Chains,
+    conditions: Ranges,
+    suppressions: Ranges,
 }
 
 impl Drop for Watches {
@@ -42,7 +42,7 @@ impl Model for Watches {
 
     ghost view = { λ w. w.watches.items };
 
-    ghost invariant = { λ w. IsIndex w.watches.items w.conditions.first.items w.conditions.next.items w.suppressions.first.items w.suppressions.next.items };
+    ghost invariant = { λ w. IsIndex w.watches.items w.conditions.starts.items w.conditions.alarms.items w.suppressions.starts.items w.suppressions.alarms.items };
 }
 
 /// The global of each alarm's condition. Fails if allocation fails.
@@ -114,9 +114,9 @@ impl Watches {
         ensures { IfOk result (λ made. made ≡ watches.items) }
     {
         let keys = condition_keys(alloc, watches.as_slice())?;
-        let conditions = chains_of(alloc, keys.as_slice())?;
+        let conditions = ranges_of(alloc, &chains_of(alloc, keys.as_slice())?)?;
         let keys = suppress_keys(alloc, watches.as_slice())?;
-        let suppressions = chains_of(alloc, keys.as_slice())?;
+        let suppressions = ranges_of(alloc, &chains_of(alloc, keys.as_slice())?)?;
         Ok(Watches {
             watches,
             conditions,
