@@ -4,6 +4,7 @@
 //! of code, and when it is sound, is in `specs/Codes.antt`: sound code ends from any cells within the fuel of its cost, and is never stuck.
 #![tactic(auto)]
 
+mod arrays;
 mod code;
 mod flat;
 mod flat_instr;
@@ -15,5 +16,5 @@ mod words;
 
 pub use code::Code;
 pub use flat_instr::{FlatInstr, flat_instrs};
-pub use instr::{Instr, Named, Operation};
+pub use instr::{Instr, Named, Operation, Row};
 pub use own::{Own, Shared};

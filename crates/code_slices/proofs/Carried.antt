@@ -13,6 +13,7 @@ use Rattle.code_slices.specs.Renaming.{renamed_code, StandsFor, TellsApart}
 use Rattle.code_slices.specs.Alike.{IsKept, GoAlike}
 use Rattle.code_slices.specs.Laws.{BothAfter}
 use Rattle.code_slices.specs.Parts.{PlainPart, IsPartOf, HasPart, PartAfter, loaded}
+use Rattle.code_slices.proofs.Rows.{rows_kept}
 use Rattle.code_slices.proofs.Runs.{weaker, renamed_runs}
 
 -- cells stand for others as long as a run of another code writes nothing that the code names
@@ -33,6 +34,7 @@ module _ (whole : PlainCode) (part : PlainPart) (is : IsPartOf whole part) where
   tells_apart = record {
     values = λ s r a b e. same_Some s r (sym (is.slots s a) ∙ ap (slice_get part.slots) e ∙ is.slots r b);
     clocks = λ k l a b e. same_Some k l (sym (is.clocks k a) ∙ ap (slice_get part.clocks) e ∙ is.clocks l b);
+    rows = rows_kept whole.instrs part.slots is.rise is.slot_place is.slots;
   }
 
   -- the part's cells stand for all cells once they are loaded

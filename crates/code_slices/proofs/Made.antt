@@ -16,6 +16,7 @@ use Rattle.code_slices.specs.Ascending.{Rises, IsAscendingOf}
 use Rattle.code_slices.specs.Parts.{PlainPart, IsPart, IsPartOf, AreSlots, AreClocks}
 use Rattle.code_slices.proofs.Places.{noted_distinct}
 use Rattle.code_slices.proofs.Rising.{stands_at, has_at, sorted_rise}
+use Rattle.code_slices.proofs.Rows.{rows_kept}
 use Rattle.code_slices.proofs.Sound.{sound_again, was, below, read_past, written_past}
 
 pub none_once : (places : List ℕ) → AreOnce places []
@@ -126,6 +127,7 @@ module _ (code : PlainCode) (places clock_places slots clocks written : List ℕ
       (record {
         values = λ s r a b e. same_Some s r (sym (are.named s a) ∙ ap (slice_get slots) e ∙ are.named r b);
         clocks = λ k l a b e. same_Some k l (sym (clock_are.named k a) ∙ ap (slice_get clocks) e ∙ clock_are.named l b);
+        rows = rows_kept code.instrs slots are.rise place are.named;
       })
       (record {
         values = λ s named. slice_get_within slots (place s) s (are.named s named);

@@ -12,9 +12,13 @@ use Rattle.std.proofs.lemmas.Map.Keys.{IsDistinct-from_apart}
 use Rattle.std.proofs.lemmas.Map.Steps.{length-le_from_distinct_below}
 use Rattle.std.proofs.lemmas.Map.Views.{Contains-from_any}
 use Rattle.acc_vm.specs.declared.instr.Instr.{Instr}
+use Rattle.acc_vm.specs.declared.instr.Row.{Row}
+use Rattle.acc_vm.proofs.Table.{past_append, past_rows_are}
 use Rattle.code_slices.specs.Slots.{SomeHas}
-use Rattle.acc_vm.specs.Operands.{listed}
-use Rattle.code_slices.specs.Noting.{IsNoted, AreOnce, Notes}
+use Rattle.acc_vm.specs.Operands.{operands, bounds_of, row_slots, rows_of, past_all, listed}
+use Rattle.code_slices.specs.Noting.{IsNoted, AreOnce, Notes, AreRowsOf, IsInRow, IsInRows}
+use Rattle.code_slices.proofs.Rising.{stands_at, has_at}
+use Rattle.code_slices.proofs.Rows.{in_some_row, from_row, row_ends}
 
 pub get_left : {A : Type 0} (xs ys : List A) (i : ℕ) (x : A) → slice_get xs i ≡ Some x → slice_get (xs ++ ys) i ≡ Some x
 get_left [] ys i x h = absurd (cc)
@@ -151,3 +155,94 @@ past_noted numbers place s past at = let within = slice_get_within numbers place
 
 pub tells_noted : (numbers : List ℕ) (place s : ℕ) → place < length numbers → (get_or numbers place 0 ≡ s → slice_get numbers place ≡ Some s) × (slice_get numbers place ≡ Some s → get_or numbers place 0 ≡ s)
 tells_noted numbers place s within = (λ e. slice_get-get_or numbers place 0 within ∙ ap Some e, λ at. get_or_from_slice_get numbers place s 0 at)
+
+-- the first slots of a row
+abbrev pub IsBelow : Row → (end : ℕ) → ℕ → Type 0
+IsBelow row end s = IsInRow row s × (s < end)
+
+pub row_start : (row : Row) (places numbers : List ℕ) → Notes (IsBelow row row.first) places numbers places numbers
+row_start row places numbers = notes_none (IsBelow row row.first) places numbers (λ s h. let low = h.0.0 in let high = h.1 in absurd (omega arith))
+
+pub row_next : (row : Row) (slot : ℕ) (a m b k c o : List ℕ) → row.first ≤ slot → slot < row.past → Notes (IsBelow row slot) a m b k → Notes (λ s. s ≡ slot) b k c o → Notes (IsBelow row (slot + 1)) a m c o
+row_next row slot a m b k c o low high first next =
+    notes_more (IsBelow row slot) (λ s. s ≡ slot) (IsBelow row (slot + 1)) a m b k c o first next
+    (λ s h. let less = h.1 in elim (cases_lt s slot) [ inl below ↦ inl (h.0, below) | inr above ↦ inr (omega arith) ])
+    (λ s h. let less = h.1 in (h.0, omega arith))
+    (λ s e. ((omega arith, omega arith), omega arith))
+
+pub row_done : (row : Row) (slot : ℕ) (a m b k : List ℕ) → row.past ≤ slot → Notes (IsBelow row slot) a m b k → Notes (IsInRow row) a m b k
+row_done row slot a m b k high was = record {
+  size = was.size;
+  kept = was.kept;
+  lasts = was.lasts;
+  all = λ s h. let less = h.1 in was.all s (h, omega arith);
+  only = λ i s at. ⊎_elim (λ had. inl had) (λ (h : IsBelow row slot s). inr h.0) (was.only i s at);
+  once = was.once;
+}
+
+-- the slots of the first rows
+pub record IsInFirst (rows : List Row) (n s : ℕ) : Type 0 where
+  pub place : ℕ
+  pub row : Row
+  pub below : place < n
+  pub at : slice_get rows place ≡ Some row
+  pub is : IsInRow row s
+
+pub rows_start : (rows : List Row) (places numbers : List ℕ) → Notes (IsInFirst rows 0) places numbers places numbers
+rows_start rows places numbers = notes_none (IsInFirst rows 0) places numbers (λ s h. let lt = h.below in absurd (omega arith))
+
+pub rows_next : (rows : List Row) (n : ℕ) (row : Row) (a m b k c o : List ℕ) → slice_get rows n ≡ Some row → Notes (IsInFirst rows n) a m b k → Notes (IsInRow row) b k c o → Notes (IsInFirst rows (n + 1)) a m c o
+rows_next rows n row a m b k c o here first next =
+    notes_more (IsInFirst rows n) (IsInRow row) (IsInFirst rows (n + 1)) a m b k c o first next
+    (λ s h. elim (cases_lt h.place n) [
+      | inl low ↦ inl (record { place = h.place; row = h.row; below = low; at = h.at; is = h.is })
+      | inr high ↦
+          let lt = h.below in let e : h.place ≡ n = omega arith in
+          let same : h.row ≡ row = same_Some h.row row (sym h.at ∙ ap (slice_get rows) e ∙ here) in
+          inr (subst (λ (r : Row). IsInRow r s) same h.is)
+    ])
+    (λ s h. let lt = h.below in record { place = h.place; row = h.row; below = omega arith; at = h.at; is = h.is })
+    (λ s h. record { place = n; row = row; below = omega arith; at = here; is = h })
+
+pub rows_done : (rows : List Row) (n : ℕ) (a m b k : List ℕ) → length rows ≤ n → Notes (IsInFirst rows n) a m b k → Notes (IsInRows rows) a m b k
+rows_done rows n a m b k high was = record {
+  size = was.size;
+  kept = was.kept;
+  lasts = was.lasts;
+  all = λ s h. let at = stands_at rows h.0 h.1 in let within = slice_get_within rows at.0 h.0 at.1 in was.all s (record { place = at.0; row = h.0; below = omega arith; at = at.1; is = h.2 });
+  only = λ i s at. ⊎_elim (λ had. inl had) (λ (h : IsInFirst rows n s). inr (h.row, has_at rows h.place h.row h.at, h.is)) (was.only i s at);
+  once = was.once;
+}
+
+-- the slots that a rule tells of instructions, where those of their rows were noted behind the others
+module _ (alone first : Instr → List ℕ) (code : List Instr) (rows : List Row) (are : AreRowsOf (λ i. rows_of (bounds_of (operands i)) (first i)) code rows) where
+  abbrev whole : Instr → List ℕ
+  whole i = alone i ++ row_slots (bounds_of (operands i)) (first i)
+
+  pub with_rows : (a m b k c o : List ℕ) → Notes (SomeHas alone code) a m b k → Notes (IsInRows rows) b k c o → Notes (SomeHas (λ i. alone i ++ row_slots (bounds_of (operands i)) (first i)) code) a m c o
+  with_rows a m b k c o one other =
+      notes_more (SomeHas alone code) (IsInRows rows) (SomeHas whole code) a m b k c o one other
+      (λ s h.
+      let i = h.1 in
+      let bounds = bounds_of (operands i) in
+      elim (Contains-append_cases (alone i) (row_slots bounds (first i)) s h.3) [
+        | inl here ↦ inl (h.0, i, h.2, here)
+        | inr in_row ↦ let some = in_some_row bounds (first i) s in_row in inr (some.0, are.all some.0 (h.0, i, h.2, some.1), some.2)
+      ])
+      (λ s h. (h.0, h.1, h.2, Contains-append_left (alone h.1) (row_slots (bounds_of (operands h.1)) (first h.1)) s h.3))
+      (λ s h.
+      let some = are.only h.0 h.1 in
+      let i = some.1 in
+      (some.0, i, some.2, Contains-append_right (alone i) (row_slots (bounds_of (operands i)) (first i)) s (from_row (bounds_of (operands i)) (first i) s h.0 some.3 h.2)))
+
+  -- rows end where the slots do
+  pub rows_within : (n : ℕ) → ((pc : ℕ) (i : Instr) → slice_get code pc ≡ Some i → past_all (alone i ++ row_slots (bounds_of (operands i)) (first i)) ≤ n) → (r : Row) → Contains rows r → r.past ≤ n
+  rows_within n few r has =
+      let some = are.only r has in
+      let i = some.1 in
+      let bounds = bounds_of (operands i) in
+      let ends = row_ends (rows_of bounds (first i)) r some.3 in
+      let same = past_rows_are bounds (first i) in
+      let both = past_append (alone i) (row_slots bounds (first i)) in
+      let within = few some.0 i some.2 in
+      omega (arith, ends, same, both, within)

@@ -11,11 +11,12 @@ use Rattle.st_tree.specs.declared.tree.Binary.TheVariants as binary
 use Rattle.acc_vm.specs.declared.instr.Instr.{Instr}
 use Rattle.acc_vm.specs.declared.instr.Named.{Named}
 use Rattle.acc_vm.specs.declared.instr.Operation.{Operation}
-use Rattle.acc_vm.specs.Operands.{row, operands, listed}
+use Rattle.plant_types.specs.declared.values.Bounds.{Bounds}
+use Rattle.acc_vm.specs.Operands.{operands, bounds_of, rows_of, read_rows, written_rows, listed}
 use Rattle.acc_vm.proofs.Table.{Sizes, same_sizes, same_instr}
 use Rattle.acc_vm.specs.Codes.{PlainCode}
 use Rattle.code_slices.specs.declared.prints.Prints.{Prints}
-use Rattle.code_slices.specs.Prints.{ArePrintsOf, HaveSameItems, kinds_of, numbers_of, literals_of, with_kinds, with_numbers, with_literals, step_of, told_of, steps_of, told_places, opening, counts_of, unary_number, binary_number}
+use Rattle.code_slices.specs.Prints.{ArePrintsOf, HaveSameItems, kinds_of, numbers_of, literals_of, firsts, with_kinds, with_numbers, with_literals, step_of, told_of, steps_of, told_places, opening, counts_of, unary_number, binary_number}
 
 -- the operator of a number
 abbrev unary_of : ℕ → Unary
@@ -79,15 +80,29 @@ begin_alike x y ks hs ns ms ls rs k n l =
     (length-map a.unary unary_number ∙ ap (λ (s : Sizes). s.unary) size ∙ sym (length-map b.unary unary_number)) (ap (drop 1) k) in
     let binary = cut (map binary_number a.binary) (map binary_number b.binary) ks hs
     (length-map a.binary binary_number ∙ ap (λ (s : Sizes). s.binary) size ∙ sym (length-map b.binary binary_number)) unary.1 in
-    let reads = cut_first a.reads b.reads (a.writes ++ (a.clocks ++ a.targets)) (b.writes ++ (b.clocks ++ b.targets)) ns ms (ap (λ (s : Sizes). s.reads) size) n in
-    let writes = cut_first a.writes b.writes (a.clocks ++ a.targets) (b.clocks ++ b.targets) ns ms (ap (λ (s : Sizes). s.writes) size) reads.1 in
-    let clocks = cut_first a.clocks b.clocks a.targets b.targets ns ms (ap (λ (s : Sizes). s.clocks) size) writes.1 in
+    let reads = cut_first a.reads b.reads (a.writes ++ (a.rows_read ++ (a.rows_written ++ (a.clocks ++ a.targets)))) (b.writes ++ (b.rows_read ++ (b.rows_written ++ (b.clocks ++ b.targets)))) ns ms
+    (ap (λ (s : Sizes). s.reads) size) n in
+    let writes = cut_first a.writes b.writes (a.rows_read ++ (a.rows_written ++ (a.clocks ++ a.targets))) (b.rows_read ++ (b.rows_written ++ (b.clocks ++ b.targets))) ns ms (ap (λ (s : Sizes). s.writes) size) reads.1 in
+    let rows_read = cut_first a.rows_read b.rows_read (a.rows_written ++ (a.clocks ++ a.targets)) (b.rows_written ++ (b.clocks ++ b.targets)) ns ms (ap (λ (s : Sizes). s.rows_read) size) writes.1 in
+    let rows_written = cut_first a.rows_written b.rows_written (a.clocks ++ a.targets) (b.clocks ++ b.targets) ns ms (ap (λ (s : Sizes). s.rows_written) size) rows_read.1 in
+    let clocks = cut_first a.clocks b.clocks a.targets b.targets ns ms (ap (λ (s : Sizes). s.clocks) size) rows_written.1 in
     let targets = cut a.targets b.targets ns ms (ap (λ (s : Sizes). s.targets) size) clocks.1 in
     let literals = cut a.literals b.literals ls rs (ap (λ (s : Sizes). s.literals) size) l in
     let ops = same_unary a.unary b.unary unary.0 in
     let next_ops = same_binary a.binary b.binary binary.0 in
     record {
-      instr = same_instr x y (λ i. row (opcode i) (ops i) (next_ops i) (reads.0 i) (writes.0 i) (clocks.0 i) (targets.0 i) (literals.0 i));
+      instr = same_instr x y (λ i. record {
+        opcode = opcode i;
+        unary = ops i;
+        binary = next_ops i;
+        reads = reads.0 i;
+        writes = writes.0 i;
+        rows_read = rows_read.0 i;
+        rows_written = rows_written.0 i;
+        clocks = clocks.0 i;
+        targets = targets.0 i;
+        literals = literals.0 i;
+      });
       kinds = binary.1;
       numbers = targets.1;
       literals = literals.1;
@@ -113,14 +128,30 @@ with_kinds_is ks i o opcode unary binary =
     append_assoc ((ks ++ o.opcode ∷ []) ++ one) two three ∙ append_assoc (ks ++ o.opcode ∷ []) one (two ++ three) ∙ append_assoc ks (o.opcode ∷ []) (one ++ (two ++ three))
     ∙ (λ k. ks ++ (opcode k ∷ (map unary_number (unary k) ++ numbers k)))
 
-pub with_numbers_is : (ns : List ℕ) (i : Instr) (n : Named) (target : Option ℕ) → listed n.reads.0 ++ listed n.reads.1 ≡ (operands i).reads → listed n.write ≡ (operands i).writes → listed n.clock ≡ (operands i).clocks
-    → listed target ≡ (operands i).targets → with_numbers ns n target ≡ ns ++ numbers_of i
-with_numbers_is ns i n target reads writes clocks targets =
+first_again : (bounds : Bounds) (slots : List ℕ) → firsts (rows_of bounds slots) ≡ slots
+first_again bounds [] = refl
+first_again bounds (slot ∷ slots) = ap (λ l. slot ∷ l) (first_again bounds slots)
+
+pub with_numbers_is : (ns : List ℕ) (i : Instr) (n : Named) (target : Option ℕ) → listed n.reads.0 ++ listed n.reads.1 ≡ (operands i).reads → listed n.write ≡ (operands i).writes → listed n.row_read ≡ read_rows i → listed n.row_written ≡ written_rows i
+    → listed n.clock ≡ (operands i).clocks → listed target ≡ (operands i).targets → with_numbers ns n target ≡ ns ++ numbers_of i
+with_numbers_is ns i n target reads writes rows_read rows_written clocks targets =
+    let o = operands i in
     let one = listed n.reads.0 in
     let two = listed n.reads.1 in
-    let rest = listed n.write ++ (listed n.clock ++ listed target) in
-    append_assoc (((ns ++ one) ++ two) ++ listed n.write) (listed n.clock) (listed target) ∙ append_assoc ((ns ++ one) ++ two) (listed n.write) (listed n.clock ++ listed target)
-    ∙ ap (λ (l : List ℕ). l ++ rest) (append_assoc ns one two) ∙ append_assoc ns (one ++ two) rest ∙ (λ k. ns ++ (reads k ++ (writes k ++ (clocks k ++ targets k))))
+    let three = listed n.write in
+    let four = firsts (listed n.row_read) in
+    let five = firsts (listed n.row_written) in
+    let six = listed n.clock in
+    let seven = listed target in
+    let four_is : four ≡ o.rows_read = ap firsts rows_read ∙ first_again (bounds_of o) o.rows_read in
+    let five_is : five ≡ o.rows_written = ap firsts rows_written ∙ first_again (bounds_of o) o.rows_written in
+    append_assoc (((((ns ++ one) ++ two) ++ three) ++ four) ++ five) six seven
+    ∙ append_assoc ((((ns ++ one) ++ two) ++ three) ++ four) five (six ++ seven)
+    ∙ append_assoc (((ns ++ one) ++ two) ++ three) four (five ++ (six ++ seven))
+    ∙ append_assoc ((ns ++ one) ++ two) three (four ++ (five ++ (six ++ seven)))
+    ∙ ap (λ (l : List ℕ). l ++ (three ++ (four ++ (five ++ (six ++ seven))))) (append_assoc ns one two)
+    ∙ append_assoc ns (one ++ two) (three ++ (four ++ (five ++ (six ++ seven))))
+    ∙ (λ k. ns ++ (reads k ++ (writes k ++ (four_is k ++ (five_is k ++ (clocks k ++ targets k))))))
 
 pub with_literals_is : (ls : List ℤ) (i : Instr) (o : Operation) → listed o.literals.0 ++ listed o.literals.1 ≡ (operands i).literals → with_literals ls o ≡ ls ++ literals_of i
 with_literals_is ls i o e = append_assoc ls (listed o.literals.0) (listed o.literals.1) ∙ ap (λ l. ls ++ l) e

@@ -12,10 +12,10 @@ use Rattle.code_slices.specs.Ascending.{Rises}
 use Rattle.code_slices.specs.Renaming.{KeepsRow}
 
 -- a number that a list has stands at a place of it
-pub stands_at : (xs : List ℕ) (s : ℕ) → Contains xs s → (i : ℕ) × (slice_get xs i ≡ Some s)
+pub stands_at : {A : Type 0} (xs : List A) (s : A) → Contains xs s → (i : ℕ) × (slice_get xs i ≡ Some s)
 stands_at xs s h = (h.0, slice_get-get_or xs h.0 s h.1 ∙ ap Some h.2)
 
-pub has_at : (xs : List ℕ) (i s : ℕ) → slice_get xs i ≡ Some s → Contains xs s
+pub has_at : {A : Type 0} (xs : List A) (i : ℕ) (s : A) → slice_get xs i ≡ Some s → Contains xs s
 has_at xs i s at = (i, slice_get_within xs i s at, get_or_from_slice_get xs i s s at)
 
 -- numbers that rise are different

@@ -11,8 +11,9 @@ use Rattle.acc_vm.specs.Operands.{renamed}
 use Rattle.code_slices.specs.Renaming.{TellsApart, StandsFor}
 use Rattle.code_slices.specs.Alike.{EndAlike, GoAlike, IsKept, EndsIn, Leaves}
 use Rattle.code_slices.specs.Laws.{BothAfter}
-use Rattle.code_slices.proofs.Steps.{Like, runs}
-use Rattle.code_slices.proofs.Standing.{Stands, suit}
+use Rattle.acc_vm.specs.Operands.{operands}
+use Rattle.code_slices.proofs.Steps.{itself, Like, runs}
+use Rattle.code_slices.proofs.Standing.{kept_by_itself, Stands, suit}
 
 pub end_weaker : (R Q : PlainCells → PlainCells → Type 0) → ((w v : PlainCells) → R w v → Q w v) → (r q : Ran PlainCells) → EndAlike R r q → EndAlike Q r q
 end_weaker R Q h (Done w) (Done v) e = h w v e
@@ -59,6 +60,5 @@ renamed_runs t room names code places f g fuel pc acc stack cells small apart st
 pub keeps : (t room : ℕ) (names : List Path) (code : List Instr) (places : List Place) (fuel pc : ℕ) (acc : ℤ) (stack : List ℤ) (cells : PlainCells)
     → Leaves (IsKept code cells) (exec t room names code places fuel pc acc stack cells)
 keeps t room names code places fuel pc acc stack cells =
-    let same : ℕ → ℕ = λ n. n in
-    leaves (BothAfter same same code cells cells) (IsKept code cells) (λ w v h. h.kept) _ (exec t room names (map (renamed same same) code) places fuel pc acc stack cells)
-    (renamed_runs t room names code places same same fuel pc acc stack cells cells (record { values = λ s r a b e. e; clocks = λ k l a b e. e }) (record { values = λ s a. refl; clocks = λ k a. refl }))
+    leaves (BothAfter itself itself code cells cells) (IsKept code cells) (λ w v h. h.kept) _ (exec t room names (map (renamed itself itself) code) places fuel pc acc stack cells)
+    (renamed_runs t room names code places itself itself fuel pc acc stack cells cells (record { values = λ s r a b e. e; clocks = λ k l a b e. e; rows = λ pc i at. kept_by_itself (operands i) }) (record { values = λ s a. refl; clocks = λ k a. refl }))

@@ -2,6 +2,7 @@
 use Rattle.std.proofs.Common.{◌≡◌, ◌<◌, ◌≤◌, ℕ, pos, max, List, [], map, length, get_or, Option, Some, None, refl, ap, sym, ◌∙◌, subst, arith, inl, inr}
 use Rattle.std.specs.Prelude.{slice_get, option_map}
 use Rattle.std.specs.List.{AllByRecursion, range_with_len}
+use Rattle.plant_types.specs.Values.{row_length}
 use Rattle.std.proofs.lemmas.List.{length-map}
 use Rattle.std.proofs.lemmas.List.Elements.{All-from_recursion, All-contains}
 use Rattle.std.proofs.lemmas.List.FromFn.{length-map-range_with_len, get_or-map-range_with_len}
@@ -15,28 +16,44 @@ use Rattle.acc_vm.proofs.Table.{renamed_is, below_past, past_map}
 use Rattle.acc_vm.specs.Machine.{Run, Over, Unfinished, Stuck}
 use Rattle.acc_vm.specs.Codes.{PlainCode, IsSound, IsOver, IsWithin, LeavesShape, SameShape, fuel_of, run_of, values_past, clocks_past}
 use Rattle.code_slices.specs.Slots.{slots_read, slots_written, clocks_of, SomeHas, Names, NamesClock}
-use Rattle.acc_vm.specs.Operands.{PlainOperands, operands, renamed, past_all}
-use Rattle.code_slices.specs.Renaming.{renamed_code, TellsApart, StandsFor, HasRoom}
+use Rattle.acc_vm.specs.Operands.{PlainOperands, operands, bounds_of, row_slots, all_read, all_written, renamed_operands, renamed, past_all}
+use Rattle.code_slices.specs.Renaming.{renamed_code, KeepsRow, KeepsRows, TellsApart, StandsFor, HasRoom}
 use Rattle.code_slices.specs.Alike.{EndAlike, GoAlike}
 use Rattle.code_slices.specs.Laws.{BothAfter}
+use Rattle.code_slices.proofs.Steps.{in_front, behind}
 use Rattle.code_slices.proofs.Standing.{each}
+use Rattle.code_slices.proofs.Rows.{moved_slots}
 use Rattle.code_slices.proofs.Runs.{renamed_runs}
 
 -- what an instruction names is below the number after the last slot
 pub read_past : (i : Instr) (n : ℕ) → values_past i ≤ n → AllByRecursion (λ s. s < n) (slots_read i)
-read_past i n h = below_past (operands i).reads n (omega (arith, h))
+read_past i n h = below_past (slots_read i) n (omega (arith, h))
 
 pub written_past : (i : Instr) (n : ℕ) → values_past i ≤ n → AllByRecursion (λ s. s < n) (slots_written i)
-written_past i n h = below_past (operands i).writes n (omega (arith, h))
+written_past i n h = below_past (slots_written i) n (omega (arith, h))
+
+-- so are those besides rows
+pub read_alone_past : (i : Instr) (n : ℕ) → values_past i ≤ n → AllByRecursion (λ s. s < n) (operands i).reads
+read_alone_past i n h = in_front (λ s. s < n) (operands i).reads (row_slots (bounds_of (operands i)) (operands i).rows_read) (read_past i n h)
+
+pub written_alone_past : (i : Instr) (n : ℕ) → values_past i ≤ n → AllByRecursion (λ s. s < n) (operands i).writes
+written_alone_past i n h = in_front (λ s. s < n) (operands i).writes (row_slots (bounds_of (operands i)) (operands i).rows_written) (written_past i n h)
 
 pub clock_past : (i : Instr) (n : ℕ) → clocks_past i ≤ n → AllByRecursion (λ k. k < n) (clocks_of i)
 clock_past i n h = below_past (operands i).clocks n h
 
-values_again : (f g : ℕ → ℕ) (i : Instr) (n : ℕ) → AllByRecursion (λ s. f s < n) (slots_read i) → AllByRecursion (λ s. f s < n) (slots_written i) → values_past (renamed f g i) ≤ n
-values_again f g i n h k =
-    let reads = past_map f (operands i).reads n h in
-    let writes = past_map f (operands i).writes n k in
-    subst (λ (o : PlainOperands). max (past_all o.reads) (past_all o.writes) ≤ n) (sym (renamed_is f g i)) (omega (arith, reads, writes))
+values_again : (f g : ℕ → ℕ) (i : Instr) (n : ℕ) → KeepsRows f (operands i) → AllByRecursion (λ s. f s < n) (slots_read i) → AllByRecursion (λ s. f s < n) (slots_written i) → values_past (renamed f g i) ≤ n
+values_again f g i n rows h k =
+    let o = operands i in
+    let bounds = bounds_of o in
+    let keeps : ℕ → Type 0 = λ first. KeepsRow f first (row_length bounds) in
+    let read_is : all_read (renamed_operands f g o) ≡ map f (all_read o) = moved_slots f bounds o.reads o.rows_read (in_front keeps o.rows_read o.rows_written rows) in
+    let written_is : all_written (renamed_operands f g o) ≡ map f (all_written o) = moved_slots f bounds o.writes o.rows_written (behind keeps o.rows_read o.rows_written rows) in
+    let reads = past_map f (all_read o) n h in
+    let writes = past_map f (all_written o) n k in
+    let one : past_all (all_read (renamed_operands f g o)) ≤ n = subst (λ l. past_all l ≤ n) (sym read_is) reads in
+    let other : past_all (all_written (renamed_operands f g o)) ≤ n = subst (λ l. past_all l ≤ n) (sym written_is) writes in
+    subst (λ (o : PlainOperands). max (past_all (all_read o)) (past_all (all_written o)) ≤ n) (sym (renamed_is f g i)) (omega (arith, one, other))
 
 clocks_again : (f g : ℕ → ℕ) (i : Instr) (n : ℕ) → AllByRecursion (λ k. g k < n) (clocks_of i) → clocks_past (renamed f g i) ≤ n
 clocks_again f g i n h = subst (λ (o : PlainOperands). past_all o.clocks ≤ n) (sym (renamed_is f g i)) (past_map g (operands i).clocks n h)
@@ -107,7 +124,7 @@ module _ (f g : ℕ → ℕ) (values clocks : ℕ) (code : PlainCode) (sound : I
       let j = old.0 in
       let stood : slice_get code.instrs pc ≡ Some j = old.1 in
       subst (IsWithin values clocks) old.2 (
-        values_again f g j values (each (λ s. f s < values) (slots_read j) (λ s has. room.values s (record { some = inl (pc, j, stood, has) })))
+        values_again f g j values (apart.rows pc j stood) (each (λ s. f s < values) (slots_read j) (λ s has. room.values s (record { some = inl (pc, j, stood, has) })))
             (each (λ s. f s < values) (slots_written j) (λ s has. room.values s (record { some = inr (pc, j, stood, has) }))),
         clocks_again f g j clocks (each (λ k. g k < clocks) (clocks_of j) (λ k has. room.clocks k (record { some = (pc, j, stood, has) }))),
       )

@@ -1,5 +1,5 @@
 -- Cells under other numbers stand for cells, whatever a code does to them.
-use Rattle.std.proofs.Common.{◌≡◌, ℕ, ℤ, pos, List, Option, Some, None, refl, ap, sym, ◌∙◌, subst, length, inl, inr}
+use Rattle.std.proofs.Common.{◌≡◌, ◌++◌, ℕ, ℤ, pos, List, Option, Some, None, refl, ap, sym, ◌∙◌, subst, length, inl, inr}
 use Rattle.std.specs.Prelude.{slice_get, unwrap_or, Contains}
 use Rattle.std.specs.List.{AllByRecursion}
 use Rattle.std.proofs.lemmas.List.{length-set}
@@ -11,14 +11,20 @@ use Rattle.plant_cells.specs.Clocks.{clock_step}
 use Rattle.plant_cells.specs.Cells.{PlainCells, value_at, assigned, clocked, stepped_at}
 use Rattle.acc_vm.specs.declared.instr.Instr.{Instr}
 use Rattle.acc_vm.specs.Codes.{SameShape}
+use Rattle.acc_vm.specs.Operands.{PlainOperands, bounds_of}
+use Rattle.plant_types.specs.Values.{row_length}
 use Rattle.code_slices.specs.Slots.{slots_read, slots_written, clocks_of, Writes, Names, NamesClock}
-use Rattle.code_slices.specs.Renaming.{TellsApart, StandsFor}
+use Rattle.code_slices.specs.Renaming.{KeepsRow, KeepsRows, TellsApart, StandsFor}
 use Rattle.code_slices.specs.Alike.{IsKept}
 use Rattle.code_slices.proofs.Items.{get_other, still_stand}
-use Rattle.code_slices.proofs.Steps.{Reads, Assigns, Shows, Suits}
+use Rattle.code_slices.proofs.Steps.{itself, Reads, Assigns, Shows, Suits}
 
 pub each : (P : ℕ → Type 0) (xs : List ℕ) → ((x : ℕ) → Contains xs x → P x) → AllByRecursion P xs
 each P xs h = recursion_from_All P xs (λ k d within. h _ (Contains-get_or xs k d within))
+
+-- numbers that stand for themselves keep all rows
+pub kept_by_itself : (o : PlainOperands) → KeepsRows itself o
+kept_by_itself o = each (λ first. KeepsRow itself first (row_length (bounds_of o))) (o.rows_read ++ o.rows_written) (λ first has. λ k lt. refl)
 
 length_stepped : (clocks : List Clock) (k : ℕ) (c : Call) (o : Option Clock) → length (stepped_at clocks k c o) ≡ length clocks
 length_stepped clocks k c None = refl
@@ -80,4 +86,5 @@ module _ (f g : ℕ → ℕ) (code : List Instr) (apart : TellsApart f g code) (
           is = λ w v h. sym (h.stands.clocks k named);
           calls = λ w v c d e h. subst (λ d. Stands (clocked w k c) (clocked v (g k) d)) e (still_called w v k c named h);
         });
+    rows = apart.rows pc i at;
   }

@@ -1,10 +1,13 @@
 -- Two runs by two numberings go alike, instruction by instruction, by whatever relation of runs.
-use Rattle.std.proofs.Common.{◌≡◌, ℕ, ℤ, zero, suc, Bool, true, false, List, [], ◌∷◌, map, Option, Some, None, refl, ap, sym, subst, if◌then◌else◌}
-use Rattle.std.specs.Prelude.{slice_get, option_map, Ok, Err}
-use Rattle.std.specs.List.{AllByRecursion}
+use Rattle.std.proofs.Common.{◌≡◌, ℕ, ℤ, zero, suc, ◌+◌, ◌<◌, ◌-ℤ◌, ◌++◌, ◌∙◌, arith, length, Bool, true, false, List, [], ◌∷◌, map, Option, Some, None, refl, ap, sym, subst, if◌then◌else◌}
+use Rattle.std.specs.Prelude.{slice_get, option_map, nat_abs, nat_lt, Ok, Err}
+use Rattle.std.specs.List.{AllByRecursion, range_with_len}
+use Rattle.std.proofs.lemmas.Int.{ints}
 use Rattle.std.proofs.lemmas.Option.{slice_get-map}
-use Rattle.plant_types.specs.Values.{is_true}
+use Rattle.plant_types.specs.Values.{is_true, has_index, indexed, row_length, row_place}
+use Rattle.plant_types.specs.declared.values.Bounds.{Bounds}
 use Rattle.plant_types.specs.declared.values.Trap.{Trap}
+use Rattle.plant_types.specs.declared.values.Trap.TheVariants.{Index}
 use Rattle.std_blocks.specs.Calls.{Call, call}
 use Rattle.st_tree.specs.declared.tree.Binary.{Binary}
 use Rattle.st_tree.specs.declared.tree.Unary.{Unary}
@@ -16,9 +19,10 @@ use Rattle.plant_cells.specs.Clocks.{shown_by}
 use Rattle.acc_vm.specs.declared.instr.Instr.{Instr}
 use Rattle.acc_vm.specs.declared.instr.Instr.TheVariants as instr
 use Rattle.plant_types.specs.declared.values.Place.{Place}
-use Rattle.acc_vm.specs.Machine.{Run, Over, Stuck, Next, with_outcome, on_top, spot_at, act, act_at, exec}
+use Rattle.acc_vm.specs.Machine.{Run, Over, Stuck, Next, with_outcome, on_top, put_on, put_at, spot_at, act, act_at, exec}
 use Rattle.code_slices.specs.Slots.{slots_read, slots_written, clocks_of}
-use Rattle.acc_vm.specs.Operands.{renamed}
+use Rattle.acc_vm.specs.Operands.{operands, renamed}
+use Rattle.code_slices.specs.Renaming.{KeepsRow, KeepsRows}
 use Rattle.code_slices.specs.Alike.{GoAlike}
 
 operands_alike : (op : Binary) (x x' y y' : ℤ) → x ≡ x' → y ≡ y' → eval_binary op x y ≡ eval_binary op x' y'
@@ -38,6 +42,25 @@ pub renamed_itself : (i : Instr) → renamed itself itself i ≡ i
 renamed_itself instr.End = refl
 renamed_itself i = refl
 
+-- an index within the bounds is that of a slot of the row
+index_in_row : (bounds : Bounds) (index : ℤ) → has_index bounds index ≡ true → nat_abs (index -ℤ bounds.low) < row_length bounds
+index_in_row bounds index h = grind (arith, ints, h)
+
+-- what holds of each slot of a row holds of the one of a place in it
+at_row : (P : ℕ → Type 0) (first count : ℕ) → AllByRecursion P (range_with_len first count) → (k : ℕ) → k < count → P (first + k)
+at_row P first zero all k lt = absurd (omega arith)
+at_row P first (suc n) all zero lt = let e : first ≡ first + 0 = omega arith in subst P e all.0
+at_row P first (suc n) all (suc k) lt = let e : first + 1 + k ≡ first + suc k = omega arith in subst P e (at_row P (first + 1) n all.1 k (omega arith))
+
+-- what holds of all items of two lists holds of those of each
+pub in_front : (P : ℕ → Type 0) (xs ys : List ℕ) → AllByRecursion P (xs ++ ys) → AllByRecursion P xs
+in_front P [] ys all = tt
+in_front P (x ∷ xs) ys all = (all.0, in_front P xs ys all.1)
+
+pub behind : (P : ℕ → Type 0) (xs ys : List ℕ) → AllByRecursion P (xs ++ ys) → AllByRecursion P ys
+behind P [] ys all = all
+behind P (x ∷ xs) ys all = behind P xs ys all.1
+
 -- by a relation of cells, and two renamings
 module _ (R : PlainCells → PlainCells → Type 0) (f g : ℕ → ℕ) where
   -- the relation gives one value of a slot, and stays where it is assigned
@@ -56,6 +79,7 @@ module _ (R : PlainCells → PlainCells → Type 0) (f g : ℕ → ℕ) where
     pub reads : AllByRecursion Reads (slots_read i)
     pub writes : AllByRecursion Assigns (slots_written i)
     pub clocks : AllByRecursion Shows (clocks_of i)
+    pub rows : KeepsRows f (operands i)
 
   pub read : (s : ℕ) (w v : PlainCells) → Reads s → R w v → value_at w s ≡ value_at v (f s)
   read s w v h same = h.is w v same
@@ -106,9 +130,53 @@ module _ (R : PlainCells → PlainCells → Type 0) (f g : ℕ → ℕ) where
         go : (pc : ℕ) (m n : ℤ) (stack : List ℤ) (w v : PlainCells) → m ≡ n → R w v → Like (next pc m stack w) (after pc n stack v)
         go pc m n stack w v e same = on.on pc m n stack w v e same
 
+        -- the accumulator takes the value of an element
+        load_at : (slot : ℕ) (bounds : Bounds) (pc : ℕ) (acc : ℤ) (stack : List ℤ) (w v : PlainCells) → AllByRecursion Reads (range_with_len slot (row_length bounds)) → KeepsRow f slot (row_length bounds) → R w v
+            → Like (with_outcome spot left w (indexed bounds acc) (λ n. next (pc + 1) (value_at w (row_place slot bounds n)) stack w))
+            (with_outcome other rest v (indexed bounds acc) (λ n. after (pc + 1) (value_at v (row_place (f slot) bounds n)) stack v))
+        load_at slot bounds pc acc stack w v reads keeps same = by (has_index bounds acc) refl
+          where
+            by : (b : Bool) → has_index bounds acc ≡ b
+                → Like (with_outcome spot left w (if b then Ok acc else Err Index) (λ n. next (pc + 1) (value_at w (row_place slot bounds n)) stack w))
+                (with_outcome other rest v (if b then Ok acc else Err Index) (λ n. after (pc + 1) (value_at v (row_place (f slot) bounds n)) stack v))
+            by true within =
+                let k = nat_abs (acc -ℤ bounds.low) in
+                let lt = index_in_row bounds acc within in
+                let value = (at_row Reads slot (row_length bounds) reads k lt).is w v same in
+                go (pc + 1) (value_at w (row_place slot bounds acc)) (value_at v (row_place (f slot) bounds acc)) stack w v (value ∙ ap (value_at v) (keeps k lt)) same
+            by false within = record { is = holds.trapped w v Index same }
+
+        -- an index goes onto the stack
+        locate : (bounds : Bounds) (pc : ℕ) (acc : ℤ) (stack : List ℤ) (w v : PlainCells) → R w v
+            → Like (with_outcome spot left w (indexed bounds acc) (λ n. put_on room n stack (λ s. next (pc + 1) n s w)))
+            (with_outcome other rest v (indexed bounds acc) (λ n. put_on room n stack (λ s. after (pc + 1) n s v)))
+        locate bounds pc acc stack w v same =
+            outcome w v (indexed bounds acc) (indexed bounds acc) (λ n. put_on room n stack (λ s. next (pc + 1) n s w)) (λ n. put_on room n stack (λ s. after (pc + 1) n s v)) refl same
+            (λ n. pick (nat_lt (length stack) room) (next (pc + 1) n (n ∷ stack) w) (after (pc + 1) n (n ∷ stack) v) Stuck Stuck (go (pc + 1) n n (n ∷ stack) w v refl same) stuck)
+
+        -- an element takes a value
+        store_at : (slot : ℕ) (bounds : Bounds) (pc : ℕ) (acc : ℤ) (stack : List ℤ) (w v : PlainCells) → AllByRecursion Assigns (range_with_len slot (row_length bounds)) → KeepsRow f slot (row_length bounds) → R w v
+            → Like (on_top stack (λ index s. put_at slot bounds index acc w (λ changed. next (pc + 1) acc s changed)))
+            (on_top stack (λ index s. put_at (f slot) bounds index acc v (λ changed. after (pc + 1) acc s changed)))
+        store_at slot bounds pc acc stack w v writes keeps same =
+            top stack (λ index s. put_at slot bounds index acc w (λ changed. next (pc + 1) acc s changed)) (λ index s. put_at (f slot) bounds index acc v (λ changed. after (pc + 1) acc s changed))
+            (λ index s. by index s (has_index bounds index) refl)
+          where
+            by : (index : ℤ) (s : List ℤ) (b : Bool) → has_index bounds index ≡ b
+                → Like (if b then next (pc + 1) acc s (assigned w (row_place slot bounds index) acc) else Stuck) (if b then after (pc + 1) acc s (assigned v (row_place (f slot) bounds index) acc) else Stuck)
+            by index s true within =
+                let k = nat_abs (index -ℤ bounds.low) in
+                let lt = index_in_row bounds index within in
+                let moved = (at_row Assigns slot (row_length bounds) writes k lt).is w v acc same in
+                go (pc + 1) acc acc s (assigned w (row_place slot bounds index) acc) (assigned v (row_place (f slot) bounds index) acc) refl (subst (λ n. R (assigned w (row_place slot bounds index) acc) (assigned v n acc)) (keeps k lt) moved)
+            by index s false within = stuck
+
         pub acts : (i : Instr) (pc : ℕ) (acc : ℤ) (stack : List ℤ) (w v : PlainCells) → Suits i → R w v
             → Like (act t room i spot left next pc acc stack w) (act t room (renamed f g i) other rest after pc acc stack v)
         acts instr.End pc acc stack w v suits same = record { is = holds.done w v same }
+        acts (instr.LoadAt slot bounds) pc acc stack w v suits same = load_at slot bounds pc acc stack w v (in_front Reads (range_with_len slot (row_length bounds)) [] suits.reads) suits.rows.0 same
+        acts (instr.Locate bounds) pc acc stack w v suits same = locate bounds pc acc stack w v same
+        acts (instr.StoreAt slot bounds) pc acc stack w v suits same = store_at slot bounds pc acc stack w v (in_front Assigns (range_with_len slot (row_length bounds)) [] suits.writes) suits.rows.0 same
         acts i pc acc stack w v suits same = search (outcome, top, pick, stuck, read, write, show, enter, go, operands_alike, operand_alike, unchanged, suits.reads, suits.writes, suits.clocks) depth 8
 
         pub act_ats : (o : Option Instr) (pc : ℕ) (acc : ℤ) (stack : List ℤ) (w v : PlainCells) → ((i : Instr) → o ≡ Some i → Suits i) → R w v

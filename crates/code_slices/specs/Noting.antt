@@ -1,5 +1,8 @@
 -- Numbers that are noted once each, with a table of their places.
-use Rattle.std.specs.Prelude.{◌≡◌, ◌<◌, ℕ, List, length, get_or, Some, slice_get, ◌⊎◌}
+use Rattle.std.specs.Prelude.{◌≡◌, ◌<◌, ◌≤◌, ℕ, List, length, get_or, Some, slice_get, Contains, ◌⊎◌}
+use Rattle.acc_vm.specs.declared.instr.Instr.{Instr}
+use Rattle.acc_vm.specs.declared.instr.Row.{Row}
+use Rattle.code_slices.specs.Slots.{SomeHas}
 
 -- a number is noted where the table has its place
 abbrev pub IsNoted : (places numbers : List ℕ) → ℕ → Type 0
@@ -17,3 +20,16 @@ pub record Notes (Named : ℕ → Type 0) (places numbers after noted : List ℕ
   pub all : (s : ℕ) → Named s → IsNoted after noted s
   pub only : (i s : ℕ) → slice_get noted i ≡ Some s → (slice_get numbers i ≡ Some s) ⊎ Named s
   pub once : AreOnce places numbers → AreOnce after noted
+
+-- rows are those that a rule tells of instructions
+pub record AreRowsOf (rule : Instr → List Row) (instrs : List Instr) (rows : List Row) : Type 0 where
+  pub all : (r : Row) → SomeHas rule instrs r → Contains rows r
+  pub only : (r : Row) → Contains rows r → SomeHas rule instrs r
+
+-- a slot is one of a row
+abbrev pub IsInRow : Row → ℕ → Type 0
+IsInRow r s = (r.first ≤ s) × (s < r.past)
+
+-- it is one of some row
+abbrev pub IsInRows : List Row → ℕ → Type 0
+IsInRows rows s = (r : Row) × Contains rows r × IsInRow r s

@@ -9,6 +9,7 @@ use Rattle.st_tree.specs.declared.tree.Binary.TheVariants as binary
 use Rattle.acc_vm.specs.declared.instr.Instr.{Instr}
 use Rattle.acc_vm.specs.declared.instr.Named.{Named}
 use Rattle.acc_vm.specs.declared.instr.Operation.{Operation}
+use Rattle.acc_vm.specs.declared.instr.Row.{Row}
 use Rattle.acc_vm.specs.Operands.{operands, listed}
 use Rattle.acc_vm.specs.Codes.{PlainCode}
 use Rattle.code_slices.specs.declared.prints.Counts.{Counts}
@@ -40,12 +41,13 @@ binary_number binary.Multiply = 13
 binary_number binary.Divide = 14
 binary_number binary.Mod = 15
 
--- an instruction as numbers by their sizes: its own number and those of its operators; those of slots, clocks and instructions that it names; and literals
+-- an instruction as numbers by their sizes: its own number and those of its operators; those of slots, first slots of rows, clocks and instructions that it names; and literals,
+-- which tell the bounds of an array too
 abbrev pub kinds_of : Instr → List ℕ
 kinds_of i = (operands i).opcode ∷ (map unary_number (operands i).unary ++ map binary_number (operands i).binary)
 
 abbrev pub numbers_of : Instr → List ℕ
-numbers_of i = (operands i).reads ++ ((operands i).writes ++ ((operands i).clocks ++ (operands i).targets))
+numbers_of i = (operands i).reads ++ ((operands i).writes ++ ((operands i).rows_read ++ ((operands i).rows_written ++ ((operands i).clocks ++ (operands i).targets))))
 
 abbrev pub literals_of : Instr → List ℤ
 literals_of i = (operands i).literals
@@ -54,8 +56,12 @@ literals_of i = (operands i).literals
 abbrev pub with_kinds : List ℕ → Operation → List ℕ
 with_kinds kinds o = (((kinds ++ o.opcode ∷ []) ++ map unary_number (listed o.unary)) ++ map binary_number (listed o.binary.0)) ++ map binary_number (listed o.binary.1)
 
+abbrev pub firsts : List Row → List ℕ
+firsts rows = map (λ (r : Row). r.first) rows
+
 abbrev pub with_numbers : List ℕ → Named → Option ℕ → List ℕ
-with_numbers numbers n target = ((((numbers ++ listed n.reads.0) ++ listed n.reads.1) ++ listed n.write) ++ listed n.clock) ++ listed target
+with_numbers numbers n target =
+    ((((((numbers ++ listed n.reads.0) ++ listed n.reads.1) ++ listed n.write) ++ firsts (listed n.row_read)) ++ firsts (listed n.row_written)) ++ listed n.clock) ++ listed target
 
 abbrev pub with_literals : List ℤ → Operation → List ℤ
 with_literals literals o = (literals ++ listed o.literals.0) ++ listed o.literals.1

@@ -13,6 +13,7 @@ mod printed_code;
 mod prints;
 mod puts;
 mod renaming;
+mod rows;
 mod same;
 
 pub use laws::{

@@ -1,23 +1,23 @@
 //! What an instruction names.
 
 ghost use Rattle.std.specs.Prelude.{◌≡◌, ◌++◌};
-ghost use Rattle.acc_vm.specs.Operands.{listed};
-ghost use Rattle.code_slices.specs.Slots.{slots_read, slots_written, clocks_of};
+ghost use Rattle.acc_vm.specs.Operands.{operands, listed};
+ghost use Rattle.code_slices.specs.Slots.{clocks_of};
 
 use acc_vm::FlatInstr;
 
-/// The slots that an instruction reads.
+/// The slots that an instruction reads, besides those of rows.
 #[inline(always)]
 pub(crate) fn read_by(i: &FlatInstr) -> (Option<u32>, Option<u32>)
-    ensures { listed result.0 ++ listed result.1 ≡ slots_read i.now }
+    ensures { listed result.0 ++ listed result.1 ≡ (operands i.now).reads }
 {
     i.named().reads
 }
 
-/// The slot that an instruction writes, if it writes one.
+/// The slot that an instruction writes, if it writes one besides those of rows.
 #[inline(always)]
 pub(crate) fn written_by(i: &FlatInstr) -> Option<u32>
-    ensures { listed result ≡ slots_written i.now }
+    ensures { listed result ≡ (operands i.now).writes }
 {
     i.named().write
 }

@@ -6,12 +6,14 @@ ghost use Rattle.std.specs.List.{AllByRecursion};
 ghost use Rattle.acc_vm.specs.declared.instr.Instr.{Instr};
 ghost use Rattle.acc_vm.specs.Codes.{values_past, clocks_past};
 ghost use Rattle.code_slices.specs.Slots.{slots_read, slots_written, clocks_of, SomeHas};
-ghost use Rattle.acc_vm.specs.Operands.{listed};
-ghost use Rattle.code_slices.specs.Noting.{IsNoted, AreOnce, Notes};
+ghost use Rattle.acc_vm.specs.declared.instr.Row.{Row};
+ghost use Rattle.acc_vm.specs.Operands.{operands, listed};
+ghost use Rattle.code_slices.specs.Noting.{IsNoted, AreOnce, Notes, IsInRow, IsInRows};
 
 use crate::named::{clock_by, read_by, written_by};
-use acc_vm::FlatInstr;
-use std::alloc::AllocError;
+use crate::rows::{rows_read, rows_written};
+use acc_vm::{FlatInstr, Row};
+use std::alloc::{AllocError, Global};
 
 /// Whether a number is noted.
 fn is_noted(places: &[u32], numbers: &[u32], number: u32) -> bool
@@ -58,8 +60,100 @@ fn note_some(
     Ok(())
 }
 
+/// Notes the slots of a row. Fails if memory was refused.
+fn note_row(places: &mut [u32], numbers: &mut Vec<u32>, row: Row) -> Result<(), AllocError>
+    requires there { row.past ≤ length places.old }
+    requires few { length places.old ≤ 2 ^ 32 }
+    requires once { AreOnce places.old numbers.old.items }
+    ensures { IfOk result (λ _. Notes (IsInRow row) places.old numbers.old.items places.new numbers.new.items) }
+{
+    for slot in row.first as usize..row.past {
+        let number = slot as u32;
+        note(places, numbers, number)?;
+    }
+    Ok(())
+}
+
+/// Whether two rows are the same.
+fn same_row(a: Row, b: Row) -> bool
+    ensures { IsTrue result ↔ (a ≡ b) }
+{
+    a == b
+}
+
+/// Notes the slots of a row, where they aren't noted as those of the last one. Fails if memory was refused.
+fn note_unless_same(
+    places: &mut [u32],
+    numbers: &mut Vec<u32>,
+    row: Row,
+    last: Row,
+) -> Result<(), AllocError>
+    requires there { row.past ≤ length places.old }
+    requires few { length places.old ≤ 2 ^ 32 }
+    requires once { AreOnce places.old numbers.old.items }
+    requires noted { (s : ℕ) → IsInRow last s → IsNoted places.old numbers.old.items s }
+    ensures { IfOk result (λ _. Notes (IsInRow row) places.old numbers.old.items places.new numbers.new.items) }
+{
+    if same_row(row, last) {
+        return Ok(());
+    }
+    note_row(places, numbers, row)
+}
+
+/// Notes the slots of rows. Of the same rows that stand side by side the slots are gone through once. Fails if memory was refused.
+fn note_rows(places: &mut [u32], numbers: &mut Vec<u32>, rows: &[Row]) -> Result<(), AllocError>
+    requires there { (r : Row) → Contains rows.now r → r.past ≤ length places.old }
+    requires few { length places.old ≤ 2 ^ 32 }
+    requires once { AreOnce places.old numbers.old.items }
+    ensures { IfOk result (λ _. Notes (IsInRows rows.now) places.old numbers.old.items places.new numbers.new.items) }
+{
+    let mut last = Row { first: 0, past: 0 };
+    for row in rows {
+        note_unless_same(places, numbers, *row, last)?;
+        last = *row;
+    }
+    Ok(())
+}
+
+/// Notes the slots that instructions write, besides those of rows. Fails if memory was refused.
+fn note_written_alone(
+    places: &mut [u32],
+    numbers: &mut Vec<u32>,
+    instrs: &[FlatInstr],
+) -> Result<(), AllocError>
+    requires there { (pc : ℕ) (i : Instr) → slice_get instrs.now pc ≡ Some i → values_past i ≤ length places.old }
+    requires few { length places.old ≤ 2 ^ 32 }
+    requires once { AreOnce places.old numbers.old.items }
+    ensures { IfOk result (λ _. Notes (SomeHas (λ i. (operands i).writes) instrs.now) places.old numbers.old.items places.new numbers.new.items) }
+{
+    for i in instrs {
+        note_some(places, numbers, written_by(i))?;
+    }
+    Ok(())
+}
+
+/// Notes the slots that instructions read, besides those of rows. Fails if memory was refused.
+fn note_read_alone(
+    places: &mut [u32],
+    numbers: &mut Vec<u32>,
+    instrs: &[FlatInstr],
+) -> Result<(), AllocError>
+    requires there { (pc : ℕ) (i : Instr) → slice_get instrs.now pc ≡ Some i → values_past i ≤ length places.old }
+    requires few { length places.old ≤ 2 ^ 32 }
+    requires once { AreOnce places.old numbers.old.items }
+    ensures { IfOk result (λ _. Notes (SomeHas (λ i. (operands i).reads) instrs.now) places.old numbers.old.items places.new numbers.new.items) }
+{
+    for i in instrs {
+        let (one, other) = read_by(i);
+        note_some(places, numbers, one)?;
+        note_some(places, numbers, other)?;
+    }
+    Ok(())
+}
+
 /// Notes the slots that instructions write. Fails if memory was refused.
 pub(crate) fn note_written(
+    alloc: Global,
     places: &mut [u32],
     numbers: &mut Vec<u32>,
     instrs: &[FlatInstr],
@@ -69,14 +163,15 @@ pub(crate) fn note_written(
     requires once { AreOnce places.old numbers.old.items }
     ensures { IfOk result (λ _. Notes (SomeHas slots_written instrs.now) places.old numbers.old.items places.new numbers.new.items) }
 {
-    for i in instrs {
-        note_some(places, numbers, written_by(i))?;
-    }
+    note_written_alone(places, numbers, instrs)?;
+    let rows = rows_written(alloc, instrs)?;
+    note_rows(places, numbers, rows.as_slice())?;
     Ok(())
 }
 
 /// Notes the slots that instructions read. Fails if memory was refused.
 pub(crate) fn note_read(
+    alloc: Global,
     places: &mut [u32],
     numbers: &mut Vec<u32>,
     instrs: &[FlatInstr],
@@ -86,11 +181,9 @@ pub(crate) fn note_read(
     requires once { AreOnce places.old numbers.old.items }
     ensures { IfOk result (λ _. Notes (SomeHas slots_read instrs.now) places.old numbers.old.items places.new numbers.new.items) }
 {
-    for i in instrs {
-        let (one, other) = read_by(i);
-        note_some(places, numbers, one)?;
-        note_some(places, numbers, other)?;
-    }
+    note_read_alone(places, numbers, instrs)?;
+    let rows = rows_read(alloc, instrs)?;
+    note_rows(places, numbers, rows.as_slice())?;
     Ok(())
 }
 

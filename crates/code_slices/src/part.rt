@@ -80,9 +80,9 @@ fn named_slots(
     ensures { IfOk result (λ r. AreSlots instrs.now places.new r.0.items r.1.items) }
 {
     let mut slots = Vec::new(alloc);
-    note_written(places, &mut slots, instrs)?;
+    note_written(alloc, places, &mut slots, instrs)?;
     let mut wanted = Vec::from_slice(alloc, slots.as_slice())?;
-    note_read(places, &mut slots, instrs)?;
+    note_read(alloc, places, &mut slots, instrs)?;
     wanted.sort_unstable();
     slots.sort_unstable();
     give_places(places, &slots);

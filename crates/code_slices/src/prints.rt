@@ -3,9 +3,9 @@
 ghost use Rattle.std.specs.Prelude.{◌≡◌, ◌↔◌, ◌++◌, ◌∷◌, [], map, IfOk, IsTrue};
 ghost use Rattle.std.specs.List.{flat_map};
 ghost use Rattle.acc_vm.specs.Operands.{listed};
-ghost use Rattle.code_slices.specs.Prints.{ArePlacesOf, ArePrintsOf, HaveSameItems, unary_number, binary_number, with_kinds, with_numbers, with_literals, kinds_of, numbers_of, literals_of, step_of, told_of, counts_of};
+ghost use Rattle.code_slices.specs.Prints.{ArePlacesOf, ArePrintsOf, HaveSameItems, unary_number, binary_number, with_kinds, with_numbers, with_literals, kinds_of, numbers_of, literals_of, firsts, step_of, told_of, counts_of};
 
-use acc_vm::{Code, FlatInstr, Named, Operation};
+use acc_vm::{Code, FlatInstr, Named, Operation, Row};
 use plant_types::Place;
 use st_tree::{Binary, Unary};
 use std::alloc::{AllocError, Global};
@@ -64,7 +64,7 @@ pub(crate) struct Prints {
 
 /// Writes an item behind others, if it is there. Fails if memory was refused.
 #[inline(always)]
-fn add<T: Drop>(items: &mut Vec<T>, item: Option<T>) -> Result<(), AllocError>
+pub(crate) fn add<T: Drop>(items: &mut Vec<T>, item: Option<T>) -> Result<(), AllocError>
     ensures { IfOk result (λ _. items.new.items ≡ items.old.items ++ listed item) }
 {
     if let Some(item) = item {
@@ -106,7 +106,18 @@ fn add_kinds(kinds: &mut Vec<u8>, of: &Operation) -> Result<(), AllocError>
     add(kinds, binary_kind(of.binary.1))
 }
 
-/// Writes the numbers of an instruction's slots, clocks and targets behind others. Fails if memory was refused.
+/// The first slot of a row, if it is there.
+#[inline(always)]
+fn first_of(row: Option<Row>) -> Option<u32>
+    ensures { listed result ≡ firsts (listed row) }
+{
+    match row {
+        Some(row) => Some(row.first),
+        None => None,
+    }
+}
+
+/// Writes the numbers of an instruction's slots, rows, clocks and targets behind others. Fails if memory was refused.
 #[inline(always)]
 fn add_numbers(numbers: &mut Vec<u32>, named: &Named, target: Option<u32>) -> Result<(), AllocError>
     ensures { IfOk result (λ _. numbers.new.items ≡ with_numbers numbers.old.items named.now target) }
@@ -114,6 +125,8 @@ fn add_numbers(numbers: &mut Vec<u32>, named: &Named, target: Option<u32>) -> Re
     add(numbers, named.reads.0)?;
     add(numbers, named.reads.1)?;
     add(numbers, named.write)?;
+    add(numbers, first_of(named.row_read))?;
+    add(numbers, first_of(named.row_written))?;
     add(numbers, named.clock)?;
     add(numbers, target)
 }

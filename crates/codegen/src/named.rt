@@ -1,10 +1,10 @@
 //! How many slots and clocks instructions name.
 
 ghost use Rattle.std.specs.Prelude.{◌≡◌};
-ghost use Rattle.acc_vm.specs.Operands.{listed, past_all};
+ghost use Rattle.acc_vm.specs.Operands.{listed, past_all, past_rows};
 ghost use Rattle.acc_vm.specs.Codes.{values_past, clocks_past, values_named, clocks_named};
 
-use acc_vm::FlatInstr;
+use acc_vm::{FlatInstr, Row};
 
 /// The number after one that may be there; 0 if it isn't.
 fn past(number: Option<u32>) -> usize
@@ -12,6 +12,16 @@ fn past(number: Option<u32>) -> usize
 {
     match number {
         Some(number) => number as usize + 1,
+        None => 0,
+    }
+}
+
+/// The number after the last slot of a row that may be there; 0 if it isn't.
+fn past_row(row: Option<Row>) -> usize
+    ensures { result ≡ past_rows (listed row) }
+{
+    match row {
+        Some(row) => row.past,
         None => 0,
     }
 }
@@ -24,6 +34,8 @@ fn values_past(instr: &FlatInstr) -> usize
     past(named.reads.0)
         .max(past(named.reads.1))
         .max(past(named.write))
+        .max(past_row(named.row_read))
+        .max(past_row(named.row_written))
 }
 
 /// The number after the clock that an instruction names; 0 if it names none.

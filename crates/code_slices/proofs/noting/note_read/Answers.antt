@@ -1,55 +1,30 @@
-use Rattle.std.proofs.Common.{◌<◌, ◌++◌, length, sym, subst, arith, ap, ◌∙◌}
-use Rattle.std.specs.List.{AllByRecursion}
-use Rattle.std.specs.Prelude.{Some, Contains}
-use Rattle.std.proofs.lemmas.Option.{slice_get-get_or}
-use Rattle.code_slices.specs.Slots.{slots_read}
-use Rattle.acc_vm.specs.Operands.{listed}
-use Rattle.code_slices.specs.Noting.{Notes}
-use Rattle.code_slices.proofs.Sound.{read_past}
-use Rattle.code_slices.proofs.Places.{notes_start, notes_next, notes_done, notes_both, both_listed}
+use Rattle.std.proofs.Common.{◌≡◌, ◌≤◌, List, ℕ, length, subst, arith}
+use Rattle.acc_vm.specs.declared.instr.Row.{Row}
+use Rattle.acc_vm.specs.Operands.{operands}
+use Rattle.code_slices.specs.Slots.{SomeHas}
+use Rattle.code_slices.specs.Noting.{Notes, IsInRows}
+use Rattle.std.specs.Prelude.{Contains}
+use Rattle.code_slices.proofs.Places.{with_rows, rows_within}
 use Rattle.code_slices.proofs.noting.note_read.Goals as goal
 
-pub loop-i-init : goal.loop-i-init
-loop-i-init c = notes_start slots_read c.args.instrs.now c.args.places.now c.args.numbers.now.items
+pub note_rows-requires-clause-there : goal.note_rows-requires-clause-there
+note_rows-requires-clause-there c = λ r has.
+    let alone : Notes (SomeHas (λ i. (operands i).reads) c.args.instrs.now) c.args.places.now c.args.numbers.now.items c.note_read_alone.new.places c.note_read_alone.new.numbers.items = c.in_ok-note_read_alone.ensures in
+    let size = alone.size in
+    let ends = rows_within (λ i. (operands i).reads) (λ i. (operands i).rows_read) c.args.instrs.now c.in_ok-rows.rows.items c.in_ok-rows.ensures (length c.args.places.now)
+    (λ pc i at. let few = c.requires.there pc i at in omega (arith, few)) r (subst (λ (l : List Row). Contains l r) c.as_slice.ensures.value has) in
+    omega (arith, size, ends)
 
-pub note_some-requires-clause-there : goal.note_some-requires-clause-there
-note_some-requires-clause-there c =
-    let i = c.i-item.result in
-    let size = c.loop-i.auto.places in
-    let past = c.requires.there c.loop-i.i-index i (slice_get-get_or c.args.instrs.now c.loop-i.i-index i c.loop-i-test.true ∙ ap (λ x. Some x) (sym c.i-item.is)) in
-    let all : AllByRecursion (λ s. s < length c.loop-i.places) (listed c.read_by-one.result.0 ++ listed c.read_by-one.result.1)
-    = subst (AllByRecursion (λ s. s < length c.loop-i.places)) (sym c.read_by-one.ensures) (read_past i (length c.loop-i.places) (omega arith)) in
-    (both_listed (λ s. s < length c.loop-i.places) c.read_by-one.result.0 c.read_by-one.result.1 all).0
-
-pub note_some-requires-clause-once : goal.note_some-requires-clause-once
-note_some-requires-clause-once c = c.loop-i.invariant.once c.requires.once
-
-pub note_some-requires-in-loop-i-clause-there : goal.note_some-requires-in-loop-i-clause-there
-note_some-requires-in-loop-i-clause-there c =
-    let i = c.i-item.result in
-    let size = c.loop-i.auto.places in
-    let noted : Notes (Contains (listed c.read_by-one.result.0)) c.loop-i.places c.loop-i.numbers.items c.note_some.new.places c.note_some.new.numbers.items = c.in_ok-note_some.ensures in
-    let again = noted.size in
-    let past = c.requires.there c.loop-i.i-index i (slice_get-get_or c.args.instrs.now c.loop-i.i-index i c.loop-i-test.true ∙ ap (λ x. Some x) (sym c.i-item.is)) in
-    let all : AllByRecursion (λ s. s < length c.note_some.new.places) (listed c.read_by-one.result.0 ++ listed c.read_by-one.result.1)
-    = subst (AllByRecursion (λ s. s < length c.note_some.new.places)) (sym c.read_by-one.ensures) (read_past i (length c.note_some.new.places) (omega arith)) in
-    (both_listed (λ s. s < length c.note_some.new.places) c.read_by-one.result.0 c.read_by-one.result.1 all).1
-
-pub note_some-requires-in-loop-i-clause-once : goal.note_some-requires-in-loop-i-clause-once
-note_some-requires-in-loop-i-clause-once c =
-    let noted : Notes (Contains (listed c.read_by-one.result.0)) c.loop-i.places c.loop-i.numbers.items c.note_some.new.places c.note_some.new.numbers.items = c.in_ok-note_some.ensures in
-    noted.once (c.loop-i.invariant.once c.requires.once)
-
-pub loop-i-preserved : goal.loop-i-preserved
-loop-i-preserved c =
-    let i = c.i-item.result in
-    let one : Notes (Contains (listed c.read_by-one.result.0)) c.loop-i.places c.loop-i.numbers.items c.note_some.new.places c.note_some.new.numbers.items = c.in_ok-note_some.ensures in
-    let other : Notes (Contains (listed c.read_by-one.result.1)) c.note_some.new.places c.note_some.new.numbers.items c.note_some-in-loop-i.new.places c.note_some-in-loop-i.new.numbers.items = c.in_ok-note_some-2.ensures in
-    let next : Notes (Contains (slots_read i)) c.loop-i.places c.loop-i.numbers.items c.note_some-in-loop-i.new.places c.note_some-in-loop-i.new.numbers.items
-    = notes_both (listed c.read_by-one.result.0) (listed c.read_by-one.result.1) (slots_read i) c.loop-i.places c.loop-i.numbers.items c.note_some.new.places c.note_some.new.numbers.items c.note_some-in-loop-i.new.places
-    c.note_some-in-loop-i.new.numbers.items c.read_by-one.ensures one other in
-    notes_next slots_read c.args.instrs.now c.loop-i.i-index i c.args.places.now c.args.numbers.now.items c.loop-i.places c.loop-i.numbers.items c.note_some-in-loop-i.new.places c.note_some-in-loop-i.new.numbers.items
-    (slice_get-get_or c.args.instrs.now c.loop-i.i-index i c.loop-i-test.true ∙ ap (λ x. Some x) (sym c.i-item.is)) c.loop-i.invariant next
+pub note_rows-requires-clause-once : goal.note_rows-requires-clause-once
+note_rows-requires-clause-once c =
+    let alone : Notes (SomeHas (λ i. (operands i).reads) c.args.instrs.now) c.args.places.now c.args.numbers.now.items c.note_read_alone.new.places c.note_read_alone.new.numbers.items = c.in_ok-note_read_alone.ensures in
+    alone.once c.requires.once
 
 pub returns : goal.returns
-returns c = notes_done slots_read c.args.instrs.now c.loop-i.i-index c.args.places.now c.args.numbers.now.items c.loop-i.places c.loop-i.numbers.items c.loop-i.auto.i-index-end c.loop-i-test.false c.loop-i.invariant
+returns c =
+    let alone = c.note_read_alone.new in
+    let rows = c.note_rows.new in
+    let there : Notes (IsInRows c.in_ok-rows.rows.items) alone.places alone.numbers.items rows.places rows.numbers.items
+    = subst (λ (l : List Row). Notes (IsInRows l) alone.places alone.numbers.items rows.places rows.numbers.items) c.as_slice.ensures.value c.in_ok-note_rows.ensures in
+    with_rows (λ i. (operands i).reads) (λ i. (operands i).rows_read) c.args.instrs.now c.in_ok-rows.rows.items c.in_ok-rows.ensures
+    c.args.places.now c.args.numbers.now.items alone.places alone.numbers.items rows.places rows.numbers.items c.in_ok-note_read_alone.ensures there
