@@ -21,7 +21,7 @@ use Rattle.block_walk.specs.declared.frame.SeatOf.TheVariants as seat_of
 use Rattle.block_walk.specs.declared.frame.Seat.{Seat}
 use Rattle.block_walk.specs.declared.frame.Base.{Base}
 use Rattle.block_walk.specs.declared.frame.Frame.{Frame}
-use Rattle.block_walk.specs.Walks.{member_slot, base_of}
+use Rattle.block_walk.specs.Walks.{slot_of, member_slot, base_of}
 use Rattle.block_walk.proofs.Firsts.{first_is}
 use Rattle.acc_vm.specs.declared.instr.Instr.{Instr}
 use Rattle.acc_vm.specs.declared.instr.Instr.TheVariants as instr
@@ -136,7 +136,7 @@ module _ (has_value has_clock : ℕ → Bool) where
     expr_in place (output_of instance name) h = (output_in (slice_get seats instance) base name h, tt)
     expr_in place (element v bounds index) h =
         let p = and_parts (known.has_array v bounds) (expr_known known index) h in
-        both (expr_code globals seats lines inner base path place index) _ (expr_in place index p.1) (read_row _ bounds p.0, tt)
+        both (expr_code globals seats lines inner base path place index) _ (expr_in place index p.1) (read_row (slot_of globals base v) bounds p.0, tt)
     expr_in place (unary op a) h = both (expr_code globals seats lines inner base path place a) _ (expr_in place a h) (nothing, tt)
     expr_in place (binary op a b) h =
         let p = and_parts (expr_known known a) (expr_known known b) h in
@@ -187,7 +187,7 @@ module _ (has_value has_clock : ℕ → Bool) where
           let p = and_parts (known.has_array v bounds) (expr_known known index && expr_known known value) h in
           let q = and_parts (expr_known known index) (expr_known known value) p.1 in
           both (expr_code globals seats lines inner base path place index) _ (expr_in place index q.0)
-          (nothing, both (expr_code globals seats lines inner base path place value) _ (expr_in place value q.1) (written_row _ bounds p.0, tt))
+          (nothing, both (expr_code globals seats lines inner base path place value) _ (expr_in place value q.1) (written_row (slot_of globals base v) bounds p.0, tt))
       stmt_in (call number instance arguments) pc h =
           let p = and_parts (known.has_instance instance) (list_all (argument_known known instance) arguments) h in
           let place = place_of path number in

@@ -17,12 +17,12 @@ use Rattle.acc_vm.specs.Operands.{row_slots}
 use Rattle.acc_vm.specs.Codes.{PlainCode}
 use Rattle.code_slices.specs.Slots.{Names, NamesClock}
 
+-- each element of an array is there, by a test of values and the slot of the first one
+abbrev pub has_row : (has_value : ℕ → Bool) → ℕ → Bounds → Bool
+has_row has_value first bounds = list_all has_value (row_slots bounds (first ∷ []))
+
 -- by tests that tell which values and which clocks there are
 module _ (has_value has_clock : ℕ → Bool) where
-  -- each element of an array is there, by the slot of its first one
-  abbrev pub has_row : ℕ → Bounds → Bool
-  has_row first bounds = list_all has_value (row_slots bounds (first ∷ []))
-
   -- an input of an instance is there
   abbrev pub has_input : Option Seat → Base → ℕ → Bool
   has_input None base name = true
@@ -57,7 +57,7 @@ module _ (has_value has_clock : ℕ → Bool) where
     abbrev pub there : (ℕ → Base → Bool) → List Seat → Base → Known ℕ
     there inner seats base = record {
       has_variable = λ v. has_value (slot_of globals base v);
-      has_array = λ v bounds. has_row (slot_of globals base v) bounds;
+      has_array = λ v bounds. has_row has_value (slot_of globals base v) bounds;
       has_instance = λ instance. has_instance inner (slice_get seats instance) base;
       has_input = λ instance name. has_input (slice_get seats instance) base name;
       has_output = λ instance name. has_output (slice_get seats instance) base name;
