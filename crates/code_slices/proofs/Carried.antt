@@ -13,7 +13,7 @@ use Rattle.code_slices.specs.Renaming.{renamed_code, StandsFor, TellsApart}
 use Rattle.code_slices.specs.Alike.{IsKept, GoAlike}
 use Rattle.code_slices.specs.Laws.{BothAfter}
 use Rattle.code_slices.specs.Parts.{PlainPart, IsPartOf, HasPart, PartAfter, loaded}
-use Rattle.code_slices.proofs.Rows.{rows_kept}
+use Rattle.code_slices.proofs.RowLaws.{rows_kept}
 use Rattle.code_slices.proofs.Runs.{weaker, renamed_runs}
 
 -- cells stand for others as long as a run of another code writes nothing that the code names

@@ -2,7 +2,7 @@ pub mod Steps
 pub mod Items
 pub mod Rising
 pub mod Standing
-pub mod Rows
+pub mod RowLaws
 pub mod Runs
 pub mod Sound
 pub mod Places

@@ -16,7 +16,7 @@ use Rattle.code_slices.specs.Ascending.{Rises, IsAscendingOf}
 use Rattle.code_slices.specs.Parts.{PlainPart, IsPart, IsPartOf, AreSlots, AreClocks}
 use Rattle.code_slices.proofs.Places.{noted_distinct}
 use Rattle.code_slices.proofs.Rising.{stands_at, has_at, sorted_rise}
-use Rattle.code_slices.proofs.Rows.{rows_kept}
+use Rattle.code_slices.proofs.RowLaws.{rows_kept}
 use Rattle.code_slices.proofs.Sound.{sound_again, was, below, read_past, written_past}
 
 pub none_once : (places : List ℕ) → AreOnce places []

@@ -18,7 +18,7 @@ use Rattle.code_slices.specs.Slots.{SomeHas}
 use Rattle.acc_vm.specs.Operands.{operands, bounds_of, row_slots, rows_of, past_all, listed}
 use Rattle.code_slices.specs.Noting.{IsNoted, AreOnce, Notes, AreRowsOf, IsInRow, IsInRows}
 use Rattle.code_slices.proofs.Rising.{stands_at, has_at}
-use Rattle.code_slices.proofs.Rows.{in_some_row, from_row, row_ends}
+use Rattle.code_slices.proofs.RowLaws.{in_some_row, from_row, row_ends}
 
 pub get_left : {A : Type 0} (xs ys : List A) (i : ℕ) (x : A) → slice_get xs i ≡ Some x → slice_get (xs ++ ys) i ≡ Some x
 get_left [] ys i x h = absurd (cc)

@@ -22,7 +22,7 @@ use Rattle.code_slices.specs.Alike.{EndAlike, GoAlike}
 use Rattle.code_slices.specs.Laws.{BothAfter}
 use Rattle.code_slices.proofs.Steps.{in_front, behind}
 use Rattle.code_slices.proofs.Standing.{each}
-use Rattle.code_slices.proofs.Rows.{moved_slots}
+use Rattle.code_slices.proofs.RowLaws.{moved_slots}
 use Rattle.code_slices.proofs.Runs.{renamed_runs}
 
 -- what an instruction names is below the number after the last slot

@@ -5,6 +5,6 @@ use Rattle.code_slices.proofs.noting.note_row.Given as goal
 
 abbrev pub invariant-loop-slot : goal.invariant-loop-slot
 invariant-loop-slot l = record {
-  low : l.row.first ≤ l.slot;
-  noted : Notes (IsBelow l.row l.slot) l.fn.places l.fn.numbers.items l.places l.numbers.items;
+  low : l.fn.row.first ≤ l.slot;
+  noted : Notes (IsBelow l.fn.row l.slot) l.fn.places l.fn.numbers.items l.places l.numbers.items;
 }

@@ -1,5 +1,5 @@
-use Rattle.std.proofs.Common.{◌≡◌, List, ℕ, length, sym, arith, ap, ◌∙◌}
-use Rattle.std.specs.Prelude.{Some}
+use Rattle.std.proofs.Common.{◌≡◌, List, ℕ, length, arith}
+use Rattle.std.specs.Prelude.{slice_index_or}
 use Rattle.std.proofs.lemmas.Option.{slice_get-get_or}
 use Rattle.code_slices.specs.Noting.{Notes, IsInRow}
 use Rattle.code_slices.proofs.Rising.{has_at}
@@ -12,8 +12,8 @@ loop-row-init c = record { noted = rows_start c.args.rows.now c.args.places.now 
 pub note_unless_same-requires-clause-there : goal.note_unless_same-requires-clause-there
 note_unless_same-requires-clause-there c =
     let l = c.loop-row in
-    let row = c.row-item.result in
-    let at = slice_get-get_or c.args.rows.now l.row-index row c.loop-row-test.true ∙ ap (λ x. Some x) (sym c.row-item.is) in
+    let row = slice_index_or c.args.rows.now l.row-index (record { first = 0; past = 0 }) in
+    let at = slice_get-get_or c.args.rows.now l.row-index (record { first = 0; past = 0 }) c.loop-row-test.true in
     let there = c.requires.there row (has_at c.args.rows.now l.row-index row at) in
     let size = l.invariant.noted.size in
     omega (arith, there, size)
@@ -24,8 +24,8 @@ note_unless_same-requires-clause-once c = c.loop-row.invariant.noted.once c.requ
 pub loop-row-preserved : goal.loop-row-preserved
 loop-row-preserved c =
     let l = c.loop-row in
-    let row = c.row-item.result in
-    let at = slice_get-get_or c.args.rows.now l.row-index row c.loop-row-test.true ∙ ap (λ x. Some x) (sym c.row-item.is) in
+    let row = slice_index_or c.args.rows.now l.row-index (record { first = 0; past = 0 }) in
+    let at = slice_get-get_or c.args.rows.now l.row-index (record { first = 0; past = 0 }) c.loop-row-test.true in
     let next : Notes (IsInRow row) l.places l.numbers.items c.note_unless_same.new.places c.note_unless_same.new.numbers.items = c.in_ok-note_unless_same.ensures in
     record {
       noted = rows_next c.args.rows.now l.row-index row c.args.places.now c.args.numbers.now.items l.places l.numbers.items c.note_unless_same.new.places c.note_unless_same.new.numbers.items at l.invariant.noted next;

@@ -1,5 +1,5 @@
 use Rattle.acc_vm.specs.Operands.{written_rows}
-use Rattle.code_slices.proofs.Rows.{rows_are}
+use Rattle.code_slices.proofs.RowLaws.{rows_are}
 use Rattle.code_slices.proofs.rows.rows_written.Goals as goal
 
 pub returns : goal.returns
