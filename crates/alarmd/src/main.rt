@@ -7,7 +7,6 @@
 
 ghost use Rattle.command_line.specs.Choices.{HasWorkers};
 
-mod copies;
 mod crews;
 mod example;
 mod greeting;

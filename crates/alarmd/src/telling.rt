@@ -1,14 +1,12 @@
 //! What a person is told of a plant on standard error.
 
-use crate::copies::Copies;
 use crate::greeting::greet;
 use crate::missing::why_missing;
 use plant_config::{ConfigFault, Plant};
-use plant_explain::{explain, explain_at_once, is_searched, warn};
+use plant_explain::{explain_all, warn};
 use plant_service::{Folder, Listener, PlantTexts, listing};
 use std::alloc::Global;
 use std::rt::Files;
-use std::thread::Threads;
 
 /// What a person is told of a plant that is accepted.
 #[derive(Clone, Copy)]
@@ -40,8 +38,6 @@ pub struct Telling<'a, R: Files> {
     listing: Option<String>,
     /// What else is to be told, likewise.
     text: Option<String>,
-    /// The texts of a refused plant of which further faults are to be told; then there is nothing else.
-    copies: Option<Copies>,
 }
 
 impl<'a, R: Files> Telling<'a, R> {
@@ -52,17 +48,13 @@ impl<'a, R: Files> Telling<'a, R> {
             of_accepted,
             listing: None,
             text: None,
-            copies: None,
         }
     }
 
     /// Tells on standard error what there is to tell; nothing where that can't be written.
-    pub fn tell<H: Eprint + Threads + AllocGlobal + Sync>(&self, rt: &H) {
+    pub fn tell(&self, rt: &impl Eprint) {
         tell_text(rt, &self.listing);
         tell_text(rt, &self.text);
-        if let Some(copies) = &self.copies {
-            tell_text(rt, &copies.explained(rt, rt.alloc()).ok());
-        }
     }
 }
 
@@ -80,16 +72,7 @@ impl<'a, R: Files + Eprint> Listener for Telling<'a, R> {
     }
 
     fn refused(&mut self, alloc: Global, texts: &PlantTexts<'_>, fault: &ConfigFault) {
-        if let Ok(Some(text)) = explain_at_once(alloc, texts, fault) {
-            self.text = Some(text);
-            return;
-        }
-        if is_searched(texts) {
-            self.copies = Copies::of(alloc, texts).ok();
-        }
-        if self.copies.is_none() {
-            self.text = explain(alloc, texts, fault).ok();
-        }
+        self.text = explain_all(alloc, texts, fault).ok();
     }
 
     fn missing<F: Folder>(&mut self, alloc: Global, _folder: &F, path: &str, name: &str) {

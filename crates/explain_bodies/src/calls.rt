@@ -1,7 +1,6 @@
 //! Calls are walked.
 
-use crate::teller::{CALLS, KINDS, Teller};
-use crate::told::Rule;
+use crate::teller::{Breach, KINDS, MEMBERS, Teller, alone};
 use plant_types::{Kind, Text};
 use source_trees::{Body, Member, Wanted, kind_text};
 use st_names::Scope;
@@ -19,13 +18,13 @@ struct Call<'c> {
 }
 
 impl<'t> Teller<'t> {
-    /// The block of an instance that is called; `None` where that isn't certain.
-    fn called_block<'b>(
+    /// The block of the instance at the token of a number; `None` where that isn't certain. What is no instance is told.
+    pub fn block_of_instance<'b>(
         &mut self,
         body: &'b Body<'_>,
-        instance: &Text,
+        (instance, number): (&Text, usize),
+        (breach, why): (Breach, &str),
     ) -> Result<Option<&'b Text>, AllocError> {
-        let number = self.cursor.pass_name(instance);
         if !self.is_named(body, instance, number, Wanted::Instance)?
             || body.doubts(self.plant, instance)
         {
@@ -33,73 +32,45 @@ impl<'t> Teller<'t> {
         }
         let word = body.block_word(instance);
         if word.is_none() {
-            self.tell_at(
-                Rule::Kinds,
-                number,
-                "is no instance of a block, and can't be called",
-                KINDS,
-            )?;
+            self.say_at(breach, number, why)?;
         }
         Ok(word)
     }
 
-    /// Tells of an input or an output that a call names a second time.
-    fn tell_twice(
-        &mut self,
-        name: &Text,
-        number: usize,
-        are_inputs: bool,
-    ) -> Result<(), AllocError> {
-        if !self.told.takes(Rule::Names) {
-            return Ok(());
-        }
-        let (alloc, name) = (self.alloc, name.as_str());
-        let what = if are_inputs { "input" } else { "output" };
-        let said = format!(in alloc; "the {what} '{name}' is there twice in this call")?;
-        let mark = self.cursor.mark(number);
-        self.tell(Rule::Names, mark, said, CALLS)
-    }
-
-    /// The kind of an input that a call gives, where it is certain; tells of one that isn't there, or is given twice.
-    fn given(
+    /// The kind of an input that a call gives, or of an output that it takes, where that is certain; tells of one that isn't there, or is there twice.
+    fn member(
         &mut self,
         body: &Body<'_>,
         call: &mut Call<'_>,
-        name: &Text,
-    ) -> Result<Option<Kind>, AllocError> {
-        let number = self.cursor.pass_name(name);
-        let Some(word) = call.word else {
-            return Ok(None);
-        };
-        if !body.scope.has_input(call.instance, name) {
-            self.tell_no_member(word, name, number, Member::Given)?;
-            return Ok(None);
-        }
-        if !call.inputs.add(self.alloc, name.as_str())? {
-            self.tell_twice(name, number, true)?;
-        }
-        Ok(body.scope.input_kind(call.instance, name))
-    }
-
-    /// The kind of an output that a call takes at the token of a number, where it is certain; tells of one that isn't there, or is taken twice.
-    fn taken(
-        &mut self,
-        body: &Body<'_>,
-        call: &mut Call<'_>,
-        name: &Text,
-        number: usize,
+        (name, number): (&Text, usize),
+        member: Member,
     ) -> Result<Option<Kind>, AllocError> {
         let Some(word) = call.word else {
             return Ok(None);
         };
-        if !body.scope.has_output(call.instance, name) {
-            self.tell_no_member(word, name, number, Member::Taken)?;
+        let (what, kind) = match member {
+            Member::Given => ("input", body.scope.input_kind(call.instance, name)),
+            _ => ("output", body.scope.output_kind(call.instance, name)),
+        };
+        if kind.is_none() {
+            self.tell_no_member(word, name, number, member)?;
             return Ok(None);
         }
-        if !call.outputs.add(self.alloc, name.as_str())? {
-            self.tell_twice(name, number, false)?;
+        let is_new = match member {
+            Member::Given => call.inputs.add(self.alloc, name.as_str())?,
+            _ => call.outputs.add(self.alloc, name.as_str())?,
+        };
+        if !is_new {
+            let words = [
+                "the ",
+                what,
+                " '",
+                name.as_str(),
+                "' is there twice in this call",
+            ];
+            self.say(MEMBERS, alone(number), &words)?;
         }
-        Ok(body.scope.output_kind(call.instance, name))
+        Ok(kind)
     }
 
     /// Walks an output that a call gives to a variable.
@@ -111,7 +82,7 @@ impl<'t> Teller<'t> {
         variable: &Text,
     ) -> Result<(), AllocError> {
         let output = self.cursor.pass_name(name);
-        let kind = self.taken(body, call, name, output)?;
+        let kind = self.member(body, call, (name, output), Member::Taken)?;
         let wanted = match kind {
             Some(kind) => Wanted::Of(kind),
             None => Wanted::Target,
@@ -124,10 +95,17 @@ impl<'t> Teller<'t> {
         if kind == target {
             return Ok(());
         }
-        let (taker, kind, target) = (variable.as_str(), kind_text(kind), kind_text(target));
-        let alloc = self.alloc;
-        let why = format!(in alloc; "is a {kind}, and '{taker}', which takes it, is a {target}")?;
-        self.tell_at(Rule::Kinds, output, why.as_str(), KINDS)
+        let words = [
+            "'",
+            self.cursor.word(output),
+            "' is a ",
+            kind_text(kind),
+            ", and '",
+            variable.as_str(),
+            "', which takes it, is a ",
+            kind_text(target),
+        ];
+        self.say(KINDS, alone(output), &words)
     }
 
     /// Walks an input that a call gives.
@@ -138,7 +116,8 @@ impl<'t> Teller<'t> {
         name: &Text,
         expr: &Expr<Text>,
     ) -> Result<(), AllocError> {
-        let kind = self.given(body, call, name)?;
+        let number = self.cursor.pass_name(name);
+        let kind = self.member(body, call, (name, number), Member::Given)?;
         self.value(body, expr, kind, Some(name))?;
         Ok(())
     }
@@ -168,7 +147,9 @@ impl<'t> Teller<'t> {
         instance: &Text,
         arguments: &[Argument<Text>],
     ) -> Result<(), AllocError> {
-        let word = self.called_block(body, instance)?;
+        let number = self.cursor.pass_name(instance);
+        let why = "is no instance of a block, and can't be called";
+        let word = self.block_of_instance(body, (instance, number), (KINDS, why))?;
         let mut call = Call {
             instance,
             word,

@@ -1,29 +1,12 @@
 //! What isn't constant, and what controls a FOR (C9).
 
 use crate::part::{Part, Worth};
-use crate::teller::{LIMITS, STATEMENTS, Teller, VARIABLES};
-use crate::told::Rule;
+use crate::teller::{Breach, STATEMENTS, Teller};
 use plant_types::{Kind, Text, Trap, same_word};
 use source_trees::Body;
 use st_names::Scope;
 use st_parser::SectionKind;
-use st_tree::{Span, count_turns};
 use std::alloc::AllocError;
-
-/// The most turns that a FOR may have.
-const MOST_TURNS: u64 = 10_000;
-
-/// How many turns a FOR has, by its bounds and its step, 1 where none is written; `None` where one of them isn't constant.
-fn turns_of(from: &Part, to: &Part, by: Option<&Part>) -> Option<u64> {
-    let step = match by {
-        Some(by) => by.worth,
-        None => Worth::Is(1),
-    };
-    let (Worth::Is(from), Worth::Is(to), Worth::Is(step)) = (from.worth, to.worth, step) else {
-        return None;
-    };
-    u64::try_from(count_turns(Span { from, to, step })).ok()
-}
 
 /// Why a constant has no value.
 fn why_none(trap: Trap) -> &'static str {
@@ -35,76 +18,34 @@ fn why_none(trap: Trap) -> &'static str {
 }
 
 impl<'t> Teller<'t> {
-    /// Tells of what has to be constant, is of its kind, and isn't, or has no value; whether it is.
-    fn is_constant(
-        &mut self,
-        part: &Part,
-        why: &str,
-        page: &'static str,
-    ) -> Result<bool, AllocError> {
+    /// Tells of what is of its kind and has to be constant, and isn't, or has no value.
+    pub fn constant(&mut self, part: &Part, breach: Breach, why: &str) -> Result<(), AllocError> {
         match part.worth {
-            Worth::Is(_) => Ok(true),
-            Worth::Varies(number) => {
-                self.tell_at(Rule::Constants, number, why, page)?;
-                Ok(false)
+            Worth::Varies(number) if part.kind.is_some() => self.say_at(breach, number, why),
+            Worth::Traps(number, trap) if part.kind.is_some() => {
+                self.say_at(breach, number, why_none(trap))
             }
-            Worth::Traps(number, trap) => {
-                self.tell_at(Rule::Constants, number, why_none(trap), page)?;
-                Ok(false)
-            }
+            _ => Ok(()),
         }
     }
 
-    /// Tells of an initial value of its kind that isn't constant, or has no value.
-    pub fn initial(&mut self, part: &Part) -> Result<(), AllocError> {
-        if part.kind.is_some() {
-            let why = "is a variable, and an initial value is constant";
-            self.is_constant(part, why, VARIABLES)?;
-        }
-        Ok(())
-    }
-
-    /// Tells of a bound or a step of a FOR that isn't constant, or has no value; whether it is.
-    pub fn bound(&mut self, part: &Part) -> Result<bool, AllocError> {
+    /// Tells of a bound or a step of a FOR that isn't constant, or has no value.
+    pub fn bound(&mut self, part: &Part) -> Result<(), AllocError> {
         if part.kind != Some(Kind::Dint) {
-            return Ok(false);
+            return Ok(());
         }
         let why = "is a variable, and the bounds and the step of a FOR are constant";
-        self.is_constant(part, why, STATEMENTS)
+        self.constant(part, STATEMENTS, why)
     }
 
     /// Tells of a step of a FOR that isn't constant, or has no value, or is 0.
     pub fn step(&mut self, part: &Part) -> Result<(), AllocError> {
-        if !self.bound(part)? || !part.is_zero() || !self.told.takes(Rule::Constants) {
-            return Ok(());
+        if part.kind != Some(Kind::Dint) || !matches!(part.worth, Worth::Is(0)) {
+            return self.bound(part);
         }
-        let alloc = self.alloc;
-        let quoted = self.cursor.quoted(alloc, part.first, part.behind)?;
-        let quoted = quoted.as_str();
-        let said = format!(in alloc; "{quoted} is no step of a FOR, since it is 0")?;
-        let mark = self.cursor.marks(part.first, part.behind);
-        self.tell(Rule::Constants, mark, said, STATEMENTS)
-    }
-
-    /// Tells of a FOR that has more turns than one may have, from the number of its token on, where the plant is refused for one.
-    pub fn turns(
-        &mut self,
-        number: usize,
-        from: &Part,
-        to: &Part,
-        by: Option<&Part>,
-    ) -> Result<(), AllocError> {
-        let turns = turns_of(from, to, by).unwrap_or(0);
-        if self.told.refused != Rule::Turns
-            || turns <= MOST_TURNS
-            || !self.told.takes(Rule::Turns)
-        {
-            return Ok(());
-        }
-        let alloc = self.alloc;
-        let said = format!(in alloc; "this FOR has {turns} turns, and at most 10000 are allowed")?;
-        let mark = self.cursor.marks(number, to.behind);
-        self.tell(Rule::Turns, mark, said, LIMITS)
+        let quoted = self.cursor.quoted(self.alloc, part.first, part.behind)?;
+        let words = [quoted.as_str(), " is no step of a FOR, since it is 0"];
+        self.say(STATEMENTS, part.tokens(), &words)
     }
 
     /// Tells of a variable that may not control a FOR.
@@ -126,7 +67,7 @@ impl<'t> Teller<'t> {
             }
             _ => "is no DINT, and the variable of a FOR is one",
         };
-        self.tell_at(Rule::Constants, number, why, STATEMENTS)
+        self.say_at(STATEMENTS, number, why)
     }
 
     /// Tells of a variable that is assigned, where it controls a FOR around the statement.
@@ -140,6 +81,6 @@ impl<'t> Teller<'t> {
             return Ok(());
         }
         let why = "is the variable of the FOR around it, and is assigned here";
-        self.tell_at(Rule::Constants, number, why, STATEMENTS)
+        self.say_at(STATEMENTS, number, why)
     }
 }

@@ -1,9 +1,8 @@
 //! Declarations are walked.
 
-use crate::teller::{CALLS, KINDS, NAMES, Teller};
-use crate::told::Rule;
+use crate::teller::{CIRCLES, KINDS, NAMES, Teller, VARIABLES, alone};
 use plant_types::{Text, same_word};
-use source_trees::{Body, Cursor, global_hint, kind_text, leads_back, type_hint};
+use source_trees::{Body, Cursor, Rule, global_hint, kind_text, leads_back, type_hint};
 use st_names::{Scope, sort_kind};
 use st_parser::{Declaration, Section, SectionKind, Sort};
 use std::alloc::AllocError;
@@ -22,26 +21,28 @@ impl<'t> Teller<'t> {
         let Some(source) = self.plant.sources.get(other.source) else {
             return Ok(());
         };
-        if !self.told.takes(Rule::Names) {
+        if !self.takes(NAMES) {
             return Ok(());
         }
-        let line = Cursor::line_of(source.text, other.at as usize);
-        let (name, word) = (source.name, other.word);
-        let alloc = self.alloc;
-        let found = self.cursor.word(number);
-        let said = format!(in alloc;
-            "the name '{found}' is there already: '{word}' stands in line {line} of {name}"
-        )?;
-        let mark = self.cursor.mark(number);
-        self.tell(Rule::Names, mark, said, NAMES)
+        let line = Cursor::line_of(source.text, other.at as usize).to_string(self.alloc)?;
+        let words = [
+            "the name '",
+            self.cursor.word(number),
+            "' is there already: '",
+            other.word,
+            "' stands in line ",
+            line.as_str(),
+            " of ",
+            source.name,
+        ];
+        self.say(NAMES, alone(number), &words)
     }
 
     /// Tells of a name of all sources, at the token of a number, that is taken: by a block that is there from the start, or by an earlier declaration.
     pub fn shared_name(&mut self, name: &Text, number: usize) -> Result<(), AllocError> {
         let plant = self.plant;
         if plant.is_standard(name) {
-            let why = "is a block that is there from the start";
-            return self.tell_at(Rule::Names, number, why, NAMES);
+            return self.say_at(NAMES, number, "is a block that is there from the start");
         }
         match plant.titles.find(name) {
             Some(first) if first.source != self.source || first.at != name.at() => {
@@ -91,15 +92,16 @@ impl<'t> Teller<'t> {
         if self.plant.titles.doubts(name) {
             return Ok(());
         }
-        let alloc = self.alloc;
         if !body.scope.is_global(name) {
-            let (hint, word) = (global_hint(alloc, self.plant, name)?, name.as_str());
-            let hint = hint.as_str();
-            let said = format!(in alloc;
-                "no global is called '{word}', which VAR_EXTERNAL names{hint}"
-            )?;
-            let mark = self.cursor.mark(number);
-            return self.tell(Rule::Names, mark, said, NAMES);
+            let hint = global_hint(self.alloc, self.plant, name)?;
+            let (word, hint) = (name.as_str(), hint.as_str());
+            let words = [
+                "no global is called '",
+                word,
+                "', which VAR_EXTERNAL names",
+                hint,
+            ];
+            return self.say(NAMES, alone(number), &words);
         }
         let (Some(found), Some(kind)) = (sort_kind(sort), body.scope.global_kind(name)) else {
             return Ok(());
@@ -107,23 +109,31 @@ impl<'t> Teller<'t> {
         if found == kind {
             return Ok(());
         }
-        let (found, kind) = (kind_text(found), kind_text(kind));
-        let why = format!(in alloc; "is a global of the kind {kind}, and here it is a {found}")?;
-        self.tell_at(Rule::Kinds, number, why.as_str(), KINDS)
+        let words = [
+            "'",
+            self.cursor.word(number),
+            "' is a global of the kind ",
+            kind_text(kind),
+            ", and here it is a ",
+            kind_text(found),
+        ];
+        self.say(KINDS, alone(number), &words)
     }
 
     /// Tells of a word in the place of a block or a kind that names neither.
     fn tell_no_type(&mut self, word: &Text, number: usize) -> Result<(), AllocError> {
-        if self.plant.titles.doubts(word) || !self.told.takes(Rule::Names) {
+        if self.plant.titles.doubts(word) || !self.takes(NAMES) {
             return Ok(());
         }
-        let (alloc, hint) = (self.alloc, type_hint(self.alloc, self.plant, word)?);
+        let hint = type_hint(self.alloc, self.plant, word)?;
         let (word, hint) = (word.as_str(), hint.as_str());
-        let said = format!(in alloc;
-            "no block is called '{word}', and the kinds are BOOL, DINT and TIME{hint}"
-        )?;
-        let mark = self.cursor.mark(number);
-        self.tell(Rule::Names, mark, said, NAMES)
+        let words = [
+            "no block is called '",
+            word,
+            "', and the kinds are BOOL, DINT and TIME",
+            hint,
+        ];
+        self.say(NAMES, alone(number), &words)
     }
 
     /// Tells of the block of instances that isn't there, that can't stand in its section, or that leads back to the block that declares them.
@@ -145,29 +155,30 @@ impl<'t> Teller<'t> {
         } else {
             return self.circle(body, word, number);
         };
-        self.tell_at(Rule::Kinds, number, why, KINDS)
+        self.say_at(KINDS, number, why)
     }
 
-    /// Tells of a block whose instances lead back to the block that declares one.
+    /// Tells of a block whose instances lead back to the block that declares one, where the plant is refused for one.
     fn circle(&mut self, body: &Body<'_>, word: &Text, number: usize) -> Result<(), AllocError> {
         if self.told.refused != Rule::Blocks
             || !leads_back(self.alloc, self.plant, word, body.name)?
         {
             return Ok(());
         }
-        if !self.told.takes(Rule::Blocks) {
-            return Ok(());
+        let (name, block) = (body.name, word.as_str());
+        if same_word(name.as_bytes(), block.as_bytes()) {
+            let words = ["block ", name, " holds an instance of itself"];
+            return self.say(CIRCLES, alone(number), &words);
         }
-        let (alloc, name, block) = (self.alloc, body.name, word.as_str());
-        let said = if same_word(name.as_bytes(), block.as_bytes()) {
-            format!(in alloc; "block {name} holds an instance of itself")?
-        } else {
-            format!(in alloc;
-                "block {name} holds an instance of {block}, whose instances lead back to {name}"
-            )?
-        };
-        let mark = self.cursor.mark(number);
-        self.tell(Rule::Blocks, mark, said, CALLS)
+        let words = [
+            "block ",
+            name,
+            " holds an instance of ",
+            block,
+            ", whose instances lead back to ",
+            name,
+        ];
+        self.say(CIRCLES, alone(number), &words)
     }
 
     /// Walks what variables are declared as, and their initial value.
@@ -189,20 +200,16 @@ impl<'t> Teller<'t> {
         };
         let part = self.value(body, initial, kind, declaration.names.first())?;
         if matches!(section, SectionKind::External) {
-            if self.told.takes(Rule::Kinds) {
-                let mark = self.cursor.marks(part.first, part.behind);
-                let said = String::from_str(
-                    self.alloc,
-                    "a VAR_EXTERNAL has no initial value: its global has one",
-                )?;
-                self.tell(Rule::Kinds, mark, said, KINDS)?;
+            let said = "a VAR_EXTERNAL has no initial value: its global has one";
+            return self.say(KINDS, part.tokens(), &[said]);
+        }
+        match kind {
+            Some(_) => {
+                let why = "is a variable, and an initial value is constant";
+                self.constant(&part, VARIABLES, why)
             }
-            return Ok(());
+            None => Ok(()),
         }
-        if kind.is_some() {
-            self.initial(&part)?;
-        }
-        Ok(())
     }
 
     /// Walks a declaration.

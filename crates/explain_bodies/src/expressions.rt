@@ -1,8 +1,7 @@
 //! Expressions are walked.
 
 use crate::part::{Form, Part, Worth};
-use crate::teller::{CALLS, Teller};
-use crate::told::Rule;
+use crate::teller::{MEMBERS, Teller};
 use plant_types::{Kind, Text, Trap};
 use source_trees::{Body, Member, Sought, Wanted};
 use st_names::Scope;
@@ -107,30 +106,6 @@ impl<'t> Teller<'t> {
         Ok(Part::variable(kind, number))
     }
 
-    /// The block of an instance whose output is read; `None` where that isn't certain.
-    fn read_block<'b>(
-        &mut self,
-        body: &'b Body<'_>,
-        instance: &Text,
-        number: usize,
-    ) -> Result<Option<&'b Text>, AllocError> {
-        if !self.is_named(body, instance, number, Wanted::Instance)?
-            || body.doubts(self.plant, instance)
-        {
-            return Ok(None);
-        }
-        let word = body.block_word(instance);
-        if word.is_none() {
-            self.tell_at(
-                Rule::Names,
-                number,
-                "is no instance of a block, and so no point may stand behind it",
-                CALLS,
-            )?;
-        }
-        Ok(word)
-    }
-
     /// Walks an output of an instance that is read.
     fn output(
         &mut self,
@@ -140,13 +115,14 @@ impl<'t> Teller<'t> {
     ) -> Result<Part, AllocError> {
         let first = self.cursor.pass_name(instance);
         let behind = self.cursor.pass_name(name).saturating_add(1);
-        let mut kind = None;
-        if let Some(word) = self.read_block(body, instance, first)? {
-            if body.scope.has_output(instance, name) {
-                kind = body.scope.output_kind(instance, name);
-            } else {
-                self.tell_no_member(word, name, behind.saturating_sub(1), Member::Read)?;
-            }
+        let why = "is no instance of a block, and so no point may stand behind it";
+        let word = self.block_of_instance(body, (instance, first), (MEMBERS, why))?;
+        let kind = match word {
+            Some(_) => body.scope.output_kind(instance, name),
+            None => None,
+        };
+        if let (Some(word), None) = (word, kind) {
+            self.tell_no_member(word, name, behind.saturating_sub(1), Member::Read)?;
         }
         Ok(Part {
             kind,

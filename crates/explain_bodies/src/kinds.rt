@@ -1,10 +1,9 @@
 //! What isn't of its kind (C7): the operands of operators, and what is given to variables and inputs.
 
 use crate::part::{Form, Part};
-use crate::teller::{KINDS, Teller};
-use crate::told::Rule;
+use crate::teller::{KINDS, Teller, alone};
 use plant_types::{Kind, Text};
-use source_trees::{Body, Member, kind_text, members_of};
+use source_trees::{Body, Member, joined, kind_text, members_of};
 use st_tree::{Binary, Unary};
 use std::alloc::AllocError;
 
@@ -19,27 +18,6 @@ fn beside(wanted: Kind, part: &Part) -> &'static str {
     }
 }
 
-/// The operands that an operator takes.
-#[derive(Clone, Copy, Drop)]
-enum Takes {
-    Bools,
-    Numbers,
-    /// Two DINT or two TIME.
-    Pairs,
-    /// Two of one kind.
-    Alike,
-}
-
-/// The operands that an operator takes.
-fn taken_by(op: Binary) -> Takes {
-    match op {
-        Binary::And | Binary::Xor | Binary::Or => Takes::Bools,
-        Binary::Multiply | Binary::Divide | Binary::Mod => Takes::Numbers,
-        Binary::Equal | Binary::Unequal => Takes::Alike,
-        _ => Takes::Pairs,
-    }
-}
-
 /// What is said beside an operand of `*`, `/` and MOD.
 fn beside_number(part: &Part) -> &'static str {
     match part.kind {
@@ -48,17 +26,19 @@ fn beside_number(part: &Part) -> &'static str {
     }
 }
 
-/// An operand of an operator that isn't of its kind.
+/// An operator, by the number of its token, and what it takes.
 #[derive(Clone, Copy, Drop)]
-struct Operand<'p> {
-    /// The number of the operator's token.
-    operator: usize,
-    /// What the operator takes.
+struct Operator {
+    number: usize,
     takes: &'static str,
-    part: &'p Part,
-    /// Where the operand stands: before the operator or behind it.
-    side: &'static str,
-    beside: &'static str,
+}
+
+/// The kind of a part, as it is told; none of one that isn't known.
+fn kind_of(part: &Part) -> &'static str {
+    match part.kind {
+        Some(kind) => kind_text(kind),
+        None => "",
+    }
 }
 
 impl<'t> Teller<'t> {
@@ -69,48 +49,40 @@ impl<'t> Teller<'t> {
         wanted: Kind,
         taker: Option<&Text>,
     ) -> Result<(), AllocError> {
-        let Some(found) = part.kind else {
-            return Ok(());
-        };
-        if !self.told.takes(Rule::Kinds) {
+        if part.kind.is_none() {
             return Ok(());
         }
-        let (alloc, more) = (self.alloc, beside(wanted, part));
-        let quoted = self.cursor.quoted(alloc, part.first, part.behind)?;
-        let quoted = quoted.as_str();
-        let (wanted, found) = (kind_text(wanted), kind_text(found));
-        let said = match taker {
-            Some(name) => {
-                let name = name.as_str();
-                format!(in alloc; "'{name}' is a {wanted}, and {quoted} is a {found}{more}")?
-            }
-            None => format!(in alloc;
-                "a {wanted} is wanted here, and {quoted} is a {found}{more}"
-            )?,
+        let lead = match taker {
+            Some(name) => ["'", name.as_str(), "' is a ", kind_text(wanted), ", and "],
+            None => ["a ", kind_text(wanted), " is wanted here, and ", "", ""],
         };
-        let mark = self.cursor.marks(part.first, part.behind);
-        self.tell(Rule::Kinds, mark, said, KINDS)
+        let lead = joined(self.alloc, &lead)?;
+        let quoted = self.cursor.quoted(self.alloc, part.first, part.behind)?;
+        let (lead, quoted) = (lead.as_str(), quoted.as_str());
+        let words = [lead, quoted, " is a ", kind_of(part), beside(wanted, part)];
+        self.say(KINDS, part.tokens(), &words)
     }
 
-    /// Tells of an operand that isn't of its kind.
-    fn tell_operand(&mut self, operand: Operand<'_>) -> Result<(), AllocError> {
-        let part = operand.part;
-        let Some(found) = part.kind else {
-            return Ok(());
-        };
-        if !self.told.takes(Rule::Kinds) {
+    /// Tells of an operand that isn't of its kind, where it stands, and what is said beside that.
+    fn tell_operand(
+        &mut self,
+        operator: Operator,
+        part: &Part,
+        side: &'static str,
+        more: &'static str,
+    ) -> Result<(), AllocError> {
+        if part.kind.is_none() {
             return Ok(());
         }
-        let alloc = self.alloc;
-        let quoted = self.cursor.quoted(alloc, part.first, part.behind)?;
-        let (quoted, found) = (quoted.as_str(), kind_text(found));
-        let operator = self.cursor.word(operand.operator);
-        let (takes, side, more) = (operand.takes, operand.side, operand.beside);
-        let said = format!(in alloc;
-            "'{operator}' takes {takes}, and {quoted}{side} is a {found}{more}"
+        let quoted = self.cursor.quoted(self.alloc, part.first, part.behind)?;
+        let word = self.cursor.word(operator.number);
+        let lead = joined(
+            self.alloc,
+            &["'", word, "' takes ", operator.takes, ", and "],
         )?;
-        let mark = self.cursor.marks(part.first, part.behind);
-        self.tell(Rule::Kinds, mark, said, KINDS)
+        let (lead, quoted) = (lead.as_str(), quoted.as_str());
+        let words = [lead, quoted, side, " is a ", kind_of(part), more];
+        self.say(KINDS, part.tokens(), &words)
     }
 
     /// Tells of an instance that is read or assigned, at the token of a number.
@@ -120,16 +92,19 @@ impl<'t> Teller<'t> {
         name: &Text,
         number: usize,
     ) -> Result<(), AllocError> {
-        let (Some(word), true) = (body.block_word(name), self.told.takes(Rule::Kinds)) else {
+        let (Some(word), true) = (body.block_word(name), self.takes(KINDS)) else {
             return Ok(());
         };
-        let alloc = self.alloc;
-        let (list, _) = members_of(alloc, self.plant, word, name, Member::Read)?;
-        let (block, list) = (word.as_str(), list.as_str());
-        let why = format!(in alloc;
-            "is an instance of {block}, and itself neither read nor assigned; its outputs are read behind a point:{list}"
-        )?;
-        self.tell_at(Rule::Kinds, number, why.as_str(), KINDS)
+        let (list, _) = members_of(self.alloc, self.plant, word, name, Member::Read)?;
+        let words = [
+            "'",
+            self.cursor.word(number),
+            "' is an instance of ",
+            word.as_str(),
+            ", and itself neither read nor assigned; its outputs are read behind a point:",
+            list.as_str(),
+        ];
+        self.say(KINDS, alone(number), &words)
     }
 
     /// Tells of the operand of NOT or of a minus, which isn't of its kind.
@@ -138,36 +113,24 @@ impl<'t> Teller<'t> {
             Unary::Not => ("a BOOL", beside(Kind::Bool, part)),
             _ => ("a DINT or a TIME", ""),
         };
-        self.tell_operand(Operand {
-            operator: number,
-            takes,
-            part,
-            side: "",
-            beside: more,
-        })
+        self.tell_operand(Operator { number, takes }, part, "", more)
     }
 
-    /// Tells of the operands of an operator that aren't of one kind, each by itself.
+    /// Tells of the operands of an operator that aren't of the kind that both have to be, each by itself.
     fn tell_each(
         &mut self,
-        number: usize,
+        operator: Operator,
         wanted: Kind,
-        takes: &'static str,
-        parts: (&Part, &Part),
+        left: &Part,
+        right: &Part,
     ) -> Result<(), AllocError> {
-        for (part, side) in [(parts.0, " before it"), (parts.1, " behind it")] {
+        for (part, side) in [(left, " before it"), (right, " behind it")] {
             if part.kind != Some(wanted) {
                 let more = match wanted {
                     Kind::Bool => beside(wanted, part),
                     _ => beside_number(part),
                 };
-                self.tell_operand(Operand {
-                    operator: number,
-                    takes,
-                    part,
-                    side,
-                    beside: more,
-                })?;
+                self.tell_operand(operator, part, side, more)?;
             }
         }
         Ok(())
@@ -176,30 +139,19 @@ impl<'t> Teller<'t> {
     /// Tells of two operands that have to be two DINT or two TIME: which of them is a BOOL, or that one is of either kind.
     fn tell_pair(&mut self, number: usize, left: &Part, right: &Part) -> Result<(), AllocError> {
         if left.form == Form::Order {
-            return self.tell_at(
-                Rule::Kinds,
-                number,
-                "has a comparison before it, which is a BOOL; a < b < c is written a < b AND b < c",
-                KINDS,
-            );
+            let why =
+                "has a comparison before it, which is a BOOL; a < b < c is written a < b AND b < c";
+            return self.say_at(KINDS, number, why);
         }
         if left.kind != Some(Kind::Bool) && right.kind != Some(Kind::Bool) {
-            return self.tell_at(
-                Rule::Kinds,
-                number,
-                "has a TIME and a DINT beside it, and nothing is converted; a duration is written as T#5s",
-                KINDS,
-            );
+            let why =
+                "has a TIME and a DINT beside it, and nothing is converted; a duration is written as T#5s";
+            return self.say_at(KINDS, number, why);
         }
+        let takes = "two DINT or two TIME";
         for (part, side) in [(left, " before it"), (right, " behind it")] {
             if part.kind == Some(Kind::Bool) {
-                self.tell_operand(Operand {
-                    operator: number,
-                    takes: "two DINT or two TIME",
-                    part,
-                    side,
-                    beside: "",
-                })?;
+                self.tell_operand(Operator { number, takes }, part, side, "")?;
             }
         }
         Ok(())
@@ -210,13 +162,16 @@ impl<'t> Teller<'t> {
         let (Some(one), Some(other)) = (left.kind, right.kind) else {
             return Ok(());
         };
-        let (first, more) = (beside(one, right), beside(other, left));
-        let (one, other) = (kind_text(one), kind_text(other));
-        let alloc = self.alloc;
-        let why = format!(in alloc;
-            "compares two of one kind, and here are a {one} and a {other}{first}{more}"
-        )?;
-        self.tell_at(Rule::Kinds, number, why.as_str(), KINDS)
+        let words = [
+            "compares two of one kind, and here are a ",
+            kind_text(one),
+            " and a ",
+            kind_text(other),
+            beside(one, right),
+            beside(other, left),
+        ];
+        let why = joined(self.alloc, &words)?;
+        self.say_at(KINDS, number, why.as_str())
     }
 
     /// Tells of the operands of an operator at the token of a number, which it doesn't take.
@@ -227,14 +182,17 @@ impl<'t> Teller<'t> {
         left: &Part,
         right: &Part,
     ) -> Result<(), AllocError> {
-        if !self.told.takes(Rule::Kinds) {
-            return Ok(());
-        }
-        match taken_by(op) {
-            Takes::Bools => self.tell_each(number, Kind::Bool, "two BOOL", (left, right)),
-            Takes::Numbers => self.tell_each(number, Kind::Dint, "two DINT", (left, right)),
-            Takes::Pairs => self.tell_pair(number, left, right),
-            Takes::Alike => self.tell_unlike(number, left, right),
+        match op {
+            Binary::And | Binary::Xor | Binary::Or => {
+                let takes = "two BOOL";
+                self.tell_each(Operator { number, takes }, Kind::Bool, left, right)
+            }
+            Binary::Multiply | Binary::Divide | Binary::Mod => {
+                let takes = "two DINT";
+                self.tell_each(Operator { number, takes }, Kind::Dint, left, right)
+            }
+            Binary::Equal | Binary::Unequal => self.tell_unlike(number, left, right),
+            _ => self.tell_pair(number, left, right),
         }
     }
 }

@@ -1,4 +1,4 @@
-//! What is wrong in the units of a plant's sources (C6 to C9, and C10 TURNS), told from their trees for people; and why a name is no BOOL global's (C14).
+//! What is wrong in the units of a plant's sources (C6 to C9), told from their trees for people.
 //!
 //! `mistakes` reads each source once and walks each unit once, in order of text, with the names and kinds by which st_names and st_tree judge. It tells each
 //! mistake at its place: the name that isn't there, and a near one that fits; the kind that is wanted and the one that is found; what isn't constant. Where a
@@ -10,15 +10,12 @@ mod calls;
 mod constants;
 mod declarations;
 mod expressions;
-mod globals;
 mod kinds;
 mod names;
 mod part;
 mod statements;
 mod teller;
-mod told;
 mod walk;
 
-pub use globals::no_bool_global;
-pub use told::{MOST_MISTAKES, Mistake, Rule};
+pub use source_trees::{Mistake, Rule};
 pub use walk::mistakes;

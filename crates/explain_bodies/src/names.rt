@@ -1,9 +1,8 @@
 //! Names that aren't there (C6).
 
-use crate::teller::{CALLS, Teller};
-use crate::told::Rule;
+use crate::teller::{MEMBERS, NAMES, Teller, alone};
 use plant_types::Text;
-use source_trees::{Body, Member, Wanted, What, no_member, variable_hint};
+use source_trees::{Body, Member, Wanted, joined, no_member, variable_hint};
 use std::alloc::AllocError;
 
 impl<'t> Teller<'t> {
@@ -16,18 +15,27 @@ impl<'t> Teller<'t> {
     ) -> Result<String, AllocError> {
         let (alloc, word) = (self.alloc, name.as_str());
         if self.plant.shared.is_block_type(name) {
-            return format!(in alloc;
-                "'{word}' is a block, and what is called or read is an instance of it: VAR t1 : {word}; END_VAR declares one, called t1"
-            );
+            let words = [
+                "'",
+                word,
+                "' is a block, and what is called or read is an instance of it: VAR t1 : ",
+                word,
+                "; END_VAR declares one, called t1",
+            ];
+            return joined(alloc, &words);
         }
-        if let Some(title) = self.plant.titles.find(name) {
-            if title.what == What::Program {
-                return format!(in alloc; "'{word}' is a program, and no variable");
-            }
+        if self.plant.titles.is_program(name) {
+            return joined(alloc, &["'", word, "' is a program, and no variable"]);
         }
         let hint = variable_hint(alloc, self.plant, body, name, wanted)?;
-        let (unit, hint) = (body.name, hint.as_str());
-        format!(in alloc; "no variable is called '{word}' in {unit}{hint}")
+        let words = [
+            "no variable is called '",
+            word,
+            "' in ",
+            body.name,
+            hint.as_str(),
+        ];
+        joined(alloc, &words)
     }
 
     /// Whether a name at the token of a number is a variable's or an instance's; where it certainly isn't, that is told, once in a unit.
@@ -41,11 +49,11 @@ impl<'t> Teller<'t> {
         if body.scope.find(name).is_some() {
             return Ok(true);
         }
-        if self.is_told(name) || body.doubts(self.plant, name) || !self.told.takes(Rule::Names) {
+        if self.is_told(name) || body.doubts(self.plant, name) || !self.takes(NAMES) {
             return Ok(false);
         }
         let said = self.no_variable(body, name, wanted)?;
-        self.tell_missing(name, number, said)?;
+        self.say_missing(name, number, said.as_str())?;
         Ok(false)
     }
 
@@ -57,11 +65,10 @@ impl<'t> Teller<'t> {
         number: usize,
         member: Member,
     ) -> Result<(), AllocError> {
-        if !self.told.takes(Rule::Names) {
+        if !self.takes(MEMBERS) {
             return Ok(());
         }
         let said = no_member(self.alloc, self.plant, word, name, member)?;
-        let mark = self.cursor.mark(number);
-        self.tell(Rule::Names, mark, said, CALLS)
+        self.say(MEMBERS, alone(number), &[said.as_str()])
     }
 }

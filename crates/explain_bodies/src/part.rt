@@ -46,8 +46,8 @@ impl Part {
         }
     }
 
-    /// Whether it is constant, as the integer 0.
-    pub fn is_zero(&self) -> bool {
-        matches!(self.worth, Worth::Is(0))
+    /// The number of its first token, and of the one behind its last.
+    pub fn tokens(&self) -> (usize, usize) {
+        (self.first, self.behind)
     }
 }

@@ -1,22 +1,11 @@
 //! Statements are walked.
 
-use crate::part::Part;
 use crate::teller::{KINDS, Teller};
-use crate::told::Rule;
 use plant_types::{Kind, Text};
 use source_trees::{Body, Wanted};
 use st_names::Scope;
 use st_tree::{Branch, Choice, Expr, Label, Stmt};
 use std::alloc::AllocError;
-
-/// The head of a FOR.
-#[derive(Clone, Copy, Drop)]
-struct Head<'t> {
-    variable: &'t Text,
-    from: &'t Expr<Text>,
-    to: &'t Expr<Text>,
-    by: &'t Option<Expr<Text>>,
-}
 
 impl<'t> Teller<'t> {
     /// The kind of a variable at the token of a number that is assigned, where that is certain; tells where it may not be assigned.
@@ -36,7 +25,7 @@ impl<'t> Teller<'t> {
         }
         if !body.scope.is_assignable(name) {
             let why = "is an input of the plant, and no program may assign it";
-            self.tell_at(Rule::Kinds, number, why, KINDS)?;
+            self.say_at(KINDS, number, why)?;
             return Ok(None);
         }
         self.assigned(name, number)?;
@@ -63,39 +52,32 @@ impl<'t> Teller<'t> {
         }
     }
 
-    /// Walks a bound of a FOR.
-    fn walk_bound(&mut self, body: &Body<'_>, expr: &Expr<Text>) -> Result<Part, AllocError> {
-        let part = self.value(body, expr, Some(Kind::Dint), None)?;
-        self.bound(&part)?;
-        Ok(part)
-    }
-
-    /// Walks the step of a FOR.
-    fn walk_step(
-        &mut self,
-        body: &Body<'_>,
-        expr: &Option<Expr<Text>>,
-    ) -> Result<Option<Part>, AllocError> {
-        let Some(expr) = expr else {
-            return Ok(None);
-        };
-        let part = self.value(body, expr, Some(Kind::Dint), None)?;
-        self.step(&part)?;
-        Ok(Some(part))
-    }
-
-    /// Walks the head of a FOR.
-    fn head(&mut self, body: &Body<'_>, head: Head<'_>) -> Result<(), AllocError> {
-        let name = head.variable;
+    /// Walks the variable of a FOR.
+    fn variable(&mut self, body: &Body<'_>, name: &Text) -> Result<(), AllocError> {
         let number = self.cursor.pass_name(name);
         if self.is_named(body, name, number, Wanted::Control)? && !body.doubts(self.plant, name) {
             self.control(body, name, number)?;
             self.assigned(name, number)?;
         }
-        let from = self.walk_bound(body, head.from)?;
-        let to = self.walk_bound(body, head.to)?;
-        let by = self.walk_step(body, head.by)?;
-        self.turns(number.saturating_sub(1), &from, &to, by.as_ref())
+        Ok(())
+    }
+
+    /// Walks the bounds and the step of a FOR.
+    fn bounds(
+        &mut self,
+        body: &Body<'_>,
+        bounds: [&Expr<Text>; 2],
+        by: &Option<Expr<Text>>,
+    ) -> Result<(), AllocError> {
+        for bound in bounds {
+            let part = self.value(body, bound, Some(Kind::Dint), None)?;
+            self.bound(&part)?;
+        }
+        let Some(by) = by else {
+            return Ok(());
+        };
+        let part = self.value(body, by, Some(Kind::Dint), None)?;
+        self.step(&part)
     }
 
     /// Walks an assignment to an element of an array.
@@ -143,15 +125,8 @@ impl<'t> Teller<'t> {
                 body: inner,
                 ..
             } => {
-                self.head(
-                    body,
-                    Head {
-                        variable,
-                        from,
-                        to,
-                        by,
-                    },
-                )?;
+                self.variable(body, variable)?;
+                self.bounds(body, [from, to], by)?;
                 self.controls.push(variable)?;
                 self.stmts(body, inner)?;
                 self.controls.pop();

@@ -1,29 +1,53 @@
 //! A walk over the trees of a plant's units, and what it tells.
 
-use crate::told::{Kept, Mistake, Rule, Told};
 use plant_types::Text;
-use source_trees::{Cursor, Trees};
+use source_trees::{Cursor, Mistake, Rule, Told, Trees, joined};
 use std::alloc::{AllocError, Global};
 use token_causes::cause_at;
 use word_index::Names;
 
-/// Where the rules of names stand.
-pub const NAMES: &str = "docs/LANGUAGE.md, \"Names\"";
+/// A rule that is broken, and where to read on.
+#[derive(Clone, Copy, Drop)]
+pub struct Breach {
+    pub rule: Rule,
+    page: &'static str,
+}
 
-/// Where the rules of kinds stand.
-pub const KINDS: &str = "docs/LANGUAGE.md, \"Kinds\"";
+/// A name that isn't there, or is taken.
+pub const NAMES: Breach = Breach {
+    rule: Rule::Names,
+    page: "docs/LANGUAGE.md, \"Names\"",
+};
 
-/// Where the rules of calls and of blocks stand.
-pub const CALLS: &str = "docs/LANGUAGE.md, \"Function blocks\"";
+/// An input or an output that a block hasn't, or that a call names twice.
+pub const MEMBERS: Breach = Breach {
+    rule: Rule::Names,
+    page: "docs/LANGUAGE.md, \"Function blocks\"",
+};
 
-/// Where the rules of FOR stand.
-pub const STATEMENTS: &str = "docs/LANGUAGE.md, \"Statements\"";
+/// What isn't of its kind.
+pub const KINDS: Breach = Breach {
+    rule: Rule::Kinds,
+    page: "docs/LANGUAGE.md, \"Kinds\"",
+};
 
-/// Where the limits of the language stand.
-pub const LIMITS: &str = "docs/LANGUAGE.md, \"Limits (this profile)\"";
+/// A block that holds itself.
+pub const CIRCLES: Breach = Breach {
+    rule: Rule::Blocks,
+    page: "docs/LANGUAGE.md, \"Function blocks\"",
+};
 
-/// Where initial values stand.
-pub const VARIABLES: &str = "docs/LANGUAGE.md, \"Variables\"";
+/// What isn't constant in a FOR, and what controls it.
+pub const STATEMENTS: Breach = Breach {
+    rule: Rule::Constants,
+    page: "docs/LANGUAGE.md, \"Statements\"",
+};
+
+/// An initial value that isn't constant.
+pub const VARIABLES: Breach = Breach {
+    rule: Rule::Constants,
+    page: "docs/LANGUAGE.md, \"Variables\"",
+};
 
 /// A walk: what it goes over, where it is, and what it has found.
 #[derive(Drop)]
@@ -35,9 +59,9 @@ pub struct Teller<'t> {
     pub cursor: Cursor<'t>,
     /// The variables of the FORs around the statement.
     pub controls: Vec<&'t Text>,
-    /// The names that the unit uses and that aren't there, and where each is among the mistakes.
+    /// The names that the unit uses and that aren't there, and the number of the mistake at which each is told.
     pub missing: Names,
-    pub kept: Vec<Kept>,
+    pub kept: Vec<Option<usize>>,
     pub told: Told,
 }
 
@@ -62,43 +86,56 @@ impl<'t> Teller<'t> {
         told
     }
 
-    /// Tells of bytes that break a rule.
-    pub fn tell(
-        &mut self,
-        rule: Rule,
-        mark: (usize, usize),
-        said: String,
-        page: &'static str,
-    ) -> Result<(), AllocError> {
-        self.keep(rule, mark, said, page)?;
-        Ok(())
+    /// Whether what breaks a rule would be told.
+    pub fn takes(&self, breach: Breach) -> bool {
+        self.told.takes(breach.rule)
     }
 
-    /// The same, and returns where the mistake is then.
+    /// Tells in these words of tokens, from the one of a number to before another, which break a rule; returns the number of the mistake, where it is told.
     fn keep(
         &mut self,
-        rule: Rule,
-        mark: (usize, usize),
-        said: String,
-        page: &'static str,
-    ) -> Result<Kept, AllocError> {
+        breach: Breach,
+        (first, behind): (usize, usize),
+        words: &[&str],
+    ) -> Result<Option<usize>, AllocError> {
+        if !self.takes(breach) {
+            return Ok(None);
+        }
+        let said = joined(self.alloc, words)?;
+        let mark = self.cursor.marks(first, behind);
         self.told.add(Mistake {
-            rule,
+            rule: breach.rule,
             source: self.source,
-            cause: cause_at(mark, said, page),
+            cause: cause_at(mark, said, breach.page),
             more: 0,
         })
     }
 
+    /// Tells in these words of tokens, from the one of a number to before another, which break a rule.
+    pub fn say(
+        &mut self,
+        breach: Breach,
+        tokens: (usize, usize),
+        words: &[&str],
+    ) -> Result<(), AllocError> {
+        self.keep(breach, tokens, words)?;
+        Ok(())
+    }
+
+    /// Tells of the token of a number, which breaks a rule: it stands in quotes before what is said.
+    pub fn say_at(&mut self, breach: Breach, number: usize, why: &str) -> Result<(), AllocError> {
+        let word = self.cursor.word(number);
+        self.say(breach, alone(number), &["'", word, "' ", why])
+    }
+
     /// Tells of a name at the token of a number that isn't there; where that was told of the unit, it is counted.
-    pub fn tell_missing(
+    pub fn say_missing(
         &mut self,
         name: &Text,
         number: usize,
-        said: String,
+        said: &str,
     ) -> Result<(), AllocError> {
-        let mark = self.cursor.mark(number);
-        let kept = self.keep(Rule::Names, mark, said, NAMES)?;
+        let kept = self.keep(NAMES, alone(number), &[said])?;
         if self.missing.add(self.alloc, name.as_str())? {
             self.kept.push(kept)?;
         }
@@ -110,26 +147,14 @@ impl<'t> Teller<'t> {
         let Some(number) = self.missing.find(name.as_str()) else {
             return false;
         };
-        if let Some(kept) = self.kept.get(number) {
-            self.told.count(*kept);
+        if let Some(Some(kept)) = self.kept.get(number).copied() {
+            self.told.count(kept);
         }
         true
     }
+}
 
-    /// Tells of the token of a number, which breaks a rule: it stands in quotes before what is said.
-    pub fn tell_at(
-        &mut self,
-        rule: Rule,
-        number: usize,
-        why: &str,
-        page: &'static str,
-    ) -> Result<(), AllocError> {
-        if !self.told.takes(rule) {
-            return Ok(());
-        }
-        let word = self.cursor.word(number);
-        let said = format!(in self.alloc; "'{word}' {why}")?;
-        let mark = self.cursor.mark(number);
-        self.tell(rule, mark, said, page)
-    }
+/// The token of a number alone: from it to before the next.
+pub fn alone(number: usize) -> (usize, usize) {
+    (number, number.saturating_add(1))
 }

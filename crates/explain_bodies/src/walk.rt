@@ -1,8 +1,9 @@
 //! All units of a plant are walked.
 
 use crate::teller::Teller;
-use crate::told::{Mistake, Rule};
-use source_trees::{Body, Cursor, Source, Titles, Trees, sources_of, units_of};
+use source_trees::{
+    Body, Cursor, Mistake, Rule, Source, Titles, Told, Trees, sources_of, units_of,
+};
 use st_names::SharedNames;
 use st_parser::{Pou, Unit};
 use std::alloc::{AllocError, Global};
@@ -60,29 +61,13 @@ fn walk_all<'t>(teller: &mut Teller<'t>) -> Result<(), AllocError> {
     Ok(())
 }
 
-/// The mistakes of a plant's units.
-fn mistakes_in<'t>(
-    alloc: Global,
-    plant: &'t Trees<'t>,
-    refused: Rule,
-) -> Result<Vec<Mistake>, AllocError> {
-    let mut teller = Teller::new(alloc, plant, refused);
-    match walk_all(&mut teller) {
-        Ok(()) => teller.into_told().into_list(alloc),
-        Err(refused) => {
-            drop(teller);
-            Err(refused)
-        }
-    }
-}
-
-/// The mistakes of units whose names are known.
+/// The mistakes of units, whose names are known.
 fn in_units<'t>(
     alloc: Global,
     (sources, units): (&'t [Source<'t>], &'t [Unit]),
     shared: &'t SharedNames<'t>,
     refused: Rule,
-) -> Result<Vec<Mistake>, AllocError> {
+) -> Result<Told, AllocError> {
     let standard = SharedNames::new(alloc, &[])?;
     let titles = Titles::of(alloc, units)?;
     let plant = Trees {
@@ -92,20 +77,14 @@ fn in_units<'t>(
         standard: &standard,
         titles: &titles,
     };
-    mistakes_in(alloc, &plant, refused)
-}
-
-/// The mistakes of sources; none where one isn't spelled as the grammar says.
-fn in_sources(
-    alloc: Global,
-    sources: &[Source<'_>],
-    refused: Rule,
-) -> Result<Vec<Mistake>, AllocError> {
-    let Some(units) = units_of(alloc, sources)? else {
-        return Ok(Vec::new(alloc));
-    };
-    let shared = SharedNames::new(alloc, units.as_slice())?;
-    in_units(alloc, (sources, units.as_slice()), &shared, refused)
+    let mut teller = Teller::new(alloc, &plant, refused);
+    match walk_all(&mut teller) {
+        Ok(()) => Ok(teller.into_told()),
+        Err(refused) => {
+            drop(teller);
+            Err(refused)
+        }
+    }
 }
 
 /// What is wrong in the units of the sources of a plant, that is refused by a rule: first the first mistake that breaks this rule, and then the others in
@@ -116,5 +95,15 @@ pub fn mistakes<'a>(
     refused: Rule,
 ) -> Result<Vec<Mistake>, AllocError> {
     let sources = sources_of(alloc, texts)?;
-    in_sources(alloc, sources.as_slice(), refused)
+    let Some(units) = units_of(alloc, sources.as_slice())? else {
+        return Ok(Vec::new(alloc));
+    };
+    let shared = SharedNames::new(alloc, units.as_slice())?;
+    let told = in_units(
+        alloc,
+        (sources.as_slice(), units.as_slice()),
+        &shared,
+        refused,
+    )?;
+    told.into_list(alloc)
 }

@@ -72,7 +72,7 @@ fn told<H: Threads + Sync>(
     let fault = fault_for(rt, alloc, texts, all.unwrap_or(line))?;
     match fault {
         ConfigFault::Memory => Ok(String::new(alloc)),
-        fault if all.is_some() => explain_all(rt, alloc, texts, &fault),
+        fault if all.is_some() => explain_all(alloc, texts, &fault),
         fault => explain(alloc, texts, &fault),
     }
 }

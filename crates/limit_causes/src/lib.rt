@@ -1,16 +1,18 @@
-//! With what the sources of a refused plant are past a limit of their own: the instance that makes blocks too deep, the
-//! program that is one too many, or the body that runs most often.
+//! With what the sources of a refused plant are past a limit of their own: the FORs with too many turns, the instance that makes blocks too deep, the program
+//! that is one too many, or the program with which variables, size or cost are past their limit, how many these are, and where most of them stand.
 //!
-//! It goes by their trees. What it finds is a sentence for a person, and tried on examples.
+//! It reads each source once, and counts over the trees. What it finds is a sentence for a person, and tried on examples.
 #![tactic(auto)]
 
-mod deep;
-mod numbered;
-mod programs;
+mod counts;
+mod depths;
+mod fors;
+mod limits;
+mod measures;
 mod spots;
-mod turns;
+mod totals;
+mod weights;
 
-pub use deep::too_deep;
-pub use numbered::one_too_many;
-pub use programs::{Part, Past, past_with, program_parts, too_costly};
+pub use limits::{Past, where_past};
+pub use measures::Measure;
 pub use spots::Found;

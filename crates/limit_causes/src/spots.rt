@@ -1,8 +1,8 @@
-//! What there is to say at a declared name.
+//! What there is to say at a place of a source.
 
-use plant_types::Text;
-use source_trees::mark_of;
-use token_causes::{Cause, cause_at};
+use source_trees::Source;
+use st_lexer::{Keyword, Token, TokenKind};
+use token_causes::{Cause, kind_at, span_of};
 
 /// Where the limits of the language stand.
 pub const LIMITS: &str = "docs/LANGUAGE.md, \"Limits (this profile)\"";
@@ -14,10 +14,27 @@ pub struct Found {
     pub cause: Cause,
 }
 
-/// What is said at a name of the tree of a source.
-pub fn found_at(source: usize, name: &Text, said: String, page: &'static str) -> Found {
-    Found {
-        source,
-        cause: cause_at(mark_of(name), said, page),
+/// The number of the token at which the head of the FOR ends whose variable has a number.
+fn head_end(tokens: &[Token], number: usize) -> usize {
+    for i in number..tokens.len() {
+        if let Some(TokenKind::Keyword(Keyword::By | Keyword::Do)) = kind_at(tokens, i) {
+            return i;
+        }
     }
+    tokens.len()
+}
+
+/// The bytes of a FOR and its bounds, by the byte of its variable.
+pub fn for_mark(source: &Source<'_>, at: usize) -> (usize, usize) {
+    let tokens = source.tokens.as_slice();
+    let number = tokens
+        .iter()
+        .position(|token| token.from >= at)
+        .unwrap_or(0);
+    span_of(
+        source.text,
+        tokens,
+        number.saturating_sub(1),
+        head_end(tokens, number),
+    )
 }

@@ -1,88 +1,89 @@
-//! The cause of a refusal is looked for.
+//! What is wrong in a refused plant is looked for.
 
-use crate::past::spot_of;
+ghost use Rattle.std.specs.Prelude.{◌≤◌, length, IfOk};
+
+use crate::limits::spots_past;
+use crate::sources::{Place, spots_in_sources};
 use crate::tables::{first_of, spots_in_tables};
-use crate::units::{source_named, spots_in_units};
-use grammar_causes::ungrammatical;
-use limit_causes::{one_too_many, too_costly, too_deep};
-use plant_config::{ConfigFault, Limit};
+use crate::units::{rule_of, spots_in_units};
+use plant_config::ConfigFault;
 use plant_folder::PlantTexts;
-use plant_places::{FileOf, Spot, byte_at, over_limit, text_of};
-use plant_types::Text;
+use plant_places::{FileOf, Spot};
 use std::alloc::{AllocError, Global};
-use token_causes::misspelled;
+use token_causes::cause_of;
 
-/// The cause of a fault of spelling or grammar, at a line and a column.
-fn in_text(
+/// The most faults that are told.
+pub const MOST_FAULTS: usize = 20;
+
+/// What is wrong in a refused plant, as far as it is found.
+fn found(
     alloc: Global,
-    refused: &PlantTexts<'_>,
-    name: &Text,
-    place: (usize, usize),
-    is_spelling: bool,
-) -> Result<Spot, AllocError> {
-    let file = FileOf::Source(source_named(refused, name));
-    let text = text_of(refused, file);
-    let at = byte_at(text, place.0, place.1);
-    let cause = if is_spelling {
-        misspelled(alloc, text, at)?
-    } else {
-        ungrammatical(alloc, text, at)?
-    };
-    Ok(Spot { file, cause })
-}
-
-/// Where a limit isn't kept: at a word of a source, where one tells it.
-fn over(alloc: Global, refused: &PlantTexts<'_>, limit: Limit) -> Result<Spot, AllocError> {
-    let texts = refused.sources;
-    let found = match limit {
-        Limit::Cost => too_costly(alloc, texts)?,
-        Limit::BlockDepth => too_deep(alloc, texts)?,
-        Limit::Programs => one_too_many(alloc, texts, true)?,
-        Limit::Slots => one_too_many(alloc, texts, false)?,
-        _ => None,
-    };
-    match found {
-        Some(found) => Ok(spot_of(found)),
-        None => over_limit(alloc, refused, limit),
-    }
-}
-
-/// The file in which a refused plant has a fault that is of no unit and of no table, and its cause there.
-fn find_elsewhere(
-    alloc: Global,
-    refused: &PlantTexts<'_>,
+    texts: &PlantTexts<'_>,
     fault: &ConfigFault,
-) -> Result<Spot, AllocError> {
+) -> Result<Vec<Spot>, AllocError> {
     match fault {
-        ConfigFault::Limit(limit) => over(alloc, refused, *limit),
+        ConfigFault::Limit(limit) => spots_past(alloc, texts, *limit),
         ConfigFault::Spelling { file, line, column } => {
-            in_text(alloc, refused, file, (*line, *column), true)
+            let place = Place {
+                file,
+                line: *line,
+                column: *column,
+            };
+            spots_in_sources(alloc, texts, &place, true)
         }
         ConfigFault::Grammar { file, line, column } => {
-            in_text(alloc, refused, file, (*line, *column), false)
+            let place = Place {
+                file,
+                line: *line,
+                column: *column,
+            };
+            spots_in_sources(alloc, texts, &place, false)
         }
-        _ => over(alloc, refused, Limit::Turns),
+        _ => match rule_of(fault) {
+            Some(broken) => spots_in_units(alloc, texts, &broken),
+            None => spots_in_tables(alloc, texts, fault),
+        },
     }
+}
+
+/// What is said where nothing was found, since memory was refused.
+fn untold(alloc: Global) -> Result<Spot, AllocError> {
+    let said = String::from_str(alloc, "it isn't told where, since memory was refused")?;
+    Ok(Spot {
+        file: FileOf::Plant,
+        cause: cause_of(said, "docs/PLANT.md, \"To find the fault\""),
+    })
+}
+
+/// The fault of a refused plant, and further ones that are found with it, 20 at most: of the plant file and of rows in order of text, of sources first the one for
+/// which it is refused, and then the others in order of text; where the spelling or the grammar of sources is at fault, behind these those of rows.
+pub fn find_all(
+    alloc: Global,
+    texts: &PlantTexts<'_>,
+    fault: &ConfigFault,
+) -> Result<Vec<Spot>, AllocError>
+    ensures least { IfOk result (λ found. 1 ≤ length found.items) }
+    ensures most { IfOk result (λ found. length found.items ≤ 20) }
+{
+    let mut spots = found(alloc, texts, fault)?;
+    if spots.is_empty() {
+        spots.push(untold(alloc)?)?;
+    }
+    spots.truncate(MOST_FAULTS);
+    Ok(spots)
 }
 
 /// The file in which a refused plant has a fault, and its cause there.
 pub fn find(
     alloc: Global,
-    refused: &PlantTexts<'_>,
+    texts: &PlantTexts<'_>,
     fault: &ConfigFault,
 ) -> Result<Spot, AllocError> {
-    if let Some(found) = spots_in_units(alloc, refused, fault)? {
-        let mut found = found;
-        if !found.is_empty() {
-            return Ok(found.remove(0));
-        }
+    let mut spots = find_all(alloc, texts, fault)?;
+    let first = first_of(fault);
+    if first < spots.len() {
+        Ok(spots.remove(first))
+    } else {
+        Ok(spots.remove(0))
     }
-    if let Some(found) = spots_in_tables(alloc, refused, fault)? {
-        let mut found = found;
-        let first = first_of(fault);
-        if first < found.len() {
-            return Ok(found.remove(first));
-        }
-    }
-    find_elsewhere(alloc, refused, fault)
 }

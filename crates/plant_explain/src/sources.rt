@@ -1,39 +1,93 @@
 //! What is wrong in the spelling and the grammar of the sources (C4, C5).
 
-use crate::search::{MOST_FAULTS, size_of};
-use plant_config::ConfigFault;
+use crate::finding::MOST_FAULTS;
+use crate::rows::spots_behind_sources;
+use crate::units::source_named;
+use grammar_causes::ungrammatical;
 use plant_folder::PlantTexts;
-use plant_places::{FileOf, Spot};
+use plant_places::{FileOf, Spot, byte_at, text_of};
+use plant_types::Text;
 use source_causes::{Reading, causes};
 use std::alloc::{AllocError, Global};
-
-/// Whether a fault is one of the spelling or the grammar of a source.
-pub fn is_of_sources(fault: &ConfigFault) -> bool {
-    matches!(
-        fault,
-        ConfigFault::Spelling { .. } | ConfigFault::Grammar { .. }
-    )
-}
+use token_causes::misspelled;
 
 /// So many tokens are read at least, and one more for each byte of the plant.
 const LEAST_TOKENS: usize = 100_000;
 
-/// What is wrong in the spelling and the grammar of all sources, in order of text, as far as it is certain. Fails if memory was refused.
-pub fn spots_in_sources(alloc: Global, texts: &PlantTexts<'_>) -> Result<Vec<Spot>, AllocError> {
+/// Where a source is at fault: the line and the byte of the line count from 1.
+#[derive(Drop)]
+pub struct Place<'f> {
+    pub file: &'f Text,
+    pub line: usize,
+    pub column: usize,
+}
+
+/// How many bytes the texts of a plant have together.
+fn size_of(texts: &PlantTexts<'_>) -> usize {
+    let mut size = texts.plant.len().saturating_add(texts.alarms.len());
+    for source in texts.sources {
+        size = size.saturating_add(source.1.len());
+    }
+    size
+}
+
+/// The cause of a fault of spelling or grammar.
+fn at_place(
+    alloc: Global,
+    texts: &PlantTexts<'_>,
+    place: &Place<'_>,
+    is_spelling: bool,
+) -> Result<Spot, AllocError> {
+    let file = FileOf::Source(source_named(texts, place.file));
+    let text = text_of(texts, file);
+    let at = byte_at(text, place.line, place.column);
+    let cause = if is_spelling {
+        misspelled(alloc, text, at)?
+    } else {
+        ungrammatical(alloc, text, at)?
+    };
+    Ok(Spot { file, cause })
+}
+
+/// Adds what else is wrong in the spelling and the grammar of all sources, in order of text, as far as it is certain.
+fn add_others(
+    alloc: Global,
+    texts: &PlantTexts<'_>,
+    spots: &mut Vec<Spot>,
+    first: (FileOf, Option<(usize, usize)>),
+) -> Result<(), AllocError> {
     let mut left = Reading {
         causes: MOST_FAULTS,
         tokens: size_of(texts).saturating_add(LEAST_TOKENS),
     };
-    let mut spots = Vec::new(alloc);
     for (number, source) in texts.sources.iter().enumerate() {
         let (found, less) = causes(alloc, source.1, left)?;
         left = less;
+        let file = FileOf::Source(number);
         for cause in found {
-            spots.push(Spot {
-                file: FileOf::Source(number),
-                cause,
-            })?;
+            if spots.len() < MOST_FAULTS && (file, cause.mark) != first {
+                spots.push(Spot { file, cause })?;
+            }
         }
+    }
+    Ok(())
+}
+
+/// What is wrong in the spelling and the grammar of the sources of a plant that is refused for it: first at the place of the refusal, then in order of text, and
+/// behind these in the rows of the alarm database.
+pub fn spots_in_sources(
+    alloc: Global,
+    texts: &PlantTexts<'_>,
+    place: &Place<'_>,
+    is_spelling: bool,
+) -> Result<Vec<Spot>, AllocError> {
+    let spot = at_place(alloc, texts, place, is_spelling)?;
+    let first = (spot.file, spot.cause.mark);
+    let mut spots = Vec::new(alloc);
+    spots.push(spot)?;
+    add_others(alloc, texts, &mut spots, first)?;
+    for spot in spots_behind_sources(alloc, texts)? {
+        spots.push(spot)?;
     }
     Ok(spots)
 }

@@ -5,11 +5,11 @@ ghost use Rattle.plant_config.specs.declared.fault.ConfigFault.TheVariants as co
 ghost use Rattle.plant_folder.specs.Verdicts.{refusal_line};
 ghost use Rattle.plant_explain.specs.Told.{BeginsWith};
 
-use crate::finding::find;
+use crate::finding::{MOST_FAULTS, find, find_all};
 use crate::warnings::find_warnings;
 use plant_config::{ConfigFault, Plant};
 use plant_folder::PlantTexts;
-use plant_places::{shown, shown_alone};
+use plant_places::{Spot, shown, shown_alone};
 use std::alloc::{AllocError, Global};
 
 /// A line with its line feed, and a text.
@@ -22,20 +22,79 @@ pub fn under(alloc: Global, line: &str, text: &str) -> Result<String, AllocError
     Ok(both)
 }
 
-/// What a person is told when a plant is refused: first the line of the refusal, then the place, the line there with a mark, what is wrong, and
-/// where to read on.
-pub fn explain(
+/// The last line: how many faults are told, where that is more than one.
+fn last_line(alloc: Global, count: usize) -> Result<String, AllocError> {
+    if count <= 1 {
+        return Ok(String::new(alloc));
+    }
+    let more = if count >= MOST_FAULTS {
+        ", and there may be more"
+    } else {
+        ""
+    };
+    format!(in alloc; "{count} faults told{more}: correct these and check again\n")
+}
+
+/// What is said of faults, each with its place in these texts, and where to read on where that isn't the page of the fault before.
+fn all_shown(alloc: Global, texts: &PlantTexts<'_>, spots: &[Spot]) -> Result<String, AllocError> {
+    let mut told = String::new(alloc);
+    let mut page = "";
+    for spot in spots {
+        let text = if spot.cause.page == page {
+            shown_alone(alloc, texts, spot)?
+        } else {
+            shown(alloc, texts, spot)?
+        };
+        page = spot.cause.page;
+        told.push_str(text.as_str())?;
+    }
+    let last = last_line(alloc, spots.len())?;
+    told.push_str(last.as_str())?;
+    Ok(told)
+}
+
+/// The line of a refusal, and below it what is said of faults.
+fn with_line(
     alloc: Global,
-    refused: &PlantTexts<'_>,
+    texts: &PlantTexts<'_>,
     fault: &ConfigFault,
+    spots: &[Spot],
 ) -> Result<String, AllocError>
     requires { fault.now ≢ config_fault.Memory }
     ensures { IfOk result (λ text. BeginsWith (refusal_line fault.now) (string_bytes text)) }
 {
     let line = fault.line(alloc)?;
-    let spot = find(alloc, refused, fault)?;
-    let rest = shown(alloc, refused, &spot)?;
+    let rest = all_shown(alloc, texts, spots)?;
     under(alloc, line.as_str(), rest.as_str())
+}
+
+/// What a person is told when a plant is refused: first the line of the refusal, then the place, the line there with a mark, what is wrong, and
+/// where to read on.
+pub fn explain(
+    alloc: Global,
+    texts: &PlantTexts<'_>,
+    fault: &ConfigFault,
+) -> Result<String, AllocError>
+    requires { fault.now ≢ config_fault.Memory }
+    ensures { IfOk result (λ text. BeginsWith (refusal_line fault.now) (string_bytes text)) }
+{
+    let mut spots = Vec::new(alloc);
+    spots.push(find(alloc, texts, fault)?)?;
+    with_line(alloc, texts, fault, spots.as_slice())
+}
+
+/// The same, and below it the explanations of further faults of the same stage that are certain, 20 in all at most, each in the plant's own texts, and how many
+/// are told.
+pub fn explain_all(
+    alloc: Global,
+    texts: &PlantTexts<'_>,
+    fault: &ConfigFault,
+) -> Result<String, AllocError>
+    requires { fault.now ≢ config_fault.Memory }
+    ensures { IfOk result (λ text. BeginsWith (refusal_line fault.now) (string_bytes text)) }
+{
+    let spots = find_all(alloc, texts, fault)?;
+    with_line(alloc, texts, fault, spots.as_slice())
 }
 
 /// What a person is told of a plant that is accepted from these texts: what is likely to be wrong in it, each with its place and the line there; nothing

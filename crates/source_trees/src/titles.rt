@@ -6,18 +6,10 @@ use st_parser::{Declaration, Pou, PouKind, Section, SectionKind, Sort, Unit};
 use std::alloc::{AllocError, Global};
 use word_index::Names;
 
-/// What a name that all sources share is.
-#[derive(Clone, Copy, PartialEq, Eq, Drop)]
-pub enum What {
-    Global,
-    Block,
-    Program,
-}
-
 /// The first declaration of a name that all sources share.
 #[derive(Clone, Copy, Drop)]
 pub struct Title {
-    pub what: What,
+    pub is_program: bool,
     /// The number of its source, from 0, and its byte there.
     pub source: usize,
     pub at: u32,
@@ -77,7 +69,7 @@ impl Titles {
         let is_doubtful = matches!(declaration.sort, Sort::Block(_));
         for name in &declaration.names {
             let title = Title {
-                what: What::Global,
+                is_program: false,
                 source,
                 at: name.at(),
                 is_doubtful,
@@ -89,12 +81,10 @@ impl Titles {
 
     /// Adds a block or a program.
     fn add_pou(&mut self, alloc: Global, source: usize, pou: &Pou) -> Result<(), AllocError> {
-        let (what, is_doubtful) = match pou.kind {
-            PouKind::Block => (What::Block, is_mixed(alloc, &pou.sections)?),
-            PouKind::Program => (What::Program, false),
-        };
+        let is_program = matches!(pou.kind, PouKind::Program);
+        let is_doubtful = !is_program && is_mixed(alloc, &pou.sections)?;
         let title = Title {
-            what,
+            is_program,
             source,
             at: pou.name.at(),
             is_doubtful,
@@ -127,6 +117,14 @@ impl Titles {
         match self.names.find(name.as_str()) {
             Some(number) => self.names.get(number).unwrap_or(""),
             None => "",
+        }
+    }
+
+    /// Whether a name is declared first as that of a program.
+    pub fn is_program(&self, name: &Text) -> bool {
+        match self.find(name) {
+            Some(title) => title.is_program,
+            None => false,
         }
     }
 

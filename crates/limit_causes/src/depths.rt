@@ -1,33 +1,32 @@
-//! A function block that is too deep (C10 BLOCK_DEPTH).
+//! How deep function blocks are (C10 BLOCK_DEPTH).
 
-use crate::spots::{Found, LIMITS, found_at};
-use plant_types::{Text, same_word};
-use source_trees::{sources_of, units_of};
+use crate::measures::standard_slots;
+use crate::spots::{Found, LIMITS};
+use plant_types::Text;
+use source_trees::{joined, mark_of};
 use st_parser::{Declaration, Pou, PouKind, Sort, Unit};
 use std::alloc::{AllocError, Global};
+use token_causes::cause_at;
 use word_index::Names;
 
 /// How deep a function block may be at most.
-const MOST_DEEP: usize = 16;
-
-/// The blocks that are there from the start.
-const STANDARD: [&[u8]; 3] = [b"TON", b"TOF", b"R_TRIG"];
+pub const MOST_DEEP: usize = 16;
 
 /// The function blocks of a plant, and how deep each is as far as that is known.
 #[derive(Drop)]
-struct Depths {
-    names: Names,
+pub struct Depths {
+    pub names: Names,
     depths: Vec<usize>,
 }
 
 /// Whether a unit is a block.
-fn is_block(pou: &Pou) -> bool {
+pub fn is_block(pou: &Pou) -> bool {
     matches!(pou.kind, PouKind::Block)
 }
 
 impl Depths {
     /// The function blocks that are declared, each 1 deep.
-    fn of(alloc: Global, units: &[Unit]) -> Result<Depths, AllocError> {
+    fn declared(alloc: Global, units: &[Unit]) -> Result<Depths, AllocError> {
         let mut depths = Depths {
             names: Names::new(alloc),
             depths: Vec::new(alloc),
@@ -42,10 +41,18 @@ impl Depths {
         Ok(depths)
     }
 
+    /// The function blocks of units, and how deep each is, up to one more than is allowed.
+    pub fn of(alloc: Global, units: &[Unit]) -> Result<Depths, AllocError> {
+        let mut depths = Depths::declared(alloc, units)?;
+        for _ in 0..MOST_DEEP {
+            depths.go_through(units);
+        }
+        Ok(depths)
+    }
+
     /// How deep the block of a word is; 0 for what is none.
-    fn depth_of(&self, word: &Text) -> usize {
-        let bytes = word.as_bytes();
-        if STANDARD.iter().any(|standard| same_word(standard, bytes)) {
+    pub fn depth_of(&self, word: &Text) -> usize {
+        if standard_slots(word).is_some() {
             return 1;
         }
         match self.names.find(word.as_str()) {
@@ -115,38 +122,25 @@ impl Depths {
     }
 }
 
-/// What is said of the first declaration that makes a block too deep.
-fn told(alloc: Global, depths: &Depths, units: &[Unit]) -> Result<Option<Found>, AllocError> {
+/// The instance by which a function block is too deep; `None` where none is found.
+pub fn too_deep(alloc: Global, units: &[Unit]) -> Result<Option<Found>, AllocError> {
+    let depths = Depths::of(alloc, units)?;
     let Some((source, pou, declaration)) = depths.first_deep(units) else {
         return Ok(None);
     };
     let (Some(name), Sort::Block(word)) = (declaration.names.first(), &declaration.sort) else {
         return Ok(None);
     };
-    let (holder, block) = (pou.name.as_str(), word.as_str());
-    let said = format!(in alloc;
-        "'{block}' is 16 deep already, the most that is allowed, and '{holder}', which has an instance of it here, is one deeper"
+    let said = joined(
+        alloc,
+        &[
+            "'",
+            word.as_str(),
+            "' is 16 deep already, the most that is allowed, and '",
+            pou.name.as_str(),
+            "', which has an instance of it here, is one deeper",
+        ],
     )?;
-    Ok(Some(found_at(source, name, said, LIMITS)))
-}
-
-/// The instance of units by which a function block is too deep; `None` where none is found.
-fn found_in(alloc: Global, units: &[Unit]) -> Result<Option<Found>, AllocError> {
-    let mut depths = Depths::of(alloc, units)?;
-    for _ in 0..MOST_DEEP {
-        depths.go_through(units);
-    }
-    told(alloc, &depths, units)
-}
-
-/// The instance by which a function block is too deep; `None` where none is found.
-pub fn too_deep<'a>(
-    alloc: Global,
-    texts: &[(&'a str, &'a [u8])],
-) -> Result<Option<Found>, AllocError> {
-    let sources = sources_of(alloc, texts)?;
-    match units_of(alloc, sources.as_slice())? {
-        Some(units) => found_in(alloc, units.as_slice()),
-        None => Ok(None),
-    }
+    let cause = cause_at(mark_of(name), said, LIMITS);
+    Ok(Some(Found { source, cause }))
 }

@@ -1,7 +1,9 @@
 //! Why a name in the alarm database is no BOOL global's (C14).
 
+use crate::body::kind_text;
+use crate::near::Nearest;
+use crate::search::{global_named, owner_of};
 use plant_types::{Kind, same_word};
-use source_trees::{Nearest, global_named, kind_text, owner_of, sources_of, units_of};
 use st_names::sort_kind;
 use st_parser::{Declaration, Unit};
 use std::alloc::{AllocError, Global};
@@ -52,21 +54,13 @@ fn kind_of(units: &[Unit], name: &str) -> Option<Kind> {
     sort_kind(&declaration.sort)
 }
 
-/// Why a name is no BOOL global's.
-pub fn no_bool_global<'a>(
-    alloc: Global,
-    texts: &[(&'a str, &'a [u8])],
-    name: &str,
-) -> Result<String, AllocError> {
-    let sources = sources_of(alloc, texts)?;
-    let Some(units) = units_of(alloc, sources.as_slice())? else {
-        return format!(in alloc; "no BOOL global is called '{name}'");
-    };
-    match kind_of(units.as_slice(), name) {
+/// Why a name is no BOOL global's, in a plant of units.
+pub fn no_bool_global(alloc: Global, units: &[Unit], name: &str) -> Result<String, AllocError> {
+    match kind_of(units, name) {
         Some(kind) => {
             let kind = kind_text(kind);
             format!(in alloc; "'{name}' is a {kind}, and an alarm watches BOOL globals")
         }
-        None => undeclared(alloc, units.as_slice(), name),
+        None => undeclared(alloc, units, name),
     }
 }
