@@ -28,6 +28,17 @@ const MARKS: &str =
 const LASTING: &str =
     "' isn't part of the language: a variable keeps its value from scan to scan, and none beyond a run";
 
+/// What is said of an instruction of a list.
+const LISTS: &str =
+    "' isn't part of the language: there are no lists of instructions, and a value is assigned as in n := m;";
+
+/// What is said of what stands around units.
+const AROUND: &str =
+    "' isn't part of the language: all sources of a plant share their globals and blocks";
+
+/// What is said of a call that a word begins.
+const CALLED: &str = "' isn't part of the language: an instance is called as t(IN := a);";
+
 /// What is said of another word for ELSE of a CASE.
 const OTHERWISE: &str =
     "' isn't part of the language: the last part of a CASE is ELSE, without a :";
@@ -43,6 +54,16 @@ const WORDS: &[(&str, &str)] = &[
     ("CONTINUE", LEAVE),
     ("RETURN", LEAVE),
     ("GOTO", LEAVE),
+    ("JMP", LEAVE),
+    ("LOOP", LOOP),
+    ("LD", LISTS),
+    ("LDN", LISTS),
+    ("ST", LISTS),
+    ("STN", LISTS),
+    (
+        "__TRY",
+        "' isn't part of the language: a program that traps stops until an operator restarts it",
+    ),
     (
         "BREAK",
         "' isn't part of the language: the statements of a label end before the next one",
@@ -82,6 +103,13 @@ const WORDS: &[(&str, &str)] = &[
     ),
     ("TYPE", KINDS),
     ("STRUCT", KINDS),
+    ("UNION", KINDS),
+    ("END_TYPE", KINDS),
+    ("END_STRUCT", KINDS),
+    ("NAMESPACE", AROUND),
+    ("USING", AROUND),
+    ("IMPORT", AROUND),
+    ("LIBRARY", AROUND),
     ("METHOD", PARTS),
     ("PROPERTY", PARTS),
     ("ACTION", PARTS),
@@ -89,6 +117,10 @@ const WORDS: &[(&str, &str)] = &[
     ("IMPLEMENTS", PARTS),
     ("PUBLIC", PARTS),
     ("PRIVATE", PARTS),
+    ("PROTECTED", PARTS),
+    ("INTERNAL", PARTS),
+    ("FINAL", PARTS),
+    ("CLASS", PARTS),
     ("ABSTRACT", PARTS),
     ("INTERFACE", PARTS),
     ("BEGIN", MARKS),
@@ -110,7 +142,17 @@ const WORDS: &[(&str, &str)] = &[
     ("OUTPUT", "' is written VAR_OUTPUT"),
     ("VAR_OUT", "' is written VAR_OUTPUT"),
     ("GLOBAL", "' is written VAR_GLOBAL"),
+    ("GLOBAL_VAR", "' is written VAR_GLOBAL"),
     ("VAR_STAT", "' is written VAR"),
+    ("VAR_INST", "' is written VAR"),
+    (
+        "VAR_CONFIG",
+        "' isn't part of the language: an address stands in VAR_GLOBAL, as in pump AT %QX0.0 : BOOL",
+    ),
+    (
+        "VAR_ACCESS",
+        "' isn't part of the language: VAR_GLOBAL has what several units use",
+    ),
     (
         "VAR_IN_OUT",
         "' isn't part of the language: VAR_INPUT takes a value, and VAR_OUTPUT gives one",
@@ -119,10 +161,8 @@ const WORDS: &[(&str, &str)] = &[
         "CONST",
         "' isn't part of the language: VAR is, with initial values that nothing assigns",
     ),
-    (
-        "CAL",
-        "' isn't part of the language: an instance is called as t(IN := a);",
-    ),
+    ("CAL", CALLED),
+    ("CALL", CALLED),
     (
         "PASS",
         "' isn't part of the language: an empty statement is a ; alone",
@@ -153,11 +193,83 @@ const OPERATORS: &[(&str, &str)] = &[
     ),
     ("IS", "' isn't part of the language: equal is written ="),
     ("EQ", "' isn't part of the language: equal is written ="),
+    ("NE", "' isn't part of the language: unequal is written <>"),
+    ("LT", "' isn't part of the language: less is written <"),
+    ("GT", "' isn't part of the language: greater is written >"),
+    ("LE", "' isn't part of the language: at most is written <="),
+    ("GE", "' isn't part of the language: at least is written >="),
+    (
+        "REM",
+        "' isn't part of the language: a remainder is written n MOD 2",
+    ),
     (
         "IN",
         "' isn't part of the language: CASE n OF has labels behind OF, and FOR i := 1 TO 8 its bounds behind :=",
     ),
 ];
+
+/// What is said of what leads to another variable.
+const POINTERS: &str =
+    "' isn't part of the language: there are no pointers, and a variable is named itself";
+
+/// What is said of a kind of texts.
+const TEXTS: &str =
+    "' isn't part of the language: it has no texts, and its kinds are BOOL, DINT and TIME";
+
+/// Words of other dialects in the place of a kind, behind which something goes on, and what is said behind each.
+const KIND_WORDS: &[(&str, &str)] = &[
+    ("POINTER", POINTERS),
+    ("REFERENCE", POINTERS),
+    ("REF_TO", POINTERS),
+    ("STRING", TEXTS),
+    ("WSTRING", TEXTS),
+    ("STRUCT", KINDS),
+    ("UNION", KINDS),
+    (
+        "ARRAY",
+        "' isn't part of the language: each of its variables has a name of its own",
+    ),
+];
+
+/// What is said of what other dialects tell of a unit behind its name.
+const ATTRIBUTES: &str =
+    "' isn't part of the language: a unit has a name alone, and a remark may tell the rest";
+
+/// Words by which other dialects tell something of a unit behind its name, with a `:` or a `=`.
+const UNIT_WORDS: &[(&str, &str)] = &[
+    ("VERSION", ATTRIBUTES),
+    ("TITLE", ATTRIBUTES),
+    ("AUTHOR", ATTRIBUTES),
+    ("FAMILY", ATTRIBUTES),
+    ("NAME", ATTRIBUTES),
+    ("KNOW_HOW_PROTECT", ATTRIBUTES),
+];
+
+/// Two words that are one keyword, and what is said behind the first.
+const PAIRS: &[(&str, &str, &str)] = &[
+    (
+        "FUNCTION",
+        "BLOCK",
+        "' and BLOCK are one word: FUNCTION_BLOCK",
+    ),
+    (
+        "END_FUNCTION",
+        "BLOCK",
+        "' and BLOCK are one word: END_FUNCTION_BLOCK",
+    ),
+];
+
+/// What is said of two words that are one keyword; empty of others.
+fn said_of_pair(first: &str, second: &str) -> &'static str {
+    for (one, other, said) in PAIRS {
+        if same_word(one.as_bytes(), first.as_bytes())
+            && same_word(other.as_bytes(), second.as_bytes())
+        {
+            return *said;
+        }
+    }
+    ""
+}
 
 /// What is said behind a word that a list has; empty for any other word.
 fn said_in(list: &'static [(&'static str, &'static str)], word: &str) -> &'static str {
@@ -219,6 +331,26 @@ fn is_time_unit(text: &[u8], tokens: &[Token], number: usize) -> bool {
             || same_word(word, b"d"))
 }
 
+/// Whether the token of a number is a `:` or a `=`.
+fn tells_more(tokens: &[Token], number: usize) -> bool {
+    matches!(
+        kind_at(tokens, number),
+        Some(TokenKind::Symbol(Symbol::Colon | Symbol::Equal))
+    )
+}
+
+/// What is said behind the word of a number which can be told by where it stands alone: in the place of a kind, behind the name of a unit, or before a word with which it is
+/// one; empty of another.
+fn said_by_place(text: &[u8], tokens: &[Token], number: usize) -> &'static str {
+    let word = word_at(text, tokens, number);
+    let behind = number.saturating_add(1);
+    match stand_of(tokens, number) {
+        Stand::Kind => said_in(KIND_WORDS, word),
+        Stand::Head if tells_more(tokens, behind) => said_in(UNIT_WORDS, word),
+        _ => said_of_pair(word, word_at(text, tokens, behind)),
+    }
+}
+
 /// The word of another dialect by which the token of a number can't be there, and what is said behind it: that token, or the one before it.
 pub fn foreign_word(text: &[u8], tokens: &[Token], number: usize) -> Option<(usize, &'static str)> {
     if is_time_unit(text, tokens, number) && stand_of(tokens, number) == Stand::Valued {
@@ -228,11 +360,15 @@ pub fn foreign_word(text: &[u8], tokens: &[Token], number: usize) -> Option<(usi
         ));
     }
     let said = said_in(OPERATORS, word_at(text, tokens, number));
-    if !said.is_empty() && may_be_operator(tokens, number) {
+    if !said.is_empty() && may_be_operator(tokens, number) && !is_name(tokens, number) {
         return Some((number, said));
     }
     for back in 0..2 {
         let at = number.checked_sub(back)?;
+        let by_place = said_by_place(text, tokens, at);
+        if !by_place.is_empty() {
+            return Some((at, by_place));
+        }
         let said = said_in(WORDS, word_at(text, tokens, at));
         if !said.is_empty() && may_be_first(tokens, at) && !is_name(tokens, at) {
             return Some((at, said));

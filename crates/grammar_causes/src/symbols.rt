@@ -41,6 +41,7 @@ fn doubled(before: Symbol, symbol: Symbol) -> &'static str {
         (Symbol::Greater, Symbol::Less) => "unequal is written <>",
         (Symbol::Ampersand, Symbol::Ampersand) => "both is written AND, or & once",
         (Symbol::Times, Symbol::Times) => "there are no powers: n * n is written out",
+        (Symbol::Divide, Symbol::Equal) => "unequal is written <>",
         (Symbol::Less, Symbol::Less) | (Symbol::Greater, Symbol::Greater) => {
             "bits aren't shifted in the language"
         }
@@ -101,6 +102,14 @@ fn at_statement(symbol: Symbol, after: Option<TokenKind>) -> &'static str {
     }
 }
 
+/// Whether a token is BOOL, DINT or TIME.
+fn is_kind(kind: Option<TokenKind>) -> bool {
+    matches!(
+        kind,
+        Some(TokenKind::Keyword(Keyword::Bool | Keyword::Dint | Keyword::Time))
+    )
+}
+
 /// What is said of a symbol among declarations.
 fn at_declaration(found: Beside, symbol: Symbol) -> &'static str {
     match (found.stand, symbol, found.after) {
@@ -112,6 +121,9 @@ fn at_declaration(found: Beside, symbol: Symbol) -> &'static str {
         }
         (Stand::Kinded, Symbol::Equal, _) => "an initial value is written :=",
         (Stand::Kinded, Symbol::Comma, _) => "a declaration ends with a ';'",
+        (Stand::Kinded, Symbol::Open, _) if is_kind(found.before) => {
+            "there are no subranges: behind a kind stands a ';' or an initial value"
+        }
         (Stand::Kinded, Symbol::Open, _) => {
             "behind a kind stands a ';' or an initial value; a call gives arguments, as t(IN := a);"
         }
@@ -157,6 +169,9 @@ fn at_value(symbol: Symbol, after: Option<TokenKind>) -> &'static str {
             "there are no REALs: numbers are whole, and only those of a duration may have a point"
         }
         (Symbol::Semicolon | Symbol::Close | Symbol::Comma, _) => "a value is missing before it",
+        (Symbol::Plus, Some(TokenKind::Symbol(Symbol::Semicolon))) => {
+            "an assignment is written out, as n := n + 1"
+        }
         _ => "",
     }
 }

@@ -97,6 +97,7 @@ fn at_value(keyword: Keyword) -> &'static str {
         Keyword::To | Keyword::By | Keyword::Of | Keyword::Do | Keyword::At => {
             "it is a keyword, and a value is wanted here"
         }
+        Keyword::Mod => "a remainder is written between its numbers, as n MOD 2",
         _ => "",
     }
 }
