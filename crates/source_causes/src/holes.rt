@@ -1,9 +1,10 @@
 //! The tokens of a text in which some bytes begin none.
 
+use crate::marks::misspelled_at;
 use plant_types::Region;
 use st_lexer::{Keyword, LexFault, Symbol, Token, TokenKind, lex};
 use std::alloc::{AllocError, Global};
-use token_causes::{Cause, misspelled, part};
+use token_causes::{Cause, part};
 
 /// The most places of a text that are passed over.
 const MOST_HOLES: usize = 20;
@@ -154,7 +155,7 @@ fn take_hole(
     lexed: &mut Lexed,
     at: usize,
 ) -> Result<Option<usize>, AllocError> {
-    let cause = misspelled(alloc, text, at)?;
+    let cause = misspelled_at(alloc, text, at)?;
     let found = passed(text, at, &cause);
     let Some((until, kind)) = found else {
         lexed.holes.push((at, text.len()))?;

@@ -10,9 +10,11 @@
 mod ends;
 mod heads;
 mod holes;
+mod marks;
 mod mend;
 mod pieces;
 mod told;
 
+pub use marks::misspelled_at;
 pub use pieces::units_start;
 pub use told::{Reading, causes};

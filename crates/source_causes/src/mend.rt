@@ -99,6 +99,13 @@ fn is_alone(word: &[u8]) -> bool {
         || same_word(word, b"DEFAULT")
         || same_word(word, b"OTHERS")
         || same_word(word, b"CAL")
+        || same_word(word, b"CALL")
+        || same_word(word, b"JMP")
+}
+
+/// Whether a kind of another dialect has declarations of its own.
+fn has_parts(word: &[u8]) -> bool {
+    same_word(word, b"STRUCT") || same_word(word, b"UNION")
 }
 
 /// How to go on where a word of another dialect stands, which begins something.
@@ -371,7 +378,9 @@ pub fn way_on(
     let stand = stand_of(tokens, number);
     if let Some((at, said)) = foreign_word(text, tokens, number) {
         let is_operator = at == number && (stand == Stand::Valued || stand == Stand::Controlled);
-        if !is_operator && !is_alone(word_at(text, tokens, at).as_bytes()) {
+        let word = word_at(text, tokens, at).as_bytes();
+        let is_kind = stand_of(tokens, at) == Stand::Kind && !has_parts(word);
+        if !is_operator && !is_kind && !is_alone(word) {
             return past_foreign(alloc, text, tokens, at, said);
         }
     }

@@ -3,13 +3,14 @@
 use crate::ends::{start_of_declaration, start_of_statement};
 use crate::heads::head_of;
 use crate::holes::{Lexed, tokens_with_holes};
+use crate::marks::misspelled_at;
 use crate::mend::{Mend, way_on};
 use crate::pieces::{are_globals, end_of_piece, is_unit};
 use grammar_causes::{cause_at_end, cause_at_token};
 use st_lexer::Token;
 use st_parser::{ParseFault, parse};
 use std::alloc::{AllocError, Global};
-use token_causes::{Cause, Stand, misspelled, section_of, stand_of};
+use token_causes::{Cause, Stand, section_of, stand_of};
 
 /// A unit is read at most so often.
 const MOST_READINGS: usize = 40;
@@ -138,7 +139,7 @@ impl<'a> Source<'a> {
             if at >= before {
                 return Ok(());
             }
-            self.found.push(misspelled(alloc, self.text, at)?)?;
+            self.found.push(misspelled_at(alloc, self.text, at)?)?;
             self.holes = self.holes.saturating_add(1);
         }
         Ok(())
