@@ -7,6 +7,7 @@
 
 ghost use Rattle.command_line.specs.Choices.{HasWorkers};
 
+mod copies;
 mod crews;
 mod example;
 mod greeting;

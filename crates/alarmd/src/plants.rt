@@ -2,18 +2,21 @@
 
 ghost use Rattle.std.specs.Prelude.{◌<◌, ◌≤◌};
 
+use crate::copies::{Copies, keep_sources};
 use crate::crews::workers;
 use crate::example::{ALARMS, PLANT, PLANT_NAME, SOURCE, SOURCE_NAME};
 use crate::greeting::greet;
 use crate::prints::{stopped, stopped_by};
 use crate::telling::{OfAccepted, Telling};
-use crate::watching::Watching;
+use crate::watching::{Looker, Watching};
 use command_line::Ended;
 use engine::{Alone, Crew, Done, Job, Start};
 use plant_service::{
     Deaf, Disk, Ends, PlantFiles, PlantTexts, Reading, RunEnd, ServeFault, Writing, check_from,
     run, run_from,
 };
+use std::alloc::Global;
+use std::cell::OnceCell;
 use std::io;
 use std::rt::{Files, Runtime};
 use std::sync::Wait;
@@ -77,6 +80,15 @@ pub fn check<R: Files + Print + Eprint + Threads + AllocGlobal + Sync>(
     checked(rt, &telling, accepted, sink.error())
 }
 
+/// Who looks on at a terminal, to whom statements are shown from the sources that are kept.
+fn looker(alloc: Global, kept: &OnceCell<Copies>, is_terminal: bool) -> Option<Looker<'_>> {
+    if is_terminal {
+        Some(Looker { alloc, kept })
+    } else {
+        None
+    }
+}
+
 /// Serves the plant of a plant file's path over standard input and output, its programs run by the crew. A person is told why it is refused, and at a
 /// terminal, once it is accepted, how to begin.
 fn serve_by<
@@ -85,14 +97,16 @@ fn serve_by<
 >(rt: &R, crew: &mut C, path: &str, is_terminal: bool) -> Ended
     requires { C.asks }
 {
+    let kept = OnceCell::new();
     let of_accepted = if is_terminal {
-        OfAccepted::Greeting
+        OfAccepted::Greeting(&kept)
     } else {
         OfAccepted::Nothing
     };
+    let looker = looker(rt.alloc(), &kept, is_terminal);
     let mut ends = Ends {
         feed: Reading::new(rt.reader()),
-        sink: Watching::new(rt, Writing::new(io::writer(rt)), is_terminal),
+        sink: Watching::new(rt, Writing::new(io::writer(rt)), looker),
         listener: Telling::new(rt, of_accepted),
     };
     let files = PlantFiles {
@@ -134,20 +148,23 @@ pub fn serve_example<R: Input + Print + Eprint + Threads + Wait + AllocGlobal + 
     rt: &R,
     is_terminal: bool,
 ) -> Ended {
-    if is_terminal {
-        greet(rt, "scan 0 a=5");
-    }
-    let mut ends = Ends {
-        feed: Reading::new(rt.reader()),
-        sink: Watching::new(rt, Writing::new(io::writer(rt)), is_terminal),
-        listener: Deaf,
-    };
     let sources = [(SOURCE_NAME, SOURCE)];
     let texts = PlantTexts {
         path: PLANT_NAME,
         plant: PLANT,
         sources: &sources,
         alarms: ALARMS,
+    };
+    let kept = OnceCell::new();
+    if is_terminal {
+        keep_sources(rt.alloc(), &kept, &texts);
+        greet(rt, "scan 0 a=5");
+    }
+    let looker = looker(rt.alloc(), &kept, is_terminal);
+    let mut ends = Ends {
+        feed: Reading::new(rt.reader()),
+        sink: Watching::new(rt, Writing::new(io::writer(rt)), looker),
+        listener: Deaf,
     };
     let run = run(rt, rt.alloc(), &mut Alone, &texts, &mut ends);
     ended(rt, run, ends.feed.error(), ends.sink.to.error())

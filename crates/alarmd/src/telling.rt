@@ -1,20 +1,23 @@
 //! What a person is told of a plant on standard error.
 
+use crate::copies::{Copies, keep_sources};
 use crate::greeting::greet;
 use crate::missing::why_missing;
 use plant_config::{ConfigFault, Plant};
 use plant_explain::{explain_all, warn};
 use plant_service::{Folder, Listener, PlantTexts, listing};
-use std::alloc::Global;
+use statement_places::statement_table;
+use std::alloc::{AllocError, Global};
+use std::cell::OnceCell;
 use std::rt::Files;
 
 /// What a person is told of a plant that is accepted.
 #[derive(Clone, Copy)]
-pub enum OfAccepted {
+pub enum OfAccepted<'a> {
     /// Nothing.
     Nothing,
-    /// How to begin, as soon as it is accepted.
-    Greeting,
+    /// How to begin, as soon as it is accepted; its sources are kept here, for what is told while it is served.
+    Greeting(&'a OnceCell<Copies>),
     /// What is likely to be wrong in it.
     Warnings,
     /// What there is in it, and what is likely to be wrong.
@@ -28,12 +31,24 @@ fn tell_text(rt: &impl Eprint, text: &Option<String>) {
     }
 }
 
+/// What there is in a plant: the lines of its statements, and its tables.
+fn told_of_plant(
+    alloc: Global,
+    texts: &PlantTexts<'_>,
+    plant: &Plant,
+) -> Result<String, AllocError> {
+    let mut text = statement_table(alloc, texts)?;
+    let tables = listing(alloc, plant)?;
+    text.push_str(tables.as_str())?;
+    Ok(text)
+}
+
 /// A listener that keeps what a person is to be told of a plant, until the plant's line has been written: why it is refused, or where that is asked for,
 /// what there is in an accepted one, and what is likely to be wrong in it. How to begin it tells at once, since no line is written for a plant that is served.
 #[derive(Drop)]
 pub struct Telling<'a, R: Files> {
     rt: &'a R,
-    of_accepted: OfAccepted,
+    of_accepted: OfAccepted<'a>,
     /// What there is in the plant; `None` where that isn't to be told, or where memory was refused for it.
     listing: Option<String>,
     /// What else is to be told, likewise.
@@ -42,7 +57,7 @@ pub struct Telling<'a, R: Files> {
 
 impl<'a, R: Files> Telling<'a, R> {
     /// A listener that has heard nothing. Of an accepted plant it tells what is asked for here.
-    pub fn new(rt: &'a R, of_accepted: OfAccepted) -> Telling<'a, R> {
+    pub fn new(rt: &'a R, of_accepted: OfAccepted<'a>) -> Telling<'a, R> {
         Telling {
             rt,
             of_accepted,
@@ -62,10 +77,13 @@ impl<'a, R: Files + Eprint> Listener for Telling<'a, R> {
     fn accepted(&mut self, alloc: Global, texts: &PlantTexts<'_>, plant: &Plant) {
         match self.of_accepted {
             OfAccepted::Nothing => {}
-            OfAccepted::Greeting => greet(self.rt, "scan 0"),
+            OfAccepted::Greeting(kept) => {
+                keep_sources(alloc, kept, texts);
+                greet(self.rt, "scan 0");
+            }
             OfAccepted::Warnings => self.text = warn(alloc, texts, plant).ok(),
             OfAccepted::Listing => {
-                self.listing = listing(alloc, plant).ok();
+                self.listing = told_of_plant(alloc, texts, plant).ok();
                 self.text = warn(alloc, texts, plant).ok();
             }
         }

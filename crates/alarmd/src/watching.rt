@@ -2,8 +2,12 @@
 
 ghost use Rattle.std.specs.Prelude.{◌≡◌};
 
+use crate::copies::Copies;
 use memchr::memchr_iter;
 use plant_service::{Failed, Sink};
+use std::alloc::Global;
+use std::cell::OnceCell;
+use std::str;
 
 /// How many bytes of a line tell what it is.
 const HEAD: usize = 10;
@@ -93,19 +97,41 @@ fn judged(head: &[u8], is_watched: bool) -> (bool, &'static str) {
     }
 }
 
+/// Somebody who looks on, to whom refusals are explained, and the statements of faults are shown.
+#[derive(Clone, Copy)]
+pub struct Looker<'a> {
+    pub alloc: Global,
+    /// The sources of the plant, once it is accepted.
+    pub kept: &'a OnceCell<Copies>,
+}
+
+impl<'a> Looker<'a> {
+    /// Tells where the statement of a line FAULT stands; nothing of another line.
+    fn tell_fault(&self, rt: &impl Eprint, line: &[u8]) {
+        if !line.starts_with(b"FAULT ") {
+            return;
+        }
+        if let (Some(copies), Ok(line)) = (self.kept.get(), str::from_utf8(line)) {
+            if let Ok(told) = copies.told_of_fault(self.alloc, line) {
+                let _ = eprint!(rt; "{told}");
+            }
+        }
+    }
+}
+
 /// The answers so far: the beginning of the last line, and how many events there were.
 #[derive(Drop)]
-struct Answers {
+struct Answers<'a> {
     head: [u8; HEAD],
     len: usize,
     events: u32,
     /// Whether of the last answer only a part has been taken.
     is_in_parts: bool,
-    /// Whether somebody looks on, to whom refusals are explained.
-    is_watched: bool,
+    /// Who looks on, if anybody does.
+    looker: Option<Looker<'a>>,
 }
 
-impl Answers {
+impl<'a> Answers<'a> {
     /// Takes bytes of a line, of which the first tell what it is.
     fn add(&mut self, bytes: &[u8]) {
         for byte in bytes {
@@ -132,12 +158,12 @@ impl Answers {
     /// Takes the rest of a line, which is mostly the whole of it and is looked at where it stands, and returns what is said of it.
     fn end_line(&mut self, rest: &[u8]) -> &'static str {
         if self.len == 0 {
-            let (is_event, said) = judged(rest, self.is_watched);
+            let (is_event, said) = judged(rest, self.looker.is_some());
             return self.counted(is_event, said);
         }
         self.add(rest);
         let head = self.head.get(..self.len).unwrap_or(b"");
-        let (is_event, said) = judged(head, self.is_watched);
+        let (is_event, said) = judged(head, self.looker.is_some());
         self.len = 0;
         self.counted(is_event, said)
     }
@@ -145,7 +171,7 @@ impl Answers {
     /// Sees what came of a write, which mostly takes an answer whole: then its first line tells enough, and none of the others is looked at.
     fn see(&mut self, rt: &impl Eprint, answer: &[u8], taken: usize) {
         let is_whole = answer.len() <= taken;
-        if self.is_watched || self.is_in_parts || !is_whole {
+        if self.looker.is_some() || self.is_in_parts || !is_whole {
             self.is_in_parts = !is_whole;
             self.take(rt, answer.get(..taken).unwrap_or(answer));
             return;
@@ -163,30 +189,42 @@ impl Answers {
         }
     }
 
+    /// Tells whoever looks on where the statement of a line FAULT stands.
+    fn tell_fault(&self, rt: &impl Eprint, line: &[u8]) {
+        if let Some(looker) = self.looker {
+            looker.tell_fault(rt, line);
+        }
+    }
+
     /// Takes bytes line by line, and tells on standard error what there is to say of them.
     fn take(&mut self, rt: &impl Eprint, bytes: &[u8]) {
         let mut begun = 0usize;
         for end in memchr_iter(b'\n', bytes) {
-            let said = self.end_line(bytes.get(begun..end).unwrap_or(b""));
+            let line = bytes.get(begun..end).unwrap_or(b"");
+            let is_whole = self.len == 0;
+            let said = self.end_line(line);
             begun = end.saturating_add(1);
             self.tell(rt, said);
+            if is_whole {
+                self.tell_fault(rt, line);
+            }
         }
         self.add(bytes.get(begun..).unwrap_or(b""));
     }
 }
 
 /// A sink whose answers are watched: on standard error it says when 90 and 99 of 100 events that a run may have are there, and where somebody looks
-/// on, what a refused command wanted.
+/// on, what a refused command wanted, and where the statement of a fault stands.
 #[derive(Drop)]
 pub struct Watching<'a, R: Eprint, S: Sink + Drop> {
     rt: &'a R,
     pub to: S,
-    answers: Answers,
+    answers: Answers<'a>,
 }
 
 impl<'a, R: Eprint, S: Sink + Drop> Watching<'a, R, S> {
     /// Watches what goes to a sink.
-    pub fn new(rt: &'a R, to: S, is_watched: bool) -> Watching<'a, R, S>
+    pub fn new(rt: &'a R, to: S, looker: Option<Looker<'a>>) -> Watching<'a, R, S>
         ensures { result.to ≡ to }
     {
         Watching {
@@ -197,7 +235,7 @@ impl<'a, R: Eprint, S: Sink + Drop> Watching<'a, R, S> {
                 len: 0,
                 events: 0,
                 is_in_parts: false,
-                is_watched,
+                looker,
             },
         }
     }

@@ -4,6 +4,7 @@ use crate::faults::{fault_of, is_of_tables};
 use plant_config::{ConfigFault, Plant};
 use plant_explain::{PlantTexts, explain, explain_all, warn};
 use row_text::{File, Page};
+use statement_places::{statement_table, told_of_fault};
 use std::alloc::{AllocError, Global};
 use std::thread::Threads;
 
@@ -58,7 +59,7 @@ fn fault_for<H: Threads + Sync>(
     }
 }
 
-/// What is told of a plant that is refused by a line, or that is accepted, as a text.
+/// What is told of a plant that is refused by a line, or that is accepted, or of its statements, as a text.
 fn told<H: Threads + Sync>(
     rt: &H,
     alloc: Global,
@@ -67,6 +68,12 @@ fn told<H: Threads + Sync>(
 ) -> Result<String, AllocError> {
     if line == "accepted" {
         return warned(rt, alloc, texts);
+    }
+    if line == "lines" {
+        return statement_table(alloc, texts);
+    }
+    if line.starts_with("FAULT ") {
+        return told_of_fault(alloc, texts, line);
     }
     let all = line.strip_prefix("all ");
     let fault = fault_for(rt, alloc, texts, all.unwrap_or(line))?;

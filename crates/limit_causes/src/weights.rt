@@ -73,6 +73,7 @@ impl Weight {
 /// What an expression weighs.
 fn of_expr(expr: &Expr<Text>) -> u64 {
     match expr {
+        Expr::Element(_, _, index) => of_expr(index).saturating_add(2),
         Expr::Unary(_, a) => of_expr(a).saturating_add(1),
         Expr::Binary(_, a, b) => of_expr(a).saturating_add(of_expr(b)).saturating_add(1),
         _ => 1,
@@ -141,6 +142,9 @@ impl Scale<'_> {
         match stmt {
             Stmt::Empty(_) => Weight::of(1),
             Stmt::Assign(_, _, expr) => Weight::of(of_expr(expr).saturating_add(1)),
+            Stmt::Store { index, value, .. } => {
+                Weight::of(of_expr(index).saturating_add(of_expr(value)).saturating_add(2))
+            }
             Stmt::Call(_, name, arguments) => self.of_call(name, arguments),
             Stmt::If(_, branches, last) => self.of_branches(branches, last),
             Stmt::Case(_, selector, choices, last) => {

@@ -9,7 +9,7 @@ use plant_places::{FileOf, Spot, byte_at, text_of};
 use plant_types::Text;
 use source_causes::{Reading, causes};
 use std::alloc::{AllocError, Global};
-use token_causes::misspelled;
+use source_causes::misspelled_at;
 
 /// So many tokens are read at least, and one more for each byte of the plant.
 const LEAST_TOKENS: usize = 100_000;
@@ -42,7 +42,7 @@ fn at_place(
     let text = text_of(texts, file);
     let at = byte_at(text, place.line, place.column);
     let cause = if is_spelling {
-        misspelled(alloc, text, at)?
+        misspelled_at(alloc, text, at)?
     } else {
         ungrammatical(alloc, text, at)?
     };

@@ -1,0 +1,61 @@
+//! The sources of a plant that is served, kept for whoever looks on.
+
+use plant_service::PlantTexts;
+use statement_places::told_of_fault;
+use std::alloc::{AllocError, Global};
+use std::cell::OnceCell;
+
+/// Copies of the names and texts of a plant's sources, which are let go before it is served.
+#[derive(Drop)]
+pub struct Copies {
+    path: String,
+    sources: Vec<(String, Vec<u8>)>,
+}
+
+/// Copies of the names and texts of sources.
+fn copied(alloc: Global, sources: &[(&str, &[u8])]) -> Result<Vec<(String, Vec<u8>)>, AllocError> {
+    let mut copies = Vec::new(alloc);
+    for source in sources {
+        let name = String::from_str(alloc, source.0)?;
+        let text = Vec::from_slice(alloc, source.1)?;
+        copies.push((name, text))?;
+    }
+    Ok(copies)
+}
+
+/// The names and texts of copies, lent.
+fn lent(alloc: Global, copies: &[(String, Vec<u8>)]) -> Result<Vec<(&str, &[u8])>, AllocError> {
+    let mut sources = Vec::new(alloc);
+    for copy in copies {
+        sources.push((copy.0.as_str(), copy.1.as_slice()))?;
+    }
+    Ok(sources)
+}
+
+/// Keeps the sources of a plant that is served; nothing where memory is refused for them.
+pub fn keep_sources(alloc: Global, kept: &OnceCell<Copies>, texts: &PlantTexts<'_>) {
+    if let Ok(copies) = Copies::of(alloc, texts) {
+        let _ = kept.set(copies);
+    }
+}
+
+impl Copies {
+    /// Copies of sources.
+    fn of(alloc: Global, texts: &PlantTexts<'_>) -> Result<Copies, AllocError> {
+        let path = String::from_str(alloc, texts.path)?;
+        let sources = copied(alloc, texts.sources)?;
+        Ok(Copies { path, sources })
+    }
+
+    /// What a person is told of a line FAULT: where its statement stands.
+    pub fn told_of_fault(&self, alloc: Global, line: &str) -> Result<String, AllocError> {
+        let sources = lent(alloc, self.sources.as_slice())?;
+        let texts = PlantTexts {
+            path: self.path.as_str(),
+            plant: b"",
+            sources: sources.as_slice(),
+            alarms: b"",
+        };
+        told_of_fault(alloc, &texts, line)
+    }
+}
