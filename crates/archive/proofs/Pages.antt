@@ -1,13 +1,13 @@
 -- A page of a journal, row by row.
-use Rattle.std.proofs.Common.{◌≡◌, ap, sym, refl, subst, ℕ, suc, ◌+◌, ◌-◌, ◌≤◌, min, false, ◌&&◌, List, [], ◌∷◌, ◌++◌, length, Some, arith}
+use Rattle.std.proofs.Common.{◌≡◌, ◌∙◌, ap, sym, refl, subst, ℕ, suc, ◌+◌, ◌-◌, ◌≤◌, min, false, ◌&&◌, List, [], ◌∷◌, ◌++◌, length, map, Some, arith}
 use Rattle.std.specs.Prelude.{nat_le, slice_get, filter}
-use Rattle.std.specs.List.{AllZip}
+use Rattle.std.proofs.lemmas.List.{map-append}
 use Rattle.std.proofs.lemmas.Bool.Decides.{nat_tests}
 use Rattle.plant_config.specs.Plants.{PlainPlant}
 use Rattle.event_history.specs.declared.event.Event.{Event}
 use Rattle.plant_system.specs.System.{System, opening_system, after_event}
-use Rattle.engine.specs.Journal.{NamedEntry, NamedRow, named_row, rows_from, added_entries, added_rows, journal_from, journal_of, IsLine}
-use Rattle.archive.specs.Pages.{is_on_page, IsRowText, IsPage}
+use Rattle.engine.specs.Journal.{NamedEntry, NamedRow, named_text, rows_from, added_entries, added_rows, journal_from, journal_of, IsLine}
+use Rattle.archive.specs.Pages.{is_on_page, IsPage}
 use Rattle.archive.proofs.Numbered.{NumberedFrom, is_between, numbered_append, none_kept, same_kept, one_more, on_page}
 
 abbrev pub number_of : NamedRow → ℕ
@@ -41,7 +41,7 @@ numbered_journal plant history = numbered_from 1 (opening_system plant) history
 -- ---- so far
 -- the texts of the rows from one number on up to another
 abbrev pub AreTexts : PlainPlant → List Event → ℕ → ℕ → List (List ℕ) → Type 0
-AreTexts plant history from last texts = AllZip (IsRowText plant) (filter (is_between number_of from last) (journal_of plant history)) texts
+AreTexts plant history from last texts = texts ≡ map (named_text plant.epoch) (filter (is_between number_of from last) (journal_of plant history))
 
 none_before : (from m : ℕ) → 1 ≤ m → (nat_le from m && nat_le m (from - 1)) ≡ false
 none_before from m first = grind (arith, nat_tests)
@@ -50,32 +50,26 @@ pub page_none : (plant : PlainPlant) (history : List Event) (from : ℕ) → Are
 page_none plant history from =
     let none : filter (is_between number_of from (from - 1)) (journal_of plant history) ≡ [] =
     none_kept number_of (is_between number_of from (from - 1)) 1 (journal_of plant history) (numbered_journal plant history) (λ row first. none_before from row.number first) in
-    rw none tt
-
-zip_push : {A B : Type 0} (R : A → B → Type 0) (xs : List A) (ys : List B) (x : A) (y : B) → AllZip R xs ys → R x y → AllZip R (xs ++ x ∷ []) (ys ++ y ∷ [])
-zip_push R [] [] x y h r = (r, tt)
-zip_push R [] (b ∷ ys) x y h r = absurd h
-zip_push R (a ∷ xs) [] x y h r = absurd h
-zip_push R (a ∷ xs) (b ∷ ys) x y h r = (h.0, zip_push R xs ys x y h.1 r)
+    sym (ap (map (named_text plant.epoch)) none)
 
 pub page_more : (plant : PlainPlant) (history : List Event) (from before : ℕ) (texts : List (List ℕ)) (text : List ℕ)
-    → from - 1 ≤ before → AreTexts plant history from before texts → IsLine plant history (before + 1) text → AreTexts plant history from (before + 1) (texts ++ text ∷ [])
+    → from - 1 ≤ before → AreTexts plant history from before texts → IsLine plant.epoch (journal_of plant history) (before + 1) text → AreTexts plant history from (before + 1) (texts ++ text ∷ [])
 page_more plant history from before texts text start so_far line =
     let journal = journal_of plant history in
-    let named = named_row plant.source line.row in
+    let f = named_text plant.epoch in
+    let kept = filter (is_between number_of from before) journal in
     let place : before + 1 - 1 ≡ before = omega arith in
-    let there : slice_get journal before ≡ Some named = subst (λ k. slice_get journal k ≡ Some named) place line.row_is in
-    let more : filter (is_between number_of from (before + 1)) journal ≡ filter (is_between number_of from before) journal ++ named ∷ [] =
-    one_more number_of from 1 before before named journal (numbered_journal plant history) there (omega arith) (omega (arith, start)) in
-    rw more
-    (zip_push (IsRowText plant) (filter (is_between number_of from before) journal) texts named text so_far
-    (record { row = line.row; row_is = refl; is_named = line.named; text_is = line.text_is }))
+    let there : slice_get journal before ≡ Some line.row = subst (λ k. slice_get journal k ≡ Some line.row) place line.row_is in
+    let more : filter (is_between number_of from (before + 1)) journal ≡ kept ++ line.row ∷ [] =
+    one_more number_of from 1 before before line.row journal (numbered_journal plant history) there (omega arith) (omega (arith, start)) in
+    let both : texts ++ text ∷ [] ≡ map f kept ++ f line.row ∷ [] = λ i. so_far i ++ line.text_is i ∷ [] in
+    both ∙ sym (map-append f kept (line.row ∷ [])) ∙ sym (ap (map f) more)
 
 pub page_whole : (plant : PlainPlant) (history : List Event) (from n rows stop before : ℕ) (texts : List (List ℕ)) → rows ≡ length (journal_of plant history) → stop ≡ min rows (from + n - 1)
-    → stop ≤ before → from - 1 ≤ before → (from - 1 ≤ stop → before ≤ stop) → AreTexts plant history from before texts → IsPage plant history from n texts
+    → stop ≤ before → from - 1 ≤ before → (from - 1 ≤ stop → before ≤ stop) → AreTexts plant history from before texts → IsPage plant.epoch (journal_of plant history) from n texts
 page_whole plant history from n rows stop before texts many is past start end so_far =
     let journal = journal_of plant history in
     let same : filter (is_between number_of from before) journal ≡ filter (is_on_page from n) journal =
     same_kept number_of (is_between number_of from before) (is_on_page from n) 1 journal (numbered_journal plant history)
     (λ row first last. on_page from n rows stop before row.number (omega (arith, last, many)) is first past start end) in
-    subst (λ kept. AllZip (IsRowText plant) kept texts) same so_far
+    so_far ∙ ap (map (named_text plant.epoch)) same

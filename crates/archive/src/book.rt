@@ -7,6 +7,7 @@ ghost use Rattle.plant_system.specs.Image.{IsDue};
 ghost use Rattle.plant_system.specs.System.{scan_event, order_event};
 ghost use Rattle.engine.specs.Engines.{state_of, Fits, FitsOrder};
 ghost use Rattle.engine.specs.Lawful.{IsLawfulHistory};
+ghost use Rattle.engine.specs.Journal.{journal_of};
 ghost use Rattle.archive.specs.Pages.{IsPage};
 ghost use Rattle.archive.specs.Refusals.{IsOrderFault};
 
@@ -83,7 +84,7 @@ impl<L: Ledger> Book<L> {
     /// The texts of exactly the journal's rows whose numbers are `from` and the next, `n` in all, in order: fewer where the journal ends before, and
     /// none behind its end. Rows are numbered from 1. Fails if memory was refused.
     pub fn page(&self, alloc: Global, from: u64, n: u32) -> Result<Vec<String>, AllocError>
-        ensures { IfOk result (λ lines. IsPage self.now.plant self.now.history from n (map string_bytes lines.items)) }
+        ensures { IfOk result (λ lines. IsPage self.now.plant.epoch (journal_of self.now.plant self.now.history) from n (map string_bytes lines.items)) }
     {
         page_of(alloc, &self.engine, from, n)
     }

@@ -3,6 +3,7 @@
 ghost use Rattle.std.specs.Prelude.{map, string_bytes, IfOk};
 ghost use Rattle.engine.specs.Engines.{PlainEngine};
 ghost use Rattle.engine.specs.Lawful.{IsLawfulHistory};
+ghost use Rattle.engine.specs.Journal.{journal_of};
 ghost use Rattle.archive.specs.Pages.{IsPage};
 
 use crate::book::Book;
@@ -43,7 +44,7 @@ impl<L: Ledger> Archive<L> {
         from: u64,
         n: u32,
     ) -> Result<Vec<String>, AllocError>
-        ensures { IfOk result (λ lines. (b : PlainEngine) × IsLawfulHistory b.plant b.history × IsPage b.plant b.history from n (map string_bytes lines.items)) }
+        ensures { IfOk result (λ lines. (b : PlainEngine) × IsLawfulHistory b.plant b.history × IsPage b.plant.epoch (journal_of b.plant b.history) from n (map string_bytes lines.items)) }
     {
         let book = self.book.lock(rt);
         page_of(alloc, book.engine(), from, n)

@@ -1,6 +1,7 @@
 //! A page of a journal.
 
 ghost use Rattle.std.specs.Prelude.{◌≡◌, ◌+◌, ◌-◌, min, map, string_bytes, IfOk};
+ghost use Rattle.engine.specs.Journal.{journal_of};
 ghost use Rattle.archive.specs.Pages.{IsPage};
 
 use engine::Engine;
@@ -23,7 +24,7 @@ pub(crate) fn page_of(
     from: u64,
     n: u32,
 ) -> Result<Vec<String>, AllocError>
-    ensures { IfOk result (λ lines. IsPage engine.now.plant engine.now.history from n (map string_bytes lines.items)) }
+    ensures { IfOk result (λ lines. IsPage engine.now.plant.epoch (journal_of engine.now.plant engine.now.history) from n (map string_bytes lines.items)) }
 {
     let rows = engine.journal().len();
     let mut lines = Vec::new(alloc);

@@ -1,16 +1,15 @@
 -- What answers are made of.
-use Rattle.std.proofs.Common.{◌≡◌, ℕ, zero, suc, map, Bool, true, false, List, [], ◌∷◌, length, ap, refl}
-use Rattle.std.specs.Prelude.{slice_index_or}
+use Rattle.std.proofs.Common.{◌≡◌, ℕ, suc, Bool, true, false, List, [], ◌∷◌, length, ap, refl}
 use Rattle.std.specs.Str.{IsUtf8, is_utf8}
 use Rattle.plant_types.specs.declared.values.Place.{Place}
 use Rattle.plant_types.specs.declared.values.Trap.{Trap}
 use Rattle.command_answers.specs.Answers.{spots_of}
 use Rattle.plant_logic.specs.Source.{Source}
-use Rattle.plant_logic.specs.Worlds.{Path}
-use Rattle.plant_logic.specs.Paths.{paths_of, path_text}
+use Rattle.plant_logic.specs.Paths.{path_text}
 use Rattle.plant_walk.specs.Runs.{place_spot}
 use Rattle.plant_config.specs.Plants.{PlainPlant}
 use Rattle.plant_config.specs.Names.{body_path}
+use Rattle.engine.proofs.NamedRows as rows
 use Rattle.std.proofs.lemmas.Str.{IsUtf8-from_is_utf8}
 
 not_text : (v : Bool) (bytes : List ℕ) → is_utf8 bytes ≡ v → (IsUtf8 bytes → ⊥) → v ≡ false
@@ -21,15 +20,9 @@ not_text false bytes e n = refl
 pub is_utf8-none : (bytes : List ℕ) → (IsUtf8 bytes → ⊥) → is_utf8 bytes ≡ false
 is_utf8-none bytes n = not_text (is_utf8 bytes) bytes refl n
 
--- the text of the path of a number
-path_of_number : (paths : List Path) (n : ℕ) → slice_index_or (map path_text paths) n [] ≡ path_text (slice_index_or paths n [])
-path_of_number [] n = refl
-path_of_number (path ∷ paths) zero = refl
-path_of_number (path ∷ paths) (suc n) = path_of_number paths n
-
 -- the path of a body, as it is printed, is that of its number
 pub path_is : (plant : PlainPlant) (place : Place) → body_path plant place.path ≡ path_text (place_spot plant.source place).path
-path_is plant place = path_of_number (paths_of plant.source) place.path
+path_is plant place = rows.path_is plant place
 
 -- as many spots as places
 pub spots_length : (source : Source) (faults : List (Place × Trap)) → length (spots_of source faults) ≡ length faults

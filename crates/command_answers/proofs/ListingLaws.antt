@@ -1,25 +1,15 @@
 -- What the answers to `list` and `journal` are made of.
-use Rattle.std.proofs.Common.{◌≡◌, ◌∙◌, ℕ, zero, suc, ◌+◌, ◌-◌, ◌<◌, ◌++◌, map, take, List, [], ◌∷◌, length, Option, None, Some, codes, ap, refl, sym, append_assoc, append-nil, length-append, arith}
+use Rattle.std.proofs.Common.{◌≡◌, ◌∙◌, ℕ, zero, suc, ◌+◌, ◌-◌, ◌<◌, ◌++◌, map, take, List, [], ◌∷◌, length, Some, ap, refl, sym, append_assoc, append-nil, length-append, arith}
 use Rattle.std.specs.Prelude.{slice_get, slice_index_or}
-use Rattle.std.specs.Fmt.{decimal}
 use Rattle.std.specs.List.{flat_map}
 use Rattle.std.proofs.Math.Seq.{take-suc}
 use Rattle.std.proofs.lemmas.Grind.{flat_map-append}
 use Rattle.std.proofs.lemmas.Option.{none-some, get_or_from_slice_get}
-use Rattle.stamps.specs.Stamps.{stamp}
-use Rattle.journal_core.specs.Bodies.{fault_body, order_body, body_text, row_text}
-use Rattle.journal_core.specs.declared.row.Entry.{Entry}
-use Rattle.journal_core.specs.declared.row.Entry.TheVariants as entry
-use Rattle.journal_core.specs.declared.row.Row.{Row}
-use Rattle.alarm_machine.specs.declared.states.OrderFault.{OrderFault}
-use Rattle.alarm_machine.specs.declared.states.OrderFault.TheVariants as order_fault
-use Rattle.alarm_machine.specs.declared.states.Verb.{Verb}
 use Rattle.command_text.specs.Lines.{row_line}
 use Rattle.plant_config.specs.Plants.{PlainPlant}
 use Rattle.event_history.specs.declared.event.Event.{Event}
-use Rattle.engine.specs.Journal.{named_entry, named_row, name_of, journal_of, IsLine}
-use Rattle.command_answers.specs.Listings.{HasListed, HasRow, text_of, entry_text, target_text, named_line}
-use Rattle.command_answers.proofs.AnswerLaws.{path_is}
+use Rattle.engine.specs.Journal.{journal_of, IsLine}
+use Rattle.command_answers.specs.Listings.{HasListed, HasRow, text_of, named_line}
 
 -- no lines
 pub listed_none : (old : List ℕ) → HasListed old old 0 []
@@ -44,37 +34,13 @@ listed_take f xs i x old mid new n m within is p q = rw (← flat_take f xs i x 
 
 -- ---- rows of the journal
 
--- the target of an order, as it is printed
-target_same : (plant : PlainPlant) (console : ℕ) (verb : Verb) (target : Option ℕ) (refused : Option OrderFault) → name_of plant (entry.Order console verb target refused) ≡ target_text plant verb target refused
-target_same plant console verb None None = refl
-target_same plant console verb (Some n) None = refl
-target_same plant console verb target (Some order_fault.UnknownTarget) = refl
-target_same plant console verb None (Some order_fault.NotYourArea) = refl
-target_same plant console verb (Some n) (Some order_fault.NotYourArea) = refl
-target_same plant console verb None (Some order_fault.WrongState) = refl
-target_same plant console verb (Some n) (Some order_fault.WrongState) = refl
-target_same plant console verb None (Some order_fault.ShelveTime) = refl
-target_same plant console verb (Some n) (Some order_fault.ShelveTime) = refl
-target_same plant console verb None (Some order_fault.NotFaulted) = refl
-target_same plant console verb (Some n) (Some order_fault.NotFaulted) = refl
-
--- the body of a row, by its place and by its path
-entry_same : (plant : PlainPlant) (e : Entry) → body_text e (name_of plant e) ≡ entry_text plant (named_entry plant.source e)
-entry_same plant (entry.Fault place trap) = ap (λ (path : List ℕ). fault_body path place.statement trap) (path_is plant place)
-entry_same plant (entry.Alarm alarm change) = refl
-entry_same plant (entry.Order console verb target refused) = ap (λ (name : List ℕ). order_body console verb name refused) (target_same plant console verb target refused)
-
--- the text of a row, by places and by names
-line_same : (plant : PlainPlant) (row : Row) → row_line (row_text plant.epoch row (name_of plant row.entry)) ≡ named_line plant (named_row plant.source row)
-unfolding named_line
-line_same plant row = ap (λ (body : List ℕ). row_line (decimal row.number ++ codes " " ++ stamp plant.epoch row.moment ++ codes " " ++ body)) (entry_same plant row.entry)
-
 -- the line of a number is that of its row
-pub row_there : (plant : PlainPlant) (history : List Event) (number : ℕ) (text old new : List ℕ) → IsLine plant history number text → new ≡ old ++ row_line text → HasRow plant history number old new
+pub row_there : (plant : PlainPlant) (history : List Event) (number : ℕ) (text old new : List ℕ) → IsLine plant.epoch (journal_of plant history) number text → new ≡ old ++ row_line text → HasRow plant history number old new
+unfolding named_line
 row_there plant history number text old new l e = record {
-  row = named_row plant.source l.row;
+  row = l.row;
   row_is = l.row_is;
-  text_is = e ∙ ap (λ (t : List ℕ). old ++ row_line t) l.text_is ∙ ap (λ (t : List ℕ). old ++ t) (line_same plant l.row);
+  text_is = e ∙ ap (λ (t : List ℕ). old ++ row_line t) l.text_is;
 }
 
 lines_take : {X : Type 0} (f : X → List ℕ) (xs : List X) (i : ℕ) (x : X) → slice_get xs i ≡ Some x → text_of (map f (take i xs)) ++ f x ≡ text_of (map f (take (suc i) xs))
@@ -84,10 +50,10 @@ lines_take f (y ∷ ys) (suc i) x e = append_assoc (f y) (text_of (map f (take i
 
 -- the lines of one row more
 pub rows_more : (plant : PlainPlant) (history : List Event) (i : ℕ) (old mid new : List ℕ)
-    → mid ≡ old ++ text_of (map (named_line plant) (take i (journal_of plant history))) → HasRow plant history (i + 1) mid new
-    → new ≡ old ++ text_of (map (named_line plant) (take (suc i) (journal_of plant history)))
+    → mid ≡ old ++ text_of (map (named_line plant.epoch) (take i (journal_of plant history))) → HasRow plant history (i + 1) mid new
+    → new ≡ old ++ text_of (map (named_line plant.epoch) (take (suc i) (journal_of plant history)))
 rows_more plant history i old mid new e r =
     let at : (i + 1) - 1 ≡ i = omega arith in
     let row_is : slice_get (journal_of plant history) i ≡ Some r.row = rw (sym at) r.row_is in
-    r.text_is ∙ ap (λ (t : List ℕ). t ++ named_line plant r.row) e ∙ append_assoc old _ _
-    ∙ ap (λ (t : List ℕ). old ++ t) (lines_take (named_line plant) (journal_of plant history) i r.row row_is)
+    r.text_is ∙ ap (λ (t : List ℕ). t ++ named_line plant.epoch r.row) e ∙ append_assoc old _ _
+    ∙ ap (λ (t : List ℕ). old ++ t) (lines_take (named_line plant.epoch) (journal_of plant history) i r.row row_is)

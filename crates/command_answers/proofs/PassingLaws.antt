@@ -41,9 +41,9 @@ begun_more w₀ w₁ w₂ text held more p q = (
 
 -- the rows that are left come after them
 rows_left : (plant : PlainPlant) (history : List Event) (i : ℕ)
-    → text_of (map (named_line plant) (take i (journal_of plant history))) ++ text_of (map (named_line plant) (drop i (journal_of plant history))) ≡ text_of (journal_lines plant history)
+    → text_of (map (named_line plant.epoch) (take i (journal_of plant history))) ++ text_of (map (named_line plant.epoch) (drop i (journal_of plant history))) ≡ text_of (journal_lines plant history)
 rows_left plant history i =
-    let f = named_line plant in
+    let f = named_line plant.epoch in
     let rows = journal_of plant history in
     sym (flat_map-append (λ (line : List ℕ). line) (map f (take i rows)) (map f (drop i rows)))
     ∙ ap text_of (sym (map-append f (take i rows) (drop i rows)))
@@ -51,10 +51,10 @@ rows_left plant history i =
 
 -- the first rows are begun, so all are
 pub all_begun : (plant : PlainPlant) (history : List Event) (i : ℕ) (old : List ℕ) (w₀ w₁ : Option (List ℕ))
-    → IsBegun w₀ w₁ (old ++ text_of (map (named_line plant) (take i (journal_of plant history)))) → IsBegun w₀ w₁ (old ++ text_of (journal_lines plant history))
+    → IsBegun w₀ w₁ (old ++ text_of (map (named_line plant.epoch) (take i (journal_of plant history)))) → IsBegun w₀ w₁ (old ++ text_of (journal_lines plant history))
 all_begun plant history i old w₀ w₁ p =
-    let front = text_of (map (named_line plant) (take i (journal_of plant history))) in
-    let rest = text_of (map (named_line plant) (drop i (journal_of plant history))) in
+    let front = text_of (map (named_line plant.epoch) (take i (journal_of plant history))) in
+    let rest = text_of (map (named_line plant.epoch) (drop i (journal_of plant history))) in
     let same : (old ++ front) ++ rest ≡ old ++ text_of (journal_lines plant history) = append_assoc old front rest ∙ ap (λ (t : List ℕ). old ++ t) (rows_left plant history i) in
     (p.0, p.1 ++ rest, sym same ∙ ap (λ (t : List ℕ). t ++ rest) p.2 ∙ append_assoc p.0 p.1 rest, p.3)
 
@@ -64,29 +64,29 @@ just_begun w₀ w₁ text held p = (p.0, held, p.1, p.2)
 
 -- one row more
 row_next : (plant : PlainPlant) (history : List Event) (i : ℕ) (old t₁ t₂ : List ℕ) (r : HasRow plant history (i + 1) t₁ t₂)
-    → (old ++ text_of (map (named_line plant) (take i (journal_of plant history)))) ++ named_line plant r.row ≡ old ++ text_of (map (named_line plant) (take (suc i) (journal_of plant history)))
+    → (old ++ text_of (map (named_line plant.epoch) (take i (journal_of plant history)))) ++ named_line plant.epoch r.row ≡ old ++ text_of (map (named_line plant.epoch) (take (suc i) (journal_of plant history)))
 row_next plant history i old t₁ t₂ r =
-    let front = text_of (map (named_line plant) (take i (journal_of plant history))) in
-    rows_more plant history i old (old ++ front) ((old ++ front) ++ named_line plant r.row) refl (record { row = r.row; row_is = r.row_is; text_is = refl })
+    let front = text_of (map (named_line plant.epoch) (take i (journal_of plant history))) in
+    rows_more plant history i old (old ++ front) ((old ++ front) ++ named_line plant.epoch r.row) refl (record { row = r.row; row_is = r.row_is; text_is = refl })
 
 pub row_passed : (plant : PlainPlant) (history : List Event) (i : ℕ) (old t₁ t₂ left : List ℕ) (w₀ w₁ w₂ : Option (List ℕ))
-    → IsPassed w₀ w₁ (old ++ text_of (map (named_line plant) (take i (journal_of plant history)))) t₁ → HasRow plant history (i + 1) t₁ t₂ → IsPassed w₁ w₂ t₂ left
-    → IsPassed w₀ w₂ (old ++ text_of (map (named_line plant) (take (i + 1) (journal_of plant history)))) left
+    → IsPassed w₀ w₁ (old ++ text_of (map (named_line plant.epoch) (take i (journal_of plant history)))) t₁ → HasRow plant history (i + 1) t₁ t₂ → IsPassed w₁ w₂ t₂ left
+    → IsPassed w₀ w₂ (old ++ text_of (map (named_line plant.epoch) (take (i + 1) (journal_of plant history)))) left
 row_passed plant history i old t₁ t₂ left w₀ w₁ w₂ p r q =
-    let front = text_of (map (named_line plant) (take i (journal_of plant history))) in
+    let front = text_of (map (named_line plant.epoch) (take i (journal_of plant history))) in
     let next : suc i ≡ i + 1 = omega arith in
-    subst (λ (n : ℕ). IsPassed w₀ w₂ (old ++ text_of (map (named_line plant) (take n (journal_of plant history)))) left) next
+    subst (λ (n : ℕ). IsPassed w₀ w₂ (old ++ text_of (map (named_line plant.epoch) (take n (journal_of plant history)))) left) next
     (subst (λ (t : List ℕ). IsPassed w₀ w₂ t left) (row_next plant history i old t₁ t₂ r)
-    (passed_more w₀ w₁ w₂ (old ++ front) t₁ (named_line plant r.row) left p (subst (λ (t : List ℕ). IsPassed w₁ w₂ t left) r.text_is q)))
+    (passed_more w₀ w₁ w₂ (old ++ front) t₁ (named_line plant.epoch r.row) left p (subst (λ (t : List ℕ). IsPassed w₁ w₂ t left) r.text_is q)))
 
 pub row_begun : (plant : PlainPlant) (history : List Event) (i : ℕ) (old t₁ t₂ : List ℕ) (w₀ w₁ w₂ : Option (List ℕ))
-    → IsPassed w₀ w₁ (old ++ text_of (map (named_line plant) (take i (journal_of plant history)))) t₁ → HasRow plant history (i + 1) t₁ t₂ → IsBegun w₁ w₂ t₂
+    → IsPassed w₀ w₁ (old ++ text_of (map (named_line plant.epoch) (take i (journal_of plant history)))) t₁ → HasRow plant history (i + 1) t₁ t₂ → IsBegun w₁ w₂ t₂
     → IsBegun w₀ w₂ (old ++ text_of (journal_lines plant history))
 row_begun plant history i old t₁ t₂ w₀ w₁ w₂ p r q =
-    let front = text_of (map (named_line plant) (take i (journal_of plant history))) in
+    let front = text_of (map (named_line plant.epoch) (take i (journal_of plant history))) in
     all_begun plant history (suc i) old w₀ w₂
     (subst (IsBegun w₀ w₂) (row_next plant history i old t₁ t₂ r)
-    (begun_more w₀ w₁ w₂ (old ++ front) t₁ (named_line plant r.row) p (subst (IsBegun w₁ w₂) r.text_is q)))
+    (begun_more w₀ w₁ w₂ (old ++ front) t₁ (named_line plant.epoch r.row) p (subst (IsBegun w₁ w₂) r.text_is q)))
 
 -- after lines that are passed their end is written, or a part of it
 module _ (w₀ w₁ w₂ : Option (List ℕ)) (lines : List (List ℕ)) (held : List ℕ) (n : ℕ) (count : n ≡ length lines) (p : IsPassed w₀ w₁ (text_of lines) held) where

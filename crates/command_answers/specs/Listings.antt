@@ -1,18 +1,11 @@
 -- What is answered to `list` and to `journal`.
 use Rattle.std.specs.Prelude.{◌≡◌, ℕ, zero, suc, ◌-◌, ◌==◌, if◌then◌else◌, List, [], ◌∷◌, ◌++◌, length, map, slice_get, Option, Some, None, codes}
-use Rattle.std.specs.Fmt.{decimal}
 use Rattle.std.specs.List.{flat_map}
 use Rattle.std.specs.Option.{option_map}
 use Rattle.std.specs.Io.KnownBytes.{Appends}
-use Rattle.stamps.specs.Stamps.{stamp}
-use Rattle.plant_logic.specs.Paths.{path_text}
-use Rattle.journal_core.specs.Bodies.{fault_body, alarm_body, order_body}
 use Rattle.alarm_machine.specs.declared.states.AlarmState.{AlarmState}
 use Rattle.alarm_machine.specs.declared.states.Code.{Code}
 use Rattle.alarm_machine.specs.declared.states.Code.TheVariants as code
-use Rattle.alarm_machine.specs.declared.states.OrderFault.{OrderFault}
-use Rattle.alarm_machine.specs.declared.states.OrderFault.TheVariants as order_fault
-use Rattle.alarm_machine.specs.declared.states.Verb.{Verb}
 use Rattle.alarm_machine.specs.Codes.{code_of, same_code}
 use Rattle.alarm_bank.specs.declared.rows.Counted.{Counted}
 use Rattle.alarm_bank.specs.Counts.{count_of}
@@ -20,7 +13,7 @@ use Rattle.command_text.specs.Lines.{state_line, count_line, row_line, end_line}
 use Rattle.plant_config.specs.Plants.{PlainPlant}
 use Rattle.plant_config.specs.Names.{tag_of, area_of, priority_of}
 use Rattle.event_history.specs.declared.event.Event.{Event}
-use Rattle.engine.specs.Journal.{NamedEntry, NamedRow, FaultAt, ChangeOf, OrderBy, target_name, journal_of}
+use Rattle.engine.specs.Journal.{NamedRow, named_text, journal_of}
 use Rattle.plant_system.specs.System.{System, summary_of}
 use Rattle.command_answers.specs.declared.spilling.Half.{Half}
 use Rattle.command_answers.specs.declared.spilling.Half.TheVariants as half
@@ -98,25 +91,13 @@ half_lines sys half = lines_below (half_lines_of sys half) (half_total sys.plant
 
 -- ---- the journal
 
--- the target of an order as a row has it: its name as declared, `?` where it was refused because there is none
-abbrev pub target_text : PlainPlant → Verb → Option ℕ → Option OrderFault → List ℕ
-target_text plant verb target (Some order_fault.UnknownTarget) = codes "?"
-target_text plant verb None refused = codes "?"
-target_text plant verb (Some n) refused = target_name plant verb n
-
--- the body of a row
-abbrev pub entry_text : PlainPlant → NamedEntry → List ℕ
-entry_text plant (FaultAt spot trap) = fault_body (path_text spot.path) spot.statement trap
-entry_text plant (ChangeOf alarm change) = alarm_body (tag_of plant alarm) change
-entry_text plant (OrderBy console order refused) = order_body console order.verb (target_text plant order.verb order.target refused) refused
-
--- the line of a row: its number, its stamp and its body
-unfoldable pub named_line : PlainPlant → NamedRow → List ℕ
-named_line plant row = row_line (decimal row.number ++ codes " " ++ stamp plant.epoch row.moment ++ codes " " ++ entry_text plant row.entry)
+-- the line of a row, in a journal with this epoch
+unfoldable pub named_line : ℕ → NamedRow → List ℕ
+named_line epoch row = row_line (named_text epoch row)
 
 -- a line for each row of the journal
 abbrev pub journal_lines : PlainPlant → List Event → List (List ℕ)
-journal_lines plant history = map (named_line plant) (journal_of plant history)
+journal_lines plant history = map (named_line plant.epoch) (journal_of plant history)
 
 -- the answer to `journal`
 unfoldable pub journal_text : PlainPlant → List Event → List ℕ
@@ -133,7 +114,7 @@ pub record HasListed (old new : List ℕ) (count : ℕ) (lines : List (List ℕ)
 pub record HasRow (plant : PlainPlant) (history : List Event) (number : ℕ) (old new : List ℕ) : Type 0 where
   pub row : NamedRow
   pub row_is : slice_get (journal_of plant history) (number - 1) ≡ Some row
-  pub text_is : new ≡ old ++ named_line plant row
+  pub text_is : new ≡ old ++ named_line plant.epoch row
 
 -- of a text the front is written, and the rest is held
 abbrev pub IsPassed : (w₀ w₁ : Option (List ℕ)) → (text held : List ℕ) → Type 0

@@ -6,18 +6,18 @@ use Rattle.alarm_machine.specs.declared.states.OrderFault.{OrderFault}
 use Rattle.alarm_machine.specs.Alarms.{PlainAlarm}
 use Rattle.journal_core.specs.declared.row.Row.{Row}
 use Rattle.journal_core.specs.Rows.{PlainLog, after_entries, last_moment}
+use Rattle.plant_config.specs.Plants.{PlainPlant}
 use Rattle.plant_config.specs.Names.{globals_of}
 use Rattle.event_history.specs.declared.event.Event.{Event}
 use Rattle.event_history.specs.declared.event.Event.TheVariants as event
 use Rattle.event_history.specs.declared.event.Order.{Order}
 use Rattle.plant_system.specs.declared.state.Effect.{Effect}
-use Rattle.alarm_machine.specs.Codes.{PlainChange}
 use Rattle.alarm_bank.specs.Moves.{changes_from}
 use Rattle.journal_core.specs.Rows.{change_entry}
 use Rattle.plant_system.specs.System.{System, system, after_event, ordered}
 use Rattle.engine.specs.Lawful.{IsTaken}
 use Rattle.plant_system.specs.Reports.{PlainReport}
-use Rattle.engine.specs.Journal.{IsJournal, OrderBy, ChangeOf, refusal_of, one_or_none, change_entries, added_entries, scan_entries, order_entries}
+use Rattle.engine.specs.Journal.{IsJournal, named_change, named_order, refusal_of, one_or_none, change_entries, added_entries, scan_entries, order_entries}
 use Rattle.plant_system.specs.Orders.{alarms_by, changed_by}
 use Rattle.engine.proofs.OrderRows.{order_changes}
 use Rattle.engine.specs.Engines.{PlainEngine, Fits, FitsOrder, state_of}
@@ -92,11 +92,11 @@ scan_room moment log r there =
     omega (arith, there, left, many)
 
 -- as many entries as an order adds by names
-order_many : (console : ℕ) (order : Order) (done : Result Effect OrderFault) (alarms : List PlainAlarm)
-    → length (order_entries console order done alarms) ≡ length (OrderBy console order (refusal_of done) ∷ change_entries (changes_from 0 alarms (alarms_by done alarms)))
-order_many console order done alarms =
+order_many : (plant : PlainPlant) (console : ℕ) (order : Order) (done : Result Effect OrderFault) (alarms : List PlainAlarm)
+    → length (order_entries console order done alarms) ≡ length (named_order plant console order (refusal_of done) ∷ change_entries plant (changes_from 0 alarms (alarms_by done alarms)))
+order_many plant console order done alarms =
     let ours = length-map (one_or_none (changed_by done alarms)) change_entry in
-    let theirs = length-map (changes_from 0 alarms (alarms_by done alarms)) (λ (c : ℕ × PlainChange). ChangeOf c.0 c.1) in
+    let theirs = length-map (changes_from 0 alarms (alarms_by done alarms)) (named_change plant) in
     let same = ap length (order_changes done alarms) in
     omega (arith, ours, theirs, same)
 
@@ -108,5 +108,5 @@ order_room e p k log held fits there =
     let left = room_after k.moment log (order_entries p.console p.order p.done k.alarms) in
     let few = few_order_entries p.console p.order p.done k.alarms in
     let same : length (order_entries p.console p.order p.done k.alarms) ≡ length (order_entries p.console p.order done sys.alarms) = λ i. length (order_entries p.console p.order (fits.done_is i) (held.alarms_are i)) in
-    let many : length (order_entries p.console p.order done sys.alarms) ≡ length (added_entries sys (event.Order p.console p.order)) = order_many p.console p.order done sys.alarms in
+    let many : length (order_entries p.console p.order done sys.alarms) ≡ length (added_entries sys (event.Order p.console p.order)) = order_many sys.plant p.console p.order done sys.alarms in
     omega (arith, left, few, same, many, there)

@@ -13,7 +13,6 @@ use Rattle.alarm_machine.specs.declared.states.OrderFault.{OrderFault}
 use Rattle.alarm_machine.specs.Alarms.{PlainAlarm}
 use Rattle.plant_system.specs.declared.state.Effect.{Effect}
 use Rattle.alarm_machine.specs.Codes.{PlainChange}
-use Rattle.plant_logic.specs.Source.{Source}
 use Rattle.plant_walk.specs.Runs.{place_spot}
 use Rattle.journal_core.specs.declared.row.Entry.{Entry}
 use Rattle.journal_core.specs.declared.row.Entry.TheVariants as entry
@@ -30,7 +29,7 @@ use Rattle.alarm_bank.specs.Moves.{changes_from}
 use Rattle.plant_system.specs.System.{System, system, opening_system, after_event, ordered}
 use Rattle.plant_system.proofs.Systems.{system_keeps_its_plant, system_alarms, system_faulted, changes_within, numbers_more}
 use Rattle.engine.proofs.OrderRows.{order_changes, order_named}
-use Rattle.engine.specs.Journal.{NamedEntry, FaultAt, ChangeOf, named_entry, named_row, fault_entries, change_entries, added_entries, OrderBy, refusal_of, one_or_none, scan_entries, order_entries, rows_from, added_rows, journal_from, journal_of, IsNamed, IsJournal}
+use Rattle.engine.specs.Journal.{NamedEntry, FaultAt, named_change, named_order, named_entry, named_row, fault_entries, change_entries, added_entries, refusal_of, one_or_none, scan_entries, order_entries, rows_from, added_rows, journal_from, journal_of, IsNamed, IsJournal}
 
 length-rows_from : (n moment : ℕ) (entries : List NamedEntry) → length (rows_from n moment entries) ≡ length entries
 length-rows_from n moment [] = refl
@@ -68,16 +67,16 @@ journal_none plant = refl
 abbrev row_for : ℕ → PlainLog → Entry → Row
 row_for moment log entry = record { number = length log.rows + 1; moment = moment; entry = entry }
 
-pub named_after : (source : Source) (moment : ℕ) (log : PlainLog) (entries : List Entry) → map (named_row source) (after_entries moment log entries).rows ≡ map (named_row source) log.rows ++ rows_from (length log.rows + 1) moment (map (named_entry source) entries)
-named_after source moment log [] = sym (append-nil (map (named_row source) log.rows))
-named_after source moment log (entry ∷ entries) =
-    let rest = map (named_entry source) entries in
+pub named_after : (plant : PlainPlant) (moment : ℕ) (log : PlainLog) (entries : List Entry) → map (named_row plant) (after_entries moment log entries).rows ≡ map (named_row plant) log.rows ++ rows_from (length log.rows + 1) moment (map (named_entry plant) entries)
+named_after plant moment log [] = sym (append-nil (map (named_row plant) log.rows))
+named_after plant moment log (entry ∷ entries) =
+    let rest = map (named_entry plant) entries in
     let row = row_for moment log entry in
     let long : length (log.rows ++ row ∷ []) + 1 ≡ length log.rows + 1 + 1 = ap (λ k. k + 1) (length-append log.rows (row ∷ [])) in
-    named_after source moment (after_entry moment log entry) entries
-    ∙ ap (λ k. map (named_row source) (log.rows ++ row ∷ []) ++ rows_from k moment rest) long
-    ∙ ap (λ l. l ++ rows_from (length log.rows + 1 + 1) moment rest) (map-append (named_row source) log.rows (row ∷ []))
-    ∙ append_assoc (map (named_row source) log.rows) (named_row source row ∷ []) (rows_from (length log.rows + 1 + 1) moment rest)
+    named_after plant moment (after_entry moment log entry) entries
+    ∙ ap (λ k. map (named_row plant) (log.rows ++ row ∷ []) ++ rows_from k moment rest) long
+    ∙ ap (λ l. l ++ rows_from (length log.rows + 1 + 1) moment rest) (map-append (named_row plant) log.rows (row ∷ []))
+    ∙ append_assoc (map (named_row plant) log.rows) (named_row plant row ∷ []) (rows_from (length log.rows + 1 + 1) moment rest)
 
 -- entries that are added one after the other
 pub after_both : (moment : ℕ) (log : PlainLog) (xs ys : List Entry) → after_entries moment (after_entries moment log xs) ys ≡ after_entries moment log (xs ++ ys)
@@ -125,27 +124,27 @@ faults_room moment log new faults n is there =
     omega (arith, left, many, there)
 
 -- the entries of a scan's report, by names
-pub faults_named : (source : Source) (faults : List (Place × Trap)) → map (named_entry source) (map fault_entry faults) ≡ fault_entries (map (λ (f : Place × Trap). (place_spot source f.0, f.1)) faults)
-faults_named source [] = refl
-faults_named source (f ∷ fs) = ap (λ l. FaultAt (place_spot source f.0) f.1 ∷ l) (faults_named source fs)
+pub faults_named : (plant : PlainPlant) (faults : List (Place × Trap)) → map (named_entry plant) (map fault_entry faults) ≡ fault_entries (map (λ (f : Place × Trap). (place_spot plant.source f.0, f.1)) faults)
+faults_named plant [] = refl
+faults_named plant (f ∷ fs) = ap (λ l. FaultAt (place_spot plant.source f.0) f.1 ∷ l) (faults_named plant fs)
 
-pub changes_named : (source : Source) (changes : List (ℕ × PlainChange)) → map (named_entry source) (map change_entry changes) ≡ change_entries changes
-changes_named source [] = refl
-changes_named source (c ∷ cs) = ap (λ l. ChangeOf c.0 c.1 ∷ l) (changes_named source cs)
+pub changes_named : (plant : PlainPlant) (changes : List (ℕ × PlainChange)) → map (named_entry plant) (map change_entry changes) ≡ change_entries plant changes
+changes_named plant [] = refl
+changes_named plant (c ∷ cs) = ap (λ l. named_change plant c ∷ l) (changes_named plant cs)
 
 -- ---- a journal goes on, by entries that the system's plant names
 journal_on : (plant : PlainPlant) (history : List Event) (e : Event) (moment : ℕ) (log : PlainLog) (entries : List Entry) → moment ≡ (after_event (system plant history) e).moment
-    → map (named_entry (system plant history).plant.source) entries ≡ added_entries (system plant history) e → All (IsNamed (system plant history).plant) entries → IsJournal plant history log.rows → IsJournal plant (history ++ e ∷ []) (after_entries moment log entries).rows
+    → map (named_entry (system plant history).plant) entries ≡ added_entries (system plant history) e → All (IsNamed (system plant history).plant) entries → IsJournal plant history log.rows → IsJournal plant (history ++ e ∷ []) (after_entries moment log entries).rows
 journal_on plant history e moment log entries at named within held =
     let sys = system plant history in
     let own = system_keeps_its_plant plant history in
-    let are = subst (λ (x : PlainPlant). map (named_entry x.source) entries ≡ added_entries sys e) own named in
+    let are = subst (λ (x : PlainPlant). map (named_entry x) entries ≡ added_entries sys e) own named in
     let journal = journal_of plant history in
-    let long : length log.rows + 1 ≡ length journal + 1 = ap (λ k. k + 1) (sym (length-map log.rows (named_row plant.source)) ∙ ap length held.rows_are) in
+    let long : length log.rows + 1 ≡ length journal + 1 = ap (λ k. k + 1) (sym (length-map log.rows (named_row plant)) ∙ ap length held.rows_are) in
     record {
-      rows_are = named_after plant.source moment log entries
-          ∙ ap (λ l. l ++ rows_from (length log.rows + 1) moment (map (named_entry plant.source) entries)) held.rows_are
-          ∙ ap (λ n. journal ++ rows_from n moment (map (named_entry plant.source) entries)) long
+      rows_are = named_after plant moment log entries
+          ∙ ap (λ l. l ++ rows_from (length log.rows + 1) moment (map (named_entry plant) entries)) held.rows_are
+          ∙ ap (λ n. journal ++ rows_from n moment (map (named_entry plant) entries)) long
           ∙ ap (λ es. journal ++ rows_from (length journal + 1) moment es) are
           ∙ ap (λ m. journal ++ rows_from (length journal + 1) m (added_entries sys e)) at
           ∙ sym (journal_next plant history e);
@@ -158,10 +157,10 @@ pub scan_journal : (plant : PlainPlant) (history : List Event) (image : List (�
 scan_journal plant history image t r log report held =
     let here = (system plant history).plant in
     let P = IsNamed here in
-    let faults = faults_named here.source r.faults ∙ ap fault_entries report.faults_are in
-    let changes = changes_named here.source r.changes ∙ ap change_entries report.changes_are in
+    let faults = faults_named here r.faults ∙ ap fault_entries report.faults_are in
+    let changes = changes_named here r.changes ∙ ap (change_entries here) report.changes_are in
     journal_on plant history (event.Scan image t) r.moment log (scan_entries r) report.moment_is
-    (map-append (named_entry here.source) (map fault_entry r.faults) (map change_entry r.changes) ∙ (λ i. faults i ++ changes i))
+    (map-append (named_entry here) (map fault_entry r.faults) (map change_entry r.changes) ∙ (λ i. faults i ++ changes i))
     (All-append P (map fault_entry r.faults) (map change_entry r.changes) (All-map P fault_entry r.faults report.faults_within) (All-map P change_entry r.changes report.changes_within))
     held
 
@@ -177,7 +176,7 @@ order_journal plant history console order log held =
     let few : All (λ (c : ℕ × PlainChange). c.0 < length sys.plant.alarms) changes = numbers_more changes (0 + length sys.alarms) (length sys.plant.alarms) (omega (arith, many)) (changes_within 0 sys.alarms (after_event sys (event.Order console order)).alarms) in
     let P = IsNamed sys.plant in
     journal_on plant history (event.Order console order) sys.moment log (order_entries console order done sys.alarms) refl
-    (ap (λ l. OrderBy console order (refusal_of done) ∷ l) (changes_named sys.plant.source (one_or_none (changed_by done sys.alarms)) ∙ ap change_entries (sym are)))
+    (ap (λ l. named_order sys.plant console order (refusal_of done) ∷ l) (changes_named sys.plant (one_or_none (changed_by done sys.alarms)) ∙ ap (change_entries sys.plant) (sym are)))
     (All-cons P (entry.Order console order.verb order.target (refusal_of done)) (map change_entry (one_or_none (changed_by done sys.alarms)))
     (order_named sys.plant sys.alarms sys.faulted sys.moment console order (system_faulted plant history))
     (All-map P change_entry (one_or_none (changed_by done sys.alarms)) (subst (All (λ (c : ℕ × PlainChange). c.0 < length sys.plant.alarms)) are few)))
@@ -216,9 +215,9 @@ few_order_entries console order done alarms =
     omega (arith, few, same)
 
 -- the row of a number is that of the journal
-pub row_at : (plant : PlainPlant) (history : List Event) (rows : List Row) (k : ℕ) (row : Row) → IsJournal plant history rows → slice_get rows k ≡ Some row → slice_get (journal_of plant history) k ≡ Some (named_row plant.source row)
+pub row_at : (plant : PlainPlant) (history : List Event) (rows : List Row) (k : ℕ) (row : Row) → IsJournal plant history rows → slice_get rows k ≡ Some row → slice_get (journal_of plant history) k ≡ Some (named_row plant row)
 row_at plant history rows k row held at =
-    ap (λ l. slice_get l k) (sym held.rows_are) ∙ slice_get-map (named_row plant.source) rows k ∙ ap (option_map (named_row plant.source)) at
+    ap (λ l. slice_get l k) (sym held.rows_are) ∙ slice_get-map (named_row plant) rows k ∙ ap (option_map (named_row plant)) at
 
 pub as_many_rows : (plant : PlainPlant) (history : List Event) (rows : List Row) → IsJournal plant history rows → length rows ≡ length (journal_of plant history)
-as_many_rows plant history rows held = sym (length-map rows (named_row plant.source)) ∙ ap length held.rows_are
+as_many_rows plant history rows held = sym (length-map rows (named_row plant)) ∙ ap length held.rows_are

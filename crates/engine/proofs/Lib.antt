@@ -3,6 +3,7 @@ mod InRange
 mod Ready
 mod Shown
 mod Journals
+pub mod NamedRows
 mod OrderRows
 mod Commits
 mod Fitting

@@ -1,5 +1,8 @@
 -- The journal of a history: the rows that its events add, by names.
 use Rattle.std.specs.Prelude.{◌≡◌, ℕ, ◌+◌, ◌-◌, ◌<◌, slice_get, List, [], ◌∷◌, ◌++◌, length, map, if◌then◌else◌, Option, Some, None, Result, Ok, Err, All, codes}
+use Rattle.std.specs.Option.{option_map}
+use Rattle.std.specs.Fmt.{decimal}
+use Rattle.stamps.specs.Stamps.{stamp}
 use Rattle.plant_types.specs.declared.values.Trap.{Trap}
 use Rattle.alarm_machine.specs.declared.states.Verb.{Verb}
 use Rattle.alarm_machine.specs.declared.states.OrderFault.{OrderFault}
@@ -7,13 +10,13 @@ use Rattle.alarm_machine.specs.declared.states.OrderFault.TheVariants as fault
 use Rattle.alarm_machine.specs.Codes.{PlainChange}
 use Rattle.alarm_machine.specs.Alarms.{PlainAlarm}
 use Rattle.st_tree.specs.Meaning.{Spot}
-use Rattle.plant_logic.specs.Source.{Source}
+use Rattle.plant_logic.specs.Paths.{path_text}
 use Rattle.plant_walk.specs.Runs.{place_spot}
 use Rattle.journal_core.specs.declared.row.Entry.{Entry}
 use Rattle.journal_core.specs.declared.row.Entry.TheVariants as entry
 use Rattle.journal_core.specs.declared.row.Row.{Row}
 use Rattle.journal_core.specs.Rows.{fault_entry, change_entry}
-use Rattle.journal_core.specs.Bodies.{row_text}
+use Rattle.journal_core.specs.Bodies.{fault_body, alarm_body, order_body}
 use Rattle.plant_config.specs.Plants.{PlainPlant}
 use Rattle.plant_config.specs.Names.{programs_of, body_paths, tag_of, program_at, body_path}
 use Rattle.event_history.specs.Orders.{order_with}
@@ -25,11 +28,11 @@ use Rattle.plant_system.specs.Reports.{PlainReport}
 use Rattle.plant_system.specs.Orders.{is_restart, changed_by}
 use Rattle.plant_system.specs.System.{System, opening_system, after_event, ordered, faults_of, changes_of}
 
--- what a row tells, by names: a program's fault at a spot, the change of an alarm's code, or an order of a console and why it was refused, if it was
+-- what a row tells, by names alone: a program's fault at a spot, the change of the code of the alarm with a tag, or an order of a console, the name of its target if there is one, and why it was refused, if it was
 pub data NamedEntry : Type 0 where
   FaultAt : Spot → Trap → NamedEntry
-  ChangeOf : ℕ → PlainChange → NamedEntry
-  OrderBy : ℕ → Order → Option OrderFault → NamedEntry
+  ChangeOf : List ℕ → PlainChange → NamedEntry
+  OrderBy : ℕ → Verb → Option (List ℕ) → Option OrderFault → NamedEntry
 
 -- a row by names: its number, the moment of its event, and what it tells
 pub record NamedRow : Type 0 where
@@ -37,15 +40,47 @@ pub record NamedRow : Type 0 where
   pub moment : ℕ
   pub entry : NamedEntry
 
--- an entry by names: a fault's place is the spot that it has in the source
-abbrev pub named_entry : Source → Entry → NamedEntry
-named_entry source (entry.Fault place trap) = FaultAt (place_spot source place) trap
-named_entry source (entry.Alarm alarm change) = ChangeOf alarm change
-named_entry source (entry.Order console verb target refused) = OrderBy console (order_with verb target) refused
+-- the name of an order's target, as declared: a program's for a restart, else an alarm's tag
+abbrev pub target_name : PlainPlant → Verb → ℕ → List ℕ
+target_name plant verb n = if is_restart verb then program_at plant n else tag_of plant n
 
--- a row by names
-abbrev pub named_row : Source → Row → NamedRow
-named_row source row = record { number = row.number; moment = row.moment; entry = named_entry source row.entry }
+-- the name that an order's row has for its target; none where the order was refused because there is no target
+abbrev pub order_target : PlainPlant → Verb → Option ℕ → Option OrderFault → Option (List ℕ)
+order_target plant verb target (Some fault.UnknownTarget) = None
+order_target plant verb target refused = option_map (target_name plant verb) target
+
+-- the change of an alarm's code, by the alarm's tag
+abbrev pub named_change : PlainPlant → (ℕ × PlainChange) → NamedEntry
+named_change plant change = ChangeOf (tag_of plant change.0) change.1
+
+-- an order of a console, by the name of its target
+abbrev pub named_order : PlainPlant → ℕ → Order → Option OrderFault → NamedEntry
+named_order plant console order refused = OrderBy console order.verb (order_target plant order.verb order.target refused) refused
+
+-- an entry by the names of a plant: a fault's place is the spot that it has in the source
+abbrev pub named_entry : PlainPlant → Entry → NamedEntry
+named_entry plant (entry.Fault place trap) = FaultAt (place_spot plant.source place) trap
+named_entry plant (entry.Alarm alarm change) = named_change plant (alarm, change)
+named_entry plant (entry.Order console verb target refused) = named_order plant console (order_with verb target) refused
+
+-- a row by the names of a plant
+abbrev pub named_row : PlainPlant → Row → NamedRow
+named_row plant row = record { number = row.number; moment = row.moment; entry = named_entry plant row.entry }
+
+-- the target of an order, as it is printed: its name, `?` where there is none
+abbrev pub target_text : Option (List ℕ) → List ℕ
+target_text None = codes "?"
+target_text (Some name) = name
+
+-- the body of a row by names
+abbrev pub entry_text : NamedEntry → List ℕ
+entry_text (FaultAt spot trap) = fault_body (path_text spot.path) spot.statement trap
+entry_text (ChangeOf tag change) = alarm_body tag change
+entry_text (OrderBy console verb target refused) = order_body console verb (target_text target) refused
+
+-- the text of a row by names, of a journal with this epoch: `NUMBER STAMP BODY`
+abbrev pub named_text : ℕ → NamedRow → List ℕ
+named_text epoch row = decimal row.number ++ codes " " ++ stamp epoch row.moment ++ codes " " ++ entry_text row.entry
 
 -- why an order is refused, if it is
 abbrev pub refusal_of : Result Effect OrderFault → Option OrderFault
@@ -62,13 +97,13 @@ abbrev pub fault_entries : List (Spot × Trap) → List NamedEntry
 fault_entries faults = map (λ (f : Spot × Trap). FaultAt f.0 f.1) faults
 
 -- the entries for changes of alarms' codes
-abbrev pub change_entries : List (ℕ × PlainChange) → List NamedEntry
-change_entries changes = map (λ (c : ℕ × PlainChange). ChangeOf c.0 c.1) changes
+abbrev pub change_entries : PlainPlant → List (ℕ × PlainChange) → List NamedEntry
+change_entries plant changes = map (named_change plant) changes
 
--- the entries that an event adds: a scan its faults in program order, an order itself with its reply; then the changes of alarms' codes in the order of the database
+-- the entries that an event adds, by the names of the plant that the system has at that time: a scan its faults in program order, an order itself with its reply; then the changes of alarms' codes in the order of the database
 abbrev pub added_entries : System → Event → List NamedEntry
-added_entries sys (event.Scan image t) = fault_entries (faults_of sys (event.Scan image t)) ++ change_entries (changes_of sys (event.Scan image t))
-added_entries sys (event.Order console order) = OrderBy console order (refusal_of (ordered sys console order)) ∷ change_entries (changes_of sys (event.Order console order))
+added_entries sys (event.Scan image t) = fault_entries (faults_of sys (event.Scan image t)) ++ change_entries sys.plant (changes_of sys (event.Scan image t))
+added_entries sys (event.Order console order) = named_order sys.plant console order (refusal_of (ordered sys console order)) ∷ change_entries sys.plant (changes_of sys (event.Order console order))
 
 -- the entries that a scan's report has, with the places of its faults
 abbrev pub scan_entries : PlainReport → List Entry
@@ -92,7 +127,7 @@ abbrev pub journal_from : ℕ → System → List Event → List NamedRow
 journal_from n sys [] = []
 journal_from n sys (e ∷ events) = added_rows n sys e ++ journal_from (n + length (added_entries sys e)) (after_event sys e) events
 
--- the journal of a history: the rows of all its events, numbered from 1
+-- the journal of a history: the rows of all its events, numbered from 1, each by the names that its event's plant had
 unfoldable pub journal_of : PlainPlant → List Event → List NamedRow
 journal_of plant history = journal_from 1 (opening_system plant) history
 
@@ -107,26 +142,19 @@ IsNamed plant (entry.Alarm alarm change) = alarm < length plant.alarms
 IsNamed plant (entry.Order console verb target (Some fault.UnknownTarget)) = Unit {0}
 IsNamed plant (entry.Order console verb target refused) = (n : ℕ) × (target ≡ Some n) × HasTarget plant verb n
 
--- the rows of a log are the journal of a history, and the plant has what each names
+-- the rows of a log, by the names of the plant, are the journal of a history, and the plant has what each names
 pub record IsJournal (plant : PlainPlant) (history : List Event) (rows : List Row) : Type 0 where
-  pub rows_are : map (named_row plant.source) rows ≡ journal_of plant history
+  pub rows_are : map (named_row plant) rows ≡ journal_of plant history
   pub named : All (λ row. IsNamed plant row.entry) rows
 
--- the name of an order's target, as declared
-abbrev pub target_name : PlainPlant → Verb → ℕ → List ℕ
-target_name plant verb n = if is_restart verb then program_at plant n else tag_of plant n
-
--- the name that a row bears: a fault's path, an alarm's tag, an order's target as declared, or `?` where it was refused because there is none
+-- the name with which an entry of a plant is printed: a fault's path, an alarm's tag, an order's target
 abbrev pub name_of : PlainPlant → Entry → List ℕ
 name_of plant (entry.Fault place trap) = body_path plant place.path
 name_of plant (entry.Alarm alarm change) = tag_of plant alarm
-name_of plant (entry.Order console verb target (Some fault.UnknownTarget)) = codes "?"
-name_of plant (entry.Order console verb None refused) = codes "?"
-name_of plant (entry.Order console verb (Some n) refused) = target_name plant verb n
+name_of plant (entry.Order console verb target refused) = target_text (order_target plant verb target refused)
 
--- the line of a number in a journal is the text of the row of that number, with the name that this row bears
-pub record IsLine (plant : PlainPlant) (history : List Event) (number : ℕ) (text : List ℕ) : Type 0 where
-  pub row : Row
-  pub row_is : slice_get (journal_of plant history) (number - 1) ≡ Some (named_row plant.source row)
-  pub named : IsNamed plant row.entry
-  pub text_is : text ≡ row_text plant.epoch row (name_of plant row.entry)
+-- the line of a number in a journal with this epoch is the text of the row of that number
+pub record IsLine (epoch : ℕ) (journal : List NamedRow) (number : ℕ) (text : List ℕ) : Type 0 where
+  pub row : NamedRow
+  pub row_is : slice_get journal (number - 1) ≡ Some row
+  pub text_is : text ≡ named_text epoch row

@@ -181,12 +181,12 @@ impl Engine {
         &self.log
     }
 
-    /// The text of the journal's row of a number, from 1, with the name that it bears: a fault's path, an alarm's tag, an order's target as
-    /// declared, or `?` where the order was refused because there is none. Fails if allocation fails.
+    /// The text of the journal's row of a number, from 1, with the name that it bears since its event: a fault's path, an alarm's tag, an
+    /// order's target as declared, or `?` where the order was refused because there is none. Fails if allocation fails.
     pub fn line(&self, alloc: Global, number: u64) -> Result<String, AllocError>
         requires first { 1 ≤ number }
         requires last { number ≤ length (journal_of self.now.plant self.now.history) }
-        ensures { IfOk result (λ text. IsLine self.now.plant self.now.history number (string_bytes text)) }
+        ensures { IfOk result (λ text. IsLine self.now.plant.epoch (journal_of self.now.plant self.now.history) number (string_bytes text)) }
     {
         let row = self.log.row(number);
         line_text(alloc, &self.plant, &row)

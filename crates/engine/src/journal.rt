@@ -6,7 +6,7 @@ ghost use Rattle.journal_core.specs.Bodies.{row_text};
 ghost use Rattle.journal_core.specs.declared.row.Entry.TheVariants as entry;
 ghost use Rattle.journal_core.specs.Rows.{after_entries, last_moment};
 ghost use Rattle.plant_system.specs.Orders.{changed_by};
-ghost use Rattle.engine.specs.Journal.{refusal_of, scan_entries, order_entries, IsNamed, HasTarget, target_name, name_of};
+ghost use Rattle.engine.specs.Journal.{refusal_of, scan_entries, order_entries, IsNamed, HasTarget, target_name, order_target, target_text, name_of};
 
 use alarm_machine::{Alarm, Change, OrderFault, Verb};
 use event_history::Order;
@@ -94,7 +94,7 @@ fn target_name(plant: &Plant, verb: Verb, number: u32) -> &str
     }
 }
 
-/// The name that the row of an order bears: that of its target, `?` where it was refused because there is none.
+/// The target of an order as its row has it: its name, `?` where the order was refused because there is none.
 fn order_name(
     plant: &Plant,
     console: u32,
@@ -103,7 +103,7 @@ fn order_name(
     refused: Option<OrderFault>,
 ) -> &str
     requires { IsNamed plant.now (entry.Order console verb target refused) }
-    ensures { result.now ≡ name_of plant.now (entry.Order console verb target refused) }
+    ensures { result.now ≡ target_text (order_target plant.now verb target refused) }
 {
     match (refused, target) {
         (Some(OrderFault::UnknownTarget), _) => "?",

@@ -1,5 +1,5 @@
 -- Worked examples: what rows tell, and where a record ends.
-use Rattle.std.proofs.Common.{◌≡◌, ℕ, true, false, List, [], ◌∷◌, ◌++◌, map, refl, None}
+use Rattle.std.proofs.Common.{◌≡◌, ℕ, true, false, List, [], ◌∷◌, ◌++◌, map, refl, Some, None}
 use Rattle.std.specs.Prelude.{codes}
 use Rattle.alarm_machine.specs.declared.states.Code.TheVariants.{Norm, Unack, Acked, Oos}
 use Rattle.alarm_machine.specs.declared.states.Verb.TheVariants as verb
@@ -8,17 +8,17 @@ use Rattle.serving.specs.Requests.{Request, requests_of}
 use Rattle.history_laws.specs.Told.{last_code}
 use Rattle.history_laws.specs.Records.{ends_at_line}
 
--- alarm 0 comes, an order acknowledges it, and alarm 1 is taken out of service
+-- T1 comes, an order acknowledges it, and T2 is taken out of service
 abbrev rows : List NamedRow
 rows =
     rows_from 1 7
-    (ChangeOf 0 (record { from = Norm; to = Unack })
-    ∷ OrderBy 1 (record { verb = verb.Ack; target = None }) None
-    ∷ ChangeOf 0 (record { from = Unack; to = Acked })
-    ∷ ChangeOf 1 (record { from = Norm; to = Oos })
+    (ChangeOf (codes "T1") (record { from = Norm; to = Unack })
+    ∷ OrderBy 1 verb.Ack (Some (codes "T1")) None
+    ∷ ChangeOf (codes "T1") (record { from = Unack; to = Acked })
+    ∷ ChangeOf (codes "T2") (record { from = Norm; to = Oos })
     ∷ [])
 
-codes_of_rows : map (λ n. last_code n rows) (0 ∷ 1 ∷ 2 ∷ []) ≡ Acked ∷ Oos ∷ Norm ∷ []
+codes_of_rows : map (λ tag. last_code tag rows) (codes "T1" ∷ codes "T2" ∷ codes "T3" ∷ []) ≡ Acked ∷ Oos ∷ Norm ∷ []
 codes_of_rows = refl
 
 -- a line with its LF ends there, one without doesn't

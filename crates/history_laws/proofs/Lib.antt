@@ -1,4 +1,5 @@
 pub mod Journals
+pub mod Tags
 pub mod Telling
 pub mod Following
 pub mod Listing

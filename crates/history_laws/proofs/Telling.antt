@@ -1,7 +1,9 @@
 -- The rows of a journal tell the code of each alarm: event by event, change by change.
-use Rattle.std.proofs.Common.{◌≡◌, ℕ, zero, suc, ◌+◌, ◌<◌, Bool, true, false, List, [], ◌∷◌, ◌++◌, length, map, fold, refl, ap, sym, ◌∙◌, subst, append_assoc, append-nil, arith, eqb, Option, Some, None, if◌then◌else◌}
+use Rattle.std.proofs.Common.{◌≡◌, ℕ, zero, suc, ◌+◌, ◌<◌, ◌≤◌, Bool, true, false, List, [], ◌∷◌, ◌++◌, length, map, fold, refl, ap, sym, ◌∙◌, subst, append_assoc, append-nil, arith, eqb, Option, Some, None, if◌then◌else◌}
 use Rattle.std.specs.Prelude.{slice_get, slice_index_or}
 use Rattle.std.specs.Option.{option_map_or}
+use Rattle.std.specs.Str.{bytes_eq}
+use Rattle.std.proofs.lemmas.Option.{slice_get_within}
 use Rattle.std.proofs.lemmas.Bool.{eqb-true, eq-eqb}
 use Rattle.std.proofs.lemmas.Bool.Decides.{nat_tests}
 use Rattle.std.proofs.lemmas.List.Sums.{fold-append}
@@ -15,12 +17,14 @@ use Rattle.alarm_bank.specs.Moves.{changes_from}
 use Rattle.event_history.specs.declared.event.Event.{Event}
 use Rattle.event_history.specs.declared.event.Event.TheVariants as event
 use Rattle.plant_config.specs.declared.rows.AlarmRow.{AlarmRow}
-use Rattle.plant_config.specs.Plants.{PlainPlant}
+use Rattle.plant_config.specs.Plants.{PlainPlant, IsPlant}
+use Rattle.plant_config.specs.Names.{tag_of}
 use Rattle.plant_system.specs.System.{System, system, opening_alarm, after_event, faults_of, changes_of}
 use Rattle.plant_system.proofs.Systems.{system_keeps_its_plant, system_next, system_none, system_alarms}
 use Rattle.engine.specs.Journal.{NamedEntry, NamedRow, fault_entries, change_entries, added_entries, rows_from, added_rows, journal_of}
 use Rattle.history_laws.proofs.Journals.{journal_next, journal_none}
 use Rattle.command_answers.specs.Listings.{all_codes}
+use Rattle.history_laws.proofs.Tags.{AreApart, tags_apart}
 use Rattle.history_laws.specs.Told.{code_told, code_after, last_code}
 
 -- the code of the alarm of a number, NORM where there is none
@@ -55,82 +59,90 @@ below m n h = grind (arith, nat_tests)
 abbrev pub put : ℕ → List (ℕ × PlainChange) → Option PlainChange → List (ℕ × PlainChange)
 put n rest o = elim o [ None ↦ rest | Some change ↦ (n, change) ∷ rest ]
 
--- the code of an alarm after the change of the alarm of a number, if there is one
-abbrev by_change : ℕ → ℕ → Code → Option PlainChange → Code
-by_change alarm n c None = c
-by_change alarm n c (Some change) = if eqb n alarm then change.to else c
+-- a code after a change, if there is one, of the same alarm or another
+abbrev by_change : Bool → Code → Option PlainChange → Code
+by_change same c None = c
+by_change same c (Some change) = if same then change.to else c
 
-put_tells : (alarm n : ℕ) (c : Code) (rest : List (ℕ × PlainChange)) (o : Option PlainChange)
-    → fold (code_told alarm) c (change_entries (put n rest o)) ≡ fold (code_told alarm) (by_change alarm n c o) (change_entries rest)
-put_tells alarm n c rest None = refl
-put_tells alarm n c rest (Some change) = refl
+other_change : (same : Bool) (c : Code) (o : Option PlainChange) → same ≡ false → by_change same c o ≡ c
+other_change same c None e = refl
+other_change same c (Some change) e = ap (λ (v : Bool). if v then change.to else c) e
 
-other_change : (alarm n : ℕ) (c : Code) (o : Option PlainChange) → eqb n alarm ≡ false → by_change alarm n c o ≡ c
-other_change alarm n c None e = refl
-other_change alarm n c (Some change) e = ap (λ (v : Bool). if v then change.to else c) e
+own_change : (same : Bool) (a b : Code) (v : Bool) → same ≡ true → same_code a b ≡ v → by_change same a (if v then None else Some (record { from = a; to = b })) ≡ b
+own_change same a b true e is = same_is a b is
+own_change same a b false e is = ap (λ (w : Bool). if w then b else a) e
 
-own_change : (alarm n : ℕ) (a b : Code) (v : Bool) → eqb n alarm ≡ true → same_code a b ≡ v → by_change alarm n a (if v then None else Some (record { from = a; to = b })) ≡ b
-own_change alarm n a b true e same = same_is a b same
-own_change alarm n a b false e same = ap (λ (w : Bool). if w then b else a) e
+-- in a plant in which tags tell alarms apart
+module _ (plant : PlainPlant) (apart : AreApart plant) where
+  put_tells : (tag : List ℕ) (n : ℕ) (c : Code) (rest : List (ℕ × PlainChange)) (o : Option PlainChange)
+      → fold (code_told tag) c (change_entries plant (put n rest o)) ≡ fold (code_told tag) (by_change (bytes_eq (tag_of plant n) tag) c o) (change_entries plant rest)
+  put_tells tag n c rest None = refl
+  put_tells tag n c rest (Some change) = refl
 
--- the first change tells of its alarm, and the others go on from there
-first_tells : (alarm n : ℕ) (c d : Code) (rest : List (ℕ × PlainChange)) (o : Option PlainChange) → by_change alarm n c o ≡ d
-    → fold (code_told alarm) c (change_entries (put n rest o)) ≡ fold (code_told alarm) d (change_entries rest)
-first_tells alarm n c d rest o is = put_tells alarm n c rest o ∙ ap (λ x. fold (code_told alarm) x (change_entries rest)) is
+  -- the first change tells of its alarm, and the others go on from there
+  first_tells : (tag : List ℕ) (n : ℕ) (c d : Code) (rest : List (ℕ × PlainChange)) (o : Option PlainChange) → by_change (bytes_eq (tag_of plant n) tag) c o ≡ d
+      → fold (code_told tag) c (change_entries plant (put n rest o)) ≡ fold (code_told tag) d (change_entries plant rest)
+  first_tells tag n c d rest o is = put_tells tag n c rest o ∙ ap (λ x. fold (code_told tag) x (change_entries plant rest)) is
 
--- the changes from a number on tell nothing of an alarm before it
-below_untold : (alarm n : ℕ) (c : Code) (old new : List PlainAlarm) → alarm < n → fold (code_told alarm) c (change_entries (changes_from n old new)) ≡ c
-below_untold alarm n c [] new h = refl
-below_untold alarm n c (a ∷ old) [] h = refl
-below_untold alarm n c (a ∷ old) (b ∷ new) h =
-    let o = change_between (code_of a.state) (code_of b.state) in
-    first_tells alarm n c c (changes_from (n + 1) old new) o (other_change alarm n c o (above alarm n h))
-    ∙ below_untold alarm (n + 1) c old new (omega arith)
+  -- the changes from a number on tell nothing of an alarm before it
+  below_untold : (alarm n : ℕ) (c : Code) (old new : List PlainAlarm) → alarm < n → alarm < length plant.alarms → n + length old ≤ length plant.alarms
+      → fold (code_told (tag_of plant alarm)) c (change_entries plant (changes_from n old new)) ≡ c
+  below_untold alarm n c [] new h there within = refl
+  below_untold alarm n c (a ∷ old) [] h there within = refl
+  below_untold alarm n c (a ∷ old) (b ∷ new) h there within =
+      let o = change_between (code_of a.state) (code_of b.state) in
+      let here : n < length plant.alarms = omega (arith, within) in
+      first_tells (tag_of plant alarm) n c c (changes_from (n + 1) old new) o (other_change _ c o (apart n alarm here there ∙ above alarm n h))
+      ∙ below_untold alarm (n + 1) c old new (omega (arith, h)) there (omega (arith, within))
 
--- the changes lead from the code before to the code after
-changes_tell : (alarm n j : ℕ) (old new : List PlainAlarm) → alarm ≡ n + j → length new ≡ length old
-    → fold (code_told alarm) (code_at j old) (change_entries (changes_from n old new)) ≡ code_at j new
-changes_tell alarm n j [] [] is same = refl
-changes_tell alarm n j [] (b ∷ new) is same = absurd (omega (arith, same))
-changes_tell alarm n j (a ∷ old) [] is same = absurd (omega (arith, same))
-changes_tell alarm n zero (a ∷ old) (b ∷ new) is same =
-    let x = code_of a.state in
-    let y = code_of b.state in
-    let here : n ≡ alarm = omega (arith, is) in
-    first_tells alarm n x y (changes_from (n + 1) old new) (change_between x y) (own_change alarm n x y (same_code x y) (eq-eqb n alarm here) refl)
-    ∙ below_untold alarm (n + 1) y old new (omega (arith, is))
-changes_tell alarm n (suc j) (a ∷ old) (b ∷ new) is same =
-    let o = change_between (code_of a.state) (code_of b.state) in
-    let c = code_at j old in
-    let later : n < alarm = omega (arith, is) in
-    first_tells alarm n c c (changes_from (n + 1) old new) o (other_change alarm n c o (below n alarm later))
-    ∙ changes_tell alarm (n + 1) j old new (omega (arith, is)) (omega (arith, same))
+  -- the changes lead from the code before to the code after
+  changes_tell : (alarm n j : ℕ) (old new : List PlainAlarm) → alarm ≡ n + j → length new ≡ length old → alarm < length plant.alarms → n + length old ≤ length plant.alarms
+      → fold (code_told (tag_of plant alarm)) (code_at j old) (change_entries plant (changes_from n old new)) ≡ code_at j new
+  changes_tell alarm n j [] [] is same there within = refl
+  changes_tell alarm n j [] (b ∷ new) is same there within = absurd (omega (arith, same))
+  changes_tell alarm n j (a ∷ old) [] is same there within = absurd (omega (arith, same))
+  changes_tell alarm n zero (a ∷ old) (b ∷ new) is same there within =
+      let x = code_of a.state in
+      let y = code_of b.state in
+      let own : n ≡ alarm = omega (arith, is) in
+      let here : n < length plant.alarms = omega (arith, within) in
+      first_tells (tag_of plant alarm) n x y (changes_from (n + 1) old new) (change_between x y) (own_change _ x y (same_code x y) (apart n alarm here there ∙ eq-eqb n alarm own) refl)
+      ∙ below_untold alarm (n + 1) y old new (omega (arith, is)) there (omega (arith, within))
+  changes_tell alarm n (suc j) (a ∷ old) (b ∷ new) is same there within =
+      let o = change_between (code_of a.state) (code_of b.state) in
+      let c = code_at j old in
+      let later : n < alarm = omega (arith, is) in
+      let here : n < length plant.alarms = omega (arith, within) in
+      first_tells (tag_of plant alarm) n c c (changes_from (n + 1) old new) o (other_change _ c o (apart n alarm here there ∙ below n alarm later))
+      ∙ changes_tell alarm (n + 1) j old new (omega (arith, is)) (omega (arith, same)) there (omega (arith, within))
 
 -- ---- one event
 
-faults_tell_none : (alarm : ℕ) (c : Code) (faults : List (Spot × Trap)) → fold (code_told alarm) c (fault_entries faults) ≡ c
-faults_tell_none alarm c [] = refl
-faults_tell_none alarm c (f ∷ faults) = faults_tell_none alarm c faults
+faults_tell_none : (tag : List ℕ) (c : Code) (faults : List (Spot × Trap)) → fold (code_told tag) c (fault_entries faults) ≡ c
+faults_tell_none tag c [] = refl
+faults_tell_none tag c (f ∷ faults) = faults_tell_none tag c faults
 
--- the entries of an event lead from the code before it to the code after it
-event_tells : (alarm : ℕ) (sys : System) (e : Event) → length (after_event sys e).alarms ≡ length sys.alarms
-    → fold (code_told alarm) (code_at alarm sys.alarms) (added_entries sys e) ≡ code_at alarm (after_event sys e).alarms
-event_tells alarm sys (event.Scan image t) same =
+-- the entries of an event lead from the code before it to the code after it, of an alarm of the plant that the system has
+event_tells : (alarm : ℕ) (sys : System) (e : Event) → length (after_event sys e).alarms ≡ length sys.alarms → length sys.alarms ≡ length sys.plant.alarms
+    → AreApart sys.plant → alarm < length sys.plant.alarms
+    → fold (code_told (tag_of sys.plant alarm)) (code_at alarm sys.alarms) (added_entries sys e) ≡ code_at alarm (after_event sys e).alarms
+event_tells alarm sys (event.Scan image t) same many apart there =
     let e = event.Scan image t in
+    let tag = tag_of sys.plant alarm in
     let c = code_at alarm sys.alarms in
-    let changes = change_entries (changes_of sys e) in
+    let changes = change_entries sys.plant (changes_of sys e) in
     let own : alarm ≡ 0 + alarm = omega arith in
-    fold-append (code_told alarm) c (fault_entries (faults_of sys e)) changes
-    ∙ ap (λ x. fold (code_told alarm) x changes) (faults_tell_none alarm c (faults_of sys e))
-    ∙ changes_tell alarm 0 alarm sys.alarms (after_event sys e).alarms own same
-event_tells alarm sys (event.Order console order) same =
+    fold-append (code_told tag) c (fault_entries (faults_of sys e)) changes
+    ∙ ap (λ x. fold (code_told tag) x changes) (faults_tell_none tag c (faults_of sys e))
+    ∙ changes_tell sys.plant apart alarm 0 alarm sys.alarms (after_event sys e).alarms own same there (omega (arith, many))
+event_tells alarm sys (event.Order console order) same many apart there =
     let own : alarm ≡ 0 + alarm = omega arith in
-    changes_tell alarm 0 alarm sys.alarms (after_event sys (event.Order console order)).alarms own same
+    changes_tell sys.plant apart alarm 0 alarm sys.alarms (after_event sys (event.Order console order)).alarms own same there (omega (arith, many))
 
 -- rows tell what their entries tell
-rows_tell : (alarm n moment : ℕ) (c : Code) (entries : List NamedEntry) → code_after alarm c (rows_from n moment entries) ≡ fold (code_told alarm) c entries
-rows_tell alarm n moment c [] = refl
-rows_tell alarm n moment c (entry ∷ entries) = rows_tell alarm (n + 1) moment (code_told alarm c entry) entries
+rows_tell : (tag : List ℕ) (n moment : ℕ) (c : Code) (entries : List NamedEntry) → code_after tag c (rows_from n moment entries) ≡ fold (code_told tag) c entries
+rows_tell tag n moment c [] = refl
+rows_tell tag n moment c (entry ∷ entries) = rows_tell tag (n + 1) moment (code_told tag c entry) entries
 
 -- ---- all events
 
@@ -143,9 +155,9 @@ by_events P keeps done (e ∷ rest) p = subst P (append_assoc done (e ∷ []) re
 pub as_many : (plant : PlainPlant) (history : List Event) → length (system plant history).alarms ≡ length plant.alarms
 as_many plant history = system_alarms plant history ∙ ap (λ (p : PlainPlant). length p.alarms) (system_keeps_its_plant plant history)
 
--- the journal tells the code of every alarm
-abbrev Tells : PlainPlant → List Event → Type 0
-Tells plant history = (alarm : ℕ) → code_at alarm (system plant history).alarms ≡ last_code alarm (journal_of plant history)
+-- the journal tells the code of each alarm that is there
+abbrev pub Tells : PlainPlant → List Event → Type 0
+Tells plant history = (alarm : ℕ) → alarm < length plant.alarms → code_at alarm (system plant history).alarms ≡ last_code (tag_of plant alarm) (journal_of plant history)
 
 opening_code : (rows : List AlarmRow) (alarm : ℕ) → code_at alarm (map opening_alarm rows) ≡ code.Norm
 opening_code [] alarm = refl
@@ -153,29 +165,36 @@ opening_code (row ∷ rows) zero = refl
 opening_code (row ∷ rows) (suc alarm) = opening_code rows alarm
 
 tells_none : (plant : PlainPlant) → Tells plant []
-tells_none plant alarm =
-    ap (λ (s : System). code_at alarm s.alarms) (system_none plant) ∙ opening_code plant.alarms alarm ∙ sym (ap (last_code alarm) (journal_none plant))
+tells_none plant alarm there =
+    ap (λ (s : System). code_at alarm s.alarms) (system_none plant) ∙ opening_code plant.alarms alarm ∙ sym (ap (last_code (tag_of plant alarm)) (journal_none plant))
 
-tells_next : (plant : PlainPlant) (history : List Event) (e : Event) → Tells plant history → Tells plant (history ++ e ∷ [])
-tells_next plant history e told alarm =
+tells_next : (plant : PlainPlant) → AreApart plant → (history : List Event) (e : Event) → Tells plant history → Tells plant (history ++ e ∷ [])
+tells_next plant apart history e told alarm there =
     let sys = system plant history in
+    let tag = tag_of plant alarm in
     let rows = journal_of plant history in
     let n = length rows + 1 in
     let next = system_next plant history e in
     let same : length (after_event sys e).alarms ≡ length sys.alarms =
     ap (λ (s : System). length s.alarms) (sym next) ∙ as_many plant (history ++ e ∷ []) ∙ sym (as_many plant history) in
+    let led : fold (code_told tag) (code_at alarm sys.alarms) (added_entries sys e) ≡ code_at alarm (after_event sys e).alarms =
+    subst (λ (p : PlainPlant). AreApart p → alarm < length p.alarms → fold (code_told (tag_of p alarm)) (code_at alarm sys.alarms) (added_entries sys e) ≡ code_at alarm (after_event sys e).alarms)
+    (system_keeps_its_plant plant history) (event_tells alarm sys e same (system_alarms plant history)) apart there in
     sym
-    (ap (last_code alarm) (journal_next plant history e)
-    ∙ fold-append (λ (c : Code) (row : NamedRow). code_told alarm c row.entry) code.Norm rows (added_rows n sys e)
-    ∙ ap (λ c. code_after alarm c (added_rows n sys e)) (sym (told alarm))
-    ∙ rows_tell alarm n (after_event sys e).moment (code_at alarm sys.alarms) (added_entries sys e)
-    ∙ event_tells alarm sys e same
+    (ap (last_code tag) (journal_next plant history e)
+    ∙ fold-append (λ (c : Code) (row : NamedRow). code_told tag c row.entry) code.Norm rows (added_rows n sys e)
+    ∙ ap (λ c. code_after tag c (added_rows n sys e)) (sym (told alarm there))
+    ∙ rows_tell tag n (after_event sys e).moment (code_at alarm sys.alarms) (added_entries sys e)
+    ∙ led
     ∙ ap (λ (s : System). code_at alarm s.alarms) (sym next))
 
-pub codes_told : (plant : PlainPlant) (history : List Event) (alarm : ℕ) → code_at alarm (system plant history).alarms ≡ last_code alarm (journal_of plant history)
-codes_told plant history = by_events (Tells plant) (tells_next plant) [] history (tells_none plant)
+pub codes_told : (plant : PlainPlant) → AreApart plant → (history : List Event) → Tells plant history
+codes_told plant apart history = by_events (Tells plant) (tells_next plant apart) [] history (tells_none plant)
 
 -- the code of an alarm that is there
-pub code_is : (plant : PlainPlant) (history : List Event) (alarm : ℕ) (a : PlainAlarm) → slice_get (system plant history).alarms alarm ≡ Some a → code_of a.state ≡ last_code alarm (journal_of plant history)
-code_is plant history alarm a is =
-    sym (ap (λ (o : Option PlainAlarm). option_map_or (λ (b : PlainAlarm). code_of b.state) o code.Norm) is) ∙ codes_told plant history alarm
+pub code_is : (plant : PlainPlant) (history : List Event) (alarm : ℕ) (a : PlainAlarm) → IsPlant plant → slice_get (system plant history).alarms alarm ≡ Some a
+    → code_of a.state ≡ last_code (tag_of plant alarm) (journal_of plant history)
+code_is plant history alarm a plant_is is =
+    let many = as_many plant history in
+    let within = slice_get_within (system plant history).alarms alarm a is in
+    sym (ap (λ (o : Option PlainAlarm). option_map_or (λ (b : PlainAlarm). code_of b.state) o code.Norm) is) ∙ codes_told plant (tags_apart plant plant_is) history alarm (omega (arith, many, within))

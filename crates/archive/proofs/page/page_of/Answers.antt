@@ -27,7 +27,7 @@ returns c =
     let start : c.args.from - 1 ≤ c.loop-before.before = omega (arith, c.saturating_sub-before.ensures, c.loop-before.auto.before) in
     let rows = c.journal.result.now.rows in
     let journal = c.journal.ensures.journal.rows_are in
-    let many : c.len-rows.result ≡ length (journal_of e.plant e.history) = c.len-rows.ensures.count ∙ (sym (length-map rows (named_row e.plant.source)) ∙ ap length journal) in
+    let many : c.len-rows.result ≡ length (journal_of e.plant e.history) = c.len-rows.ensures.count ∙ (sym (length-map rows (named_row e.plant)) ∙ ap length journal) in
     page_whole e.plant e.history c.args.from c.args.n c.len-rows.result c.page_end-before-end.result c.loop-before.before (map string_bytes c.loop-before.lines.items)
     many c.page_end-before-end.ensures c.loop-before-test.false start
     (λ h. omega (arith, h, c.saturating_sub-before.ensures, c.loop-before.auto.before-end)) c.loop-before.invariant

@@ -18,7 +18,7 @@ unfolding journal_text
 returns-clause-ok g c =
     let plant = c.args.engine.now.plant in
     let history = c.args.engine.now.history in
-    let count : c.row_total-rows.result ≡ length (journal_lines plant history) = c.row_total-rows.ensures ∙ sym (length-map (journal_of plant history) (named_line plant)) in
+    let count : c.row_total-rows.result ≡ length (journal_lines plant history) = c.row_total-rows.ensures ∙ sym (length-map (journal_of plant history) (named_line plant.epoch)) in
     let passed = rw c.clear.ensures.items at c.in_ok-write_rows.ensures.ok in
     on_ok_weaker c.write_end.result
     (ended_written (g.S.Sink.written c.args.sink.now) (g.S.Sink.written c.write_rows.new.sink) (g.S.Sink.written c.write_end.new.sink) (journal_lines plant history) c.write_rows.new.text.items c.row_total-rows.result count passed)
@@ -29,7 +29,7 @@ unfolding journal_text
 returns-clause-err g c =
     let plant = c.args.engine.now.plant in
     let history = c.args.engine.now.history in
-    let count : c.row_total-rows.result ≡ length (journal_lines plant history) = c.row_total-rows.ensures ∙ sym (length-map (journal_of plant history) (named_line plant)) in
+    let count : c.row_total-rows.result ≡ length (journal_lines plant history) = c.row_total-rows.ensures ∙ sym (length-map (journal_of plant history) (named_line plant.epoch)) in
     let passed = rw c.clear.ensures.items at c.in_ok-write_rows.ensures.ok in
     on_err_weaker c.write_end.result
     (ended_begun (g.S.Sink.written c.args.sink.now) (g.S.Sink.written c.write_rows.new.sink) (g.S.Sink.written c.write_end.new.sink) (journal_lines plant history) c.write_rows.new.text.items c.row_total-rows.result count passed)
