@@ -1,7 +1,9 @@
 -- Programs of compiled code are local.
-use Rattle.std.proofs.Common.{◌≡◌, ℕ, ℤ, pos, true, false, List, [], ◌∷◌, map, refl, sym, ap, subst, inl, inr, ◌⊎◌}
+use Rattle.std.proofs.Common.{◌≡◌, ℕ, ℤ, pos, true, false, List, [], ◌∷◌, ◌++◌, map, refl, sym, ap, subst, inl, inr, ◌⊎◌}
 use Rattle.std.specs.Prelude.{Option, Some, slice_get}
+use Rattle.std.specs.List.{AllByRecursion}
 use Rattle.std.proofs.lemmas.Bool.{both_ways, or_right}
+use Rattle.plant_types.specs.Values.{row_length}
 use Rattle.st_tree.specs.Meaning.{Ran, Done, Trapped}
 use Rattle.plant_cells.specs.Cells.{PlainCells}
 use Rattle.plant_cells.specs.Runs.{Path}
@@ -11,8 +13,8 @@ use Rattle.acc_vm.specs.Codes.{PlainCode, SameShape, fuel_of, run_of}
 use Rattle.acc_vm.specs.declared.instr.Instr.{Instr}
 use Rattle.acc_vm.specs.declared.instr.Instr.TheVariants as instr
 use Rattle.code_slices.specs.Slots.{slots_read, slots_written}
-use Rattle.acc_vm.specs.Operands.{renamed}
-use Rattle.code_slices.specs.Renaming.{StandsFor}
+use Rattle.acc_vm.specs.Operands.{operands, bounds_of, renamed}
+use Rattle.code_slices.specs.Renaming.{KeepsRow, StandsFor}
 use Rattle.code_slices.specs.Alike.{EndAlike, GoAlike, IsKept, Leaves}
 use Rattle.code_slices.specs.Laws.{BothAfter}
 use Rattle.code_slices.proofs.Runs.{renamed_runs, keeps}
@@ -107,6 +109,11 @@ named_too : (code : List Instr) (x : Slot) → writes_slot code x ≡ true → n
 named_too code (Value s) writes = or_right (some_has slots_read code s) (some_has slots_written code s) writes
 named_too code (Clocked k) writes = writes
 
+-- the same numbers keep each row
+keeps_itself : (count : ℕ) (firsts : List ℕ) → AllByRecursion (λ first. KeepsRow same first count) firsts
+keeps_itself count [] = tt
+keeps_itself count (first ∷ firsts) = ((λ k less. refl), keeps_itself count firsts)
+
 module _ (moment : ℕ) (names : List Path) (code : PlainCode) where
   pub run_kept : (s : PlainCells) → IsKept code.instrs s (as_ran s (run_of moment names code s)).store
   run_kept s = kept_by code.instrs s (run_of moment names code s) (keeps moment code.stack names code.instrs code.places (fuel_of code) 0 (pos 0) [] s)
@@ -116,7 +123,7 @@ module _ (moment : ℕ) (names : List Path) (code : PlainCode) where
 
   runs_alike : (s t : PlainCells) → Agreeing code.instrs s t → GoAlike (BothAfter same same code.instrs s t) (run_of moment names code s) (run_of moment names code t)
   runs_alike s t agree =
-      let moved = renamed_runs moment code.stack names code.instrs code.places same same (fuel_of code) 0 (pos 0) [] s t (record { values = λ x y a b e. e; clocks = λ k l a b e. e }) (stand code.instrs s t agree) in
+      let moved = renamed_runs moment code.stack names code.instrs code.places same same (fuel_of code) 0 (pos 0) [] s t (record { values = λ x y a b e. e; clocks = λ k l a b e. e; rows = λ pc i at. keeps_itself (row_length (bounds_of (operands i))) ((operands i).rows_read ++ (operands i).rows_written) }) (stand code.instrs s t agree) in
       subst (λ (xs : List Instr). GoAlike (BothAfter same same code.instrs s t) (run_of moment names code s) (run_of moment names (record code { instrs = xs }) t)) (same_code code.instrs) moved
 
   first : (s t : PlainCells) → Agreeing code.instrs s t → BothAfter same same code.instrs s t s t
