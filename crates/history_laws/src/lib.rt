@@ -1,6 +1,7 @@
 //! Laws of a plant's history that operators rest on: what the journal tells, and what comes of a record that is played again.
 //!
-//! The journal tells the code of each alarm, and makes the list of alarms (`specs/Told.antt`). A record is an input of the server; where it ends
+//! The journal tells the code of each alarm, and makes the list of alarms (`specs/Told.antt`), where no two alarms have one tag: so in each plant
+//! that keeps its rules (`IsPlant`), as that of every engine does, by the type of `Engine`. A record is an input of the server; where it ends
 //! at the end of a line, more may follow in the same session or in a new one, with the same answers and the same states (`specs/Records.antt`).
 //!
 //! These functions do nothing: each has laws as its contract.
