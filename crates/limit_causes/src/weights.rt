@@ -112,10 +112,10 @@ impl Scale<'_> {
         one.beside(other, self.measure.join(one.total, other.total))
     }
 
-    /// What branches weigh, with their tests.
+    /// What branches weigh, with their tests and what is done where none is taken.
     #[cycle(weights)]
-    fn of_branches(&self, branches: &[Branch<Text>], last: &[Stmt<Text>]) -> Weight {
-        let mut inside = self.of_stmts(last);
+    fn of_branches(&self, branches: &[Branch<Text>], last: Weight) -> Weight {
+        let mut inside = last;
         let mut tests = 1u64;
         for branch in branches {
             inside = self.joined(inside, self.of_stmts(&branch.body));
@@ -124,10 +124,10 @@ impl Scale<'_> {
         inside.plus(tests)
     }
 
-    /// What choices weigh, with their labels.
+    /// What choices weigh, with their labels and what is done where none is taken.
     #[cycle(weights)]
-    fn of_choices(&self, choices: &[Choice<Text>], last: &[Stmt<Text>]) -> Weight {
-        let mut inside = self.of_stmts(last);
+    fn of_choices(&self, choices: &[Choice<Text>], last: Weight) -> Weight {
+        let mut inside = last;
         let mut labels = 1u64;
         for choice in choices {
             inside = self.joined(inside, self.of_stmts(&choice.body));
@@ -143,11 +143,19 @@ impl Scale<'_> {
             Stmt::Empty(_) => Weight::of(1),
             Stmt::Assign(_, _, expr) => Weight::of(of_expr(expr).saturating_add(1)),
             Stmt::Store { index, value, .. } => {
-                Weight::of(of_expr(index).saturating_add(of_expr(value)).saturating_add(2))
+                Weight::of(
+                    of_expr(index)
+                        .saturating_add(of_expr(value))
+                        .saturating_add(2),
+                )
             }
             Stmt::Call(_, name, arguments) => self.of_call(name, arguments),
-            Stmt::If(_, branches, last) => self.of_branches(branches, last),
+            Stmt::If(_, branches, last) => {
+                let last = self.of_stmts(last);
+                self.of_branches(branches, last)
+            }
             Stmt::Case(_, selector, choices, last) => {
+                let last = self.of_stmts(last);
                 self.of_choices(choices, last).plus(of_expr(selector))
             }
             Stmt::For {
