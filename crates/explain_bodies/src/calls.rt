@@ -2,7 +2,7 @@
 
 use crate::teller::{Breach, KINDS, MEMBERS, Teller, alone};
 use plant_types::{Kind, Text};
-use source_trees::{Body, Member, Wanted, kind_text};
+use source_trees::{Body, Member, Wanted, joined, kind_text};
 use st_names::Scope;
 use st_tree::{Argument, Expr};
 use std::alloc::AllocError;
@@ -73,6 +73,21 @@ impl<'t> Teller<'t> {
         Ok(kind)
     }
 
+    /// Tells of an output whose kind isn't that of the variable that takes it, each by its token.
+    fn tell_misfit(
+        &mut self,
+        output: (usize, Kind),
+        variable: (usize, Kind),
+    ) -> Result<(), AllocError> {
+        let mut said = joined(self.alloc, &["'", self.cursor.word(output.0), "' is a "])?;
+        said.push_str(kind_text(output.1))?;
+        said.push_str(", and '")?;
+        said.push_str(self.cursor.word(variable.0))?;
+        said.push_str("', which takes it, is a ")?;
+        said.push_str(kind_text(variable.1))?;
+        self.say(KINDS, alone(output.0), &[said.as_str()])
+    }
+
     /// Walks an output that a call gives to a variable.
     fn give_output(
         &mut self,
@@ -95,17 +110,7 @@ impl<'t> Teller<'t> {
         if kind == target {
             return Ok(());
         }
-        let words = [
-            "'",
-            self.cursor.word(output),
-            "' is a ",
-            kind_text(kind),
-            ", and '",
-            variable.as_str(),
-            "', which takes it, is a ",
-            kind_text(target),
-        ];
-        self.say(KINDS, alone(output), &words)
+        self.tell_misfit((output, kind), (number, target))
     }
 
     /// Walks an input that a call gives.

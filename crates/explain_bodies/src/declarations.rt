@@ -1,8 +1,8 @@
 //! Declarations are walked.
 
 use crate::teller::{CIRCLES, KINDS, NAMES, Teller, VARIABLES, alone};
-use plant_types::{Text, same_word};
-use source_trees::{Body, Cursor, Rule, global_hint, kind_text, leads_back, type_hint};
+use plant_types::{Kind, Text, same_word};
+use source_trees::{Body, Cursor, Rule, global_hint, joined, kind_text, leads_back, type_hint};
 use st_names::{Scope, sort_kind};
 use st_parser::{Declaration, Section, SectionKind, Sort};
 use std::alloc::AllocError;
@@ -81,6 +81,30 @@ impl<'t> Teller<'t> {
         }
     }
 
+    /// Tells of a name of VAR_EXTERNAL whose global is of another kind than the one that was found.
+    fn other_global(&mut self, number: usize, kind: Kind, found: Kind) -> Result<(), AllocError> {
+        let mut said = joined(
+            self.alloc,
+            &["'", self.cursor.word(number), "' is a global"],
+        )?;
+        said.push_str(" of the kind ")?;
+        said.push_str(kind_text(kind))?;
+        said.push_str(", and here it is a ")?;
+        said.push_str(kind_text(found))?;
+        self.say(KINDS, alone(number), &[said.as_str()])
+    }
+
+    /// Tells of a name of VAR_EXTERNAL that no global has.
+    fn no_global(&mut self, number: usize, hint: &str) -> Result<(), AllocError> {
+        let mut said = joined(
+            self.alloc,
+            &["no global is called '", self.cursor.word(number)],
+        )?;
+        said.push_str("', which VAR_EXTERNAL names")?;
+        said.push_str(hint)?;
+        self.say(NAMES, alone(number), &[said.as_str()])
+    }
+
     /// Tells of a VAR_EXTERNAL whose global isn't there or is of another kind.
     fn external(
         &mut self,
@@ -94,14 +118,7 @@ impl<'t> Teller<'t> {
         }
         if !body.scope.is_global(name) {
             let hint = global_hint(self.alloc, self.plant, name)?;
-            let (word, hint) = (name.as_str(), hint.as_str());
-            let words = [
-                "no global is called '",
-                word,
-                "', which VAR_EXTERNAL names",
-                hint,
-            ];
-            return self.say(NAMES, alone(number), &words);
+            return self.no_global(number, hint.as_str());
         }
         let (Some(found), Some(kind)) = (sort_kind(sort), body.scope.global_kind(name)) else {
             return Ok(());
@@ -109,15 +126,7 @@ impl<'t> Teller<'t> {
         if found == kind {
             return Ok(());
         }
-        let words = [
-            "'",
-            self.cursor.word(number),
-            "' is a global of the kind ",
-            kind_text(kind),
-            ", and here it is a ",
-            kind_text(found),
-        ];
-        self.say(KINDS, alone(number), &words)
+        self.other_global(number, kind, found)
     }
 
     /// Tells of a word in the place of a block or a kind that names neither.

@@ -5,7 +5,7 @@ use crate::teller::{KINDS, Teller, alone};
 use plant_types::{Kind, Text};
 use source_trees::{Body, Member, joined, kind_text, members_of};
 use st_tree::{Binary, Unary};
-use std::alloc::AllocError;
+use std::alloc::{AllocError, Global};
 
 /// What is said beside two kinds that don't fit: how what is wanted is written.
 fn beside(wanted: Kind, part: &Part) -> &'static str {
@@ -41,6 +41,17 @@ fn kind_of(part: &Part) -> &'static str {
     }
 }
 
+/// What is said before a part that isn't of the kind that it has to be: of what takes it, where something does.
+fn lead_of(alloc: Global, wanted: Kind, taker: Option<&Text>) -> Result<String, AllocError> {
+    let Some(name) = taker else {
+        return joined(alloc, &["a ", kind_text(wanted), " is wanted here, and "]);
+    };
+    let mut said = joined(alloc, &["'", name.as_str(), "' is a "])?;
+    said.push_str(kind_text(wanted))?;
+    said.push_str(", and ")?;
+    Ok(said)
+}
+
 impl<'t> Teller<'t> {
     /// Tells of a part that isn't of the kind that it has to be, for what takes it.
     pub fn tell_unfit(
@@ -52,14 +63,15 @@ impl<'t> Teller<'t> {
         if part.kind.is_none() {
             return Ok(());
         }
-        let lead = match taker {
-            Some(name) => ["'", name.as_str(), "' is a ", kind_text(wanted), ", and "],
-            None => ["a ", kind_text(wanted), " is wanted here, and ", "", ""],
-        };
-        let lead = joined(self.alloc, &lead)?;
+        let lead = lead_of(self.alloc, wanted, taker)?;
         let quoted = self.cursor.quoted(self.alloc, part.first, part.behind)?;
-        let (lead, quoted) = (lead.as_str(), quoted.as_str());
-        let words = [lead, quoted, " is a ", kind_of(part), beside(wanted, part)];
+        let words = [
+            lead.as_str(),
+            quoted.as_str(),
+            " is a ",
+            kind_of(part),
+            beside(wanted, part),
+        ];
         self.say(KINDS, part.tokens(), &words)
     }
 
@@ -74,15 +86,19 @@ impl<'t> Teller<'t> {
         if part.kind.is_none() {
             return Ok(());
         }
-        let quoted = self.cursor.quoted(self.alloc, part.first, part.behind)?;
-        let word = self.cursor.word(operator.number);
-        let lead = joined(
+        let mut said = joined(
             self.alloc,
-            &["'", word, "' takes ", operator.takes, ", and "],
+            &["'", self.cursor.word(operator.number), "' takes "],
         )?;
-        let (lead, quoted) = (lead.as_str(), quoted.as_str());
-        let words = [lead, quoted, side, " is a ", kind_of(part), more];
-        self.say(KINDS, part.tokens(), &words)
+        said.push_str(operator.takes)?;
+        said.push_str(", and ")?;
+        let quoted = self.cursor.quoted(self.alloc, part.first, part.behind)?;
+        said.push_str(quoted.as_str())?;
+        said.push_str(side)?;
+        said.push_str(" is a ")?;
+        said.push_str(kind_of(part))?;
+        said.push_str(more)?;
+        self.say(KINDS, part.tokens(), &[said.as_str()])
     }
 
     /// Tells of an instance that is read or assigned, at the token of a number.

@@ -1,9 +1,7 @@
 //! All units of a plant are walked.
 
 use crate::teller::Teller;
-use source_trees::{
-    Body, Cursor, Mistake, Rule, Source, Titles, Told, Trees, sources_of, units_of,
-};
+use source_trees::{Body, Cursor, Mistake, Rule, Source, Titles, Trees, sources_of, units_of};
 use st_names::SharedNames;
 use st_parser::{Pou, Unit};
 use std::alloc::{AllocError, Global};
@@ -61,13 +59,30 @@ fn walk_all<'t>(teller: &mut Teller<'t>) -> Result<(), AllocError> {
     Ok(())
 }
 
-/// The mistakes of units, whose names are known.
-fn in_units<'t>(
+/// The mistakes of a plant's units.
+fn mistakes_in<'t>(
     alloc: Global,
-    (sources, units): (&'t [Source<'t>], &'t [Unit]),
-    shared: &'t SharedNames<'t>,
+    plant: &'t Trees<'t>,
     refused: Rule,
-) -> Result<Told, AllocError> {
+) -> Result<Vec<Mistake>, AllocError> {
+    let mut teller = Teller::new(alloc, plant, refused);
+    match walk_all(&mut teller) {
+        Ok(()) => teller.into_told().into_list(alloc),
+        Err(refused) => {
+            drop(teller);
+            Err(refused)
+        }
+    }
+}
+
+/// The mistakes of units whose names are known.
+fn in_units(
+    alloc: Global,
+    sources: &[Source<'_>],
+    units: &[Unit],
+    shared: &SharedNames<'_>,
+    refused: Rule,
+) -> Result<Vec<Mistake>, AllocError> {
     let standard = SharedNames::new(alloc, &[])?;
     let titles = Titles::of(alloc, units)?;
     let plant = Trees {
@@ -77,14 +92,18 @@ fn in_units<'t>(
         standard: &standard,
         titles: &titles,
     };
-    let mut teller = Teller::new(alloc, &plant, refused);
-    match walk_all(&mut teller) {
-        Ok(()) => Ok(teller.into_told()),
-        Err(refused) => {
-            drop(teller);
-            Err(refused)
-        }
-    }
+    mistakes_in(alloc, &plant, refused)
+}
+
+/// The mistakes of sources with their units.
+fn in_sources(
+    alloc: Global,
+    sources: &[Source<'_>],
+    units: Vec<Unit>,
+    refused: Rule,
+) -> Result<Vec<Mistake>, AllocError> {
+    let shared = SharedNames::new(alloc, units.as_slice())?;
+    in_units(alloc, sources, units.as_slice(), &shared, refused)
 }
 
 /// What is wrong in the units of the sources of a plant, that is refused by a rule: first the first mistake that breaks this rule, and then the others in
@@ -95,15 +114,8 @@ pub fn mistakes<'a>(
     refused: Rule,
 ) -> Result<Vec<Mistake>, AllocError> {
     let sources = sources_of(alloc, texts)?;
-    let Some(units) = units_of(alloc, sources.as_slice())? else {
-        return Ok(Vec::new(alloc));
-    };
-    let shared = SharedNames::new(alloc, units.as_slice())?;
-    let told = in_units(
-        alloc,
-        (sources.as_slice(), units.as_slice()),
-        &shared,
-        refused,
-    )?;
-    told.into_list(alloc)
+    match units_of(alloc, sources.as_slice())? {
+        Some(units) => in_sources(alloc, sources.as_slice(), units, refused),
+        None => Ok(Vec::new(alloc)),
+    }
 }
