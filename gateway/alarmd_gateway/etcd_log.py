@@ -1,8 +1,8 @@
 """The record in etcd: a log that several gateways follow, and to which the one that leads appends.
 
 Keys, below `/alarmd/NAME/`: `last` has the number of the record and of its last entry; `entry/RECORD/NUMBER` each entry; `files` the
-sums of the plant's files, `program` that of alarmd; `leader` who leads; `request/MARK` an order that a gateway hands on to the leader. Each gateway has a copy of
-the log on its own disk, `RECORD.1` and so on, which it plays to its server."""
+sums of the plant's files, `program` that of alarmd; `leader` who leads; `request/MARK` an order that a gateway hands on to the leader; `old/RECORD` how many entries
+a record has that doesn't go on, and how many of them are gone; `new` who writes a new one. Each gateway has a copy of the log on its own disk, `RECORD.1` and so on, which it plays to its server."""
 
 from __future__ import annotations
 
@@ -261,8 +261,8 @@ class EtcdLog:
         except (NoEtcd, EtcdRefused) as fault:
             raise GatewayFault(f"etcd: {fault}", 1) from None
         fields = {"record": number, "log": log, "entries": len(entries)}
-        compare = [fresh.leads, etcd.modified(self.keys.last, known.revision)]
-        over = [etcd.put(self.keys.last, fields)]
+        compare = [*fresh.holds, etcd.modified(self.keys.last, known.revision)]
+        over = [etcd.put(self.keys.last, fields), fresh.left(known.record, known.entries, 0)]
         answer = await self._persist("", compare, over, self.keys.last)
         kept = etcd.found(answer, 0) if not etcd.held(answer) else []
         if not etcd.held(answer) and (not kept or kept[0].value != fields):

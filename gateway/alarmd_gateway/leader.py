@@ -5,6 +5,7 @@ Nothing here decides whether a command is written: each transaction that writes 
 from __future__ import annotations
 
 import asyncio
+import contextlib
 import uuid
 from dataclasses import dataclass
 
@@ -23,6 +24,7 @@ from .etcd import (
 )
 
 BEATS = 3  # of the keeping alive, in the time of a lease
+AGAIN = 0.2  # seconds until the next beat where this one came to nothing
 
 
 @dataclass(frozen=True)
@@ -52,27 +54,31 @@ class Candidate:
         self._etcd = etcd
         self._key = key
         self._seconds = lease_seconds
+        self._lost = asyncio.Event()  # another lease is wanted at once
 
     async def run(self) -> None:
         """Keeps the lease, for ever."""
         while True:
-            await self.beat()
-            await asyncio.sleep(self._seconds / BEATS if self.lease else 0.2)
+            self._lost.clear()
+            limit = self._seconds / BEATS if await self.beat() else AGAIN
+            with contextlib.suppress(asyncio.TimeoutError):
+                await asyncio.wait_for(self._lost.wait(), limit)
 
-    async def beat(self) -> None:
-        """Asks for a lease where there is none, else for its whole time anew."""
+    async def beat(self) -> bool:
+        """Asks for a lease where there is none, else for its whole time anew. Says whether it was given."""
         try:
             if self.lease is None:
                 answer = await self._etcd.post(GRANT, {"TTL": str(self._seconds)})
                 self.lease = str(answer["ID"])
-                return
+                return True
             answer = await self._etcd.post(KEEP, {"ID": self.lease})
             if int(answer.get("result", {}).get("TTL", "0")) <= 0:
                 self.lease = None
         except EtcdRefused:
             self.lease = None
         except NoEtcd:
-            pass  # it may still be kept in time
+            return False  # it may still be kept in time
+        return self.lease is not None
 
     async def stand(self) -> None:
         """Leads from now on where nobody does. Whether it does is seen by the key."""
@@ -84,6 +90,7 @@ class Candidate:
             await self._etcd.post(TXN, words)
         except EtcdRefused:
             self.lease = None
+            self._lost.set()
         except NoEtcd:
             pass
 

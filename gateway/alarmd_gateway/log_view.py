@@ -49,6 +49,8 @@ class Keys:
         self.files = f"{self.prefix}files"
         self.program = f"{self.prefix}program"
         self.requests = f"{self.prefix}request/"
+        self.olds = f"{self.prefix}old/"
+        self.new = f"{self.prefix}new"
 
     def record(self, record: int) -> str:
         """What the keys of a record's entries begin with."""
@@ -58,10 +60,9 @@ class Keys:
         """The key of an entry, counted from 1."""
         return f"{self.record(record)}{number:09}"
 
-    def place(self, key: str) -> tuple[int, int]:
-        """The number of the record and of the entry of a key."""
-        record, number = key.split("/")[-2:]
-        return int(record), int(number)
+    def old(self, record: int) -> str:
+        """The key of what is left of a record that doesn't go on."""
+        return f"{self.olds}{record:06}"
 
 
 def value_of(entry: Entry, mark: str) -> Body:

@@ -22,32 +22,55 @@ class NewRecord:
         """`since` is the revision at which this gateway began to lead."""
         self._asks = asks
         self._keys = keys
-        self.leads = etcd.created(keys.leader, since)
+        self._mark = {"mark": uuid.uuid4().hex}
+        self._leads = etcd.created(keys.leader, since)
+        self.holds = (
+            self._leads,
+            etcd.valued(keys.new, self._mark),
+        )  # while nobody else writes one
 
     async def write(self, record: int, entries: Sequence[Entry]) -> None:
         """Writes the entries of a new record, of which nothing is known until the log's end says so. Raises Deposed, NoEtcd,
         EtcdRefused."""
-        prefix = self._keys.record(record)
-        await self._while([etcd.delete(prefix, etcd.after(prefix))])
+        await self._begin(record)
         for begin in range(0, len(entries), BLOCK):
             puts = [
                 etcd.put(self._keys.entry(record, number), value_of(entry, uuid.uuid4().hex))
                 for number, entry in enumerate(entries[begin : begin + BLOCK], begin + 1)
             ]
-            await self._while(puts)
+            if not etcd.held(await self._asks.ask(self.holds, puts)):
+                raise Deposed("", True)
 
-    async def _while(self, success: Sequence[Body]) -> None:
-        if not etcd.held(await self._asks.ask([self.leads], success)):
+    async def _begin(self, record: int) -> None:
+        """Deletes what an earlier writer may have left. It is done once: a second time, which may come late, it would delete
+        what this one has written."""
+        prefix, look = self._keys.record(record), [etcd.get(self._keys.new)]
+        earlier = etcd.found(await self._asks.ask([], look), 0)
+        since = etcd.modified(self._keys.new, earlier[0].modified if earlier else 0)
+        clear = [etcd.delete(prefix, etcd.after(prefix)), etcd.put(self._keys.new, self._mark)]
+        answer = await self._asks.ask([self._leads, since], clear, look)
+        if etcd.held(answer):
+            return
+        if [kept.value for kept in etcd.found(answer, 0)] != [self._mark]:
             raise Deposed("", True)
 
+    def left(self, record: int, entries: int, gone: int) -> Body:
+        """Notes of a record that doesn't go on how many entries it has, and how many of them, from the first one on, are gone."""
+        key = self._keys.old(record)
+        return etcd.put(key, {"record": record, "entries": entries, "gone": gone})
+
     async def tidy(self, record: int) -> bool:
-        """Deletes a block of the records that are older than the one before this; says whether there was one. Raises NoEtcd,
-        EtcdRefused."""
-        begin, end = self._keys.record(0), self._keys.record(record - 1)
-        found = etcd.found(await self._asks.ask([], [etcd.get(begin, end, 1)]), 0)
+        """Deletes a block of the records that are older than the one before this; says whether there was one. What is left is
+        noted: to find the first entry that is there etcd would look at all of them. Raises NoEtcd, EtcdRefused.
+        """
+        olds = etcd.get(self._keys.olds, self._keys.old(record - 1), 1)
+        found = etcd.found(await self._asks.ask([], [olds]), 0)
         if not found:
             return False
-        old, number = self._keys.place(found[0].key)
-        block = etcd.delete(self._keys.entry(old, number), self._keys.entry(old, number + OLD))
-        await self._asks.ask([self.leads], [block])
+        key, value = found[0].key, found[0].value
+        old, entries, gone = value["record"], value["entries"], value["gone"]
+        end = min(entries, gone + OLD)
+        block = etcd.delete(self._keys.entry(old, gone + 1), self._keys.entry(old, end + 1))
+        note = self.left(old, entries, end) if end < entries else etcd.delete(key)
+        await self._asks.ask([self._leads, etcd.modified(key, found[0].modified)], [block, note])
         return True

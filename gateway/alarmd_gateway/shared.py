@@ -82,7 +82,8 @@ class SharedCore(Core):
     async def run(self) -> None:
         """See Core."""
         self._log.asks.heard = asyncio.get_running_loop().time()
-        tasks = [asyncio.create_task(one) for one in (self._candidate.run(), self._watch())]
+        works = (self._candidate.run(), self._watch(), self._tidy())
+        tasks = [asyncio.create_task(one) for one in works]
         try:
             await super().run()
         finally:
@@ -160,6 +161,15 @@ class SharedCore(Core):
                     await self._log.hear()
             await asyncio.sleep(LOOK)
 
+    async def _tidy(self) -> None:
+        """Where this gateway leads it rids etcd of what is too old, and leaves it half of the time for the log."""
+        loop = asyncio.get_running_loop()
+        while True:
+            begin = loop.time()
+            with contextlib.suppress(NoEtcd, EtcdRefused):
+                await self._log.tidy()
+            await asyncio.sleep(max(LOOK, loop.time() - begin))
+
     async def _step(self) -> None:
         """Looks at the log where that is due, takes what is new in it, and then leads or follows."""
         loop = asyncio.get_running_loop()
@@ -196,7 +206,6 @@ class SharedCore(Core):
         self._leader = leader.name if leader else ""
         if leader is not None and self._own(view) and self._log.lead(leader, view.last):
             self._step_up()
-            await self._log.tidy()
             for request in view.requests:
                 if not await self._orders.append_request(request):
                     self._looked = -1.0  # the next look tells

@@ -270,7 +270,7 @@ class Cluster:
     def cut(self, name: str, cut: bool) -> None:
         """Cuts a gateway off from etcd, or ends that."""
         for number in range(3):
-            self._cut(name, number, cut)
+            self.cut_one(name, number, cut)
 
     def cut_machine(self, name: str, cut: bool, own: bool = False) -> None:
         """Cuts a gateway and the node of its number off from the other ones, with `own` from each other too, or ends that."""
@@ -278,14 +278,14 @@ class Cluster:
         for who in self.gateways:
             for number in range(3):
                 if (who == name) != (number == at) or (own and who == name and number == at):
-                    self._cut(who, number, cut)
+                    self.cut_one(who, number, cut)
         alone = [self.nodes[at].pid] if cut else []
         assert self._proxies is not None
         for number in range(3):
             between = 3 * len(self.gateways) + number
             self._proxies.cut(between, cut and number == at, alone if number != at else [])
 
-    def _cut(self, name: str, number: int, cut: bool) -> None:
+    def cut_one(self, name: str, number: int, cut: bool) -> None:
         """Cuts a gateway off from a node, or ends that."""
         assert self._proxies is not None
         self._proxies.cut(3 * [*self.gateways].index(name) + number, cut)

@@ -4,6 +4,7 @@ from __future__ import annotations
 
 import asyncio
 import base64
+import contextlib
 from collections.abc import Callable
 from dataclasses import dataclass
 from typing import Any
@@ -143,6 +144,25 @@ class FakeEtcd:
             "create_revision": str(kept.created),
             "mod_revision": str(kept.modified),
         }
+
+
+class Twice(FakeEtcd):
+    """Carries out twice what may be asked of two nodes, and once more after the next request. The second answer counts."""
+
+    def __init__(self) -> None:
+        super().__init__()
+        self._echo: tuple[str, Body] | None = None
+
+    async def post(self, path: str, body: Body, once: bool = False) -> Body:
+        answer = await super().post(path, body, once)
+        if once:
+            return answer
+        answer = self._carry_out(path, body)
+        if self._echo is not None:
+            with contextlib.suppress(EtcdRefused):
+                self._carry_out(*self._echo)
+        self._echo = path, body
+        return answer
 
 
 def decoded(text: str) -> bytes:

@@ -4,8 +4,10 @@ from __future__ import annotations
 
 import asyncio
 import contextlib
+import socket
 import ssl
-from collections.abc import AsyncIterator, Awaitable, Callable
+import time
+from collections.abc import AsyncIterator, Awaitable, Callable, Iterator
 from pathlib import Path
 from typing import Any
 
@@ -29,16 +31,18 @@ class Node:
     def __init__(self, status: int = 200, answer: object = {"succeeded": True}) -> None:
         self.asked = 0
         self.halted = False
+        self.pause = 0.0  # seconds before an answer
         self.url = ""
-        self._status = status
+        self.status = status
         self._answer = answer
 
     async def handle(self, request: web.Request) -> web.Response:
         await request.read()
         self.asked += 1
         if self.halted:
-            await asyncio.sleep(60)
-        return web.json_response(self._answer, status=self._status)
+            await asyncio.sleep(600)
+        await asyncio.sleep(self.pause)
+        return web.json_response(self._answer, status=self.status)
 
 
 @contextlib.asynccontextmanager
@@ -114,9 +118,93 @@ def test_what_may_be_asked_once_alone() -> None:
         async with nodes(good, silent):
             assert await post([CLOSED, good.url], True) == {"succeeded": True}
             with pytest.raises(NoEtcd, match="gives no answer"):
-                await post([silent.url, good.url], True, seconds=0.3)
+                await post([silent.url, good.url], True, seconds=2.0)
             assert (good.asked, silent.asked) == (1, 1)
-            assert await post([silent.url, good.url], seconds=0.3) == {"succeeded": True}
+
+    asked(work)
+
+
+@contextlib.contextmanager
+def deaf() -> Iterator[str]:
+    """A node whose machine answers nothing, not even that somebody wants to be connected."""
+    with socket.socket() as listens, contextlib.ExitStack() as stack:
+        listens.bind(("127.0.0.1", 0))
+        listens.listen(0)
+        for _ in range(4):  # who comes after these isn't taken any more
+            one = stack.enter_context(socket.socket())
+            one.setblocking(False)
+            one.connect_ex(listens.getsockname())
+        yield f"http://127.0.0.1:{listens.getsockname()[1]}"
+
+
+def test_a_machine_that_answers_nothing() -> None:
+    """What may be asked once alone goes to the next node, since nothing has been sent; other things don't wait for it."""
+
+    async def work() -> None:
+        good = Node()
+        async with nodes(good):
+            with deaf() as url:
+                assert await post([url, good.url], True, seconds=4.0) == {"succeeded": True}
+                assert await post([url, url, good.url], seconds=20.0) == {"succeeded": True}
+                with pytest.raises(NoEtcd):
+                    await post([url, url], seconds=1.0)
+                with pytest.raises(NoEtcd):
+                    await post([url, url], True, seconds=1.0)
+
+    asked(work)
+
+
+def test_nobody_waits_for_a_silent_node() -> None:
+    """The next one is asked beside it, long before its time is over; and then the one that answers is asked first."""
+
+    async def work() -> None:
+        good, silent, other = Node(), Node(), Node(503, {"error": "etcdserver: no leader"})
+        silent.halted = True
+        async with nodes(good, silent, other):
+            client = HttpEtcd([silent.url, other.url, good.url], 40.0)
+            begin = time.monotonic()
+            assert await client.post(TXN, {}) == {"succeeded": True}
+            assert 8 < time.monotonic() - begin < 30
+            assert await client.post(TXN, {}) == {"succeeded": True}
+            assert await client.post(TXN, {}, True) == {"succeeded": True}
+            assert (good.asked, silent.asked, other.asked) == (3, 1, 1)
+            await client.close()
+
+    asked(work)
+
+
+def test_who_failed_first_is_asked_first() -> None:
+    """Where nobody has answered, the one that was silent to the end isn't asked first again."""
+
+    async def work() -> None:
+        silent, bad, worse = Node(), *(Node(503, {"error": "leader changed"}) for _ in range(2))
+        silent.halted = True
+        async with nodes(silent, bad, worse):
+            client = HttpEtcd([silent.url, bad.url, worse.url], 4.0)
+            with pytest.raises(NoEtcd):
+                await client.post(TXN, {})
+            bad.status = 200
+            await client.post(TXN, {})
+            assert (silent.asked, bad.asked, worse.asked) == (1, 2, 1)
+            await client.close()
+
+    asked(work)
+
+
+def test_a_slow_answer_counts() -> None:
+    """Where the others are silent too, the first one that answers is right, also when it was asked first; none is left waiting."""
+
+    async def work() -> None:
+        slow, silent = Node(), Node()
+        silent.halted, slow.pause = True, 2.0
+        async with nodes(slow, silent):
+            client = HttpEtcd([slow.url, silent.url], 6.0)
+            assert await client.post(TXN, {}) == {"succeeded": True}
+            assert (slow.asked, silent.asked) == (1, 1)
+            assert len(asyncio.all_tasks()) < 9
+            with pytest.raises(asyncio.TimeoutError):
+                await asyncio.wait_for(client.post(TXN, {}), 0.5)
+            await client.close()
 
     asked(work)
 

@@ -9,7 +9,7 @@ from functools import partial
 from pathlib import Path
 
 import pytest
-from fake_etcd import FakeEtcd
+from fake_etcd import FakeEtcd, Twice
 
 from alarmd_gateway import transactions
 from alarmd_gateway import plant as plants
@@ -67,11 +67,16 @@ def plant(tmp_path: Path, examples: Path) -> Plant:
     return plants.read(tmp_path / "plant" / "plant.toml")
 
 
-def trial(work: Callable[[FakeEtcd, Sides], Awaitable[None]], folder: Path, plant: Plant) -> None:
+def trial(
+    work: Callable[[FakeEtcd, Sides], Awaitable[None]],
+    folder: Path,
+    plant: Plant,
+    kind: type[FakeEtcd] = FakeEtcd,
+) -> None:
     """Runs a trial with sides that are open, and closed at its end."""
 
     async def run() -> None:
-        etcd, made = FakeEtcd(), []
+        etcd, made = kind(), []
 
         async def side(name: str) -> Side:
             one = Side(etcd, folder / name, plant, name)
@@ -315,6 +320,57 @@ def test_a_new_record(tmp_path: Path, plant: Plant) -> None:
     trial(work, tmp_path, plant)
 
 
+def test_what_two_nodes_carry_out(tmp_path: Path, plant: Plant) -> None:
+    """Each request that may be asked of two nodes is carried out by both, and by one of them late: all comes into the log once."""
+
+    async def work(etcd: FakeEtcd, side: Sides) -> None:
+        a, b = await side("a"), await side("b")
+        await a.lead()
+        for moment in range(3):
+            await a.log.append(Entry(f"scan {moment}"))
+        await b.candidate.beat()
+        assert b.candidate.lease is not None
+        await b.log.request("m1", Entry("ack 1 LAL-101"), b.candidate.lease)
+        await a.log.append_as("m1", Entry("ack 1 LAL-101"), request=True)
+        fresh = [Entry(f"remove 1 T{number}") for number in range(120)]
+        for _ in range(2):
+            await a.log.succeed(fresh)
+            await a.log.append(Entry("scan 9"))
+            await b.look()
+            await b.look()
+            assert len(a.lines()) == 121 and b.lines() == a.lines()
+        for _ in range(5):
+            await a.log.tidy()
+        counts = [
+            sum(f"/{number:06}/".encode() in key for key in etcd.keys) for number in (1, 2, 3)
+        ]
+        assert counts == [0, 121, 121]
+        assert len((tmp_path / "a" / "record.1").read_text().splitlines()) == 5
+        assert not any(b"/old/000001" in key for key in etcd.keys)
+
+    trial(work, tmp_path, plant, Twice)
+
+
+@pytest.mark.parametrize("late", [2, 3])
+def test_a_new_record_that_comes_late(tmp_path: Path, plant: Plant, late: int) -> None:
+    """What was to make room for one, or its entries, comes when the next one is written: that is whole."""
+
+    async def work(etcd: FakeEtcd, side: Sides) -> None:
+        a, b = await side("a"), await side("b")
+        await a.lead()
+        await a.log.append(Entry("scan 0"))
+        etcd.before[late] = partial(setattr, etcd, "late", 1)
+        with pytest.raises(GatewayFault, match="late"):
+            await a.log.succeed([Entry("scan 1")])
+        etcd.before[4] = etcd.arrive
+        await a.log.succeed([Entry("scan 2"), Entry("scan 3")])
+        await b.look()
+        await b.look()
+        assert a.lines() == b.lines() == ["scan 2", "scan 3"]
+
+    trial(work, tmp_path, plant)
+
+
 def test_no_new_record_by_one_that_leads_no_more(tmp_path: Path, plant: Plant) -> None:
     async def work(etcd: FakeEtcd, side: Sides) -> None:
         a, b = await side("a"), await side("b")
@@ -347,9 +403,9 @@ def test_no_new_record_over_what_came_meanwhile(
         lease = a.candidate.lease
         assert lease is not None
         if lease_ends:
-            etcd.before[3] = partial(etcd.end, lease)
+            etcd.before[4] = partial(etcd.end, lease)
         else:
-            etcd.before[3] = etcd.arrive
+            etcd.before[4] = etcd.arrive
         with pytest.raises(Deposed):
             await a.log.succeed([Entry("scan 8")])
         await (b if lease_ends else a).lead()
@@ -436,6 +492,33 @@ def test_another_lease_is_asked_for_where_one_has_ended(
         await a.lead()
 
     trial(work, tmp_path, plant)
+
+
+def test_a_beat_that_comes_to_nothing_is_soon_followed_by_another() -> None:
+    """One that wasn't answered, and one of a lease that has been found out to be lost."""
+
+    async def lost(candidate: Candidate) -> None:
+        while candidate.lease is not None:
+            await asyncio.sleep(0.01)
+
+    async def work() -> None:
+        etcd = FakeEtcd()
+        candidate = Candidate(etcd, "leader", "a", 600)
+        assert await candidate.beat() and candidate.lease is not None
+        etcd.end(candidate.lease)
+        etcd.deaf = 1
+        beats = asyncio.create_task(candidate.run())
+        await asyncio.wait_for(lost(candidate), 60)
+        while candidate.lease is None:
+            await asyncio.sleep(0.01)
+        etcd.end(candidate.lease)
+        await candidate.stand()
+        assert candidate.lease is None
+        while candidate.lease is None:
+            await asyncio.sleep(0.01)
+        beats.cancel()
+
+    asyncio.run(asyncio.wait_for(work(), 120))
 
 
 def test_keys_and_values() -> None:

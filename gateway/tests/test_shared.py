@@ -13,6 +13,7 @@ from core_help import Served
 from fake_etcd import FakeEtcd
 
 from alarmd_gateway import etcd_log, log_watch, shared
+from alarmd_gateway.etcd import NoEtcd
 from alarmd_gateway.log_view import Last, Marked
 from alarmd_gateway.metrics import Metrics
 from alarmd_gateway.model import Code, Order, Sample, ServerGone, Verb
@@ -244,6 +245,37 @@ def test_a_new_record_for_both(alarmd: Path, tmp_path: Path) -> None:
         first = [(tmp_path / name / "record.1").read_bytes() for name in "ab"]
         assert first[0] == first[1]
 
+    trial(Pair(alarmd, tmp_path, without_programs, rotate_at=20), work)
+
+
+def test_what_is_too_old_goes_beside_the_work(
+    alarmd: Path, tmp_path: Path, monkeypatch: pytest.MonkeyPatch
+) -> None:
+    """The leader goes on while etcd takes its time for it, and tries again where it came to nothing."""
+    gate, tidy, faults = asyncio.Event(), etcd_log.EtcdLog.tidy, [NoEtcd("busy")]
+
+    async def slow(log: etcd_log.EtcdLog) -> None:
+        if log.leads_since is None or log.known.record < 3:
+            return
+        await gate.wait()
+        if faults:
+            raise faults.pop()
+        await tidy(log)
+
+    async def work(pair: Pair) -> None:
+        a = await pair.join("a")
+        await until(lambda: a.leads, "a leads")
+        await give(a, a=5)
+        await until(lambda: a._log.known.record > 3, "new records")
+        assert any(b"/entry/000001/" in key for key in pair.etcd.keys)
+        gate.set()
+        await until(lambda: old_ones(pair.etcd) == [], "the first ones are gone")
+
+    def old_ones(kept: FakeEtcd) -> list[bytes]:
+        begins = (b"/alarmd/trial/entry/000001/", b"/alarmd/trial/entry/000002/")
+        return [key for key in kept.keys if key.startswith(begins)]
+
+    monkeypatch.setattr(etcd_log.EtcdLog, "tidy", slow)
     trial(Pair(alarmd, tmp_path, without_programs, rotate_at=20), work)
 
 

@@ -198,6 +198,21 @@ def node_halted(trial: Trial) -> None:
     wait(node.healthy, "the node doesn't come back")
 
 
+def nodes_silent(trial: Trial) -> None:
+    """Two of the nodes take what the leader's gateway sends, and answer nothing: it goes on by the third one."""
+    cluster, leader = trial.cluster, trial.cluster.leader()
+    silent = trial.chance.sample(range(3), 2)
+    entries = log_of(cluster, leader)["entries"]
+    for number in silent:
+        cluster.cut_one(leader, number, True)
+    begin = time.monotonic()
+    wait(partial(trial.grows, leader, entries), f"{leader} hears nothing")
+    trial.note("two nodes silent to the leader's gateway, it goes on", begin)
+    trial.answered_by_each(list(cluster.gateways))
+    for number in silent:
+        cluster.cut_one(leader, number, False)
+
+
 def majority_killed(trial: Trial) -> None:
     cluster = trial.cluster
     down = trial.chance.sample(cluster.nodes, 2)
@@ -276,6 +291,7 @@ FAULTS: tuple[Callable[[Trial], None], ...] = (
     leader_ended,
     node_killed,
     node_halted,
+    nodes_silent,
     machine_gone,
     majority_killed,
 )
