@@ -28,7 +28,7 @@ use Rattle.plant_logic.proofs.Agreeing.{kinds_ask}
 use Rattle.plant_logic.proofs.Belows.{among_left, among_right}
 
 -- ---- the paths of the kinds are those of the values
-abbrev path : KindAt → Path
+abbrev pub path : KindAt → Path
 path v = v.path
 
 own_paths : (ls : List Local) (p : Path) → map path (own_kinds ls p) ≡ own_values ls p
@@ -75,7 +75,7 @@ global_paths (g ∷ gs) = ap (λ ps. path_of g.name ∷ ps) (global_paths gs)
 pub paths_all : (source : Source) → map path (all_kinds source) ≡ cell_paths source
 paths_all source = map-append path (map global_kind_at source.globals) (program_kinds source.blocks source.programs) ∙ (λ k. global_paths source.globals k ++ program_paths source.blocks source.programs k)
 
-kinds_once : (source : Source) → IsDistinctlyNamed source → NoneTwice (map path (all_kinds source))
+pub kinds_once : (source : Source) → IsDistinctlyNamed source → NoneTwice (map path (all_kinds source))
 kinds_once source named = subst NoneTwice (sym (paths_all source)) (cells_once source named)
 
 -- ---- a part of the kinds
@@ -118,7 +118,7 @@ pub type_kinds : (blocks : List PlainRoutine) (order : List ℕ) (n : ℕ) (r : 
 type_kinds blocks order n r below is = by_its_rule (λ path. []) kinds_rule blocks order below kinds_ask n r is
 
 -- ---- what holds of each value after one is assigned
-abbrev Holds : World → KindAt → Type 0
+abbrev pub Holds : World → KindAt → Type 0
 Holds w v = is_in_range v.kind (w.values v.path) ≡ true
 
 at_path : (w : World) (v : KindAt) (xs : List KindAt) → Among xs v → AllByRecursion (Holds w) xs → Holds w v
@@ -126,7 +126,7 @@ at_path w v [] here all = elim here [ ]
 at_path w v (x ∷ xs) (inl is) all = subst (Holds w) is all.0
 at_path w v (x ∷ xs) (inr later) all = at_path w v xs later all.1
 
-absent_in : (p : Path) (v : KindAt) (xs : List KindAt) → Absent p (map path xs) → Among xs v → same_path p v.path ≡ false
+pub absent_in : (p : Path) (v : KindAt) (xs : List KindAt) → Absent p (map path xs) → Among xs v → same_path p v.path ≡ false
 absent_in p v [] none here = elim here [ ]
 absent_in p v (x ∷ xs) none (inl is) = ap (λ (y : KindAt). same_path p y.path) (sym is) ∙ none.0
 absent_in p v (x ∷ xs) none (inr later) = absent_in p v xs none.1 later

@@ -20,3 +20,5 @@ pub mod Beginning
 mod Elapsing
 mod Fitting
 pub mod Members
+pub mod Carrying
+mod CarriedExamples

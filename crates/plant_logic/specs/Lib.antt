@@ -9,3 +9,4 @@ pub mod Seats
 pub mod Paths
 pub mod Code
 pub mod Ranges
+pub mod Carried

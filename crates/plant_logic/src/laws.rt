@@ -22,6 +22,7 @@ ghost use Rattle.plant_logic.specs.Worlds.{Path, World, words_of, path_of, path_
 ghost use Rattle.plant_logic.specs.Layout.{ClockAt, block_values, values_rule, routine_values, block_clocks, clocks_rule, routine_clocks, cell_paths, all_clocks, clock_paths, Stands, NoneTwice, IsDistinctlyNamed};
 ghost use Rattle.plant_logic.specs.Seats.{StandsFrom, value_offset, clock_offset, program_values_base, program_clocks_base, value_number, member_number, is_of_standard};
 ghost use Rattle.plant_logic.specs.Ranges.{KindAt, all_kinds, AllInRange};
+ghost use Rattle.plant_logic.specs.Carried.{carried};
 
 /// Where an order lists each block type after those that it declares, what a rule gives for a block type is the rule's own answer, by
 /// what it gives for the block types that this one declares.
@@ -189,4 +190,11 @@ pub fn opening_world_is_in_range()
     ensures { (units : List PlainUnit) (order : List ℕ) → AreTyped units → AreBelow (source_in units).blocks order
         → ((name : List ℕ) (d : PlainDeclared) → global_named units name ≡ Some d → is_instance_sort d.sort ≡ false)
         → AllInRange (source_in units) (opening (source_in units)) }
+{}
+
+/// What goes over from a source to another, whose declared names are distinct, has each value in the range of its variable's kind, if the
+/// old world and the new source's opening one do.
+pub fn carried_world_is_in_range()
+    ensures { (old new : Source) (w : World) → IsDistinctlyNamed new → AllInRange old w → AllInRange new (opening new)
+        → AllInRange new (carried old new w) }
 {}
