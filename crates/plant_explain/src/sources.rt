@@ -7,9 +7,8 @@ use grammar_causes::ungrammatical;
 use plant_folder::PlantTexts;
 use plant_places::{FileOf, Spot, byte_at, text_of};
 use plant_types::Text;
-use source_causes::{Reading, causes};
+use source_causes::{Reading, causes, misspelled_at};
 use std::alloc::{AllocError, Global};
-use source_causes::misspelled_at;
 
 /// So many tokens are read at least, and one more for each byte of the plant.
 const LEAST_TOKENS: usize = 100_000;
