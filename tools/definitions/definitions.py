@@ -14,6 +14,7 @@ import collections
 import os
 import re
 import sys
+import textwrap
 
 HERE = os.path.dirname(os.path.abspath(__file__))
 TOP = os.path.dirname(os.path.dirname(HERE))
@@ -196,18 +197,26 @@ def chosen(specs, reached, crate, given):
     return kept
 
 
+def wrapped(line):
+    """An item in lines of at most 160 columns, of which none after the first looks like the beginning of another list."""
+    for width in range(160, 100, -1):
+        lines = textwrap.wrap(line, width, subsequent_indent="  ", break_long_words=False, break_on_hyphens=False)
+        if not any(re.match(r" +([-+*]|\d+[.)]) ", one) for one in lines[1:]):
+            return lines
+    return [line]
+
+
 def section(specs, reached, crate, given):
     """The lines of a crate: its definitions with their rules and examples."""
     rows = chosen(specs, reached, crate, given)
     if not rows:
         return []
-    lines = ["## " + crate, ""] + given[0] + [""] * bool(given[0]) + ["| definition | rule | by hand |", "|---|---|---|"]
-    file = None
+    lines, file = ["## " + crate, ""] + given[0] + [""] * bool(given[0]), None
     for key, texts in rows.items():
         place = "" if key[1] == file else " (%s)" % key[1]
         file = key[1]
-        cells = [cell.replace("|", "\\|") for cell in (specs.found[key].rule, " ".join(texts))]
-        lines.append("| `%s`%s | %s | %s |" % (key[2], place, cells[0], cells[1]))
+        line = "- `%s`%s: %s. *%s*" % (key[2], place, specs.found[key].rule.rstrip("."), " ".join(texts))
+        lines += wrapped(line)
     return lines + [""] + given[2] + [""] * bool(given[2])
 
 
