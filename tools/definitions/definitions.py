@@ -21,7 +21,7 @@ TOP = os.path.dirname(os.path.dirname(HERE))
 CRATES = os.path.join(TOP, "crates")
 PAGE = os.path.join(TOP, "docs", "DEFINITIONS.md")
 EXAMPLES = os.path.join(HERE, "by_hand.txt")
-HEAD = os.path.join(HERE, "head.md")
+HEAD = os.path.join(HERE, "head.txt")
 
 # The entry functions of the server, by crate.
 ROOTS = {
