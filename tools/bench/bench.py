@@ -9,9 +9,9 @@ PROGRAM is the built server (crates/alarmd/out/alarmd). KIND is one of these, `l
 |---|---|
 | lines | 1,000,000 scans with one change each, of the built-in plant; beside it the yardstick, a program that only reads such lines (needs rustc) |
 | turns | a scan of 10,000 turns of a FOR; beside it the yardstick's own loop |
-| logic | 64 programs with nested loops, a CASE, blocks and timers; beside it the yardstick, which runs them as trees of closures |
+| logic | 64 programs with nested loops, a CASE, blocks and timers; beside it two yardsticks: trees of closures, and code with three operands |
 | alarms | scans that change 200 of 20,000 alarms, with 100 orders each |
-| changes | scans that change all of 20,000 alarms |
+| changes | scans that change all of 20,000 alarms; beside it the yardstick, whose tags stand in one text |
 | delays | alarms and changes with tables that have no column of delays, delays of 0 and delays of 60 s; and scans in each of which one of 20,000 delays ends |
 | orders | 300,000 orders for 20,000 alarms |
 | check | `check` of 4.2 MB of sources and 14.5 MB of alarms |
@@ -37,6 +37,8 @@ from measured import least, run
 
 HERE = os.path.dirname(os.path.abspath(__file__))
 PLANTS = {"turns": inputs.turns, "logic": inputs.logic, "alarms": inputs.alarms, "changes": inputs.changes, "orders": inputs.orders}
+# the yardsticks of a kind
+YARDSTICKS = {"logic": ["logic", "code"], "changes": ["changes"]}
 KINDS = ["lines", "turns", "logic", "alarms", "changes", "delays", "orders", "check", "still", "workers", "read", "commands"]
 # variables, alarms with a variable each, outputs
 STILL = [(2, 0, 0), (16384, 0, 0), (65536, 0, 0), (10000, 10000, 0), (20000, 20000, 0), (0, 0, 32000), (65536, 20000, 0)]
@@ -98,11 +100,12 @@ class Bench:
         with open(given, "rb") as file:
             lines = sum(1 for _ in file)
         it = self.best([self.program, "run", f"{path}/plant.toml"], given)
-        yardstick = self.yardstick() if kind in ("turns", "logic") else None
+        yardstick = self.yardstick() if kind in ("turns", *YARDSTICKS) else None
         if yardstick and kind == "turns":
             subprocess.run([yardstick, "turns", "2000"], check=True)
         elif yardstick:
-            self.told("logic: yardstick", self.best([yardstick, "logic"], given))
+            for name in YARDSTICKS[kind]:
+                self.told(f"{kind}: yardstick {name}", self.best([yardstick, name], given))
         self.told(kind, it, f"  {lines / it.processor:11.0f} lines a second")
 
     def delays(self):

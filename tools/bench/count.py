@@ -1,16 +1,21 @@
 #!/usr/bin/env python3
-"""Counts the processor's instructions of what the built server does for each event, by valgrind's callgrind.
+"""Counts the processor's instructions of what the built server does for each event, and with --misses also what it misses in the second cache, by
+valgrind's callgrind.
 
-    python3 tools/bench/count.py PROGRAM [KIND ..] [--keep DIR]
+    python3 tools/bench/count.py PROGRAM [KIND ..] [--misses] [--keep DIR]
 
 PROGRAM is the built server (crates/alarmd/out/alarmd), KIND one of those below; all of them without a word. Each figure is that of a longer input less
 that of a shorter one, divided by what the longer one has more: so what a start costs isn't in it. `check` is a whole run. It takes some ten minutes. With
---keep the plants and inputs stay in DIR, and are used again.
+--keep the plants and inputs stay in DIR, and are used again. Beside `change` and `logic` it counts their yardsticks (yardstick.rs; needs rustc).
+
+With --misses valgrind simulates the first cache of this machine's processor and, as its last level, the second one: a read or a write that misses there
+waits for a cache that processors share, or for memory. Two figures follow the instructions: the misses of reads and those of writes.
 """
 
 import argparse
 import os
 import re
+import shutil
 import subprocess
 import sys
 import tempfile
@@ -20,17 +25,33 @@ sys.path.insert(0, HERE)
 
 import inputs
 
-TOTAL = re.compile(rb"Collected : ([0-9]+)")
+TOTALS = re.compile(rb"Collected : ([0-9 ]+)")
+CACHES = "/sys/devices/system/cpu/cpu0/cache"
 MINUTE = 60_000
 DAY = 86_400_000
 
 
-def instructions(words, given):
-    """The instructions of a run with an input."""
+def caches():
+    """What tells valgrind of the processor's caches of data: the first one, and the second one as the last. Its sizes are powers of two."""
+    told = []
+    for option, index in (("--D1", 0), ("--LL", 2)):
+        numbers = []
+        for name in ("size", "ways_of_associativity", "coherency_line_size"):
+            with open(f"{CACHES}/index{index}/{name}") as file:
+                numbers.append(int(file.read().strip().replace("K", "")))
+        size, ways, line = numbers
+        sets = 1 << (size * 1024 // (ways * line)).bit_length() - 1
+        told.append(f"{option}={sets * ways * line},{ways},{line}")
+    return ["--cache-sim=yes", *told]
+
+
+def counts(words, given, options):
+    """The instructions of a run with an input; where caches are simulated, also the reads and writes that the last one misses."""
     with tempfile.TemporaryDirectory() as folder, open(given, "rb") as stdin:
-        tool = ["valgrind", "--tool=callgrind", f"--callgrind-out-file={folder}/out"]
+        tool = ["valgrind", "--tool=callgrind", f"--callgrind-out-file={folder}/out", *options]
         run = subprocess.run(tool + words, stdin=stdin, stdout=subprocess.DEVNULL, stderr=subprocess.PIPE, check=True)
-    return int(TOTAL.search(run.stderr)[1])
+    numbers = [int(number) for number in TOTALS.search(run.stderr)[1].split()]
+    return [numbers[0], *numbers[7:9]]
 
 
 def waiting(folder):
@@ -72,8 +93,23 @@ KINDS = {
 }
 
 
-def counted(program, folder, kind):
-    """The instructions of one thing of a kind."""
+# the yardsticks of a kind, and what each is called
+YARDSTICKS = {
+    "change": [("changes", "its yardstick, tags in one text")],
+    "logic": [("logic", "its yardstick, trees of closures"), ("code", "its yardstick, code with three operands")],
+}
+
+
+def yardstick(folder):
+    """The yardstick, built once; none without rustc."""
+    path = os.path.join(folder, "yardstick")
+    if not os.path.exists(path) and shutil.which("rustc"):
+        subprocess.run(["rustc", "-O", os.path.join(HERE, "yardstick.rs"), "-o", path], check=True)
+    return path if os.path.exists(path) else None
+
+
+def counted(words, folder, kind, options):
+    """The counts of one thing of a kind, by a program that is given the kind's lines; the server is given its plant too."""
     _, make, is_built_in, short, long, more = KINDS[kind]
     path = os.path.join(folder, f"count_{kind}")
     made = os.path.join(path, "input.txt")
@@ -82,37 +118,49 @@ def counted(program, folder, kind):
         lines = make(path)
         with open(made, "w") as file:
             file.writelines(f"{line}\n" for line in lines[:long])
-    words = [program] if is_built_in else [program, "run", f"{path}/plant.toml"]
+    if len(words) == 1 and not is_built_in:
+        words = [*words, "run", f"{path}/plant.toml"]
     taken = []
     for count in (short, long):
         given = os.path.join(path, f"input{count}.txt")
         with open(made) as whole, open(given, "w") as file:
             file.writelines(line for line, _ in zip(whole, range(count)))
-        taken.append(instructions(words, given))
-    return (taken[1] - taken[0]) / more
+        taken.append(counts(words, given, options))
+    return [(after - before) / more for before, after in zip(*taken)]
+
+
+def told(name, numbers):
+    """Prints counts: instructions as whole numbers, misses with two places."""
+    misses = "".join(f" {number:12,.2f}" for number in numbers[1:])
+    print(f"{name:<50} {numbers[0]:14,.0f}{misses}", flush=True)
 
 
 def main():
     parser = argparse.ArgumentParser(description=__doc__, formatter_class=argparse.RawDescriptionHelpFormatter)
     parser.add_argument("program")
     parser.add_argument("kinds", nargs="*", metavar="KIND", help=f"check, {', '.join(KINDS)}")
+    parser.add_argument("--misses", action="store_true")
     parser.add_argument("--keep", metavar="DIR")
     options = parser.parse_args()
     wrong = [kind for kind in options.kinds if kind != "check" and kind not in KINDS]
     if wrong:
         parser.error(f"no kind is called {wrong[0]}")
     program = os.path.abspath(options.program)
+    simulated = caches() if options.misses else []
     with tempfile.TemporaryDirectory() as other:
         folder = options.keep or other
         for kind in options.kinds or [*KINDS, "check"]:
             if kind != "check":
-                print(f"{KINDS[kind][0]:<50} {counted(program, folder, kind):14,.0f}", flush=True)
+                told(KINDS[kind][0], counted([program], folder, kind, simulated))
+                beside = yardstick(folder) if kind in YARDSTICKS else None
+                for word, name in YARDSTICKS[kind] if beside else []:
+                    told(name, counted([beside, word], folder, kind, simulated))
                 continue
             path = os.path.join(folder, "check")
             if not os.path.isdir(path):
                 os.makedirs(path)
                 inputs.large(path)
-            print(f"{'check of 4.2 MB of sources and 14.5 MB of alarms':<50} {instructions([program, 'check', f'{path}/plant.toml'], os.devnull):14,.0f}", flush=True)
+            told("check of 4.2 MB of sources and 14.5 MB of alarms", counts([program, "check", f"{path}/plant.toml"], os.devnull, simulated))
 
 
 if __name__ == "__main__":
